@@ -1,0 +1,51 @@
+// The body of a chart file: where its records stand, by the four counts, and each record by its number.
+ghost use mathlib.Core.Path.{_≡_};
+ghost use Prim.Native.Nat.{_+_, _*_, _≤_, _<_};
+ghost use lib.ListN.{length};
+ghost use Rattle.layout.specs.Body.{Holds, sizeOf, headAt, transitionAt, slaveAt, nodeAt};
+use crate::record::{Head, Transition, Slave, Node};
+
+// How many records of each kind a body has.
+pub struct Shape {
+    pub charts: usize,
+    pub transitions: usize,
+    pub slaves: usize,
+    pub nodes: usize,
+}
+
+// The body's size made by the counts.
+pub fn size(n: Shape) -> usize
+    requires { ⌜ (n .charts < 256) × (n .transitions < 65536) × (n .slaves < 256) × (n .nodes < 256) ⌝ }
+    ensures { λ r. ⌜ r ≡ sizeOf n ⌝ }
+{
+    24 * n.charts + 28 * n.transitions + 4 * n.slaves + 20 * n.nodes
+}
+
+pub fn head_at(n: Shape, body: &[u8], c: usize) -> Head
+    requires { ⌜ Holds n (now body) × (c < n .charts) ⌝ }
+    ensures { λ r. ⌜ r ≡ headAt n (now (body .entry)) c ⌝ }
+{
+    crate::record::read_head(body, 24 * c)
+}
+
+// Transition t, counted through all charts.
+pub fn transition_at(n: Shape, body: &[u8], t: usize) -> Transition
+    requires { ⌜ Holds n (now body) × (t < n .transitions) ⌝ }
+    ensures { λ r. ⌜ r ≡ transitionAt n (now (body .entry)) t ⌝ }
+{
+    crate::record::read_transition(body, 24 * n.charts + 28 * t)
+}
+
+pub fn slave_at(n: Shape, body: &[u8], i: usize) -> Slave
+    requires { ⌜ Holds n (now body) × (i < n .slaves) ⌝ }
+    ensures { λ r. ⌜ r ≡ slaveAt n (now (body .entry)) i ⌝ }
+{
+    crate::record::read_slave(body, 24 * n.charts + 28 * n.transitions + 4 * i)
+}
+
+pub fn node_at(n: Shape, body: &[u8], j: usize) -> Node
+    requires { ⌜ Holds n (now body) × (j < n .nodes) ⌝ }
+    ensures { λ r. ⌜ r ≡ nodeAt n (now (body .entry)) j ⌝ }
+{
+    crate::record::read_node(body, 24 * n.charts + 28 * n.transitions + 4 * n.slaves + 20 * j)
+}
