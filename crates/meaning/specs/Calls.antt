@@ -1,0 +1,105 @@
+-- What the public calls answer (document 01), the rewriting aside: the first configuration, the interface, the step, the run. Each has one list
+-- of tests, in the order in which document 01 names them. A refusal leaves lent bytes as they were.
+use mathlib.Core.Bool.{Bool, true, false, cond}
+use mathlib.Core.List.{List, [], _∷_, _++_}
+use Prim.Native.Nat.{ℕ, zero, suc, _+_, _*_}
+use lib.Dec.{ltb}
+use lib.ListN.{length, getD, drop}
+use Rattle.layout.specs.Le.{bytes}
+use Rattle.meaning.specs.Numbers.{wrongLength, badState, shortBuffer, shortRows}
+use Rattle.meaning.specs.Count.{anyUpTo, one}
+use Rattle.meaning.specs.Meaning.{Set, ∅, same, Answer, refused, given, inFace, outFace, outcomes, answer}
+use Rattle.meaning.specs.File.{File, wholeOf, fileOf}
+use Rattle.meaning.specs.Check.{Test, firstOf, fileTests, refusalOf, differ, notBelow}
+
+-- f at 0, 1, .. n - 1
+unfoldable pub made : ℕ → (ℕ → ℕ) → List ℕ
+made zero f = []
+made (suc n) f = made n f ++ (f n ∷ [])
+
+-- xs laid over the front of a lent buffer; "bytes beyond [..] keep their values"
+abbrev pub laidOver : List ℕ → List ℕ → List ℕ
+laidOver xs buffer = xs ++ drop (length xs) buffer
+
+-- ── the first configuration: "1 to 11, 22" ──
+
+unfoldable pub firstRefusal : List ℕ → ℕ → ℕ
+firstRefusal f room = firstOf (fileTests f ++ (record { number = shortBuffer; applies = ltb room (fileOf f .charts) } ∷ []))
+
+-- "the first one has every chart's initial state, slaves included"
+unfoldable pub initials : List ℕ → List ℕ
+initials f = made (fileOf f .charts) (λ c. fileOf f .chart c .initial)
+
+unfoldable pub firstBytes : List ℕ → List ℕ → List ℕ
+firstBytes f buffer = cond (same (firstRefusal f (length buffer)) 0) (laidOver (initials f) buffer) buffer
+
+-- ── the interface: "checking and the interface 1 to 11"; "A refusal returns [..] empty sets" ──
+
+unfoldable pub inputOf : List ℕ → Set
+inputOf f = cond (same (refusalOf f) 0) (inFace (fileOf f .chart) (wholeOf (fileOf f))) ∅
+
+unfoldable pub outputOf : List ℕ → Set
+outputOf f = cond (same (refusalOf f) 0) (outFace (fileOf f .chart) (wholeOf (fileOf f))) ∅
+
+-- ── the step: "1 to 11, then 20 to 23" ──
+
+-- 20: "configuration length is not the number of charts"; 21: "a state in it not below its chart's states"
+unfoldable pub configTests : List ℕ → List ℕ → List Test
+configTests f config =
+    record { number = wrongLength; applies = differ (length config) (fileOf f .charts) }
+    ∷ record { number = badState; applies = anyUpTo (fileOf f .charts) (λ c. notBelow (getD config c 0) (fileOf f .chart c .states)) }
+    ∷ []
+
+unfoldable pub stepRefusal : List ℕ → List ℕ → ℕ → ℕ
+stepRefusal f config room =
+    firstOf (fileTests f ++ configTests f config ++ (record { number = shortBuffer; applies = ltb room (fileOf f .charts) } ∷ []))
+
+-- a step of a file that is in order from a configuration that is: given, or refused with 23
+unfoldable pub stepIn : File → List ℕ → Set → Answer
+stepIn F config i = answer (outcomes (F .chart) (F .state) (λ c. getD config c 0) (wholeOf F) i (F .charts))
+
+unfoldable pub stepOf : List ℕ → List ℕ → Set → ℕ → Answer
+stepOf f config i room =
+    cond (same (stepRefusal f config room) 0) (stepIn (fileOf f) config i) (refused (stepRefusal f config room))
+
+-- what an answer says: its refusal, output, mark, and the bytes left in a lent buffer for the next configuration
+abbrev pub refusalIn : Answer → ℕ
+refusalIn (refused r) = r
+refusalIn (given o n m) = 0
+
+abbrev pub outputIn : Answer → Set
+outputIn (refused r) = ∅
+outputIn (given o n m) = o
+
+abbrev pub markIn : Answer → Bool
+markIn (refused r) = false
+markIn (given o n m) = m
+
+abbrev pub nextIn : Answer → List ℕ → List ℕ
+nextIn (refused r) buffer = buffer
+nextIn (given o n m) buffer = laidOver n buffer
+
+-- ── the run: "1 to 11, 20, 21, 27" ──
+
+unfoldable pub runRefusal : List ℕ → List ℕ → ℕ → ℕ → ℕ
+runRefusal f config inputs room =
+    firstOf (fileTests f ++ configTests f config ++ (record { number = shortRows; applies = ltb room (inputs * (10 + fileOf f .charts)) } ∷ []))
+
+-- "A refused step keeps the configuration"
+abbrev pub afterStep : Answer → List ℕ → List ℕ
+afterStep (refused r) config = config
+afterStep (given o n m) config = n
+
+-- a row: "output (8 bytes, zero if refused), mark (1 for yes, else 0), 0 or the refusal (1 byte), then the configuration after it"
+unfoldable pub rowOf : Answer → List ℕ → List ℕ
+rowOf r config = bytes 8 (outputIn r) ++ (one (markIn r) ∷ refusalIn r ∷ afterStep r config)
+
+-- "From a given configuration the inputs [..] are taken in turn. A refused step keeps the configuration, its input is dropped, and the run
+-- goes on. Each input gives a row"
+unfoldable pub rowsOf : File → List ℕ → List Set → List ℕ
+rowsOf F config [] = []
+rowsOf F config (i ∷ is) = rowOf (stepIn F config i) config ++ rowsOf F (afterStep (stepIn F config i) config) is
+
+unfoldable pub runBytes : List ℕ → List ℕ → List Set → List ℕ → List ℕ
+runBytes f config inputs rows =
+    cond (same (runRefusal f config (length inputs) (length rows)) 0) (laidOver (rowsOf (fileOf f) config inputs) rows) rows

@@ -1,0 +1,6 @@
+-- Theorems on the meaning of chart files: tests (Bools), charts inside a tree (Above), the tree of a file by node kind (Trees), and what rule 10
+-- gives, that each node has one place in the whole (Names).
+pub mod Bools
+pub mod Above
+pub mod Trees
+pub mod Names

@@ -1,0 +1,119 @@
+-- Laws of tests: Bool connectives by cases; equal numbers; a test of all numbers below a limit (`every`).
+use mathlib.Core.Path.{_≡_, refl, sym, _∙_, ap, ap₂, subst, fun-ext}
+use mathlib.Core.Bool.{Bool, true, false, _&&_, _||_, not, cond, Bool·beq, true≢false, false≢true}
+use mathlib.Core.Logic.{_⊎_, inl, inr, _≢_}
+use Prim.Native.Nat.{ℕ, zero, suc, _+_, _≤_, _<_}
+use native.Mathlib.Omega.{arith}
+use lib.Dec.{T, eqb, eqb→eq, eqb-refl}
+use Rattle.meaning.specs.Meaning.{same}
+
+-- ── Bool ──
+
+-- both values
+abbrev pub both : (Bool → Bool) → Bool
+both f = f true && f false
+
+pub inst : (f : Bool → Bool) → both f ≡ true → (b : Bool) → f b ≡ true
+inst f h true = left (f true) (f false) h
+  where
+    left : (a b : Bool) → (a && b) ≡ true → a ≡ true
+    left true b h = refl
+    left false b h = absurd (false≢true h)
+inst f h false = right (f true) (f false) h
+  where
+    right : (a b : Bool) → (a && b) ≡ true → b ≡ true
+    right true b h = h
+    right false b h = absurd (false≢true h)
+
+abbrev pub iff : Bool → Bool → Bool
+iff true b = b
+iff false b = not b
+
+abbrev pub imp : Bool → Bool → Bool
+imp true b = b
+imp false b = true
+
+pub iff→≡ : (a b : Bool) → iff a b ≡ true → a ≡ b
+iff→≡ true true h = refl
+iff→≡ true false h = absurd (false≢true h)
+iff→≡ false true h = absurd (false≢true h)
+iff→≡ false false h = refl
+
+pub imp-use : {a b : Bool} → imp a b ≡ true → a ≡ true → b ≡ true
+imp-use {a = true} h e = h
+imp-use {a = false} h e = absurd (false≢true e)
+
+pub false→iff : {a : Bool} → a ≡ false → not a ≡ true
+false→iff {a = true} e = absurd (true≢false e)
+false→iff {a = false} e = refl
+
+pub and-l : (a b : Bool) → (a && b) ≡ true → a ≡ true
+and-l true b h = refl
+and-l false b h = absurd (false≢true h)
+
+pub and-r : (a b : Bool) → (a && b) ≡ true → b ≡ true
+and-r true b h = h
+and-r false b h = absurd (false≢true h)
+
+pub and-i : {a b : Bool} → a ≡ true → b ≡ true → (a && b) ≡ true
+and-i {a = true} h e = e
+and-i {a = false} h e = absurd (false≢true h)
+
+-- the second part is compared only where the first holds
+pub and-cong : (a a′ b b′ : Bool) → a ≡ a′ → (a′ ≡ true → b ≡ b′) → (a && b) ≡ (a′ && b′)
+and-cong true true b b′ p q = q refl
+and-cong true false b b′ p q = absurd (true≢false p)
+and-cong false true b b′ p q = absurd (false≢true p)
+and-cong false false b b′ p q = refl
+
+pub bool-eq : (a b : Bool) → (a ≡ true → b ≡ true) → (b ≡ true → a ≡ true) → a ≡ b
+bool-eq true true f g = refl
+bool-eq true false f g = sym (f refl)
+bool-eq false true f g = g refl
+bool-eq false false f g = refl
+
+pub not-true : {b : Bool} → (b ≡ true → ⊥) → b ≡ false
+not-true {b = true} f = absurd (f refl)
+not-true {b = false} f = refl
+
+-- ── numbers ──
+
+T→≡ : (b : Bool) → T b → b ≡ true
+T→≡ true t = refl
+T→≡ false t = absurd t
+
+≡→T : (b : Bool) → b ≡ true → T b
+≡→T true e = tt
+≡→T false e = false≢true e
+
+pub same-refl : (n : ℕ) → same n n ≡ true
+unfolding same
+same-refl n = T→≡ (eqb n n) (eqb-refl n)
+
+pub same→≡ : (m n : ℕ) → same m n ≡ true → m ≡ n
+unfolding same
+same→≡ m n e = eqb→eq m n (≡→T (eqb m n) e)
+
+pub same-≢ : (m n : ℕ) → (m ≡ n → ⊥) → same m n ≡ false
+same-≢ m n h = not-true (λ e. h (same→≡ m n e))
+
+-- ── a test of all numbers below a limit ──
+
+unfoldable pub every : ℕ → (ℕ → Bool) → Bool
+every zero f = true
+every (suc n) f = f n && every n f
+
+pub every-intro : (n : ℕ) (f : ℕ → Bool) → ((i : ℕ) → i < n → f i ≡ true) → every n f ≡ true
+unfolding every
+every-intro zero f h = refl
+every-intro (suc n) f h = and-i (h n (omega arith)) (every-intro n f (λ i l. h i (omega arith)))
+
+pub every-elim : (n : ℕ) (f : ℕ → Bool) → every n f ≡ true → (i : ℕ) → i < n → f i ≡ true
+unfolding every
+every-elim zero f h i l = absurd (omega arith)
+every-elim (suc n) f h i l = go (same i n) refl (λ l′. every-elim n f (and-r (f n) (every n f) h) i l′)
+  where
+    go : (b : Bool) → same i n ≡ b → (i < n → f i ≡ true) → f i ≡ true
+    go true e rec = rw (same→≡ i n e) (and-l (f n) (every n f) h)
+    go false e rec = rec (let ne : i ≢ n = λ q. false≢true (sym e ∙ rw q (same-refl n)) in omega arith)
+

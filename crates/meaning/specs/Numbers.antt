@@ -1,0 +1,80 @@
+-- The numbers of document 01 that have a name: limits, and refusals. Each stands here once.
+use Prim.Native.Nat.{ℕ}
+
+-- ── limits ──
+
+abbrev pub theEdition : ℕ
+theEdition = 1
+
+abbrev pub mostCharts : ℕ
+mostCharts = 8
+
+abbrev pub mostSlaves : ℕ
+mostSlaves = 7
+
+abbrev pub mostNodes : ℕ
+mostNodes = 64
+
+abbrev pub mostTransitions : ℕ
+mostTransitions = 512
+
+-- in a chart
+abbrev pub mostStates : ℕ
+mostStates = 16
+
+abbrev pub mostInChart : ℕ
+mostInChart = 64
+
+-- transitions from one state
+abbrev pub mostFromState : ℕ
+mostFromState = 8
+
+-- ── refusals ──
+
+abbrev pub tooShort : ℕ
+tooShort = 1
+
+abbrev pub otherEdition : ℕ
+otherEdition = 2
+
+abbrev pub badCounts : ℕ
+badCounts = 3
+
+abbrev pub badDistance : ℕ
+badDistance = 4
+
+abbrev pub notZero : ℕ
+notZero = 5
+
+abbrev pub badChart : ℕ
+badChart = 6
+
+abbrev pub badTransition : ℕ
+badTransition = 7
+
+abbrev pub badSlave : ℕ
+badSlave = 8
+
+abbrev pub badNode : ℕ
+badNode = 9
+
+abbrev pub badNaming : ℕ
+badNaming = 10
+
+abbrev pub badInside : ℕ
+badInside = 11
+
+abbrev pub wrongLength : ℕ
+wrongLength = 20
+
+abbrev pub badState : ℕ
+badState = 21
+
+abbrev pub shortBuffer : ℕ
+shortBuffer = 22
+
+abbrev pub noStep : ℕ
+noStep = 23
+
+abbrev pub shortRows : ℕ
+shortRows = 27

@@ -1,0 +1,1 @@
+// A theory: the meaning of chart files, as definitions and theorems in specs/, and no function.

@@ -1,0 +1,36 @@
+-- The test between any bounds on the charts' actions: of the search, and of a candidate alone before it.
+use mathlib.Core.Path.{_≡_, refl, sym, _∙_, ap, ap₂, subst, fun-ext}
+use mathlib.Core.Bool.{Bool, true, false, _&&_, _||_, not, cond, true≢false, false≢true}
+use mathlib.Core.Option.{Option, none, some}
+use Prim.Native.Nat.{ℕ, zero, suc, _+_, _≤_, _<_}
+use native.Mathlib.Omega.{arith}
+use mathlib.Core.List.{List, [], _∷_}
+use Rattle.signals.specs.Mask.{_∪_, _∩_, _∖_, Within as Inside}
+use Rattle.signals.specs.Decide.{sets, A, B, C, D, E as Eₑ, _∪ₑ_, _∩ₑ_, ∅ₑ, _≐_, _⊑_}
+use Rattle.meaning.specs.Meaning.{Set, ∅, Chart, Tree, Move, actionOf, inFaceChart, permitted}
+use Rattle.meaning.specs.Laws.Bools.{every, every-elim}
+use Rattle.layout.specs.declared.record.Transition.{Transition}
+use Rattle.wiring.specs.Uncut.{Within}
+use Rattle.wiring.specs.Wire.{down, back, join, offered, fits, Small}
+use Rattle.wiring.specs.Wired.{awake, Stands, offer, ruled, permitted-wired}
+use Rattle.wiring.specs.Dropped.{test, fits-test}
+
+join-in : (k : ℕ) (f g b : ℕ → Set) → ((e : ℕ) → e < k → Inside (f e) (g e)) → Inside (join k (λ e. f e ∩ b e)) (join k (λ e. g e ∩ b e))
+unfolding join
+join-in zero f g b h = sets [] [] (∅ₑ ⊑ ∅ₑ) tt
+join-in (suc k) f g b h = sets (join k (λ e. f e ∩ b e) ∷ join k (λ e. g e ∩ b e) ∷ f k ∷ g k ∷ b k ∷ []) (A ⊑ B ∷ C ⊑ D ∷ []) (A ∪ₑ C ∩ₑ Eₑ ⊑ B ∪ₑ D ∩ₑ Eₑ) tt
+    (join-in k f g b (λ e l. h e (omega arith))) (h k (omega arith))
+
+offered-in : (N : ℕ) (f g : ℕ → Set) (z a : Set) (b : ℕ → Set) → ((e : ℕ) → e < N → Inside (f e) (g e)) → Inside (offered N f z a b) (offered N g z a b)
+unfolding offered
+offered-in N f g z a b h = sets ((z ∩ a) ∷ join N (λ e. f e ∩ b e) ∷ join N (λ e. g e ∩ b e) ∷ []) (B ⊑ C ∷ []) (A ∪ₑ B ⊑ A ∪ₑ C) tt (join-in N f g b h)
+
+module _ (E : ℕ → Chart) (state : ℕ → ℕ) (cfg : ℕ → ℕ) (N : ℕ) (enc : ℕ → Option ℕ) (sc : ℕ → ℕ) (t : Tree) (inp : Set) (s : Stands N enc sc t)
+    (M : ℕ → Move) (si : Small inp) (sa : (e : ℕ) → Small (actionOf (M e))) (own : (c : ℕ) → Within (inFaceChart (E c)) (M c)) (lo hi : ℕ → Set) where
+  -- a permitted choice passes the test of each chart between bounds on all actions
+  pub bounded : permitted E state cfg M t inp ≡ true → ((e : ℕ) → e < N → Inside (lo e) (actionOf (M e))) → ((e : ℕ) → e < N → Inside (actionOf (M e)) (hi e))
+      → (c : ℕ) → c < N → test (M c) (offered N lo inp (down t c) (back E t c)) (offered N hi inp (down t c) (back E t c)) ≡ true
+  unfolding ruled offer
+  bounded p l h c b = fits-test (awake enc sc state cfg M c) (offered N (λ e. actionOf (M e)) inp (down t c) (back E t c)) (cfg c) (M c) _ _
+      (offered-in N lo (λ e. actionOf (M e)) inp (down t c) (back E t c) l) (offered-in N (λ e. actionOf (M e)) hi inp (down t c) (back E t c) h)
+      (every-elim N (ruled E state cfg N enc sc t inp M) (sym (permitted-wired E state cfg N enc sc t inp M s si sa own) ∙ p) c b)

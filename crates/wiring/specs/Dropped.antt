@@ -1,0 +1,179 @@
+-- A beginning that fails the test has no permitted choice.
+use mathlib.Core.Path.{_≡_, refl, sym, _∙_, ap, ap₂, subst, fun-ext}
+use mathlib.Core.Bool.{Bool, true, false, _&&_, _||_, not, cond, true≢false, false≢true}
+use mathlib.Core.Option.{Option, none, some}
+use mathlib.Core.List.{List, [], _∷_, _++_, append-nil}
+use Prim.Native.Nat.{ℕ, zero, suc, _+_, _≤_, _<_}
+use native.Mathlib.Omega.{arith}
+use native.Mathlib.Nat.{add-suc, zero-add}
+use lib.ListN.{length}
+use lib.Dec.{eqb}
+use borrow.Author.Tests.{eqb-true, eq-eqb}
+use Rattle.signals.specs.Mask.{_∪_, _∩_, _∖_, within, apart, Within}
+use Rattle.signals.specs.Decide.{sets, A, B, C, D, E as Eₑ, F as Fₑ, ∅ₑ, _∪ₑ_, _∩ₑ_, _∖ₑ_, _≐_, _⊑_, _⊥ₑ_}
+use Rattle.meaning.specs.Meaning.{Set, ∅, same, Chart, Tree, Move, nth, pick, actionOf, permitted, upd, moves, upto, outcome, search}
+use Rattle.meaning.specs.Laws.Bools.{same-refl, same→≡, same-≢, every, every-intro, every-elim, and-l, and-r, and-i, bool-eq, not-true}
+use Rattle.layout.specs.declared.record.Transition.{Transition}
+use Rattle.wiring.specs.Uncut.{own-moves}
+use Rattle.wiring.specs.Wire.{down, back, join, offered, fits, Small}
+use Rattle.wiring.specs.Wired.{awake, Stands, offer, ruled, permitted-wired}
+
+-- f k ∪ .. ∪ f (k + n - 1)
+unfoldable pub ahead : ℕ → ℕ → (ℕ → Set) → Set
+ahead zero k f = ∅
+ahead (suc n) k f = f k ∪ ahead n (suc k) f
+
+-- what the charts from k on may still put in, at their present states (n of them)
+unfoldable pub test : Move → Set → Set → Bool
+test none low high = true
+test (some t) low high = within (t .needed) high && apart (t .barred) low
+
+split : (n k : ℕ) (f : ℕ → Set) → join (n + k) f ≡ join k f ∪ ahead n k f
+unfolding join ahead
+split zero k f = rw zero-add (sets (join k f ∷ []) [] (A ≐ A ∪ₑ ∅ₑ) tt)
+split (suc n) k f = ap (λ z. join z f) (let h : suc n + k ≡ n + suc k = omega arith in h) ∙ split n (suc k) f
+    ∙ sets (join k f ∷ f k ∷ ahead n (suc k) f ∷ []) [] (A ∪ₑ B ∪ₑ C ≐ A ∪ₑ (B ∪ₑ C)) tt
+
+ahead-in : (n k : ℕ) (f g : ℕ → Set) → ((e : ℕ) → k ≤ e → e < n + k → Within (f e) (g e)) → Within (ahead n k f) (ahead n k g)
+unfolding ahead
+ahead-in zero k f g h = sets [] [] (∅ₑ ⊑ ∅ₑ) tt
+ahead-in (suc n) k f g h = sets (f k ∷ g k ∷ ahead n (suc k) f ∷ ahead n (suc k) g ∷ []) (A ⊑ B ∷ C ⊑ D ∷ []) (A ∪ₑ C ⊑ B ∪ₑ D) tt
+    (h k (omega arith) (omega arith)) (ahead-in n (suc k) f g (λ e p q. h e (omega arith) (omega arith)))
+
+sub-in : (g o p : Set) → Within o p → within g o ≡ true → within g p ≡ true
+sub-in g o p h e = eq-eqb (g ∖ p) 0 (sets (g ∷ o ∷ p ∷ []) (A ⊑ B ∷ B ⊑ C ∷ []) (A ⊑ C) tt (eqb-true (g ∖ o) 0 e) h)
+
+dis-in : (g o p : Set) → Within p o → apart g o ≡ true → apart g p ≡ true
+dis-in g o p h e = eq-eqb (g ∩ p) 0 (sets (g ∷ o ∷ p ∷ []) (A ⊥ₑ B ∷ C ⊑ B ∷ []) (A ⊥ₑ C) tt (eqb-true (g ∩ o) 0 e) h)
+
+-- a rule that holds passes the test between bounds
+pub fits-test : (a : Bool) (o : Set) (s : ℕ) (m : Move) (low high : Set) → Within low o → Within o high → fits a o s m ≡ true → test m low high ≡ true
+unfolding fits test
+fits-test false o s none low high p q e = refl
+fits-test false o s (some t) low high p q e = absurd (false≢true e)
+fits-test true o s none low high p q e = refl
+fits-test true o s (some t) low high p q e = let h = and-r (same (t .from) s) _ e in
+    and-i (sub-in (t .needed) o high q (and-l _ _ h)) (dis-in (t .barred) o low p (and-r (within (t .needed) o) _ h))
+
+-- a rule is its activity, its state and the exact test
+unfoldable pub open? : Bool → ℕ → Move → Bool
+open? false s none = true
+open? false s (some t) = false
+open? true s none = false
+open? true s (some t) = same (t .from) s
+
+pub fits-open : (a : Bool) (o : Set) (s : ℕ) (m : Move) → fits a o s m ≡ (open? a s m && test m o o)
+unfolding fits open? test
+fits-open false o s none = refl
+fits-open false o s (some t) = refl
+fits-open true o s none = refl
+fits-open true o s (some t) = refl
+
+-- may has the action of every transition from the state
+abbrev pub May : (ℕ → Chart) → (ℕ → ℕ) → (ℕ → Set) → Type 0
+May E cfg may = (c v : ℕ) → (a : Bool) → open? a (cfg c) (pick (E c .transitions) v) ≡ true → Within (actionOf (pick (E c .transitions) v)) (may c)
+
+-- no permitted choice puts out more
+abbrev pub Bounds : (ℕ → Chart) → (ℕ → ℕ) → (ℕ → ℕ) → ℕ → Tree → Set → (ℕ → Set) → Type 0
+Bounds E state cfg N t inp may = (ch : ℕ → ℕ) → permitted E state cfg (moves E ch) t inp ≡ true → (e : ℕ) → e < N → Within (actionOf (moves E ch e)) (may e)
+
+abbrev pub Below : ℕ → (ℕ → ℕ) → (ℕ → ℕ) → Type 0
+Below c ch ch₂ = (i : ℕ) → i < c → ch₂ i ≡ ch i
+
+-- ── of the search (patterns/theory has these) ──
+module _ {A : Type 0} where
+  pub upto-cong : (m : ℕ) (f g : ℕ → List A) → ((v : ℕ) → v ≤ m → f v ≡ g v) → upto m f ≡ upto m g
+  unfolding upto
+  upto-cong zero f g h = h zero (omega arith)
+  upto-cong (suc m) f g h = ap₂ _++_ (upto-cong m f g (λ v l. h v (omega arith))) (h (suc m) (omega arith))
+
+  pub upto-first : (m : ℕ) (f : ℕ → List A) → ((k : ℕ) → k < m → f (suc k) ≡ []) → upto m f ≡ f zero
+  unfolding upto
+  upto-first zero f h = refl
+  upto-first (suc m) f h = rw (upto-first m f (λ k l. h k (omega arith)), h m (omega arith)) (append-nil (f zero))
+
+pub upd-off : (ch : ℕ → ℕ) (c v i : ℕ) → i < c → upd ch c v i ≡ ch i
+unfolding upd
+upd-off ch c v i l = rw (same-≢ i c (λ e. omega arith))
+
+module _ (E : ℕ → Chart) (state : ℕ → ℕ) (cfg : ℕ → ℕ) (t : Tree) (inp : Set) (N : ℕ) where
+  pub search-empty : (n c : ℕ) (ch : ℕ → ℕ) → ((ch₂ : ℕ → ℕ) → Below c ch ch₂ → permitted E state cfg (moves E ch₂) t inp ≡ false) → search E state cfg t inp N n c ch ≡ []
+  unfolding search outcome
+  search-empty zero c ch h = rw (h ch (λ i l. refl))
+  search-empty (suc n) c ch h = upto-cong (length (E c .transitions)) _ (λ v. []) (λ v l. search-empty n (suc c) (upd ch c v)
+          (λ ch₂ b. h ch₂ (λ i l. b i (omega arith) ∙ upd-off ch c v i l))) ∙ upto-first (length (E c .transitions)) (λ v. []) (λ k l. refl)
+
+join-cong : (k : ℕ) (f g : ℕ → Set) → ((e : ℕ) → e < k → f e ≡ g e) → join k f ≡ join k g
+unfolding join
+join-cong zero f g h = refl
+join-cong (suc k) f g h = ap₂ _∪_ (join-cong k f g (λ e l. h e (omega arith))) (h k (omega arith))
+
+module _ (E : ℕ → Chart) (state : ℕ → ℕ) (cfg : ℕ → ℕ) (N : ℕ) (enc : ℕ → Option ℕ) (sc : ℕ → ℕ) (t : Tree) (inp : Set) (may : ℕ → Set) where
+  -- charts below k are settled; n are left
+  unfoldable pub low : (ℕ → ℕ) → ℕ → ℕ → Set
+  low ch k c = offer E state cfg N enc sc t inp (moves E ch) k c
+
+  unfoldable pub high : (ℕ → ℕ) → ℕ → ℕ → ℕ → Set
+  high ch n k c = low ch k c ∪ ahead n k (λ e. may e ∩ back E t c e)
+
+  unfoldable pub passes : (ℕ → ℕ) → ℕ → ℕ → ℕ → Bool
+  passes ch n k c = test (moves E ch c) (low ch k c) (high ch n k c)
+
+  module _ (s : Stands N enc sc t) (m : Bounds E state cfg N t inp may) (si : Small inp) (sa : (ch : ℕ → ℕ) (e : ℕ) → Small (actionOf (moves E ch e))) where
+    low-in : (ch : ℕ → ℕ) (n k c : ℕ) → n + k ≡ N → Within (low ch k c) (low ch N c)
+    unfolding low offer offered
+    low-in ch n k c e = sets ((inp ∩ down t c) ∷ join k f ∷ ahead n k f ∷ join N f ∷ []) (D ≐ B ∪ₑ C ∷ []) (A ∪ₑ B ⊑ A ∪ₑ D) tt (ap (λ z. join z f) (sym e) ∙ split n k f)
+      where
+        f : ℕ → Set
+        f e = actionOf (moves E ch e) ∩ back E t c e
+
+    high-in : (ch : ℕ → ℕ) (n k c : ℕ) → n + k ≡ N → ((e : ℕ) → e < N → Within (actionOf (moves E ch e)) (may e)) → Within (low ch N c) (high ch n k c)
+    unfolding low high offer offered
+    high-in ch n k c e q = sets ((inp ∩ down t c) ∷ join k f ∷ ahead n k f ∷ join N f ∷ ahead n k g ∷ []) (D ≐ B ∪ₑ C ∷ C ⊑ Eₑ ∷ []) (A ∪ₑ D ⊑ A ∪ₑ B ∪ₑ Eₑ) tt (ap (λ z. join z f) (sym e) ∙ split n k f)
+            (ahead-in n k f g (λ d p r. sets (actionOf (moves E ch d) ∷ may d ∷ back E t c d ∷ []) (A ⊑ B ∷ []) (A ∩ₑ C ⊑ B ∩ₑ C) tt (q d (omega arith))))
+      where
+        f : ℕ → Set
+        f e = actionOf (moves E ch e) ∩ back E t c e
+        g : ℕ → Set
+        g e = may e ∩ back E t c e
+
+    -- a permitted choice passes every test on the way
+    pub passed : (ch : ℕ → ℕ) (n k c : ℕ) → n + k ≡ N → c < N → permitted E state cfg (moves E ch) t inp ≡ true → passes ch n k c ≡ true
+    unfolding passes low ruled moves
+    passed ch n k c e l p = fits-test (awake enc sc state cfg (moves E ch) c) (low ch N c) (cfg c) (moves E ch c) (low ch k c) (high ch n k c) (low-in ch n k c e)
+            (high-in ch n k c e (λ d r. m ch p d r))
+            (every-elim N (ruled E state cfg N enc sc t inp (moves E ch)) all c l)
+      where
+        all : every N (ruled E state cfg N enc sc t inp (moves E ch)) ≡ true
+        all = sym (permitted-wired E state cfg N enc sc t inp (moves E ch) s si (sa ch) (own-moves E ch)) ∙ p
+
+    -- low, high and the test look at settled charts alone
+    pub passes-below : (ch ch₂ : ℕ → ℕ) (n k c : ℕ) → Below k ch ch₂ → c < k → passes ch₂ n k c ≡ passes ch n k c
+    unfolding passes low high offer offered moves
+    passes-below ch ch₂ n k c b l = rw (b c l, join-cong k (λ e. actionOf (moves E ch₂ e) ∩ back E t c e) (λ e. actionOf (moves E ch e) ∩ back E t c e) (λ e r. ap (λ v. actionOf (pick (E e .transitions) v) ∩ back E t c e) (b e r)))
+
+    pub dropped : (ch : ℕ → ℕ) (n k c : ℕ) → n + k ≡ N → c < k → passes ch n k c ≡ false → (ch₂ : ℕ → ℕ) → Below k ch ch₂ → permitted E state cfg (moves E ch₂) t inp ≡ false
+    dropped ch n k c e l f ch₂ b = not-true (λ p. false≢true (sym f ∙ sym (passes-below ch ch₂ n k c b l) ∙ passed ch₂ n k c e (omega arith) p))
+
+    -- when none is left the test is the exact one
+    pub passes-last : (ch : ℕ → ℕ) (c : ℕ) → ruled E state cfg N enc sc t inp (moves E ch) c ≡ (open? (awake enc sc state cfg (moves E ch) c) (cfg c) (moves E ch c) && passes ch zero N c)
+    unfolding passes low high ruled ahead
+    passes-last ch c = fits-open (awake enc sc state cfg (moves E ch) c) (low ch N c) (cfg c) (moves E ch c)
+        ∙ ap (λ s. open? (awake enc sc state cfg (moves E ch) c) (cfg c) (moves E ch c) && test (moves E ch c) (low ch N c) s) (sets (low ch N c ∷ []) [] (A ≐ A ∪ₑ ∅ₑ) tt)
+
+    -- one more chart settled: its action joins, by its column
+    pub low-next : (ch : ℕ → ℕ) (k c : ℕ) → low ch (suc k) c ≡ low ch k c ∪ actionOf (moves E ch k) ∩ back E t c k
+    unfolding low offer offered join
+    low-next ch k c = sets ((inp ∩ down t c) ∷ join k (λ e. actionOf (moves E ch e) ∩ back E t c e) ∷ (actionOf (moves E ch k) ∩ back E t c k) ∷ []) [] (A ∪ₑ (B ∪ₑ C) ≐ A ∪ₑ B ∪ₑ C) tt
+
+    -- the search may leave such a beginning out
+    pub skip-dropped : (ch : ℕ → ℕ) (n k c : ℕ) → n + k ≡ N → c < k → passes ch n k c ≡ false → search E state cfg t inp N n k ch ≡ []
+    skip-dropped ch n k c e l f = search-empty E state cfg t inp N n k ch (dropped ch n k c e l f)
+
+-- what the transitions from the present states put out is a bound
+module _ (E : ℕ → Chart) (state : ℕ → ℕ) (cfg : ℕ → ℕ) (N : ℕ) (enc : ℕ → Option ℕ) (sc : ℕ → ℕ) (t : Tree) (inp : Set) (may : ℕ → Set)
+    (s : Stands N enc sc t) (m : May E cfg may) (si : Small inp) (sa : (ch : ℕ → ℕ) (e : ℕ) → Small (actionOf (moves E ch e))) where
+  pub may-bounds : Bounds E state cfg N t inp may
+  unfolding ruled moves
+  may-bounds ch p e l = m e (ch e) (awake enc sc state cfg (moves E ch) e) (and-l _ _ (sym (fits-open (awake enc sc state cfg (moves E ch) e) (offer E state cfg N enc sc t inp (moves E ch) N e) (cfg e) (moves E ch e))
+      ∙ every-elim N (ruled E state cfg N enc sc t inp (moves E ch)) (sym (permitted-wired E state cfg N enc sc t inp (moves E ch) s si (sa ch) (own-moves E ch)) ∙ p) e l))

@@ -1,0 +1,77 @@
+-- A candidate that fails between the bounds of all other charts is in no permitted choice; what is left gives tighter bounds.
+use mathlib.Core.Path.{_≡_, refl, sym, _∙_, ap, ap₂, subst, fun-ext}
+use mathlib.Core.Bool.{Bool, true, false, _&&_, _||_, not, cond, true≢false, false≢true}
+use mathlib.Core.Option.{Option, none, some}
+use mathlib.Core.List.{List, [], _∷_}
+use mathlib.Core.Logic.{_≢_}
+use Prim.Native.Nat.{ℕ, zero, suc, _+_, _≤_, _<_}
+use native.Mathlib.Omega.{arith}
+use native.Mathlib.Decide.{decLt}
+use lib.ListN.{length}
+use Rattle.signals.specs.Mask.{_∪_, _∩_, _∖_, Within}
+use Rattle.signals.specs.Decide.{sets, A, B, C, ∅ₑ, _∪ₑ_, _≐_, _⊑_}
+use Rattle.meaning.specs.Meaning.{Set, ∅, same, Chart, Tree, Move, nth, pick, actionOf, permitted, moves}
+use Rattle.meaning.specs.Laws.Bools.{same-refl, same→≡, same-≢}
+use Rattle.layout.specs.declared.record.Transition.{Transition}
+use Rattle.wiring.specs.Uncut.{own-moves}
+use Rattle.wiring.specs.Wire.{Small, down, back, offered}
+use Rattle.wiring.specs.Wired.{Stands}
+use Rattle.wiring.specs.Dropped.{test, Bounds}
+use Rattle.wiring.specs.Bounded.{bounded}
+
+module _ (E : ℕ → Chart) (state : ℕ → ℕ) (cfg : ℕ → ℕ) (N : ℕ) (t : Tree) (inp : Set) (may : ℕ → Set) where
+  -- the test of chart c's candidate v with its own action, between nothing and all that the others may put out
+  unfoldable pub lasts : ℕ → ℕ → Bool
+  lasts c v = test (pick (E c .transitions) v) (offered N (λ e. cond (same e c) (actionOf (pick (E c .transitions) v)) ∅) inp (down t c) (back E t c))
+      (offered N (λ e. cond (same e c) (actionOf (pick (E c .transitions) v)) (may e)) inp (down t c) (back E t c))
+
+  -- what the first k candidates put out that last
+  unfoldable pub mayLast : ℕ → ℕ → Set
+  mayLast c zero = ∅
+  mayLast c (suc k) = mayLast c k ∪ cond (lasts c (suc k)) (actionOf (pick (E c .transitions) (suc k))) ∅
+
+  may-at : (c k v : ℕ) → v < k → lasts c (suc v) ≡ true → Within (actionOf (pick (E c .transitions) (suc v))) (mayLast c k)
+  unfolding mayLast
+  may-at c zero v l h = absurd (omega arith)
+  may-at c (suc k) v l h = go (same v k) refl (λ m. may-at c k v m h)
+    where
+      new : Set
+      new = cond (lasts c (suc k)) (actionOf (pick (E c .transitions) (suc k))) ∅
+      go : (b : Bool) → same v k ≡ b → (v < k → Within (actionOf (pick (E c .transitions) (suc v))) (mayLast c k)) → Within (actionOf (pick (E c .transitions) (suc v))) (mayLast c k ∪ new)
+      go true e r = sets (actionOf (pick (E c .transitions) (suc v)) ∷ mayLast c k ∷ new ∷ []) (C ≐ A ∷ []) (A ⊑ B ∪ₑ C) tt
+          (subst (λ z. cond (lasts c (suc z)) (actionOf (pick (E c .transitions) (suc z))) ∅ ≡ actionOf (pick (E c .transitions) (suc v))) (same→≡ v k e) (ap (λ b. cond b (actionOf (pick (E c .transitions) (suc v))) ∅) h))
+      go false e r = let z : v ≢ k = λ w. false≢true (sym e ∙ rw w (same-refl k)) in
+          sets (actionOf (pick (E c .transitions) (suc v)) ∷ mayLast c k ∷ new ∷ []) (A ⊑ B ∷ []) (A ⊑ B ∪ₑ C) tt (r (omega arith))
+
+  module _ (enc : ℕ → Option ℕ) (sc : ℕ → ℕ) (s : Stands N enc sc t) (m : Bounds E state cfg N t inp may) (si : Small inp) (sa : (ch : ℕ → ℕ) (e : ℕ) → Small (actionOf (moves E ch e))) where
+    pub kept : (ch : ℕ → ℕ) → permitted E state cfg (moves E ch) t inp ≡ true → (c : ℕ) → c < N → lasts c (ch c) ≡ true
+    unfolding lasts moves
+    kept ch p c l = bounded E state cfg N enc sc t inp s (moves E ch) si (sa ch) (own-moves E ch) (λ e. cond (same e c) (actionOf (pick (E c .transitions) (ch c))) ∅)
+            (λ e. cond (same e c) (actionOf (pick (E c .transitions) (ch c))) (may e)) p (λ e h. below e (same e c) refl) (λ e h. above e (same e c) refl (m ch p e h)) c l
+      where
+        mine : (e : ℕ) → same e c ≡ true → actionOf (moves E ch e) ≡ actionOf (pick (E c .transitions) (ch c))
+        mine e q = ap (λ z. actionOf (moves E ch z)) (same→≡ e c q)
+        below : (e : ℕ) (b : Bool) → same e c ≡ b → Within (cond b (actionOf (pick (E c .transitions) (ch c))) ∅) (actionOf (moves E ch e))
+        below e true q = sets (actionOf (pick (E c .transitions) (ch c)) ∷ actionOf (moves E ch e) ∷ []) (B ≐ A ∷ []) (A ⊑ B) tt (mine e q)
+        below e false q = sets (actionOf (moves E ch e) ∷ []) [] (∅ₑ ⊑ A) tt
+        above : (e : ℕ) (b : Bool) → same e c ≡ b → Within (actionOf (moves E ch e)) (may e) → Within (actionOf (moves E ch e)) (cond b (actionOf (pick (E c .transitions) (ch c))) (may e))
+        above e true q w = sets (actionOf (pick (E c .transitions) (ch c)) ∷ actionOf (moves E ch e) ∷ []) (B ≐ A ∷ []) (B ⊑ A) tt (mine e q)
+        above e false q w = w
+
+    far : (ts : List Transition) (k : ℕ) → length ts ≤ k → actionOf (nth ts k) ≡ ∅
+    unfolding nth actionOf length
+    far [] k l = refl
+    far (t ∷ ts) zero l = absurd (omega arith)
+    far (t ∷ ts) (suc k) l = far ts k (omega arith)
+
+    pub tighter : Bounds E state cfg N t inp (λ c. mayLast c (length (E c .transitions)))
+    unfolding moves pick actionOf
+    tighter ch p c l = go (ch c) (kept ch p c l)
+      where
+        go : (v : ℕ) → lasts c v ≡ true → Within (actionOf (pick (E c .transitions) v)) (mayLast c (length (E c .transitions)))
+        go zero h = sets (mayLast c (length (E c .transitions)) ∷ []) [] (∅ₑ ⊑ A) tt
+        go (suc v) h = near (decLt v (length (E c .transitions)))
+          where
+            near : Dec (v < length (E c .transitions)) → Within (actionOf (nth (E c .transitions) v)) (mayLast c (length (E c .transitions)))
+            near (yes l) = may-at c (length (E c .transitions)) v l h
+            near (no f) = sets (actionOf (nth (E c .transitions) v) ∷ mayLast c (length (E c .transitions)) ∷ []) (A ≐ ∅ₑ ∷ []) (A ⊑ B) tt (far (E c .transitions) v (omega arith))
