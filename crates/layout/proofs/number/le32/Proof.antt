@@ -1,0 +1,47 @@
+-- `number::le32` meets its contract. Assumes nothing.
+use Prim.Native.Nat.{ℕ, _+_, _*_, _^_}
+use mathlib.Core.Path.{ap₂, _∙_}
+use borrow.Author.Needs.{needs}
+use denote.Ref.{now}
+use Rattle.layout.specs.Le.{le-twice}
+use Rattle.layout.proofs.number.le32.Statement.{statement}
+use Rattle.layout.proofs.number.le32.Tie as tie
+
+le16-requires : tie.Need-le16-requires
+le16-requires c κs = search needs
+
+cast-result : tie.Need-cast-result
+cast-result c = search needs
+
+add-le16 : tie.Need-add-le16
+add-le16 c = search needs
+
+le16-requires-2 : tie.Need-le16-requires-2
+le16-requires-2 c κs = search needs
+
+cast-result-2 : tie.Need-cast-result-2
+cast-result-2 c = search needs
+
+mul-result : tie.Need-mul-result
+mul-result c = search needs
+
+add-result : tie.Need-add-result
+add-result c = search needs
+
+returns : tie.Need-returns
+returns c =
+    ap₂ (λ (x y : ℕ). x + y * 256 ^ 2) (c .before .le16 .ensures) (c .le162 .ensures)
+    ∙ le-twice 2 (now (c .before .before .before .args .s)) (c .before .before .before .args .at)
+
+pub le32-spec : {M : Type 1} → statement M
+le32-spec =
+    tie.close
+    (tie.spec
+    le16-requires
+    cast-result
+    add-le16
+    le16-requires-2
+    cast-result-2
+    mul-result
+    add-result
+    returns)
