@@ -1,4 +1,4 @@
--- `number::le16` meets its contract. Assumes nothing.
+-- `number::le16` meets its contract. Two bytes are the number that they stand for: `le-two`. Assumes nothing.
 use Prim.Native.Nat.{_+_}
 use native.Mathlib.Omega.{arith}
 use borrow.Author.Needs.{needs}
@@ -7,27 +7,6 @@ use Rattle.layout.specs.Le.{le-two}
 use Rattle.layout.proofs.number.le16.Statement.{statement}
 use Rattle.layout.proofs.number.le16.Tie as tie
 
-shared-slice-read-result : tie.Need-shared-slice-read-result
-shared-slice-read-result c = search needs
-
-cast-result : tie.Need-cast-result
-cast-result c = omega (arith, c .shared-slice-known .given (c .before .args .at))
-
-add-result : tie.Need-add-result
-add-result c = search needs
-
-shared-slice-read-result-2 : tie.Need-shared-slice-read-result-2
-shared-slice-read-result-2 c = search needs
-
-cast-result-2 : tie.Need-cast-result-2
-cast-result-2 c = omega (arith, c .shared-slice-known2 .given (c .before .before .args .at + 1))
-
-mul-result : tie.Need-mul-result
-mul-result c = omega (arith, c .shared-slice-known2 .given (c .before .before .args .at + 1))
-
-add-result-2 : tie.Need-add-result-2
-add-result-2 c = omega (arith, c .shared-slice-known2 .given (c .before .before .args .at + 1), c .before .shared-slice-known .given (c .before .before .args .at))
-
 returns : tie.Need-returns
 returns c = le-two (now (c .before .before .args .s)) (c .before .before .args .at) (c .before .before .pre)
 
@@ -35,11 +14,11 @@ pub le16-spec : {M : Type 1} → statement M
 le16-spec =
     tie.close
     (tie.spec
-    shared-slice-read-result
-    cast-result
-    add-result
-    shared-slice-read-result-2
-    cast-result-2
-    mul-result
-    add-result-2
+    (λ c. search needs)
+    (λ c. omega (arith, c .shared-slice-known .given (c .before .args .at)))
+    (λ c. search needs)
+    (λ c. search needs)
+    (λ c. omega (arith, c .shared-slice-known2 .given (c .before .before .args .at + 1)))
+    (λ c. omega (arith, c .shared-slice-known2 .given (c .before .before .args .at + 1)))
+    (λ c. omega (arith, c .shared-slice-known2 .given (c .before .before .args .at + 1), c .before .shared-slice-known .given (c .before .before .args .at)))
     returns)

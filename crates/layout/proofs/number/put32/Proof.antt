@@ -1,27 +1,9 @@
--- `number::put32` meets its contract. Assumes nothing.
+-- `number::put32` meets its contract. The bytes of a number are those of its two halves: `put-twice`. Assumes nothing.
 use borrow.Author.Needs.{needs}
 use denote.Ref.{now}
 use Rattle.layout.specs.Le.{put-twice}
 use Rattle.layout.proofs.number.put32.Statement.{statement}
 use Rattle.layout.proofs.number.put32.Tie as tie
-
-cast-put16 : tie.Need-cast-put16
-cast-put16 c = search needs
-
-put16-requires : tie.Need-put16-requires
-put16-requires c κs = search needs
-
-add-put16 : tie.Need-add-put16
-add-put16 c = search needs
-
-cast-put16-2 : tie.Need-cast-put16-2
-cast-put16-2 c = search needs
-
-put16-requires-2 : tie.Need-put16-requires-2
-put16-requires-2 c κs = search needs
-
-same-length : tie.Need-same-length
-same-length c = search needs
 
 returns : tie.Need-returns
 returns c =
@@ -32,10 +14,10 @@ pub put32-spec : {M : Type 1} → statement M
 put32-spec =
     tie.close
     (tie.spec
-    cast-put16
-    put16-requires
-    add-put16
-    cast-put16-2
-    put16-requires-2
-    same-length
+    (λ c. search needs)
+    (λ c κs. search needs)
+    (λ c. search needs)
+    (λ c. search needs)
+    (λ c κs. search needs)
+    (λ c. search needs)
     returns)

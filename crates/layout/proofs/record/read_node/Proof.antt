@@ -1,50 +1,11 @@
+-- `record::read_node` meets its contract. A field at k of the record at `at` is read at `at + k`. Assumes nothing.
 use borrow.Author.Needs.{needs}
 use native.Mathlib.Nat.{add-zero}
 use lib.Seq.{getD-drop, drop-drop}
 use Rattle.layout.specs.Record.{nodeOf}
 use Rattle.layout.proofs.record.read_node.Statement.{statement}
 use Rattle.layout.proofs.record.read_node.Tie as tie
-use Rattle.layout.proofs.record.read_node.Reads as reads
-use Rattle.layout.proofs.record.read_node.Lts as lts
-use Rattle.layout.proofs.number.le64.Reads as le64-reads
 
--- src/record.rt:108:15
-shared-slice-read-t4 : tie.Need-shared-slice-read-t4
-shared-slice-read-t4 c = search needs
-
--- src/record.rt:109:14
-add-t5 : tie.Need-add-t5
-add-t5 c = search needs
-
--- src/record.rt:109:12
-shared-slice-read-t7 : tie.Need-shared-slice-read-t7
-shared-slice-read-t7 c = search needs
-
--- src/record.rt:110:14
-add-t8 : tie.Need-add-t8
-add-t8 c = search needs
-
--- src/record.rt:110:12
-shared-slice-read-t10 : tie.Need-shared-slice-read-t10
-shared-slice-read-t10 c = search needs
-
--- src/record.rt:111:35
-add-le64 : tie.Need-add-le64
-add-le64 c = search needs
-
--- src/record.rt:111:12
-le64-requires : tie.Need-le64-requires
-le64-requires c κs = search needs
-
--- src/record.rt:112:35
-add-le64-2 : tie.Need-add-le64-2
-add-le64-2 c = search needs
-
--- src/record.rt:112:12
-le64-requires-2 : tie.Need-le64-requires-2
-le64-requires-2 c κs = search needs
-
--- src/record.rt:103:1
 returns : tie.Need-returns
 unfolding nodeOf
 returns c = simp (getD-drop, drop-drop, add-zero) (cc)
@@ -53,13 +14,13 @@ pub read-node-spec : {M : Type 1} → statement M
 read-node-spec =
     tie.close
     (tie.spec
-    shared-slice-read-t4
-    add-t5
-    shared-slice-read-t7
-    add-t8
-    shared-slice-read-t10
-    add-le64
-    le64-requires
-    add-le64-2
-    le64-requires-2
+    (λ c. search needs)
+    (λ c. search needs)
+    (λ c. search needs)
+    (λ c. search needs)
+    (λ c. search needs)
+    (λ c. search needs)
+    (λ c κs. search needs)
+    (λ c. search needs)
+    (λ c κs. search needs)
     returns)
