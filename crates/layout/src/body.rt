@@ -3,7 +3,10 @@ ghost use mathlib.Core.Path.{_≡_};
 ghost use Prim.Native.Nat.{_+_, _*_, _≤_, _<_};
 ghost use lib.ListN.{length};
 ghost use Rattle.layout.specs.Body.{Holds, sizeOf, headAt, transitionAt, slaveAt, nodeAt};
-use crate::record::{Head, Transition, Slave, Node};
+use crate::record::Head;
+use crate::record::Node;
+use crate::record::Slave;
+use crate::record::Transition;
 
 // How many records of each kind a body has.
 pub struct Shape {
@@ -47,5 +50,8 @@ pub fn node_at(n: Shape, body: &[u8], j: usize) -> Node
     requires { ⌜ Holds n (now body) × (j < n .nodes) ⌝ }
     ensures { λ r. ⌜ r ≡ nodeAt n (now (body .entry)) j ⌝ }
 {
-    crate::record::read_node(body, 24 * n.charts + 28 * n.transitions + 4 * n.slaves + 20 * j)
+    crate::record::read_node(
+        body,
+        24 * n.charts + 28 * n.transitions + 4 * n.slaves + 20 * j,
+    )
 }
