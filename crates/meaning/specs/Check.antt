@@ -73,16 +73,16 @@ module _ (n : Shape) (b : List ℕ) where
   charts? = anyUpTo (n .charts) chart? || differ (startOf n b (n .charts)) (n .transitions)
 
   -- transition k of chart c
-  abbrev pub own : ℕ → ℕ → Transition
-  own c k = transitionAt n b (startOf n b c + k)
+  abbrev pub inChart : ℕ → ℕ → Transition
+  inChart c k = transitionAt n b (startOf n b c + k)
 
   -- 7: "from or to not below the chart's states"
   unfoldable pub ends? : ℕ → ℕ → Bool
-  ends? c k = notBelow (own c k .from) (headAt n b c .states) || notBelow (own c k .to) (headAt n b c .states)
+  ends? c k = notBelow (inChart c k .from) (headAt n b c .states) || notBelow (inChart c k .to) (headAt n b c .states)
 
   -- how many of the first k transitions of chart c are from the state s
   unfoldable pub leaving : ℕ → ℕ → ℕ → ℕ
-  leaving c s k = tally k (λ u. one (same (own c u .from) s))
+  leaving c s k = tally k (λ u. one (same (inChart c u .from) s))
 
   -- "or over 8 transitions from one state"
   unfoldable pub transitions? : Bool

@@ -2,6 +2,8 @@
 use mathlib.Core.Bool.{Bool, true, false, _||_}
 use Prim.Native.Nat.{ℕ, zero, suc, _+_}
 
+pub mod Laws
+
 -- p holds of some number below n
 unfoldable pub anyUpTo : ℕ → (ℕ → Bool) → Bool
 anyUpTo zero p = false

@@ -8,8 +8,7 @@ use Rattle.signals.specs.Decide.{sets, A, B, C, ∅ₑ, _∪ₑ_, _∩ₑ_, _�
 use Rattle.meaning.specs.Meaning.{Set, ∅, same, Chart, Tree, Slaves, leaf, comp, hide, dec, nil, snoc}
 use Rattle.meaning.specs.File.{File, whole, gather, treeOf}
 use Rattle.meaning.specs.Laws.Trees.{Ordered, tree₀, tree₁, tree₂}
-use Rattle.meaning.specs.Check.{own}
-use Rattle.wiring.specs.Wire.{down, downs, up, ups, back, backs}
+use Rattle.wiring.specs.Wire.{own, down, downs, up, ups, back, backs}
 
 down-whole : (d : ℕ) (ss : Slaves) (c : ℕ) → down (whole d ss) c ≡ own d c ∪ downs ss c
 unfolding down

@@ -230,8 +230,8 @@ module _ (F : File) (w : Ordered F) (r : Rule10 F) (r11 : Rule11 F)
   twice : (j : ℕ) → j < F .nodes → F .kind j ≡ 1 → F .a j ≢ F .b j
   unfolding names named
   twice j l e q = let a = w .lower₁ j l e in let a0 = a .0 in
-      let x : bit (same (F .kind j) 1 && same (F .a j) (F .a j)) ≡ 1 = ap bit (and-i (ap (λ z. same z 1) e ∙ same-refl 1) (same-refl (F .a j))) in
-      let y : bit (same (F .kind j) 1 && same (F .b j) (F .a j)) ≡ 1 = ap bit (and-i (ap (λ z. same z 1) e ∙ same-refl 1) (ap (λ z. same z (F .a j)) (sym q) ∙ same-refl (F .a j))) in
+      let x : one (same (F .kind j) 1 && same (F .a j) (F .a j)) ≡ 1 = ap one (and-i (ap (λ z. same z 1) e ∙ same-refl 1) (same-refl (F .a j))) in
+      let y : one (same (F .kind j) 1 && same (F .b j) (F .a j)) ≡ 1 = ap one (and-i (ap (λ z. same z 1) e ∙ same-refl 1) (ap (λ z. same z (F .a j)) (sym q) ∙ same-refl (F .a j))) in
       let g = tally-ge (F .nodes) (λ k. names F k (F .a j)) j l in let m = at-most F w r (F .a j) (omega arith) in omega arith
 
   tidy : Tidy F parF holdF

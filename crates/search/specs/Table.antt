@@ -1,0 +1,56 @@
+-- The tables that a search reads, by chart c, candidate v and chart d. A chart has at most 8 candidates: the transitions that it may take now.
+use mathlib.Core.List.{List}
+use Prim.Native.Nat.{ℕ, _+_, _*_, _≤_, _<_}
+use mathlib.Core.Path.{_≡_}
+use lib.ListN.{length, getD}
+
+-- ── masks ──
+module _ (m : List ℕ) where
+  -- candidate v of chart c
+  abbrev pub neededAt : ℕ → ℕ → ℕ
+  neededAt c v = getD m (8 * c + v) 0
+
+  abbrev pub barredAt : ℕ → ℕ → ℕ
+  barredAt c v = getD m (64 + (8 * c + v)) 0
+
+  abbrev pub actionAt : ℕ → ℕ → ℕ
+  actionAt c v = getD m (128 + (8 * c + v)) 0
+
+  -- what chart c is offered of chart d's action
+  abbrev pub backAt : ℕ → ℕ → ℕ
+  backAt c d = getD m (192 + (8 * c + d)) 0
+
+  -- what the charts from k on may still put in for chart c
+  abbrev pub aheadAt : ℕ → ℕ → ℕ
+  aheadAt k c = getD m (256 + (8 * k + c)) 0
+
+  -- what of chart d's action comes out of the whole
+  abbrev pub upAt : ℕ → ℕ
+  upAt d = getD m (328 + d) 0
+
+-- ── small numbers ──
+module _ (s : List ℕ) where
+  -- where candidate v of chart c leads
+  abbrev pub toAt : ℕ → ℕ → ℕ
+  toAt c v = getD s (8 * c + v) 0
+
+  -- how many candidates chart c has
+  abbrev pub countAt : ℕ → ℕ
+  countAt c = getD s (64 + c) 0
+
+  -- the master of chart c's nearest enclosing slave, 8 or more if there is none, and that slave's state
+  abbrev pub masterAt : ℕ → ℕ
+  masterAt c = getD s (72 + c) 0
+
+  abbrev pub slaveStateAt : ℕ → ℕ
+  slaveStateAt c = getD s (80 + c) 0
+
+  -- the present state of chart c
+  abbrev pub stateAt : ℕ → ℕ
+  stateAt c = getD s (88 + c) 0
+
+-- what a search asks of its tables
+pub record Tables (m s : List ℕ) : Type 0 where
+  pub masks : length m ≡ 336
+  pub small : length s ≡ 96
+  pub counts : (c : ℕ) → countAt s c ≤ 8
