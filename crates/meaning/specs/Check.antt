@@ -89,8 +89,8 @@ module _ (n : Shape) (b : List ℕ) where
   transitions? =
       anyUpTo (n .charts)
       (λ c.
-        anyUpTo (headAt n b c .transitions) (ends? c)
-        || anyUpTo (headAt n b c .states) (λ s. ltb mostFromState (leaving c s (headAt n b c .transitions))))
+      anyUpTo (headAt n b c .transitions) (ends? c)
+      || anyUpTo (headAt n b c .states) (λ s. ltb mostFromState (leaving c s (headAt n b c .transitions))))
 
 -- ── 8 to 11: slaves and nodes ──
 

@@ -1,7 +1,6 @@
 -- Tests and sums over the numbers below a limit, as a scan of records takes them. Laws are in Count/Laws.antt.
 use mathlib.Core.Bool.{Bool, true, false, _||_}
 use Prim.Native.Nat.{ℕ, zero, suc, _+_}
-
 pub mod Laws
 
 -- p holds of some number below n

@@ -15,9 +15,9 @@ pub record File : Type 0 where
   pub charts : ℕ
   pub chart : ℕ → Chart
   pub slaves : ℕ
-  pub master : ℕ → ℕ -- a slave's chart
-  pub state : ℕ → ℕ -- its state
-  pub node : ℕ → ℕ -- its node
+  pub master : ℕ → ℕ  -- a slave's chart
+  pub state : ℕ → ℕ  -- its state
+  pub node : ℕ → ℕ  -- its node
   pub nodes : ℕ
   pub kind : ℕ → ℕ
   pub a : ℕ → ℕ

@@ -154,7 +154,7 @@ module _ (E : ℕ → Chart) (state : ℕ → ℕ) (cfg : ℕ → ℕ) (M : ℕ 
     -- the step is the slave's state."
     ok (dec c ss) a o =
         okChart (E c .feedback) a ((o ∪ ((actionOf (M c) ∪ outs M ss) ∩ E c .feedback)) ∩ inFaceChart (E c)) (cfg c) (M c)
-            && oks ss (λ q. a && meets (cfg c) (M c) q) (o ∪ ((actionOf (M c) ∪ outs M ss) ∩ E c .feedback))
+        && oks ss (λ q. a && meets (cfg c) (M c) q) (o ∪ ((actionOf (M c) ∪ outs M ss) ∩ E c .feedback))
 
     -- slaves, whether one is active by its state, and what all are offered before the cut
     pub oks : Slaves → (ℕ → Bool) → Set → Bool

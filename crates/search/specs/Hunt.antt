@@ -58,7 +58,7 @@ module _ (m s : List ℕ) where
   passesAt t k d =
       cond (isAwake t d)
       (within (neededAt m d (getD (t .choice) d 0)) (getD (t .low) d 0 ∪ aheadAt m k d)
-          && apart (barredAt m d (getD (t .choice) d 0)) (getD (t .low) d 0))
+      && apart (barredAt m d (getD (t .choice) d 0)) (getD (t .low) d 0))
       true
 
   -- every chart up to k can still be met

@@ -5,13 +5,11 @@ use mathlib.Core.Bool.{Bool}
 use Prim.Native.Nat.{ℕ, _/_, _%_, _^_}
 use lib.Dec.{eqb}
 use lib.Bits.{bitAnd, bitOr, bitXor}
-
 pub mod Laws
 
 infixl 70 _∪_
 infixl 75 _∩_
 infixl 75 _∖_
-
 -- union
 abbrev pub _∪_ : ℕ → ℕ → ℕ
 a ∪ b = bitOr a b

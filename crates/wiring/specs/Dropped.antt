@@ -101,7 +101,7 @@ module _ (E : ℕ → Chart) (state : ℕ → ℕ) (cfg : ℕ → ℕ) (t : Tree
   unfolding search outcome
   search-empty zero c ch h = rw (h ch (λ i l. refl))
   search-empty (suc n) c ch h = upto-cong (length (E c .transitions)) _ (λ v. []) (λ v l. search-empty n (suc c) (upd ch c v)
-          (λ ch₂ b. h ch₂ (λ i l. b i (omega arith) ∙ upd-off ch c v i l))) ∙ upto-first (length (E c .transitions)) (λ v. []) (λ k l. refl)
+      (λ ch₂ b. h ch₂ (λ i l. b i (omega arith) ∙ upd-off ch c v i l))) ∙ upto-first (length (E c .transitions)) (λ v. []) (λ k l. refl)
 
 join-cong : (k : ℕ) (f g : ℕ → Set) → ((e : ℕ) → e < k → f e ≡ g e) → join k f ≡ join k g
 unfolding join
@@ -130,10 +130,11 @@ module _ (E : ℕ → Chart) (state : ℕ → ℕ) (cfg : ℕ → ℕ) (N : ℕ)
     high-in : (ch : ℕ → ℕ) (n k c : ℕ) → n + k ≡ N → ((e : ℕ) → e < N → Within (actionOf (moves E ch e)) (may e)) → Within (low ch N c) (high ch n k c)
     unfolding low high offer offered
     high-in ch n k c e q = sets ((inp ∩ down t c) ∷ join k f ∷ ahead n k f ∷ join N f ∷ ahead n k g ∷ []) (D ≐ B ∪ₑ C ∷ C ⊑ Eₑ ∷ []) (A ∪ₑ D ⊑ A ∪ₑ B ∪ₑ Eₑ) tt (ap (λ z. join z f) (sym e) ∙ split n k f)
-            (ahead-in n k f g (λ d p r. sets (actionOf (moves E ch d) ∷ may d ∷ back E t c d ∷ []) (A ⊑ B ∷ []) (A ∩ₑ C ⊑ B ∩ₑ C) tt (q d (omega arith))))
+        (ahead-in n k f g (λ d p r. sets (actionOf (moves E ch d) ∷ may d ∷ back E t c d ∷ []) (A ⊑ B ∷ []) (A ∩ₑ C ⊑ B ∩ₑ C) tt (q d (omega arith))))
       where
         f : ℕ → Set
         f e = actionOf (moves E ch e) ∩ back E t c e
+
         g : ℕ → Set
         g e = may e ∩ back E t c e
 
@@ -141,8 +142,8 @@ module _ (E : ℕ → Chart) (state : ℕ → ℕ) (cfg : ℕ → ℕ) (N : ℕ)
     pub passed : (ch : ℕ → ℕ) (n k c : ℕ) → n + k ≡ N → c < N → permitted E state cfg (moves E ch) t inp ≡ true → passes ch n k c ≡ true
     unfolding passes low ruled moves
     passed ch n k c e l p = fits-test (awake enc sc state cfg (moves E ch) c) (low ch N c) (cfg c) (moves E ch c) (low ch k c) (high ch n k c) (low-in ch n k c e)
-            (high-in ch n k c e (λ d r. m ch p d r))
-            (every-elim N (ruled E state cfg N enc sc t inp (moves E ch)) all c l)
+        (high-in ch n k c e (λ d r. m ch p d r))
+        (every-elim N (ruled E state cfg N enc sc t inp (moves E ch)) all c l)
       where
         all : every N (ruled E state cfg N enc sc t inp (moves E ch)) ≡ true
         all = sym (permitted-wired E state cfg N enc sc t inp (moves E ch) s si (sa ch) (own-moves E ch)) ∙ p

@@ -37,6 +37,7 @@ module _ (E : ℕ → Chart) (state : ℕ → ℕ) (cfg : ℕ → ℕ) (N : ℕ)
     where
       new : Set
       new = cond (lasts c (suc k)) (actionOf (pick (E c .transitions) (suc k))) ∅
+
       go : (b : Bool) → same v k ≡ b → (v < k → Within (actionOf (pick (E c .transitions) (suc v))) (mayLast c k)) → Within (actionOf (pick (E c .transitions) (suc v))) (mayLast c k ∪ new)
       go true e r = sets (actionOf (pick (E c .transitions) (suc v)) ∷ mayLast c k ∷ new ∷ []) (C ≐ A ∷ []) (A ⊑ B ∪ₑ C) tt
           (subst (λ z. cond (lasts c (suc z)) (actionOf (pick (E c .transitions) (suc z))) ∅ ≡ actionOf (pick (E c .transitions) (suc v))) (same→≡ v k e) (ap (λ b. cond b (actionOf (pick (E c .transitions) (suc v))) ∅) h))
@@ -47,13 +48,15 @@ module _ (E : ℕ → Chart) (state : ℕ → ℕ) (cfg : ℕ → ℕ) (N : ℕ)
     pub kept : (ch : ℕ → ℕ) → permitted E state cfg (moves E ch) t inp ≡ true → (c : ℕ) → c < N → lasts c (ch c) ≡ true
     unfolding lasts moves
     kept ch p c l = bounded E state cfg N enc sc t inp s (moves E ch) si (sa ch) (own-moves E ch) (λ e. cond (same e c) (actionOf (pick (E c .transitions) (ch c))) ∅)
-            (λ e. cond (same e c) (actionOf (pick (E c .transitions) (ch c))) (may e)) p (λ e h. below e (same e c) refl) (λ e h. above e (same e c) refl (m ch p e h)) c l
+        (λ e. cond (same e c) (actionOf (pick (E c .transitions) (ch c))) (may e)) p (λ e h. below e (same e c) refl) (λ e h. above e (same e c) refl (m ch p e h)) c l
       where
         mine : (e : ℕ) → same e c ≡ true → actionOf (moves E ch e) ≡ actionOf (pick (E c .transitions) (ch c))
         mine e q = ap (λ z. actionOf (moves E ch z)) (same→≡ e c q)
+
         below : (e : ℕ) (b : Bool) → same e c ≡ b → Within (cond b (actionOf (pick (E c .transitions) (ch c))) ∅) (actionOf (moves E ch e))
         below e true q = sets (actionOf (pick (E c .transitions) (ch c)) ∷ actionOf (moves E ch e) ∷ []) (B ≐ A ∷ []) (A ⊑ B) tt (mine e q)
         below e false q = sets (actionOf (moves E ch e) ∷ []) [] (∅ₑ ⊑ A) tt
+
         above : (e : ℕ) (b : Bool) → same e c ≡ b → Within (actionOf (moves E ch e)) (may e) → Within (actionOf (moves E ch e)) (cond b (actionOf (pick (E c .transitions) (ch c))) (may e))
         above e true q w = sets (actionOf (pick (E c .transitions) (ch c)) ∷ actionOf (moves E ch e) ∷ []) (B ≐ A ∷ []) (B ⊑ A) tt (mine e q)
         above e false q w = w

@@ -71,7 +71,7 @@ module _ (E : ℕ → Chart) (state : ℕ → ℕ) (cfg : ℕ → ℕ) (N : ℕ)
     unfolding opens ruled
     skip-open n k ch l h = search-empty E state cfg t inp N n (suc k) ch (λ ch₂ b. not-true (λ p. false≢true (sym h ∙ sym (opens-below ch ch₂ k l b)
         ∙ and-l _ _ (sym (fits-open (awake enc sc state cfg (moves E ch₂) k) (offer E state cfg N enc sc t inp (moves E ch₂) N k) (cfg k) (moves E ch₂ k))
-            ∙ every-elim N (ruled E state cfg N enc sc t inp (moves E ch₂)) (sym (permitted-wired E state cfg N enc sc t inp (moves E ch₂) s si (sa ch₂) (own-moves E ch₂)) ∙ p) k l))))
+        ∙ every-elim N (ruled E state cfg N enc sc t inp (moves E ch₂)) (sym (permitted-wired E state cfg N enc sc t inp (moves E ch₂) s si (sa ch₂) (own-moves E ch₂)) ∙ p) k l))))
 
     skip-keep : (n k v : ℕ) (ch : ℕ → ℕ) → k < N → keep k v ≡ false → search E state cfg t inp N n (suc k) (upd ch k v) ≡ []
     skip-keep n k v ch l h = search-empty E state cfg t inp N n (suc k) (upd ch k v) (λ ch₂ b. not-true (λ p. false≢true (sym h ∙ ap (keep k) (sym (b k (omega arith) ∙ at ch k v)) ∙ kept ch₂ p k l)))
@@ -92,17 +92,18 @@ module _ (E : ℕ → Chart) (state : ℕ → ℕ) (cfg : ℕ → ℕ) (N : ℕ)
     unfolding hunt search outcome fine
     hunted zero k ch e g = let q : k ≡ N = omega arith in rw (good-all ch (subst (λ z. Good ch zero z) q g))
     hunted (suc n) k ch e g = upto-cong (length (E k .transitions)) _ _ (λ v l. first v (keep k v) refl (go v (opens (upd ch k v) k) refl (every (suc k) (passes E state cfg N enc sc t inp may (upd ch k v) n (suc k))) refl
-            (λ g′. hunted n (suc k) (upd ch k v) (omega arith) g′)))
+        (λ g′. hunted n (suc k) (upd ch k v) (omega arith) g′)))
       where
         first : (v : ℕ) (x : Bool) → keep k v ≡ x → cond (fine (upd ch k v) n k) (hunt n (suc k) (upd ch k v)) [] ≡ search E state cfg t inp N n (suc k) (upd ch k v)
             → cond (x && fine (upd ch k v) n k) (hunt n (suc k) (upd ch k v)) [] ≡ search E state cfg t inp N n (suc k) (upd ch k v)
         first v true p r = r
         first v false p r = sym (skip-keep n k v ch (omega arith) p)
+
         go : (v : ℕ) (a : Bool) → opens (upd ch k v) k ≡ a → (b : Bool) → every (suc k) (passes E state cfg N enc sc t inp may (upd ch k v) n (suc k)) ≡ b
             → (Good (upd ch k v) n (suc k) → hunt n (suc k) (upd ch k v) ≡ search E state cfg t inp N n (suc k) (upd ch k v))
             → cond (fine (upd ch k v) n k) (hunt n (suc k) (upd ch k v)) [] ≡ search E state cfg t inp N n (suc k) (upd ch k v)
         go v true p true q ih = ap₂ (λ x y. cond (x && y) (hunt n (suc k) (upd ch k v)) []) p q
-                ∙ ih (λ c l. (mine c l (same c k) refl, every-elim (suc k) (passes E state cfg N enc sc t inp may (upd ch k v) n (suc k)) q c l))
+            ∙ ih (λ c l. (mine c l (same c k) refl, every-elim (suc k) (passes E state cfg N enc sc t inp may (upd ch k v) n (suc k)) q c l))
           where
             mine : (c : ℕ) → c < suc k → (x : Bool) → same c k ≡ x → opens (upd ch k v) c ≡ true
             mine c l true z = rw (same→≡ c k z) p
@@ -110,7 +111,7 @@ module _ (E : ℕ → Chart) (state : ℕ → ℕ) (cfg : ℕ → ℕ) (N : ℕ)
                 opens-below ch (upd ch k v) c (omega arith) (λ i j. upd-off ch k v i (omega arith)) ∙ g c (omega arith) .0
         go v true p false q ih = ap₂ (λ x y. cond (x && y) (hunt n (suc k) (upd ch k v)) []) p q
             ∙ (let u = every-fails (suc k) (passes E state cfg N enc sc t inp may (upd ch k v) n (suc k)) q in
-                sym (skip-dropped E state cfg N enc sc t inp may s m si sa (upd ch k v) n (suc k) (u .0) (omega arith) (u .1) (u .2)))
+            sym (skip-dropped E state cfg N enc sc t inp may s m si sa (upd ch k v) n (suc k) (u .0) (omega arith) (u .1) (u .2)))
         go v false p b q ih = ap (λ x. cond (x && every (suc k) (passes E state cfg N enc sc t inp may (upd ch k v) n (suc k))) (hunt n (suc k) (upd ch k v)) []) p
             ∙ sym (skip-open n k (upd ch k v) (omega arith) p)
 

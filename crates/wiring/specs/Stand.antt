@@ -62,6 +62,7 @@ module _ (par : ℕ → ℕ) where
           st : ((x ≡ y) ⊎ Up (par x) y) → ⊥
           st (inl e) = d e
           st (inr z) = let y′ = up-le (par x) y z in omega arith
+
       go : (Up i k ⊎ Up k i) → ⊥
       go (inl w) = side i k d p b w
       go (inr w) = side k i (λ e. d (sym e)) q a w
@@ -82,6 +83,7 @@ gather-in sc g c (suc k) d h = go (same (sc k) c) refl h (gather-in sc g c k d)
   where
     lift : ((i : ℕ) × (i < k) × (sc i ≡ c) × (Has (g i) d ≡ true)) → (i : ℕ) × (i < suc k) × (sc i ≡ c) × (Has (g i) d ≡ true)
     lift u = (u .0, (let l = u .1 in omega arith), u .2, u .3)
+
     go : (b : Bool) → same (sc k) c ≡ b → HasS (cond b (snoc (gather sc g c k) k (g k)) (gather sc g c k)) d ≡ true
         → (HasS (gather sc g c k) d ≡ true → (i : ℕ) × (i < k) × (sc i ≡ c) × (Has (g i) d ≡ true)) → (i : ℕ) × (i < suc k) × (sc i ≡ c) × (Has (g i) d ≡ true)
     go false e h r = lift (r h)
@@ -110,11 +112,12 @@ module _ (F : File) (w : Ordered F) (par hold : ℕ → ℕ) (ti : Tidy F par ho
     where
       rise : (i : ℕ) → par i ≡ j → i < j → Up par (hold c) i → Up par (hold c) j
       rise i e a u = subst (λ z. Up par (hold c) z) e (more u (rw e a))
+
       go : (k : ℕ) → F .kind j ≡ k → ((i : ℕ) → i < j → Has (treeOf F i) c ≡ true → Up par (hold c) i) → Up par (hold c) j
       go zero e ih = live-either (same c (F .a j)) (HasS (gather (F .master) (λ i. treeOf F (F .node i)) (F .a j) (F .slaves)) c) _
           (λ q. subst (λ z. Up par (hold c) z) (ap hold (same→≡ c (F .a j) q) ∙ ti .holds j l e .0) here)
           (λ q. let u = gather-in (F .master) (λ i. treeOf F (F .node i)) (F .a j) (F .slaves) c q in
-              let a = w .lower₀ j l e (u .0) (u .1) (u .2) in rise (F .node (u .0)) (ti .par₀ j l e (u .0) (u .1) (u .2)) a (ih (F .node (u .0)) a (u .3)))
+          let a = w .lower₀ j l e (u .0) (u .1) (u .2) in rise (F .node (u .0)) (ti .par₀ j l e (u .0) (u .1) (u .2)) a (ih (F .node (u .0)) a (u .3)))
           (whole-in (F .a j) (gather (F .master) (λ i. treeOf F (F .node i)) (F .a j) (F .slaves)) c (rw (tree₀ F w j l e) at h))
       go (suc zero) e ih = let a = w .lower₁ j l e in let b = ti .par₁ j l e in live-either (Has (treeOf F (F .a j)) c) (Has (treeOf F (F .b j)) c) _
           (λ q. rise (F .a j) (b .0) (a .0) (ih (F .a j) (a .0) q)) (λ q. rise (F .b j) (b .1) (a .1) (ih (F .b j) (a .1) q)) (rw (tree₁ F w j l e) at h)
@@ -129,12 +132,17 @@ module _ (F : File) (w : Ordered F) (par hold : ℕ → ℕ) (ti : Tidy F par ho
     where
       rest : Slaves
       rest = gather (F .master) (λ i. treeOf F (F .node i)) (F .a j) k
+
       go : (x : Bool) → same (F .master k) (F .a j) ≡ x → Helds (F .charts) rest → Helds (F .charts) (cond x (snoc rest k (treeOf F (F .node k))) rest)
-      go true q r = let s = same→≡ (F .master k) (F .a j) q in let lk = w .lower₀ j l e k (omega arith) s in (r, h k (omega arith) s, λ c. and-none (Has (treeOf F (F .node k)) c) (HasS rest c) (λ p p′.
-          let u = gather-in (F .master) (λ i. treeOf F (F .node i)) (F .a j) k c p′ in let ui = u .1 in let lu = w .lower₀ j l e (u .0) (omega arith) (u .2) in
-          let d : F .node k ≢ F .node (u .0) = λ z. (let v : k ≡ u .0 = ti .differ k (u .0) (omega arith) (omega arith) z in omega arith) in
-          up-apart par (hold c) (F .node k) (F .node (u .0)) j d (ti .par₀ j l e k (omega arith) s) (ti .par₀ j l e (u .0) (omega arith) (u .2)) lk lu
-              (reach (F .nodes) (F .node k) c (omega arith) (omega arith) p) (reach (F .nodes) (F .node (u .0)) c (omega arith) (omega arith) (u .3))))
+      go true q r = let s = same→≡ (F .master k) (F .a j) q in let lk = w .lower₀ j l e k (omega arith) s in (
+        r,
+        h k (omega arith) s,
+        λ c. and-none (Has (treeOf F (F .node k)) c) (HasS rest c) (λ p p′.
+            let u = gather-in (F .master) (λ i. treeOf F (F .node i)) (F .a j) k c p′ in let ui = u .1 in let lu = w .lower₀ j l e (u .0) (omega arith) (u .2) in
+            let d : F .node k ≢ F .node (u .0) = λ z. (let v : k ≡ u .0 = ti .differ k (u .0) (omega arith) (omega arith) z in omega arith) in
+            up-apart par (hold c) (F .node k) (F .node (u .0)) j d (ti .par₀ j l e k (omega arith) s) (ti .par₀ j l e (u .0) (omega arith) (u .2)) lk lu
+            (reach (F .nodes) (F .node k) c (omega arith) (omega arith) p) (reach (F .nodes) (F .node (u .0)) c (omega arith) (omega arith) (u .3))),
+      )
       go false q r = r
 
   held-whole : (c : ℕ) (ss : Slaves) → c < F .charts → Helds (F .charts) ss → HasS ss c ≡ false → Held (F .charts) (whole c ss)
@@ -149,9 +157,13 @@ module _ (F : File) (w : Ordered F) (par hold : ℕ → ℕ) (ti : Tidy F par ho
       go zero e ih = let hj = ti .holds j l e in rw (tree₀ F w j l e) (held-whole (F .a j) (gather (F .master) (λ i. treeOf F (F .node i)) (F .a j) (F .slaves)) (hj .1)
           (held-gather j (F .slaves) l e (omega arith) (λ i a b. ih (F .node i) (w .lower₀ j l e i a b)))
           (not-true (λ q. let u = gather-in (F .master) (λ i. treeOf F (F .node i)) (F .a j) (F .slaves) (F .a j) q in let a = w .lower₀ j l e (u .0) (u .1) (u .2) in
-              let z = up-le par (hold (F .a j)) (F .node (u .0)) (reach (F .nodes) (F .node (u .0)) (F .a j) (omega arith) (omega arith) (u .3)) in let y = hj .0 in omega arith)))
-      go (suc zero) e ih = let a = w .lower₁ j l e in let b = ti .par₁ j l e in rw (tree₁ F w j l e) (ih (F .a j) (a .0), ih (F .b j) (a .1), λ c. and-none (Has (treeOf F (F .a j)) c) (Has (treeOf F (F .b j)) c) (λ p q.
-          let a0 = a .0 in let a1 = a .1 in up-apart par (hold c) (F .a j) (F .b j) j (b .2) (b .0) (b .1) a0 a1 (reach (F .nodes) (F .a j) c (omega arith) (omega arith) p) (reach (F .nodes) (F .b j) c (omega arith) (omega arith) q)))
+          let z = up-le par (hold (F .a j)) (F .node (u .0)) (reach (F .nodes) (F .node (u .0)) (F .a j) (omega arith) (omega arith) (u .3)) in let y = hj .0 in omega arith)))
+      go (suc zero) e ih = let a = w .lower₁ j l e in let b = ti .par₁ j l e in rw (tree₁ F w j l e) (
+        ih (F .a j) (a .0),
+        ih (F .b j) (a .1),
+        λ c. and-none (Has (treeOf F (F .a j)) c) (Has (treeOf F (F .b j)) c) (λ p q.
+            let a0 = a .0 in let a1 = a .1 in up-apart par (hold c) (F .a j) (F .b j) j (b .2) (b .0) (b .1) a0 a1 (reach (F .nodes) (F .a j) c (omega arith) (omega arith) p) (reach (F .nodes) (F .b j) c (omega arith) (omega arith) q)),
+      )
       go (suc (suc k)) e ih = let e₂ : F .kind j ≡ 2 = (let h = w .kinds j l in omega arith) in rw (tree₂ F w j l e₂) (ih (F .a j) (w .lower₂ j l e₂))
 
 -- ── the slaves of the charts, from where the nodes stand ──
@@ -163,6 +175,7 @@ module _ (F : File) (w : Ordered F) (encN kapC : ℕ → Option ℕ) (pl : Place
     where
       rest : Slaves
       rest = gather (F .master) (λ i. treeOf F (F .node i)) c k
+
       go : (x : Bool) → same (F .master k) c ≡ x → Encs kapC (F .master) rest c → Encs kapC (F .master) (cond x (snoc rest k (treeOf F (F .node k))) rest) c
       go true q r = let s = same→≡ (F .master k) c q in (r, s, h k (omega arith) s)
       go false q r = r
@@ -188,6 +201,7 @@ module _ (encC : ℕ → Option ℕ) (sc : ℕ → ℕ) where
 
   mutual
     unfolding Has
+
     low-tree : (t : Tree) (κ : Option ℕ) → Enc encC sc t κ → Above t → (c : ℕ) → Has t c ≡ true → (encC c ≡ κ) ⊎ Lower c
     low-tree (leaf d) κ k v c h = inl (ap encC (same→≡ c d h) ∙ k)
     low-tree (comp l r x) κ k v c h = live-either (Has l c) (Has r c) _ (λ e. low-tree l κ (k .0) (v .0) c e) (λ e. low-tree r κ (k .1) (v .1) c e) h
@@ -237,21 +251,24 @@ module _ (F : File) (w : Ordered F) (r : Rule10 F) (r11 : Rule11 F)
   tidy : Tidy F parF holdF
   unfolding parF
   tidy = record {
-      par₁ = λ j l e. let h = w .lower₁ j l e in let a = h .0 in let b = h .1 in (by j (F .a j) (omega arith) l (names-a₁ F w r j e), by j (F .b j) (omega arith) l (names-b₁ F w r j e), twice j l e);
-      par₂ = λ j l e. let h = w .lower₂ j l e in by j (F .a j) (omega arith) l (names-a₂ F w r j e);
-      par₀ = λ j l e i m q. ap (λ a. parBy a (byNode F (F .node i))) (by-slave F w r i (F .node i) (node-there i m .0) m refl) ∙ ap holdF q ∙ hold-is j l e;
-      holds = λ j l e. (hold-is j l e, chart-there j l e);
-      differ = λ i k l m e. let p = by-slave F w r i (F .node i) (node-there i l .0) l refl in let q = by-slave F w r k (F .node i) (node-there i l .0) m (sym e) in ap orZero (sym p ∙ q) }
+    par₁ = λ j l e. let h = w .lower₁ j l e in let a = h .0 in let b = h .1 in (by j (F .a j) (omega arith) l (names-a₁ F w r j e), by j (F .b j) (omega arith) l (names-b₁ F w r j e), twice j l e);
+    par₂ = λ j l e. let h = w .lower₂ j l e in by j (F .a j) (omega arith) l (names-a₂ F w r j e);
+    par₀ = λ j l e i m q. ap (λ a. parBy a (byNode F (F .node i))) (by-slave F w r i (F .node i) (node-there i m .0) m refl) ∙ ap holdF q ∙ hold-is j l e;
+    holds = λ j l e. (hold-is j l e, chart-there j l e);
+    differ = λ i k l m e. let p = by-slave F w r i (F .node i) (node-there i l .0) l refl in let q = by-slave F w r k (F .node i) (node-there i l .0) m (sym e) in ap orZero (sym p ∙ q);
+  }
 
   pub stands : (last : ℕ) → suc last ≡ F .nodes → Stands (F .charts) (kap F) (F .master) (treeOf F last)
   stands last e = record {
-      held = held-node F w parF holdF tidy (F .nodes) last (omega arith) (omega arith);
-      has = λ c l. all-there F w (joined F w r chart-there node-there) last c e l;
-      encs = root;
-      lower = λ c i l q. lower-at c i q (low-tree (kap F) (F .master) (treeOf F last) none root (above-node F w r11 (F .nodes) last (omega arith) (omega arith)) c (all-there F w (joined F w r chart-there node-there) last c e l)) }
+    held = held-node F w parF holdF tidy (F .nodes) last (omega arith) (omega arith);
+    has = λ c l. all-there F w (joined F w r chart-there node-there) last c e l;
+    encs = root;
+    lower = λ c i l q. lower-at c i q (low-tree (kap F) (F .master) (treeOf F last) none root (above-node F w r11 (F .nodes) last (omega arith) (omega arith)) c (all-there F w (joined F w r chart-there node-there) last c e l));
+  }
     where
       root : Enc (kap F) (F .master) (treeOf F last) none
       root = rw (enc-last F w r last e) at (enc-tree F w (enc F) (kap F) (placed F w r chart-there node-there) (F .nodes) last (omega arith) (omega arith))
+
       lower-at : (c i : ℕ) → kap F c ≡ some i → ((kap F c ≡ none) ⊎ Lower (kap F) (F .master) c) → F .master i < c
       lower-at c i q (inl z) = absurd (let y : _≡_ {A = ℕ} 0 1 = cc in omega arith)
       lower-at c i q (inr u) = let y : i ≡ u .0 = cc (u .1) in let h = u .2 in rw y h

@@ -20,7 +20,7 @@ module _ (E : ℕ → Chart) (state : ℕ → ℕ) (cfg : ℕ → ℕ) (M : ℕ 
     okU (hide l x y) a o = okU l a (o ∖ x)
     okU (dec c ss) a o =
         okChart (E c .feedback) a (o ∪ ((actionOf (M c) ∪ outs M ss) ∩ E c .feedback)) (cfg c) (M c)
-            && oksU ss (λ q. a && meets (cfg c) (M c) q) (o ∪ ((actionOf (M c) ∪ outs M ss) ∩ E c .feedback))
+        && oksU ss (λ q. a && meets (cfg c) (M c) q) (o ∪ ((actionOf (M c) ∪ outs M ss) ∩ E c .feedback))
 
     pub oksU : Slaves → (ℕ → Bool) → Set → Bool
     oksU nil f z = true
@@ -72,20 +72,22 @@ module _ (E : ℕ → Chart) (state : ℕ → ℕ) (cfg : ℕ → ℕ) (M : ℕ 
 
   mutual
     unfolding okU inFace
+
     cut : (t : Tree) (a : Bool) (o : Set) → okU E state cfg M t a (o ∩ inFace E t) ≡ okU E state cfg M t a o
     cut (leaf c) a o = okC-cut (E c .feedback) a o (cfg c) (M c) (inFaceChart (E c)) (own c)
     cut (comp l r x) a o = ap₂ _&&_
-            (via l a (o ∩ (inFace E l ∪ inFace E r) ∪ w) (o ∪ w) (cut l a (o ∩ (inFace E l ∪ inFace E r) ∪ w)) (cut l a (o ∪ w)) (cut-left o w (inFace E l) (inFace E r)))
-            (via r a (o ∩ (inFace E l ∪ inFace E r) ∪ w) (o ∪ w) (cut r a (o ∩ (inFace E l ∪ inFace E r) ∪ w)) (cut r a (o ∪ w)) (cut-right o w (inFace E l) (inFace E r)))
+        (via l a (o ∩ (inFace E l ∪ inFace E r) ∪ w) (o ∪ w) (cut l a (o ∩ (inFace E l ∪ inFace E r) ∪ w)) (cut l a (o ∪ w)) (cut-left o w (inFace E l) (inFace E r)))
+        (via r a (o ∩ (inFace E l ∪ inFace E r) ∪ w) (o ∪ w) (cut r a (o ∩ (inFace E l ∪ inFace E r) ∪ w)) (cut r a (o ∪ w)) (cut-right o w (inFace E l) (inFace E r)))
       where
         w : Set
         w = (out M l ∪ out M r) ∩ x
     cut (hide l x y) a o = via l a ((o ∩ (inFace E l ∖ x)) ∖ x) (o ∖ x) (cut l a ((o ∩ (inFace E l ∖ x)) ∖ x)) (cut l a (o ∖ x)) (cut-less o (inFace E l) x)
     cut (dec c ss) a o = ap₂ _&&_ (viac c a (o ∩ (inFaceChart (E c) ∪ inFaces E ss) ∪ w) (o ∪ w) (cut-left o w (inFaceChart (E c)) (inFaces E ss)))
-            (vias ss f (o ∩ (inFaceChart (E c) ∪ inFaces E ss) ∪ w) (o ∪ w) (cuts ss f (o ∩ (inFaceChart (E c) ∪ inFaces E ss) ∪ w)) (cuts ss f (o ∪ w)) (cut-right o w (inFaceChart (E c)) (inFaces E ss)))
+        (vias ss f (o ∩ (inFaceChart (E c) ∪ inFaces E ss) ∪ w) (o ∪ w) (cuts ss f (o ∩ (inFaceChart (E c) ∪ inFaces E ss) ∪ w)) (cuts ss f (o ∪ w)) (cut-right o w (inFaceChart (E c)) (inFaces E ss)))
       where
         w : Set
         w = (actionOf (M c) ∪ outs M ss) ∩ E c .feedback
+
         f : ℕ → Bool
         f q = a && meets (cfg c) (M c) q
 
@@ -97,6 +99,7 @@ module _ (E : ℕ → Chart) (state : ℕ → ℕ) (cfg : ℕ → ℕ) (M : ℕ 
 
   mutual
     unfolding ok okU
+
     pub no-cut : (t : Tree) (a : Bool) (o : Set) → ok E state cfg M t a o ≡ okU E state cfg M t a o
     no-cut (leaf c) a o = refl
     no-cut (comp l r x) a o = ap₂ _&&_ (no-cut l a (z ∩ inFace E l) ∙ cut l a z) (no-cut r a (z ∩ inFace E r) ∙ cut r a z)

@@ -39,7 +39,6 @@ module _ (F : File) (last : ℕ) (final : suc last ≡ F .nodes) (w : Ordered F)
   may₀ c = mayOf (F .chart c .transitions) (cfg c)
 
   first : Bounds (F .chart) (F .state) cfg (F .charts) t inp may₀
-
   first = may-bounds (F .chart) (F .state) cfg (F .charts) (kap F) (F .master) t inp may₀ s (may-of (F .chart) cfg) si sa
 
   -- the search as DESIGN has it, with nothing filtered before

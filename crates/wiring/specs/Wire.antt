@@ -147,7 +147,7 @@ unfolding join
 join-feed zero act b y a x = sets (a ∷ x ∷ []) [] (∅ₑ ≐ ∅ₑ ∪ₑ ∅ₑ ∩ₑ B ∩ₑ A) tt
 join-feed (suc k) act b y a x = ap (λ j. j ∪ act k ∩ (b k ∪ a ∩ y k ∩ x)) (join-feed k act b y a x)
     ∙ sets (join k (λ e. act e ∩ b e) ∷ join k (λ e. act e ∩ y e) ∷ act k ∷ b k ∷ y k ∷ a ∷ x ∷ []) []
-        (A ∪ₑ B ∩ₑ Gₑ ∩ₑ Fₑ ∪ₑ C ∩ₑ (D ∪ₑ Fₑ ∩ₑ Eₑ ∩ₑ Gₑ) ≐ A ∪ₑ C ∩ₑ D ∪ₑ (B ∪ₑ C ∩ₑ Eₑ) ∩ₑ Gₑ ∩ₑ Fₑ) tt
+    (A ∪ₑ B ∩ₑ Gₑ ∩ₑ Fₑ ∪ₑ C ∩ₑ (D ∪ₑ Fₑ ∩ₑ Eₑ ∩ₑ Gₑ) ≐ A ∪ₑ C ∩ₑ D ∪ₑ (B ∪ₑ C ∩ₑ Eₑ) ∩ₑ Gₑ ∩ₑ Fₑ) tt
 
 join-or : (N : ℕ) (act y z : ℕ → Set) → join N (λ e. act e ∩ (y e ∪ z e)) ≡ join N (λ e. act e ∩ y e) ∪ join N (λ e. act e ∩ z e)
 unfolding join
@@ -174,7 +174,7 @@ join-own (suc k) act d s l = go (same k d) refl (λ m. join-own k act d s m)
     go : (b : Bool) → same k d ≡ b → (d < k → join k (λ e. act e ∩ own d e) ≡ act d) → (join k (λ e. act e ∩ own d e) ∪ act k ∩ own d k) ≡ act d
     go true p rec = let q : k ≡ d = same→≡ k d p in
         sets (join k (λ e. act e ∩ own d e) ∷ act k ∷ own d k ∷ full ∷ act d ∷ []) (A ≐ ∅ₑ ∷ C ≐ D ∷ B ≐ Eₑ ∷ Eₑ ∩ₑ D ≐ Eₑ ∷ []) (A ∪ₑ B ∩ₑ C ≐ Eₑ) tt
-            (join-none k act (own d) (λ e l. own-off d e (same-≢ e d (λ z. omega arith)))) (ap (own d) q ∙ own-on d) (ap act q) s
+        (join-none k act (own d) (λ e l. own-off d e (same-≢ e d (λ z. omega arith)))) (ap (own d) q ∙ own-on d) (ap act q) s
     go false p rec = let z : k ≢ d = λ w. false≢true (sym p ∙ rw w (same-refl d)) in
         sets (join k (λ e. act e ∩ own d e) ∷ act k ∷ own d k ∷ act d ∷ []) (A ≐ D ∷ C ≐ ∅ₑ ∷ []) (A ∪ₑ B ∩ₑ C ≐ D) tt (rec (omega arith)) (own-off d k p)
 
@@ -216,6 +216,7 @@ apart-r false b h e = refl
 
 mutual
   unfolding down Has
+
   down-off : (t : Tree) (c : ℕ) → Has t c ≡ false → down t c ≡ ∅
   down-off (leaf d) c h = own-off d c h
   down-off (comp l r x) c h = none-or (down-off l c (or-l (Has l c) (Has r c) h)) (down-off r c (or-r (Has l c) (Has r c) h))
@@ -229,6 +230,7 @@ mutual
 module _ (E : ℕ → Chart) where
   mutual
     unfolding back down Has
+
     back-off : (t : Tree) (c : ℕ) → Has t c ≡ false → (e : ℕ) → back E t c e ≡ ∅
     back-off (leaf d) c h e = none-cut (own d e) (E d .feedback) (own-off d c h)
     back-off (comp l r x) c h e = none-or (none-or (back-off l c (or-l (Has l c) (Has r c) h) e) (back-off r c (or-r (Has l c) (Has r c) h) e))
@@ -243,6 +245,7 @@ module _ (E : ℕ → Chart) where
 -- ── every chart of a tree ──
 mutual
   unfolding each Has
+
   each-cong : (t : Tree) (f g : ℕ → Bool) → ((c : ℕ) → Has t c ≡ true → f c ≡ g c) → each t f ≡ each t g
   each-cong (leaf d) f g h = h d (same-refl d)
   each-cong (comp l r x) f g h = ap₂ _&&_ (each-cong l f g (λ c k. h c (or-l′ (Has l c) (Has r c) k))) (each-cong r f g (λ c k. h c (or-r′ (Has l c) (Has r c) k)))
@@ -260,6 +263,7 @@ module _ (N : ℕ) (M : ℕ → Move) (small : (e : ℕ) → Small (actionOf (M 
 
   mutual
     unfolding out up acts
+
     pub out-wired : (t : Tree) → Held N t → out M t ≡ join N (λ e. actionOf (M e) ∩ up t e)
     out-wired (leaf d) h = sym (join-own N acts d (small d) h)
     out-wired (comp l r x) h = ap₂ _∪_ (out-wired l (h .0)) (out-wired r (h .1)) ∙ sym (join-or N acts (up l) (up r))
@@ -323,41 +327,48 @@ module _ (E : ℕ → Chart) (state : ℕ → ℕ) (cfg : ℕ → ℕ) (M : ℕ 
 
   mutual
     unfolding okU each Has back down out up
+
     pub wired : (t : Tree) (κ : Option ℕ) (a : Bool) (z : Set) → Small z → Held N t → Enc enc sc t κ → a ≡ awakeBy sc state cfg M act κ
         → okU E state cfg M t a z ≡ each t (ruleAt z (down t) (back E t))
     wired (leaf d) κ a z sm h k e = okC-fits (E d .feedback) a z (cfg d) (M d) ∙ ap₂ (λ b o. fits b o (cfg d) (M d))
-            (e ∙ ap (awakeBy sc state cfg M act) (sym k) ∙ sym (awake d h)) (sym (leaf-part N (λ e. actionOf (M e)) d z (E d .feedback) sm (small d) h))
+        (e ∙ ap (awakeBy sc state cfg M act) (sym k) ∙ sym (awake d h)) (sym (leaf-part N (λ e. actionOf (M e)) d z (E d .feedback) sm (small d) h))
     wired (comp l r x) κ a z sm h k e = ap₂ _&&_
-            (wired l κ a z′ sm′ (h .0) (k .0) e ∙ sym (each-cong l (ruleAt z (down (comp l r x)) (back E (comp l r x))) (ruleAt z′ (down l) (back E l)) (λ c m. ap-fits c _ _
-                (fed c ∙ fst-part N (λ e. actionOf (M e)) z′ (down l c) (down r c) (back E l c) (back E r c) (down-off r c (apart-l (Has l c) (Has r c) (h .2 c) m)) (back-off E r c (apart-l (Has l c) (Has r c) (h .2 c) m))))))
-            (wired r κ a z′ sm′ (h .1) (k .1) e ∙ sym (each-cong r (ruleAt z (down (comp l r x)) (back E (comp l r x))) (ruleAt z′ (down r) (back E r)) (λ c m. ap-fits c _ _
-                (fed c ∙ snd-part N (λ e. actionOf (M e)) z′ (down l c) (down r c) (back E l c) (back E r c) (down-off l c (apart-r (Has l c) (Has r c) (h .2 c) m)) (back-off E l c (apart-r (Has l c) (Has r c) (h .2 c) m))))))
+        (wired l κ a z′ sm′ (h .0) (k .0) e ∙ sym (each-cong l (ruleAt z (down (comp l r x)) (back E (comp l r x))) (ruleAt z′ (down l) (back E l)) (λ c m. ap-fits c _ _
+        (fed c ∙ fst-part N (λ e. actionOf (M e)) z′ (down l c) (down r c) (back E l c) (back E r c) (down-off r c (apart-l (Has l c) (Has r c) (h .2 c) m)) (back-off E r c (apart-l (Has l c) (Has r c) (h .2 c) m))))))
+        (wired r κ a z′ sm′ (h .1) (k .1) e ∙ sym (each-cong r (ruleAt z (down (comp l r x)) (back E (comp l r x))) (ruleAt z′ (down r) (back E r)) (λ c m. ap-fits c _ _
+        (fed c ∙ snd-part N (λ e. actionOf (M e)) z′ (down l c) (down r c) (back E l c) (back E r c) (down-off l c (apart-r (Has l c) (Has r c) (h .2 c) m)) (back-off E l c (apart-r (Has l c) (Has r c) (h .2 c) m))))))
       where
         z′ : Set
         z′ = z ∪ (out M l ∪ out M r) ∩ x
+
         sm′ : Small z′
         sm′ = small-fed z (out M l ∪ out M r) x sm (subst Small (sym (out-wired N M small (comp l r x) h)) (join-small N (λ e. actionOf (M e)) (λ e. up l e ∪ up r e) small))
+
         fed : (c : ℕ) → offered N (λ e. actionOf (M e)) z (down l c ∪ down r c) (λ e. (back E l c e ∪ back E r c e) ∪ (down l c ∪ down r c) ∩ (up l e ∪ up r e) ∩ x)
             ≡ offered N (λ e. actionOf (M e)) z′ (down l c ∪ down r c) (λ e. back E l c e ∪ back E r c e)
         fed c = feed N (λ e. actionOf (M e)) (λ e. back E l c e ∪ back E r c e) (λ e. up l e ∪ up r e) z (down l c ∪ down r c) x
             ∙ ap (λ w. offered N (λ e. actionOf (M e)) (z ∪ w ∩ x) (down l c ∪ down r c) (λ e. back E l c e ∪ back E r c e)) (sym (out-wired N M small (comp l r x) h))
     wired (hide l x y) κ a z sm h k e = wired l κ a (z ∖ x) (small-less z x sm) h k e ∙ sym (each-cong l (ruleAt z (down (hide l x y)) (back E (hide l x y))) (ruleAt (z ∖ x) (down l) (back E l)) (λ c m. ap-fits c _ _
-            (filtered N (λ e. actionOf (M e)) z (down l c) x (back E l c))))
+        (filtered N (λ e. actionOf (M e)) z (down l c) x (back E l c))))
     wired (dec d ss) κ a z sm h k e = ap₂ _&&_
-            (okC-fits (E d .feedback) a z′ (cfg d) (M d) ∙ ap₂ (λ b o. fits b o (cfg d) (M d)) am
-                (inside ∙ sym (fed d ∙ alone N (λ e. actionOf (M e)) d z′ (downs ss d) (backs E ss d) sm′ (downs-off ss d (h .2)) (backs-off E ss d (h .2)))))
-            (wireds ss d (λ q. a && meets (cfg d) (M d) q) z′ sm′ (h .1) (k .1) (λ q. ap (λ b. b && meets (cfg d) (M d) q) am)
-                ∙ sym (eachs-cong ss (ruleAt z (down (dec d ss)) (back E (dec d ss))) (ruleAt z′ (downs ss) (backs E ss)) (λ c m. ap-fits c _ _
-                    (fed c ∙ ap (λ s. offered N (λ e. actionOf (M e)) z′ s (backs E ss c)) (∅-or (own d c) (downs ss c) (own-off d c (same-≢ c d (λ q. true≢false (sym m ∙ ap (HasS ss) q ∙ h .2)))))))))
+        (okC-fits (E d .feedback) a z′ (cfg d) (M d) ∙ ap₂ (λ b o. fits b o (cfg d) (M d)) am
+        (inside ∙ sym (fed d ∙ alone N (λ e. actionOf (M e)) d z′ (downs ss d) (backs E ss d) sm′ (downs-off ss d (h .2)) (backs-off E ss d (h .2)))))
+        (wireds ss d (λ q. a && meets (cfg d) (M d) q) z′ sm′ (h .1) (k .1) (λ q. ap (λ b. b && meets (cfg d) (M d) q) am)
+        ∙ sym (eachs-cong ss (ruleAt z (down (dec d ss)) (back E (dec d ss))) (ruleAt z′ (downs ss) (backs E ss)) (λ c m. ap-fits c _ _
+        (fed c ∙ ap (λ s. offered N (λ e. actionOf (M e)) z′ s (backs E ss c)) (∅-or (own d c) (downs ss c) (own-off d c (same-≢ c d (λ q. true≢false (sym m ∙ ap (HasS ss) q ∙ h .2)))))))))
       where
         z′ : Set
         z′ = z ∪ (actionOf (M d) ∪ outs M ss) ∩ E d .feedback
+
         sm′ : Small z′
         sm′ = small-fed z (actionOf (M d) ∪ outs M ss) (E d .feedback) sm (subst Small (sym (out-wired N M small (dec d ss) h)) (join-small N (λ e. actionOf (M e)) (λ e. own d e ∪ ups ss e) small))
+
         am : a ≡ act d
         am = e ∙ ap (awakeBy sc state cfg M act) (sym (k .0)) ∙ sym (awake d (h .0))
+
         inside : z′ ∪ actionOf (M d) ∩ E d .feedback ≡ z′
         inside = sets (z ∷ actionOf (M d) ∷ outs M ss ∷ E d .feedback ∷ []) [] (A ∪ₑ (B ∪ₑ C) ∩ₑ D ∪ₑ B ∩ₑ D ≐ A ∪ₑ (B ∪ₑ C) ∩ₑ D) tt
+
         fed : (c : ℕ) → offered N (λ e. actionOf (M e)) z (own d c ∪ downs ss c) (λ e. backs E ss c e ∪ (own d c ∪ downs ss c) ∩ (own d e ∪ ups ss e) ∩ E d .feedback)
             ≡ offered N (λ e. actionOf (M e)) z′ (own d c ∪ downs ss c) (λ e. backs E ss c e)
         fed c = feed N (λ e. actionOf (M e)) (backs E ss c) (λ e. own d e ∪ ups ss e) z (own d c ∪ downs ss c) (E d .feedback)
@@ -368,7 +379,7 @@ module _ (E : ℕ → Chart) (state : ℕ → ℕ) (cfg : ℕ → ℕ) (M : ℕ 
     wireds nil d f z sm h k e = refl
     wireds (snoc ss i t) d f z sm h k e = ap₂ _&&_
         (wireds ss d f z sm (h .0) (k .0) e ∙ sym (eachs-cong ss (ruleAt z (downs (snoc ss i t)) (backs E (snoc ss i t))) (ruleAt z (downs ss) (backs E ss)) (λ c m. ap-fits c _ _
-            (fst-part N (λ e. actionOf (M e)) z (downs ss c) (down t c) (backs E ss c) (back E t c) (down-off t c (apart-r (Has t c) (HasS ss c) (h .2 c) m)) (back-off E t c (apart-r (Has t c) (HasS ss c) (h .2 c) m))))))
+        (fst-part N (λ e. actionOf (M e)) z (downs ss c) (down t c) (backs E ss c) (back E t c) (down-off t c (apart-r (Has t c) (HasS ss c) (h .2 c) m)) (back-off E t c (apart-r (Has t c) (HasS ss c) (h .2 c) m))))))
         (wired t (some i) (f (state i)) z sm (h .1) (k .2) (e (state i) ∙ ap (λ c. act c && meets (cfg c) (M c) (state i)) (sym (k .1)))
-            ∙ sym (each-cong t (ruleAt z (downs (snoc ss i t)) (backs E (snoc ss i t))) (ruleAt z (down t) (back E t)) (λ c m. ap-fits c _ _
-            (snd-part N (λ e. actionOf (M e)) z (downs ss c) (down t c) (backs E ss c) (back E t c) (downs-off ss c (apart-l (Has t c) (HasS ss c) (h .2 c) m)) (backs-off E ss c (apart-l (Has t c) (HasS ss c) (h .2 c) m))))))
+        ∙ sym (each-cong t (ruleAt z (downs (snoc ss i t)) (backs E (snoc ss i t))) (ruleAt z (down t) (back E t)) (λ c m. ap-fits c _ _
+        (snd-part N (λ e. actionOf (M e)) z (downs ss c) (down t c) (backs E ss c) (back E t c) (downs-off ss c (apart-l (Has t c) (HasS ss c) (h .2 c) m)) (backs-off E ss c (apart-l (Has t c) (HasS ss c) (h .2 c) m))))))

@@ -14,6 +14,7 @@ use Rattle.wiring.specs.Wire.{down, up, back, offered, fits, each, eachs
 
 mutual
   unfolding each Has
+
   each-elim : (t : Tree) (f : ℕ → Bool) → each t f ≡ true → (c : ℕ) → Has t c ≡ true → f c ≡ true
   each-elim (leaf d) f h c k = rw (same→≡ c d k) h
   each-elim (comp l r x) f h c k = live-either (Has l c) (Has r c) _ (λ e. each-elim l f (and-l _ _ h) c e) (λ e. each-elim r f (and-r (each l f) _ h) c e) k
@@ -26,6 +27,7 @@ mutual
 
 mutual
   unfolding each
+
   each-intro : (N : ℕ) (t : Tree) (f : ℕ → Bool) → Held N t → ((c : ℕ) → c < N → f c ≡ true) → each t f ≡ true
   each-intro N (leaf d) f h k = k d h
   each-intro N (comp l r x) f h k = and-i (each-intro N l f (h .0) k) (each-intro N r f (h .1) k)

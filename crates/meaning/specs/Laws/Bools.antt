@@ -116,4 +116,3 @@ every-elim (suc n) f h i l = go (same i n) refl (λ l′. every-elim n f (and-r 
     go : (b : Bool) → same i n ≡ b → (i < n → f i ≡ true) → f i ≡ true
     go true e rec = rw (same→≡ i n e) (and-l (f n) (every n f) h)
     go false e rec = rec (let ne : i ≢ n = λ q. false≢true (sym e ∙ rw q (same-refl n)) in omega arith)
-

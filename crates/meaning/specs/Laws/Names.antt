@@ -123,13 +123,16 @@ module _ (F : File) (w : Ordered F) (r : Rule10 F) where
 
   pub by-node : (k j : ℕ) → j < F .nodes → k < F .nodes → 0 < names F k j → (bySlave F j ≡ none) × (byNode F j ≡ some k)
   unfolding named
-  by-node k j l m p = (find-none (F .slaves) (λ i. same (F .node i) j) (λ i n. no-slave i n (same (F .node i) j) refl),
-          find-one (F .nodes) (λ k. not (same (names F k j) 0)) k m (ap not (same-≢ (names F k j) 0 (λ q. omega arith))) (λ k′ n q. one k′ n q (same k′ k) refl))
+  by-node k j l m p = (
+    find-none (F .slaves) (λ i. same (F .node i) j) (λ i n. no-slave i n (same (F .node i) j) refl),
+    find-one (F .nodes) (λ k. not (same (names F k j) 0)) k m (ap not (same-≢ (names F k j) 0 (λ q. omega arith))) (λ k′ n q. one k′ n q (same k′ k) refl),
+  )
     where
       no-slave : (i : ℕ) → i < F .slaves → (b : Bool) → same (F .node i) j ≡ b → b ≡ false
       no-slave i n false e = refl
       no-slave i n true e = let t = tally-ge (F .slaves) (λ i. one (same (F .node i) j)) i n in let t′ = tally-ge (F .nodes) (λ k. names F k j) k m in
           let a : one (same (F .node i) j) ≡ 1 = rw e in let c = at-most j l in absurd (omega arith)
+
       one : (k′ : ℕ) → k′ < F .nodes → not (same (names F k′ j) 0) ≡ true → (b : Bool) → same k′ k ≡ b → k′ ≡ k
       one k′ n q true h = same→≡ k′ k h
       one k′ n q false h = let z : k′ ≢ k = λ x. false≢true (sym h ∙ rw x (same-refl k)) in
@@ -183,13 +186,15 @@ module _ (F : File) (w : Ordered F) (r : Rule10 F) where
   unfolding enc nearest named
   enc-last j e = near-fuel (F .nodes) (suc (F .nodes)) j (omega arith) (omega arith) (omega arith)
       ∙ ap₂ (λ a b. up a b (nearest F (F .nodes))) (find-none (F .slaves) (λ i. same (F .node i) j) (λ i n. no-slave i n (same (F .node i) j) refl))
-          (find-none (F .nodes) (λ k. not (same (names F k j) 0)) (λ k n. no-node k n))
+      (find-none (F .nodes) (λ k. not (same (names F k j) 0)) (λ k n. no-node k n))
     where
       none-at : named F j ≡ 0
       none-at = r .named-last j e
+
       no-slave : (i : ℕ) → i < F .slaves → (b : Bool) → same (F .node i) j ≡ b → b ≡ false
       no-slave i n false q = refl
       no-slave i n true q = let t = tally-ge (F .slaves) (λ i. one (same (F .node i) j)) i n in let a : one (same (F .node i) j) ≡ 1 = ap one q in let z = none-at in absurd (omega arith)
+
       no-node : (k : ℕ) → k < F .nodes → not (same (names F k j) 0) ≡ false
       no-node k n = let t = tally-ge (F .nodes) (λ k. names F k j) k n in let z = none-at in let y : names F k j ≡ 0 = omega arith in ap not (ap (λ v. same v 0) y ∙ same-refl 0)
 
@@ -213,6 +218,7 @@ module _ (F : File) (w : Ordered F) (r : Rule10 F) where
     where
       own : (same (F .kind j) 0 && same (F .a j) (F .a j)) ≡ true
       own = and-i (ap (λ z. same z 0) e ∙ same-refl 0) (same-refl (F .a j))
+
       go : (k : ℕ) → k < F .nodes → (same (F .kind k) 0 && same (F .a k) (F .a j)) ≡ true → (b : Bool) → same k j ≡ b → k ≡ j
       go k n q true h = same→≡ k j h
       go k n q false h = let z : k ≢ j = λ x. false≢true (sym h ∙ rw x (same-refl j)) in
@@ -241,11 +247,12 @@ module _ (F : File) (w : Ordered F) (r : Rule10 F) where
     pub placed : Placed F (enc F) (kap F)
     unfolding enc
     placed = record {
-        in₁ = λ j l e. let h = w .lower₁ j l e in (enc-node j (F .a j) (omega arith) l (names-a₁ j e), enc-node j (F .b j) (omega arith) l (names-b₁ j e));
-        in₂ = λ j l e. let h = w .lower₂ j l e in enc-node j (F .a j) (omega arith) l (names-a₂ j e);
-        in₀ = λ j l e i m q. enc-slave i m (node-there i m .0);
-        hold = λ j l e. (chart-there j l e, kap-is j l e (chart-there j l e));
-        under = λ j i l e. near-under (F .nodes) j i l e }
+      in₁ = λ j l e. let h = w .lower₁ j l e in (enc-node j (F .a j) (omega arith) l (names-a₁ j e), enc-node j (F .b j) (omega arith) l (names-b₁ j e));
+      in₂ = λ j l e. let h = w .lower₂ j l e in enc-node j (F .a j) (omega arith) l (names-a₂ j e);
+      in₀ = λ j l e i m q. enc-slave i m (node-there i m .0);
+      hold = λ j l e. (chart-there j l e, kap-is j l e (chart-there j l e));
+      under = λ j i l e. near-under (F .nodes) j i l e;
+    }
 
     pub who : (k j : ℕ) → k < F .nodes → 0 < names F k j → Namer F j
     unfolding names
@@ -264,14 +271,16 @@ module _ (F : File) (w : Ordered F) (r : Rule10 F) where
     pub joined : Joined F
     unfolding held named
     joined = record {
-        holder = λ c l. let h = r .once c l in let u = tally-find (F .nodes) (λ k. one (same (F .kind k) 0 && same (F .a k) c)) (omega arith) in
-            (u .0, u .1, same→≡ (F .kind (u .0)) 0 (and-l _ _ (pos (same (F .kind (u .0)) 0 && same (F .a (u .0)) c) (u .2))), same→≡ (F .a (u .0)) c (and-r (same (F .kind (u .0)) 0) _ (pos (same (F .kind (u .0)) 0 && same (F .a (u .0)) c) (u .2))));
-        named = λ j l. go j (tally (F .slaves) (λ i. one (same (F .node i) j))) refl (r .named-once j l);
-        master = λ i l. node-there i l .1 }
+      holder = λ c l. let h = r .once c l in let u = tally-find (F .nodes) (λ k. one (same (F .kind k) 0 && same (F .a k) c)) (omega arith) in
+          (u .0, u .1, same→≡ (F .kind (u .0)) 0 (and-l _ _ (pos (same (F .kind (u .0)) 0 && same (F .a (u .0)) c) (u .2))), same→≡ (F .a (u .0)) c (and-r (same (F .kind (u .0)) 0) _ (pos (same (F .kind (u .0)) 0 && same (F .a (u .0)) c) (u .2))));
+      named = λ j l. go j (tally (F .slaves) (λ i. one (same (F .node i) j))) refl (r .named-once j l);
+      master = λ i l. node-there i l .1;
+    }
       where
         pos : (b : Bool) → 0 < one b → b ≡ true
         pos true h = refl
         pos false h = absurd (omega arith)
+
         go : (j x : ℕ) → tally (F .slaves) (λ i. one (same (F .node i) j)) ≡ x → x + tally (F .nodes) (λ k. names F k j) ≡ 1 → Namer F j
         go j zero e h = let u = tally-find (F .nodes) (λ k. names F k j) (omega arith) in who (u .0) j (u .1) (u .2)
         go j (suc x) e h = let u = tally-find (F .slaves) (λ i. one (same (F .node i) j)) (omega arith) in slave (u .0) (u .1) (same→≡ (F .node (u .0)) j (pos (same (F .node (u .0)) j) (u .2)))

@@ -39,7 +39,7 @@ module _ (F : File) (w : Ordered F) where
     where
       go : (k : ℕ) → F .kind j ≡ k → ((i : ℕ) → i < j → build F f i ≡ build F g i)
           → byKind k (whole (F .a j) (gather (F .master) (λ i. build F f (F .node i)) (F .a j) (F .slaves))) (comp (build F f (F .a j)) (build F f (F .b j)) (F .x j)) (hide (build F f (F .a j)) (F .x j) (F .y j))
-            ≡ byKind k (whole (F .a j) (gather (F .master) (λ i. build F g (F .node i)) (F .a j) (F .slaves))) (comp (build F g (F .a j)) (build F g (F .b j)) (F .x j)) (hide (build F g (F .a j)) (F .x j) (F .y j))
+          ≡ byKind k (whole (F .a j) (gather (F .master) (λ i. build F g (F .node i)) (F .a j) (F .slaves))) (comp (build F g (F .a j)) (build F g (F .b j)) (F .x j)) (hide (build F g (F .a j)) (F .x j) (F .y j))
       go zero e ih = ap (whole (F .a j)) (gather-cong (F .master) (λ i. build F f (F .node i)) (λ i. build F g (F .node i)) (F .a j) (F .slaves) (λ i a b. ih (F .node i) (w .lower₀ j l e i a b)))
       go (suc zero) e ih = rw (ih (F .a j) (w .lower₁ j l e .0), ih (F .b j) (w .lower₁ j l e .1))
       go (suc (suc k)) e ih = rw (ih (F .a j) (w .lower₂ j l (let h = w .kinds j l in omega arith)))
@@ -94,6 +94,7 @@ gather-has sc g c (suc k) d i l e h = go (same i k) refl (same (sc k) c) refl (�
   where
     rest : Slaves
     rest = gather sc g c k
+
     go : (b : Bool) → same i k ≡ b → (a : Bool) → same (sc k) c ≡ a → (i < k → HasS rest d ≡ true) → HasS (cond a (snoc rest k (g k)) rest) d ≡ true
     go true p true q r = let z : i ≡ k = same→≡ i k p in or-left (Has (g k) d) (HasS rest d) (rw z at h)
     go true p false q r = let z : i ≡ k = same→≡ i k p in absurd (false≢true (sym q ∙ rw (sym (ap sc z) ∙ e) (same-refl c)))
@@ -116,9 +117,12 @@ module _ (F : File) (w : Ordered F) (jn : Joined F) where
   rise j d (left k l e p) h = (k, rw p at (w .lower₁ k l e .0), l, rw (tree₁ F w k l e, p) (or-left (Has (treeOf F j) d) (Has (treeOf F (F .b k)) d) h))
   rise j d (right k l e p) h = (k, rw p at (w .lower₁ k l e .1), l, rw (tree₁ F w k l e, p) (or-right (Has (treeOf F (F .a k)) d) (Has (treeOf F j) d) h))
   rise j d (inside k l e p) h = (k, rw p at (w .lower₂ k l e), l, rw (tree₂ F w k l e, p) h)
-  rise j d (slave i l p) h = let m = jn .holder (F .master i) (jn .master i l) in
-      (m .0, rw p at (w .lower₀ (m .0) (m .1) (m .2) i l (sym (m .3))), m .1,
-          rw (tree₀ F w (m .0) (m .1) (m .2)) (whole-has (F .a (m .0)) (gather (F .master) (λ i. treeOf F (F .node i)) (F .a (m .0)) (F .slaves)) d (gather-has (F .master) (λ i. treeOf F (F .node i)) (F .a (m .0)) (F .slaves) d i l (sym (m .3)) (rw p h))))
+  rise j d (slave i l p) h = let m = jn .holder (F .master i) (jn .master i l) in (
+    m .0,
+    rw p at (w .lower₀ (m .0) (m .1) (m .2) i l (sym (m .3))),
+    m .1,
+    rw (tree₀ F w (m .0) (m .1) (m .2)) (whole-has (F .a (m .0)) (gather (F .master) (λ i. treeOf F (F .node i)) (F .a (m .0)) (F .slaves)) d (gather-has (F .master) (λ i. treeOf F (F .node i)) (F .a (m .0)) (F .slaves) d i l (sym (m .3)) (rw p h))),
+  )
 
   climb : (f j d last : ℕ) → suc last ≡ F .nodes → F .nodes ≤ j + f → j < F .nodes → Has (treeOf F j) d ≡ true → Has (treeOf F last) d ≡ true
   climb zero j d last e b l h = absurd (omega arith)
@@ -144,6 +148,7 @@ module _ (F : File) (w : Ordered F) (r11 : Rule11 F) where
     where
       rest : Slaves
       rest = gather (F .master) (λ i. treeOf F (F .node i)) c k
+
       go : (b : Bool) → same (F .master k) c ≡ b → (HasS rest d ≡ true → c < d) → HasS (cond b (snoc rest k (treeOf F (F .node k))) rest) d ≡ true → c < d
       go true e rec h = split (Has (treeOf F (F .node k)) d) refl h
         where
@@ -163,6 +168,7 @@ module _ (F : File) (w : Ordered F) (r11 : Rule11 F) where
     where
       rest : Slaves
       rest = gather (F .master) (λ i. treeOf F (F .node i)) c k
+
       go : (b : Bool) → same (F .master k) c ≡ b → AboveS rest → AboveS (cond b (snoc rest k (treeOf F (F .node k))) rest)
       go true e v = (v, h k (omega arith) (same→≡ (F .master k) c e))
       go false e v = v
