@@ -4,7 +4,7 @@ use mathlib.Core.List.{List, [], _∷_, _++_}
 use Prim.Native.Nat.{ℕ, _+_}
 use lib.ListN.{length, set}
 use lib.Seq.{sets}
-use Rattle.layout.specs.Le.{sets-append}
+use Rattle.layout.specs.Le.Laws.{sets-append}
 
 -- m is l with xs written at `at`
 pub record Written (l : List ℕ) (at : ℕ) (xs m : List ℕ) : Type 0 where

@@ -1,7 +1,7 @@
 -- `number::put32` meets its contract. The bytes of a number are those of its two halves: `put-twice`. Assumes nothing.
 use borrow.Author.Needs.{needs}
 use denote.Ref.{now}
-use Rattle.layout.specs.Le.{put-twice}
+use Rattle.layout.specs.Le.Laws.{put-twice}
 use Rattle.layout.proofs.number.put32.Statement.{statement}
 use Rattle.layout.proofs.number.put32.Tie as tie
 
