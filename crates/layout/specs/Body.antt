@@ -9,6 +9,7 @@ use Rattle.layout.specs.declared.record.Head.{Head}
 use Rattle.layout.specs.declared.record.Transition.{Transition}
 use Rattle.layout.specs.declared.record.Slave.{Slave}
 use Rattle.layout.specs.declared.record.Node.{Node}
+pub mod Laws
 
 -- where the transitions, the slaves and the nodes begin, and the body's end
 abbrev pub transitionsFrom : Shape → ℕ
