@@ -1,12 +1,12 @@
 -- Laws of a body, in this order: a run of values; where a chart's transitions start; the fields of its records are below their widths.
 use mathlib.Core.Path.{_≡_, refl, sym, ap, _∙_}
 use mathlib.Core.Logic.{⊎-elim}
-use mathlib.Core.List.{List, [], _∷_}
-use Prim.Native.Nat.{ℕ, zero, suc, _+_, _*_, _^_, _≤_, _<_}
+use mathlib.Core.List.{List}
+use Prim.Native.Nat.{ℕ, zero, suc, _+_, _*_, _≤_, _<_}
 use native.Mathlib.Nat.{not-suc-le-zero, le-of-suc-le-suc, eq-or-lt-of-le, add-zero}
 use native.Mathlib.Numerals.{add-one}
 use native.Mathlib.Omega.{arith}
-use lib.ListN.{length, getD, drop}
+use lib.ListN.{length, getD}
 use Rattle.layout.specs.Le.{AllBytes}
 use Rattle.layout.specs.Le.Laws.{bytes-drop}
 use Rattle.layout.specs.Record.Laws.{HeadFits, TransitionFits, SlaveFits, NodeFits, head-fits, transition-fits, slave-fits, node-fits}

@@ -1,7 +1,7 @@
 -- Laws of the records of a chart file, in this order: how long each is in bytes; what is written reads back, whatever comes after it; the same in
 -- a slice; the fields of a record that is read from bytes are below their widths.
 use mathlib.Core.Path.{_≡_, refl, ap, _∙_}
-use mathlib.Core.List.{List, [], _∷_, _++_}
+use mathlib.Core.List.{List, _++_}
 use Prim.Native.Nat.{ℕ, _+_, _^_, _≤_, _<_}
 use lib.ListN.{length, drop}
 use lib.Seq.{sets}
