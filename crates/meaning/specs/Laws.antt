@@ -4,3 +4,4 @@ pub mod Bools
 pub mod Above
 pub mod Trees
 pub mod Names
+pub mod Thirteen
