@@ -4,4 +4,5 @@ pub mod Bools
 pub mod Above
 pub mod Trees
 pub mod Names
+pub mod Demand2
 pub mod Thirteen
