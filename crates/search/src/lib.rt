@@ -37,10 +37,12 @@ fn wakes(small: &[u8], t: Trail, k: usize) -> bool
             return false;
         }
         let state = small[80 + k];
-        if small[88 + master] == state {
+        let before = small[88 + master];
+        let after = t.next[master];
+        if before == state {
             return true;
         }
-        return t.next[master] == state;
+        return after == state;
     }
     true
 }

@@ -25,8 +25,8 @@ returns-2 : tie.Need-returns-2
 unfolding wakes same
 returns-2 c m =
     simp (
-      lt-ltb _ _ (c .before .before .before .before .before .if1 .taken),
-      eq-eqb _ _ (c .before .before .before .if2 .left),
+      lt-ltb _ _ (c .before .before .before .before .before .before .if1 .taken),
+      eq-eqb _ _ (c .before .before .before .before .if2 .left),
       eq-eqb _ _ (c .if3 .taken),
     )
 
@@ -34,7 +34,7 @@ returns-3 : tie.Need-returns-3
 unfolding wakes same
 returns-3 c m =
     after _ _ _ _ (lt-ltb _ _ (c .before .before .before .before .before .before .if1 .taken))
-    (eq-eqb _ _ (c .before .before .before .before .if2 .left)) (ne-eqb _ _ (c .before .if3 .left))
+    (eq-eqb _ _ (c .before .before .before .before .if2 .left)) (ne-eqb _ _ (c .if3 .left))
 
 returns-4 : tie.Need-returns-4
 unfolding wakes same
@@ -44,4 +44,4 @@ pub wakes-spec : {M : Type 1} → statement M
 wakes-spec =
     tie.close
     (tie.spec (λ c. search needs) (λ c. search needs) cast-master (λ c. search needs) returns (λ c. search needs) (λ c. search needs)
-    (λ c. search needs) (λ c. search needs) returns-2 (λ c. search needs) returns-3 returns-4)
+    (λ c. search needs) (λ c. search needs) (λ c. search needs) returns-2 returns-3 returns-4)
