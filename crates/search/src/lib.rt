@@ -1,6 +1,6 @@
 // The search for permitted choices over tables of masks: it settles one chart after another until none is left. It knows no file.
 ghost use mathlib.Core.Path.{_≡_};
-ghost use mathlib.Core.Bool.{cond};
+ghost use mathlib.Core.Bool.{_&&_, not, cond};
 ghost use mathlib.Core.List.{List};
 ghost use Prim.Native.Nat.{ℕ, suc, _+_, _-_, _*_, _≤_, _<_};
 ghost use lib.ListN.{length, getD};
@@ -200,8 +200,14 @@ fn settle(masks: &[u64], t: Trail, acc: Found) -> Found
     }
 }
 
-// What the charts left to be settled give, from chart charts - left on, joined to what was found before. Once two permitted choices disagree
-// nothing more can change.
+// Whether two permitted choices that disagree were found: then nothing more can change.
+fn disagree(f: Found) -> bool
+    ensures { λ r. ⌜ r ≡ (f .has && not (f .agree)) ⌝ }
+{
+    f.has & !f.agree
+}
+
+// What the charts left to be settled give, from chart charts - left on, joined to what was found before.
 pub fn search(
     masks: &[u64],
     small: &[u8],
@@ -228,7 +234,7 @@ pub fn search(
     let mut found = acc;
     let mut v: usize = 0;
     while v < n {
-        if found.has & !found.agree {
+        if disagree(found) {
             return found;
         }
         let next = taken(masks, small, t, k, v);

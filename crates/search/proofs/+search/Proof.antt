@@ -22,6 +22,7 @@ use Rattle.search.specs.Hunt.Laws.{Stopped, over-each, over-each-stopped
 use Rattle.search.proofs.search.Reads as search′
 use Rattle.search.proofs.search.Kinds as search-kinds
 use Rattle.search.proofs.+search.Lts-search as lts
+use Rattle.search.proofs.disagree.Reads as disagree-reads
 use Rattle.search.proofs.fine.Reads as fine-reads
 use Rattle.search.proofs.rested.Reads as rested-reads
 use Rattle.search.proofs.settle.Reads as settle-reads
@@ -120,6 +121,8 @@ callees t = (
   fine-reads.Learnt,
   and 2 search-kinds.ps (falls 2 search-kinds.ps _<_ μ-search t) search′.Pre,
   search′.Post,
+  disagree-reads.Asked,
+  disagree-reads.Learnt,
   taken-reads.Asked,
   taken-reads.Learnt,
 )
@@ -182,63 +185,70 @@ module _ (t : ℕ) where
   unfolding each over
   loop-holds c = (omega arith, refl)
 
+  -- the function's entry, from the loop's head, and that some chart is left
+  abbrev entry : lts.At-loop (callees t) (at t) search′.Post Inv-loop μ-loop → lts.Start (callees t) (at t) search′.Post Inv-loop μ-loop
+  entry c = c .before .before .before .before .before .before .before
+
+  abbrev some-left : (c : lts.At-loop (callees t) (at t) search′.Post Inv-loop μ-loop) → entry c .args .left ≡ 0 → ⊥
+  some-left c = c .before .before .before .before .if1 .left
+
   -- what the charts left give is what all candidates of chart k give
   whole : (c : lts.At-loop (callees t) (at t) search′.Post Inv-loop μ-loop) →
-      let a = c .before .before .before .before .before .before .before .args in
+      let a = entry c .args in
       over (hunts (a .masks .now) (a .small .now) (a .left) (a .charts - a .left) (a .t)) (a .acc)
       ≡ over (each (countAt (a .small .now) (a .charts - a .left)) (block (a .masks .now) (a .small .now) (a .left) (a .charts - a .left) (a .t))) (a .acc)
   whole c =
-      let b = c .before .before .before .before .before .before .before in
-      hunts-awake (b .args .masks .now) (b .args .small .now) (b .args .charts) (b .args .left) (c .before .before .before .before .if1 .left)
+      let b = entry c in
+      hunts-awake (b .args .masks .now) (b .args .small .now) (b .args .charts) (b .args .left) (some-left c)
       (b .pre .1 .2) (b .args .acc) (b .args .t)
       (sym (c .before .before .before .wakes .ensures (b .args .masks .now)) ∙ not-false _ (c .before .before .if2 .left))
 
   returns-4 : lts.Need-returns-4 (callees t) (at t) search′.Post Inv-loop μ-loop
   returns-4 c =
-      let a = c .before .before .before .before .before .before .before .before .before .before .before .args in
-      let l = c .before .before .before .before .loop in
-      let h : Stopped (l .found) = stopped (l .found) (c .if4 .taken) in
+      let a = entry (c .before .before .before) .args in
+      let l = c .before .before .before .loop in
+      let h : Stopped (l .found) = stopped (l .found) (sym (c .before .disagree .ensures) ∙ c .if4 .taken) in
       l .inv .1
       ∙ sym (over-each-stopped (block (a .masks .now) (a .small .now) (a .left) (a .charts - a .left) (a .t)) (a .acc)
       (countAt (a .small .now) (a .charts - a .left)) (l .v) (l .inv .0) (rw (l .inv .1) at h))
-      ∙ sym (whole (c .before .before .before .before))
+      ∙ sym (whole (c .before .before .before))
 
   taken-requires : lts.Need-taken-requires (callees t) (at t) search′.Post Inv-loop μ-loop
   taken-requires c κs =
-      let b = c .before .before .before .before .before .before .before .before .before .before .before in
+      let b = entry (c .before .before .before) in
       (b .pre .1 .0 .masks, b .pre .1 .0 .small, omega (arith, b .pre .1), omega (arith, b .pre .1 .0 .counts (b .args .charts - b .args .left)))
 
   -- every candidate stays below 8
   chosen : (c : lts.After-taken (callees t) (at t) search′.Post Inv-loop μ-loop) → (d : ℕ) → getD (c .taken .result .choice) d 0 < 8
   chosen c =
-      let b = c .before .before .before .before .before .before .before .before .before .before .before .before in
-      let l = c .before .before .before .before .before .loop in
+      let b = entry (c .before .before .before .before) in
+      let l = c .before .before .before .before .loop in
       chosen-taken (b .args .masks .now) (b .args .small .now) (b .args .t) (b .args .charts - b .args .left) (l .v) (c .taken .ensures)
       (omega (arith, b .pre .1 .0 .counts (b .args .charts - b .args .left))) (b .pre .1 .3)
 
   fine-requires-2 : lts.Need-fine-requires-2 (callees t) (at t) search′.Post Inv-loop μ-loop
   fine-requires-2 c κs =
-      let b = c .before .before .before .before .before .before .before .before .before .before .before .before in
-      (b .pre .1 .0 .masks, omega (arith, b .pre .1, c .before .before .before .before .before .before .before .before .before .if1), chosen c)
+      let b = entry (c .before .before .before .before) in
+      (b .pre .1 .0 .masks, omega (arith, b .pre .1, some-left (c .before .before .before .before)), chosen c)
 
   search-requires-2 : lts.Need-search-requires-2 (callees t) (at t) search′.Post Inv-loop μ-loop
   search-requires-2 c κs =
-      let b = c .before .before .before .before .before .before .before .before .before .before .before .before .before .before in
-      let some = c .before .before .before .before .before .before .before .before .before .before .before .if1 in
+      let b = entry (c .before .before .before .before .before .before) in
+      let some = some-left (c .before .before .before .before .before .before) in
       (omega (arith, b .pre, some), (b .pre .1 .0, b .pre .1 .1, omega (arith, b .pre), chosen (c .before .before)))
 
   add-v : lts.Need-add-v (callees t) (at t) search′.Post Inv-loop μ-loop
   add-v c =
-      let b = c .before .before .before .before .before .before .before .before .before .before .before .before .before .before in
+      let b = entry (c .before .before .before .before .before .before) in
       omega (arith, b .pre .1 .0 .counts (b .args .charts - b .args .left))
 
   loop-again : lts.Need-loop-again (callees t) (at t) search′.Post Inv-loop μ-loop
   loop-again c =
-      let b = c .before .before .before .before .before .before .before .before .before .before .before .before .before .before in
+      let b = entry (c .before .before .before .before .before .before) in
       let m = b .args .masks .now in
       let s = b .args .small .now in
-      let l = c .before .before .before .before .before .before .before .loop in
-      let some = c .before .before .before .before .before .before .before .before .before .before .before .if1 .left in
+      let l = c .before .before .before .before .before .before .loop in
+      let some = some-left (c .before .before .before .before .before .before) in
       let e : c .if5 .found ≡ over (below m s (b .args .left) (b .args .charts - b .args .left) (c .before .before .taken .result)) (l .found) =
       ⊎-elim
       (λ w. w .2 ∙ w .1 .ensures ∙ goes-on m s (b .args .charts) (b .args .left) some (b .pre .1 .2) (l .found) _ (sym (c .before .fine2 .ensures s) ∙ w .0 .taken))
@@ -248,7 +258,7 @@ module _ (t : ℕ) where
 
   returns-5 : lts.Need-returns-5 (callees t) (at t) search′.Post Inv-loop μ-loop
   returns-5 c =
-      let a = c .before .before .before .before .before .before .before .before .args in
+      let a = entry (c .before) .args in
       let l = c .before .loop in
       let e : l .v ≡ countAt (a .small .now) (a .charts - a .left) = omega arith in
       rw (whole (c .before), ← e) (l .inv .1)
@@ -258,5 +268,5 @@ pub +search-spec : {M : Type 1} → statement M
     close μ-search
     (λ t. lts.spec (callees t) (at t) search′.Post Inv-loop μ-loop (settle-requires t) (returns t) (λ c. omega arith) (λ c κs. search needs)
     (λ c κs. search needs) (fine-requires t) (λ c. search needs) (search-requires t) (returns-2 t) (returns-3 t) (λ c. omega arith)
-    (λ c. search needs) (cast-n t) (loop-holds t) (returns-4 t) (taken-requires t) (fine-requires-2 t) (λ c. search needs)
+    (λ c. search needs) (cast-n t) (loop-holds t) (λ c κs. search needs) (returns-4 t) (taken-requires t) (fine-requires-2 t) (λ c. search needs)
     (search-requires-2 t) (add-v t) (λ c. omega arith) (loop-again t) (returns-5 t))
