@@ -1,10 +1,29 @@
--- A record is written part by part, each where the part before it ends: what the writers' proofs share. Assumes nothing.
+-- What the proofs of the records' readers and writers share, in this order: what stands at place k of the record that begins at `at`; a record that
+-- is written part by part, each where the part before it ends. Assumes nothing.
 use mathlib.Core.Path.{_≡_, refl, sym, ap, _∙_}
 use mathlib.Core.List.{List, [], _∷_, _++_}
 use Prim.Native.Nat.{ℕ, _+_}
-use lib.ListN.{length, set}
-use lib.Seq.{sets}
-use Rattle.layout.specs.Le.{sets-append}
+use native.Mathlib.Nat.{add-zero}
+use lib.ListN.{length, getD, drop, set}
+use lib.Seq.{getD-drop, drop-drop, sets}
+use Rattle.layout.specs.Le.{le}
+use Rattle.layout.specs.Le.Laws.{sets-append}
+
+-- ---- reading
+
+module _ (s : List ℕ) (at : ℕ) where
+  pub byte-at : (k : ℕ) → getD s (at + k) 0 ≡ getD (drop at s) k 0
+  byte-at k = sym (getD-drop at s k 0)
+
+  -- the record's first byte, which code reads at `at` itself
+  pub first-at : getD s at 0 ≡ getD (drop at s) 0 0
+  first-at = ap (λ (j : ℕ). getD s j 0) (sym (add-zero at)) ∙ byte-at 0
+
+  -- x, which code has read at `at + k`
+  pub number-at : (n k : ℕ) {x : ℕ} → x ≡ le n (drop (at + k) s) → x ≡ le n (drop k (drop at s))
+  number-at n k e = e ∙ ap (le n) (sym (drop-drop k at s))
+
+-- ---- writing
 
 -- m is l with xs written at `at`
 pub record Written (l : List ℕ) (at : ℕ) (xs m : List ℕ) : Type 0 where

@@ -1,7 +1,7 @@
 -- The body of a chart file (document 01, "The file"): charts, transitions, slaves and nodes, in this order, each by its number.
 use mathlib.Core.Path.{_≡_}
 use mathlib.Core.List.{List, [], _∷_}
-use Prim.Native.Nat.{ℕ, zero, suc, _+_, _*_, _<_}
+use Prim.Native.Nat.{ℕ, zero, suc, _+_, _*_}
 use lib.ListN.{length, drop}
 use Rattle.layout.specs.Record.{headOf, transitionOf, slaveOf, nodeOf}
 use Rattle.layout.specs.declared.body.Shape.{Shape}
@@ -9,6 +9,7 @@ use Rattle.layout.specs.declared.record.Head.{Head}
 use Rattle.layout.specs.declared.record.Transition.{Transition}
 use Rattle.layout.specs.declared.record.Slave.{Slave}
 use Rattle.layout.specs.declared.record.Node.{Node}
+pub mod Laws
 
 -- where the transitions, the slaves and the nodes begin, and the body's end
 abbrev pub transitionsFrom : Shape → ℕ

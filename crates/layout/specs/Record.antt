@@ -9,6 +9,7 @@ use Rattle.layout.specs.declared.record.Head.{Head}
 use Rattle.layout.specs.declared.record.Transition.{Transition}
 use Rattle.layout.specs.declared.record.Slave.{Slave}
 use Rattle.layout.specs.declared.record.Node.{Node}
+pub mod Laws
 
 -- The last 12 bytes: distance (4 bytes); charts, slaves, nodes, edition (1 byte each); transitions (2 bytes); two zero bytes.
 unfoldable pub trailerOf : List ℕ → Trailer

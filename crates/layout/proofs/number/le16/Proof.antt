@@ -3,7 +3,7 @@ use Prim.Native.Nat.{_+_}
 use native.Mathlib.Omega.{arith}
 use borrow.Author.Needs.{needs}
 use denote.Ref.{now}
-use Rattle.layout.specs.Le.{le-two}
+use Rattle.layout.specs.Le.Laws.{le-two}
 use Rattle.layout.proofs.number.le16.Statement.{statement}
 use Rattle.layout.proofs.number.le16.Tie as tie
 

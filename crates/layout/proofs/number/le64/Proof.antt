@@ -3,7 +3,7 @@ use Prim.Native.Nat.{ℕ, _+_, _*_, _^_}
 use mathlib.Core.Path.{ap₂, _∙_}
 use borrow.Author.Needs.{needs}
 use denote.Ref.{now}
-use Rattle.layout.specs.Le.{le-twice}
+use Rattle.layout.specs.Le.Laws.{le-twice}
 use Rattle.layout.proofs.number.le64.Statement.{statement}
 use Rattle.layout.proofs.number.le64.Tie as tie
 

@@ -3,7 +3,7 @@ use native.Mathlib.Omega.{arith}
 use lib.ListN.{length-set}
 use borrow.Author.Needs.{needs}
 use denote.Ref.{now}
-use Rattle.layout.specs.Le.{put-two}
+use Rattle.layout.specs.Le.Laws.{put-two}
 use Rattle.layout.proofs.number.put16.Statement.{statement}
 use Rattle.layout.proofs.number.put16.Tie as tie
 

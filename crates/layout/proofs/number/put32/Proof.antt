@@ -1,14 +1,14 @@
 -- `number::put32` meets its contract. The bytes of a number are those of its two halves: `put-twice`. Assumes nothing.
 use borrow.Author.Needs.{needs}
 use denote.Ref.{now}
-use Rattle.layout.specs.Le.{put-twice}
+use Rattle.layout.specs.Le.Laws.{put-twice}
 use Rattle.layout.proofs.number.put32.Statement.{statement}
 use Rattle.layout.proofs.number.put32.Tie as tie
 
 returns : tie.Need-returns
 returns c =
     let a = c .before .before .before .before .before .before .before .before .before .args in
-    cc (put-twice 2 (now (a .s)) (a .at) (a .x))
+    rw (c .before .before .put162 .ensures, c .before .before .before .before .before .before .put16 .ensures) (put-twice 2 (now (a .s)) (a .at) (a .x))
 
 pub put32-spec : {M : Type 1} → statement M
 put32-spec =

@@ -1,6 +1,5 @@
 -- `record::write_head` meets its contract. Each part is written where the one before it ends. Assumes nothing.
 use mathlib.Core.Path.{ap}
-use mathlib.Core.List.{[], _∷_}
 use native.Mathlib.Omega.{arith}
 use lib.ListN.{length, length-set}
 use lib.Seq.{length-sets}
