@@ -8,3 +8,4 @@ pub mod Upto
 pub mod Charts
 pub mod Fit
 pub mod Outcomes
+pub mod Free
