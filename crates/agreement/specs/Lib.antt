@@ -9,3 +9,4 @@ pub mod Charts
 pub mod Fit
 pub mod Outcomes
 pub mod Free
+pub mod Renamed
