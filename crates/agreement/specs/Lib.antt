@@ -10,3 +10,4 @@ pub mod Fit
 pub mod Outcomes
 pub mod Free
 pub mod Renamed
+pub mod Laid

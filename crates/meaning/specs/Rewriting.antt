@@ -164,7 +164,7 @@ module _ (F : File) where
 
   -- the nodes that are made for node j, by its kind and its chart's slaves: "A master's node becomes its chart node; then [..] composed node[s];
   -- last a hidden node with x and y both those calls. Other nodes stay."
-  unfoldable pub madeBy : ℕ → ℕ → ℕ → List Node
+  abbrev pub madeBy : ℕ → ℕ → ℕ → List Node
   madeBy zero zero j = record { kind = 0; a = F .a j; b = 0; x = ∅; y = ∅ } ∷ []
   madeBy zero (suc s) j =
       record { kind = 0; a = F .a j; b = 0; x = ∅; y = ∅ }
@@ -186,7 +186,7 @@ module _ (F : File) where
 
   -- ── the rewritten file: "No slaves remain" ──
 
-  unfoldable pub rewrite : File
+  abbrev pub rewrite : File
   rewrite =
       record {
         charts = F .charts;
