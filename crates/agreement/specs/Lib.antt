@@ -11,3 +11,4 @@ pub mod Outcomes
 pub mod Free
 pub mod Renamed
 pub mod Laid
+pub mod Step
