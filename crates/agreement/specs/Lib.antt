@@ -12,3 +12,4 @@ pub mod Free
 pub mod Renamed
 pub mod Laid
 pub mod Step
+pub mod Run

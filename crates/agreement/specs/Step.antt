@@ -48,10 +48,18 @@ module _ (E : ℕ → Chart) (s₁ s₂ : ℕ → ℕ) (cfg : ℕ → ℕ) (t : 
 
 -- ── the whole ──
 
--- a file of at least one node that passes 8 to 11, with sets of 64 signals
+-- every transition ends in a state below n
+abbrev pub Ends : ℕ → List Transition → Type 0
+Ends n [] = Unit {0}
+Ends n (t ∷ ts) = (t .to < n) × Ends n ts
+
+-- what a file is that passes 1 to 11, as far as it counts here
 pub record Ready (F : File) : Type 0 where
   pub sound : Sound F
   pub some-node : 1 ≤ F .nodes
+  pub some-state : (c : ℕ) → c < F .charts → 0 < F .chart c .states
+  pub ends : (c : ℕ) → c < F .charts → Ends (F .chart c .states) (F .chart c .transitions)
+  -- its sets are of 64 signals
   pub small : used F < 2 ^ 64
 
 -- a configuration of its charts' states
