@@ -13,3 +13,4 @@ pub mod Renamed
 pub mod Laid
 pub mod Step
 pub mod Run
+pub mod Faces
