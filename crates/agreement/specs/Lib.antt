@@ -14,3 +14,4 @@ pub mod Laid
 pub mod Step
 pub mod Run
 pub mod Faces
+pub mod Recheck
