@@ -15,3 +15,4 @@ pub mod Step
 pub mod Run
 pub mod Faces
 pub mod Recheck
+pub mod Examples
