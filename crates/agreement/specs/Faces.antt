@@ -17,7 +17,7 @@ use Rattle.agreement.specs.Charts.{OldTs, OldChart, face-is, old-faceCha
 use Rattle.agreement.specs.Fit.{Fit, FitS}
 use Rattle.agreement.specs.Free.{call-inj, old-chart}
 use Rattle.agreement.specs.Renamed.{slavesOf}
-use Rattle.agreement.specs.Step.{Ready, whole-is, fits, chart-is}
+use Rattle.agreement.specs.Step.{Ready, Rewritten, rewritten, whole-is, fits, chart-is}
 
 -- ── actions ──
 
@@ -144,11 +144,18 @@ module _ (sig state : ℕ → ℕ) where
 
 -- ── the whole of a file ──
 
+module _ (F : File) (rd : Ready F) (F′ : File) (r : Rewritten F F′) where
+  pub input-is : inFace (F′ .chart) (wholeOf F′) ≡ inFace (F .chart) (wholeOf F)
+  input-is = ap (inFace (F′ .chart)) (whole-is F rd F′ r)
+      ∙ in-t (call F) (F .state) (kap F) (slavesOf F) (F .charts) (F .chart) (F′ .chart) (old-chart F (rd .small)) (chart-is F rd F′ r) (rd .some-state) (call-inj F) (wholeOf F) (fits F rd)
+
+  pub output-is : outFace (F′ .chart) (wholeOf F′) ≡ outFace (F .chart) (wholeOf F)
+  output-is = ap (outFace (F′ .chart)) (whole-is F rd F′ r)
+      ∙ out-t (call F) (F .state) (kap F) (slavesOf F) (F .charts) (F .chart) (F′ .chart) (old-chart F (rd .small)) (chart-is F rd F′ r) (wholeOf F) none (fits F rd)
+
 module _ (F : File) (rd : Ready F) where
   pub same-input : inFace (rewrite F .chart) (wholeOf (rewrite F)) ≡ inFace (F .chart) (wholeOf F)
-  same-input = ap (inFace (rewrite F .chart)) (whole-is F rd)
-      ∙ in-t (call F) (F .state) (kap F) (slavesOf F) (F .charts) (F .chart) (rewrite F .chart) (old-chart F (rd .small)) (chart-is F rd) (rd .some-state) (call-inj F) (wholeOf F) (fits F rd)
+  same-input = input-is F rd (rewrite F) (rewritten F (rd .sound .ordered))
 
   pub same-output : outFace (rewrite F .chart) (wholeOf (rewrite F)) ≡ outFace (F .chart) (wholeOf F)
-  same-output = ap (outFace (rewrite F .chart)) (whole-is F rd)
-      ∙ out-t (call F) (F .state) (kap F) (slavesOf F) (F .charts) (F .chart) (rewrite F .chart) (old-chart F (rd .small)) (chart-is F rd) (wholeOf F) none (fits F rd)
+  same-output = output-is F rd (rewrite F) (rewritten F (rd .sound .ordered))

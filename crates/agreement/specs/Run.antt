@@ -12,7 +12,7 @@ use Rattle.meaning.specs.Meaning.{Set, Chart, Move, Tree, nth, pick, after, per
 use Rattle.meaning.specs.File.{File, wholeOf}
 use Rattle.meaning.specs.Calls.{stepIn, afterStep, rowOf, rowsOf}
 use Rattle.meaning.specs.Rewriting.{rewrite}
-use Rattle.agreement.specs.Step.{Ends, Ready, Valid, same-step}
+use Rattle.agreement.specs.Step.{Ends, Ready, Valid, Rewritten, rewritten, step-is}
 
 -- ── the states after a step ──
 
@@ -79,9 +79,12 @@ module _ (F : File) (rd : Ready F) where
 
   -- ── the run ──
 
-  pub same-run : (inputs : List Set) (config : List ℕ) → Valid F config → rowsOf (rewrite F) config inputs ≡ rowsOf F config inputs
+  pub run-is : (F′ : File) → Rewritten F F′ → (inputs : List Set) (config : List ℕ) → Valid F config → rowsOf F′ config inputs ≡ rowsOf F config inputs
   unfolding rowsOf
-  same-run [] config v = refl
-  same-run (i ∷ is) config v =
-      ap (λ r. rowOf r config ++ rowsOf (rewrite F) (afterStep r config) is) (same-step F rd config v i)
-      ∙ ap (λ z. rowOf (stepIn F config i) config ++ z) (same-run is (afterStep (stepIn F config i) config) (step-valid config i v))
+  run-is F′ r [] config v = refl
+  run-is F′ r (i ∷ is) config v =
+      ap (λ z. rowOf z config ++ rowsOf F′ (afterStep z config) is) (step-is F rd F′ r config v i)
+      ∙ ap (λ z. rowOf (stepIn F config i) config ++ z) (run-is F′ r is (afterStep (stepIn F config i) config) (step-valid config i v))
+
+  pub same-run : (inputs : List Set) (config : List ℕ) → Valid F config → rowsOf (rewrite F) config inputs ≡ rowsOf F config inputs
+  same-run = run-is (rewrite F) (rewritten F (rd .sound .ordered))

@@ -66,8 +66,19 @@ pub record Ready (F : File) : Type 0 where
 abbrev pub Valid : File → List ℕ → Type 0
 Valid F config = (c : ℕ) → c < F .charts → getD config c 0 < F .chart c .states
 
+-- a file that is the rewriting of F as far as it is read
+pub record Rewritten (F F′ : File) : Type 0 where
+  pub ordered : Ordered F′
+  pub nodes : NodesR F F′
+  pub last : F′ .nodes ≡ start F (F .nodes)
+  pub charts : F′ .charts ≡ F .charts
+  pub chart : (c : ℕ) → c < F .charts → F′ .chart c ≡ rewrittenChart F c
+
+pub rewritten : (F : File) → Ordered F → Rewritten F (rewrite F)
+rewritten F w = record { ordered = orderedR F w; nodes = nodesR F; last = refl; charts = refl; chart = λ c l. refl }
+
 -- the node by which the last is named is the last of the new file
-pub new-last : (F : File) (last : ℕ) → suc last ≡ F .nodes → suc (newName F last) ≡ rewrite F .nodes
+new-last : (F : File) (last : ℕ) → suc last ≡ F .nodes → suc (newName F last) ≡ start F (F .nodes)
 unfolding newName
 new-last F last e = let b = start-suc F last in let c = ap (start F) e in omega arith
 
@@ -80,11 +91,6 @@ module _ (F : File) (rd : Ready F) where
 
   abbrev fbs : ℕ → Set
   fbs c = F .chart c .feedback
-
-  -- the tree of the rewritten file is the rewriting of the tree
-  pub whole-is : wholeOf (rewrite F) ≡ tree (call F) (λ c. F .chart c .feedback) (wholeOf F)
-  whole-is = ap (treeOf (rewrite F)) (let h = new-last F last is-last in omega arith)
-      ∙ tree-ren F (rewrite F) (rd .sound .ordered) (orderedR F (rd .sound .ordered)) (nodesR F) (F .nodes) last (let h = is-last in omega arith) (let h = is-last in omega arith)
 
   pub fits : Fit (call F) (kap F) (slavesOf F) (F .charts) (wholeOf F) none
   fits = let s = rd .sound in subst (λ κ. Fit (call F) (kap F) (slavesOf F) (F .charts) (wholeOf F) κ) (enc-last F (s .ordered) (s .rule10) last is-last)
@@ -99,22 +105,31 @@ module _ (F : File) (rd : Ready F) where
   unfolding nearestSlave
   nearest-is c l = nearest-fit (call F) (kap F) (slavesOf F) (F .charts) c (wholeOf F) none fits (has c l)
 
-  pub chart-is : (c : ℕ) → c < F .charts → rewrite F .chart c ≡ chartWith (call F) (kap F c) (touch (call F) (F .state) (slavesOf F c)) (F .chart c)
-  unfolding rewrittenChart
-  chart-is c l = ap₂ (λ κ T. chartWith (call F) κ T (F .chart c)) (nearest-is c l) (fun-ext (λ t. sym (touch-of F c t)))
+  module _ (F′ : File) (rw′ : Rewritten F F′) where
+    -- the tree of the rewritten file is the rewriting of the tree
+    pub whole-is : wholeOf F′ ≡ tree (call F) (λ c. F .chart c .feedback) (wholeOf F)
+    whole-is = ap (treeOf F′) (let h = new-last F last is-last in let g = rw′ .last in omega arith)
+        ∙ tree-ren F F′ (rd .sound .ordered) (rw′ .ordered) (rw′ .nodes) (F .nodes) last (let h = is-last in omega arith) (let h = is-last in omega arith)
 
-  -- ── the step ──
+    pub chart-is : (c : ℕ) → c < F .charts → F′ .chart c ≡ chartWith (call F) (kap F c) (touch (call F) (F .state) (slavesOf F c)) (F .chart c)
+    unfolding rewrittenChart
+    chart-is c l = rw′ .chart c l ∙ ap₂ (λ κ T. chartWith (call F) κ T (F .chart c)) (nearest-is c l) (fun-ext (λ t. sym (touch-of F c t)))
+
+    -- ── the step ──
+
+    pub step-is : (config : List ℕ) → Valid F config → (inp : Set) → stepIn F′ config inp ≡ stepIn F config inp
+    unfolding stepIn outcomes permitted
+    step-is config v inp = let s = rd .sound in ap answer (rw (whole-is, rw′ .charts)
+        (free-search (F′ .chart) (F′ .state) (F .state) cfg T inp (F .charts)
+        (λ M. free-t (call F) fbs (F′ .chart) (F′ .state) (F .state) cfg M (wholeOf F) (inp ∩ inFace (F′ .chart) T)) (F .charts) zero (λ c. zero)
+        ∙ same-outcomes (call F) (F .state) (call-inj F) (kap F) (slavesOf F) (F .charts) (F .chart) (F′ .chart) cfg (wholeOf F) inp chart-is fits
+        (above-node F (s .ordered) (s .rule11) (F .nodes) last (let h = is-last in omega arith) (let h = is-last in omega arith)) has (old-chart F (rd .small)) v))
+      where
+        cfg : ℕ → ℕ
+        cfg c = getD config c 0
+
+        T : Tree
+        T = tree (call F) (λ c. F .chart c .feedback) (wholeOf F)
 
   pub same-step : (config : List ℕ) → Valid F config → (inp : Set) → stepIn (rewrite F) config inp ≡ stepIn F config inp
-  unfolding stepIn outcomes permitted
-  same-step config v inp = let s = rd .sound in ap answer (rw whole-is
-      (free-search (rewrite F .chart) (rewrite F .state) (F .state) cfg T inp (F .charts)
-      (λ M. free-t (call F) fbs (rewrite F .chart) (rewrite F .state) (F .state) cfg M (wholeOf F) (inp ∩ inFace (rewrite F .chart) T)) (F .charts) zero (λ c. zero)
-      ∙ same-outcomes (call F) (F .state) (call-inj F) (kap F) (slavesOf F) (F .charts) (F .chart) (rewrite F .chart) cfg (wholeOf F) inp chart-is fits
-      (above-node F (s .ordered) (s .rule11) (F .nodes) last (let h = is-last in omega arith) (let h = is-last in omega arith)) has (old-chart F (rd .small)) v))
-    where
-      cfg : ℕ → ℕ
-      cfg c = getD config c 0
-
-      T : Tree
-      T = tree (call F) (λ c. F .chart c .feedback) (wholeOf F)
+  same-step = step-is (rewrite F) (rewritten F (rd .sound .ordered))
