@@ -16,3 +16,4 @@ pub mod Run
 pub mod Faces
 pub mod Recheck
 pub mod Examples
+pub mod Encoded
