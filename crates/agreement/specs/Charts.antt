@@ -11,6 +11,7 @@ use Rattle.signals.specs.Decide.{sets, A, B, C as Cₑ, D, ∅ₑ, _∪ₑ_, _�
 use Rattle.layout.specs.declared.record.Transition.{Transition}
 use Rattle.meaning.specs.Meaning.{Set, ∅, Chart, Move, nth, pick, guards, inFaceChart}
 use Rattle.meaning.specs.Rewriting.{callIn, idle, idles, called, chartWith}
+use Rattle.agreement.specs.Every.{Every}
 use Rattle.agreement.specs.Tree.{moveR}
 use Rattle.agreement.specs.Same.{Old, OldMove, old-none, old-join}
 
@@ -86,8 +87,7 @@ module _ (sig : ℕ → ℕ) where
           ∙ sets (guards (C .transitions) ∷ callIn sig κ ∷ C .extra ∷ []) [] ((A ∪ₑ B) ∪ₑ Cₑ ≐ (A ∪ₑ Cₑ) ∪ₑ B) tt
 
   abbrev pub OldTs : List Transition → Type 0
-  OldTs [] = Unit {0}
-  OldTs (t ∷ ts) = OldMove sig (some t) × OldTs ts
+  OldTs = Every (λ t. OldMove sig (some t))
 
   old-nth : (ts : List Transition) (k : ℕ) → OldTs ts → OldMove sig (nth ts k)
   unfolding nth

@@ -18,6 +18,7 @@ use Rattle.layout.specs.declared.record.Head.{Head}
 use Rattle.layout.specs.declared.record.Transition.{Transition}
 use Rattle.layout.specs.declared.record.Slave.{Slave}
 use Rattle.layout.specs.declared.record.Node.{Node}
+use Rattle.agreement.specs.Every.{Every, every-at}
 use Rattle.meaning.specs.Numbers.{theEdition}
 use Rattle.meaning.specs.Count.{tally}
 use Rattle.meaning.specs.Count.Laws.{below-suc}
@@ -100,19 +101,13 @@ module _ (ts : ℕ → List Transition) where
 
 -- ── the body ──
 
--- sets are of 8 bytes
-abbrev pub FitsAll : List Transition → Type 0
-FitsAll [] = Unit {0}
-FitsAll (t ∷ ts) = ((t .needed < 256 ^ 8) × (t .barred < 256 ^ 8) × (t .action < 256 ^ 8)) × FitsAll ts
-
-fits-at : (ts : List Transition) (k : ℕ) → k < length ts → FitsAll ts → (getD ts k noTransition .needed < 256 ^ 8) × (getD ts k noTransition .barred < 256 ^ 8) × (getD ts k noTransition .action < 256 ^ 8)
-fits-at [] k l f = absurd (omega arith)
-fits-at (t ∷ ts) zero l f = f .0
-fits-at (t ∷ ts) (suc k) l f = fits-at ts k (omega arith) (f .1)
+-- a transition's sets are of 8 bytes
+abbrev pub Small : Transition → Type 0
+Small t = (t .needed < 256 ^ 8) × (t .barred < 256 ^ 8) × (t .action < 256 ^ 8)
 
 pub record Fits (F : File) : Type 0 where
   pub heads : (c : ℕ) → c < F .charts → (F .chart c .feedback < 256 ^ 8) × (F .chart c .extra < 256 ^ 8)
-  pub lists : (c : ℕ) → c < F .charts → FitsAll (F .chart c .transitions)
+  pub lists : (c : ℕ) → c < F .charts → Every Small (F .chart c .transitions)
   pub sets : (j : ℕ) → j < F .nodes → (F .x j < 256 ^ 8) × (F .y j < 256 ^ 8)
   pub size : sizeOf (shapeIn F) < 256 ^ 4
   pub total : transitionsIn F < 256 ^ 2
@@ -211,7 +206,7 @@ module _ (F : File) (ft : Fits F) where
 
   pub transition-is : (c k : ℕ) → c < F .charts → k < length (F .chart c .transitions) → transitionAt n b (startOf n b c + k) ≡ getD (F .chart c .transitions) k noTransition
   unfolding transitionAt
-  transition-is c k l m = let u = transition-there F c k l m in let f = fits-at (F .chart c .transitions) k m (ft .lists c l) in
+  transition-is c k l m = let u = transition-there F c k l m in let f = every-at Small (F .chart c .transitions) k noTransition m (ft .lists c l) in
       ap (λ z. transitionOf (drop (transitionsFrom n + 28 * (z + k)) b)) (start-is c (omega arith))
       ∙ ap transitionOf (u .1) ∙ transition-back (getD (F .chart c .transitions) k noTransition) (u .0) (f .0) (f .1) (f .2)
 

@@ -5,6 +5,7 @@ pub mod Tree
 pub mod Same
 pub mod Active
 pub mod Upto
+pub mod Every
 pub mod Charts
 pub mod Fit
 pub mod Outcomes

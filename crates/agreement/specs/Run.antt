@@ -12,11 +12,12 @@ use Rattle.meaning.specs.Meaning.{Set, Chart, Move, Tree, nth, pick, after, per
 use Rattle.meaning.specs.File.{File, wholeOf}
 use Rattle.meaning.specs.Calls.{stepIn, afterStep, rowOf, rowsOf}
 use Rattle.meaning.specs.Rewriting.{rewrite}
-use Rattle.agreement.specs.Step.{Ends, Ready, Valid, Rewritten, rewritten, step-is}
+use Rattle.agreement.specs.Every.{Every}
+use Rattle.agreement.specs.Step.{Ready, Valid, Rewritten, rewritten, step-is}
 
 -- ── the states after a step ──
 
-after-below : (n s : ℕ) (ts : List Transition) (v : ℕ) → Ends n ts → s < n → after s (pick ts v) < n
+after-below : (n s : ℕ) (ts : List Transition) (v : ℕ) → Every (λ t. t .to < n) ts → s < n → after s (pick ts v) < n
 unfolding after pick nth
 after-below n s ts zero e l = l
 after-below n s [] (suc k) e l = l

@@ -15,6 +15,7 @@ use Rattle.meaning.specs.Rewriting.{used, call, chartWith, nearestSlave, callsB
 use Rattle.meaning.specs.Check.Nodes.{Sound}
 use Rattle.meaning.specs.Laws.Trees.{Ordered, Rule11, above-node, all-there}
 use Rattle.meaning.specs.Laws.Names.{Rule10, enc, kap, placed, joined, enc-last}
+use Rattle.agreement.specs.Every.{Every}
 use Rattle.agreement.specs.Tree.{calls, tree, nest, touch}
 use Rattle.agreement.specs.Same.{Old}
 use Rattle.agreement.specs.Charts.{OldChart}
@@ -48,17 +49,12 @@ module _ (E : ℕ → Chart) (s₁ s₂ : ℕ → ℕ) (cfg : ℕ → ℕ) (t : 
 
 -- ── the whole ──
 
--- every transition ends in a state below n
-abbrev pub Ends : ℕ → List Transition → Type 0
-Ends n [] = Unit {0}
-Ends n (t ∷ ts) = (t .to < n) × Ends n ts
-
 -- what a file is that passes 1 to 11, as far as it counts here
 pub record Ready (F : File) : Type 0 where
   pub sound : Sound F
   pub some-node : 1 ≤ F .nodes
   pub some-state : (c : ℕ) → c < F .charts → 0 < F .chart c .states
-  pub ends : (c : ℕ) → c < F .charts → Ends (F .chart c .states) (F .chart c .transitions)
+  pub ends : (c : ℕ) → c < F .charts → Every (λ t. t .to < F .chart c .states) (F .chart c .transitions)
   -- its sets are of 64 signals
   pub small : used F < 2 ^ 64
 
