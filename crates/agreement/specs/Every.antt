@@ -30,3 +30,7 @@ module _ (P : Transition → Type 0) where
   pub every-map : (Q : Transition → Type 0) (g : Transition → Transition) → ((t : Transition) → P t → Q (g t)) → (ts : List Transition) → Every P ts → Every Q (map g ts)
   every-map Q g h [] k = tt
   every-map Q g h (t ∷ ts) k = (h t (k .0), every-map Q g h ts (k .1))
+
+  pub every-imp : (Q : Transition → Type 0) → ((t : Transition) → P t → Q t) → (ts : List Transition) → Every P ts → Every Q ts
+  every-imp Q h [] k = tt
+  every-imp Q h (t ∷ ts) k = (h t (k .0), every-imp Q h ts (k .1))

@@ -18,3 +18,4 @@ pub mod Faces
 pub mod Recheck
 pub mod Examples
 pub mod Encoded
+pub mod Passed
