@@ -19,3 +19,4 @@ pub mod Recheck
 pub mod Examples
 pub mod Encoded
 pub mod Passed
+pub mod New
