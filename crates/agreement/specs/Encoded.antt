@@ -161,16 +161,23 @@ module _ (F : File) where
   past : (p q : List ℕ) (m k : ℕ) → length p ≡ m → drop (m + k) (p ++ q) ≡ drop k q
   past p q m k e = ap (λ z. drop (z + k) (p ++ q)) (sym e) ∙ drop-append-add p q k
 
+  -- transition t, counted through all charts
+  place-there : (t : ℕ) → t < length (all listOf (F .charts)) → (r : List ℕ) × (drop (transitionsFrom (shapeIn F) + 28 * t) (bodyBytes F) ≡ transitionBytes (getD (all listOf (F .charts)) t noTransition) ++ r)
+  unfolding bodyBytes shapeIn
+  place-there t l = let u = transitions-at (all listOf (F .charts)) t (ss ++ ns) l in (
+    u .0,
+    ap (drop (24 * F .charts + 28 * t)) (append-assoc (hs ++ rs) ss ns ∙ append-assoc hs rs (ss ++ ns)) ∙ past hs (rs ++ (ss ++ ns)) (24 * F .charts) (28 * t) length-hs
+        ∙ ap (λ z. drop (28 * t) (z ++ (ss ++ ns))) (all-bytes listOf (F .charts)) ∙ u .1,
+  )
+
+  pub some-transition-there : (t : ℕ) → t < transitionsIn F → (u : Transition) × (r : List ℕ) × (drop (transitionsFrom (shapeIn F) + 28 * t) (bodyBytes F) ≡ transitionBytes u ++ r)
+  unfolding transitionsIn
+  some-transition-there t l = let u = place-there t (let e = length-all listOf (F .charts) in omega arith) in (getD (all listOf (F .charts)) t noTransition, u .0, u .1)
+
   pub transition-there : (c k : ℕ) → c < F .charts → k < length (F .chart c .transitions)
       → (r : List ℕ) × (drop (transitionsFrom (shapeIn F) + 28 * (tally c (λ c. length (F .chart c .transitions)) + k)) (bodyBytes F) ≡ transitionBytes (getD (F .chart c .transitions) k noTransition) ++ r)
-  unfolding bodyBytes shapeIn
-  transition-there c k l m = let v = all-at listOf (F .charts) c k l m in
-      let u = transitions-at (all listOf (F .charts)) (tally c (λ c. length (F .chart c .transitions)) + k) (ss ++ ns) (v .0) in (
-        u .0,
-        ap (drop (24 * F .charts + 28 * (tally c (λ c. length (F .chart c .transitions)) + k))) (append-assoc (hs ++ rs) ss ns ∙ append-assoc hs rs (ss ++ ns))
-            ∙ past hs (rs ++ (ss ++ ns)) (24 * F .charts) (28 * (tally c (λ c. length (F .chart c .transitions)) + k)) length-hs
-            ∙ ap (λ z. drop (28 * (tally c (λ c. length (F .chart c .transitions)) + k)) (z ++ (ss ++ ns))) (all-bytes listOf (F .charts)) ∙ u .1 ∙ ap (λ z. transitionBytes z ++ u .0) (v .1),
-      )
+  transition-there c k l m = let v = all-at listOf (F .charts) c k l m in let u = place-there (tally c (λ c. length (F .chart c .transitions)) + k) (v .0) in
+      (u .0, u .1 ∙ ap (λ z. transitionBytes z ++ u .0) (v .1))
 
   pub slave-there : (i : ℕ) → i < F .slaves → (r : List ℕ) × (drop (slavesFrom (shapeIn F) + 4 * i) (bodyBytes F) ≡ slaveBytes (slaveIn i) ++ r)
   unfolding bodyBytes shapeIn

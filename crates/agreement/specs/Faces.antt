@@ -155,7 +155,7 @@ module _ (F : File) (rd : Ready F) (F′ : File) (r : Rewritten F F′) where
 
 module _ (F : File) (rd : Ready F) where
   pub same-input : inFace (rewrite F .chart) (wholeOf (rewrite F)) ≡ inFace (F .chart) (wholeOf F)
-  same-input = input-is F rd (rewrite F) (rewritten F (rd .sound .ordered))
+  same-input = input-is F rd (rewrite F) (rewritten F)
 
   pub same-output : outFace (rewrite F .chart) (wholeOf (rewrite F)) ≡ outFace (F .chart) (wholeOf F)
-  same-output = output-is F rd (rewrite F) (rewritten F (rd .sound .ordered))
+  same-output = output-is F rd (rewrite F) (rewritten F)

@@ -20,3 +20,4 @@ pub mod Examples
 pub mod Encoded
 pub mod Passed
 pub mod New
+pub mod Reads

@@ -24,12 +24,12 @@ use Rattle.agreement.specs.Laid.{noNode, widthOf, width, start-suc, star
 use Rattle.layout.specs.declared.record.Node.{Node}
 
 -- ── sums ──
-tally-cong : (n : ℕ) (f g : ℕ → ℕ) → ((i : ℕ) → i < n → f i ≡ g i) → tally n f ≡ tally n g
+pub tally-cong : (n : ℕ) (f g : ℕ → ℕ) → ((i : ℕ) → i < n → f i ≡ g i) → tally n f ≡ tally n g
 unfolding tally
 tally-cong zero f g h = refl
 tally-cong (suc n) f g h = ap₂ _+_ (h n (omega arith)) (tally-cong n f g (λ i l. h i (omega arith)))
 
-tally-zero : (n : ℕ) (f : ℕ → ℕ) → ((i : ℕ) → i < n → f i ≡ 0) → tally n f ≡ 0
+pub tally-zero : (n : ℕ) (f : ℕ → ℕ) → ((i : ℕ) → i < n → f i ≡ 0) → tally n f ≡ 0
 unfolding tally
 tally-zero zero f h = refl
 tally-zero (suc n) f h = let a = h n (omega arith) in let b = tally-zero n f (λ i l. h i (omega arith)) in omega arith
@@ -44,7 +44,7 @@ unfolding tally
 tally-swap zero m h = sym (tally-zero m (λ i. 0) (λ i l. refl))
 tally-swap (suc n) m h = ap (λ z. tally m (λ i. h i n) + z) (tally-swap n m h) ∙ sym (tally-add m (λ i. h i n) (λ i. tally n (λ j. h i j)))
 
-tally-front : (n : ℕ) (f : ℕ → ℕ) → tally (suc n) f ≡ f 0 + tally n (λ i. f (suc i))
+pub tally-front : (n : ℕ) (f : ℕ → ℕ) → tally (suc n) f ≡ f 0 + tally n (λ i. f (suc i))
 unfolding tally
 tally-front zero f = refl
 tally-front (suc n) f = let a = tally-front n f in omega arith

@@ -88,4 +88,4 @@ module _ (F : File) (rd : Ready F) where
       ∙ ap (λ z. rowOf (stepIn F config i) config ++ z) (run-is F′ r is (afterStep (stepIn F config i) config) (step-valid config i v))
 
   pub same-run : (inputs : List Set) (config : List ℕ) → Valid F config → rowsOf (rewrite F) config inputs ≡ rowsOf F config inputs
-  same-run = run-is (rewrite F) (rewritten F (rd .sound .ordered))
+  same-run = run-is (rewrite F) (rewritten F)

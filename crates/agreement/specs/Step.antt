@@ -64,14 +64,12 @@ Valid F config = (c : ℕ) → c < F .charts → getD config c 0 < F .chart c .s
 
 -- a file that is the rewriting of F as far as it is read
 pub record Rewritten (F F′ : File) : Type 0 where
-  pub ordered : Ordered F′
-  pub nodes : NodesR F F′
-  pub last : F′ .nodes ≡ start F (F .nodes)
   pub charts : F′ .charts ≡ F .charts
   pub chart : (c : ℕ) → c < F .charts → F′ .chart c ≡ rewrittenChart F c
+  pub whole : wholeOf F′ ≡ wholeOf (rewrite F)
 
-pub rewritten : (F : File) → Ordered F → Rewritten F (rewrite F)
-rewritten F w = record { ordered = orderedR F w; nodes = nodesR F; last = refl; charts = refl; chart = λ c l. refl }
+pub rewritten : (F : File) → Rewritten F (rewrite F)
+rewritten F = record { charts = refl; chart = λ c l. refl; whole = refl }
 
 -- the node by which the last is named is the last of the new file
 new-last : (F : File) (last : ℕ) → suc last ≡ F .nodes → suc (newName F last) ≡ start F (F .nodes)
@@ -104,8 +102,8 @@ module _ (F : File) (rd : Ready F) where
   module _ (F′ : File) (rw′ : Rewritten F F′) where
     -- the tree of the rewritten file is the rewriting of the tree
     pub whole-is : wholeOf F′ ≡ tree (call F) (λ c. F .chart c .feedback) (wholeOf F)
-    whole-is = ap (treeOf F′) (let h = new-last F last is-last in let g = rw′ .last in omega arith)
-        ∙ tree-ren F F′ (rd .sound .ordered) (rw′ .ordered) (rw′ .nodes) (F .nodes) last (let h = is-last in omega arith) (let h = is-last in omega arith)
+    whole-is = rw′ .whole ∙ ap (treeOf (rewrite F)) (let h = new-last F last is-last in omega arith)
+        ∙ tree-ren F (rewrite F) (rd .sound .ordered) (orderedR F (rd .sound .ordered)) (nodesR F) (F .nodes) last (let h = is-last in omega arith) (let h = is-last in omega arith)
 
     pub chart-is : (c : ℕ) → c < F .charts → F′ .chart c ≡ chartWith (call F) (kap F c) (touch (call F) (F .state) (slavesOf F c)) (F .chart c)
     unfolding rewrittenChart
@@ -128,4 +126,4 @@ module _ (F : File) (rd : Ready F) where
         T = tree (call F) (λ c. F .chart c .feedback) (wholeOf F)
 
   pub same-step : (config : List ℕ) → Valid F config → (inp : Set) → stepIn (rewrite F) config inp ≡ stepIn F config inp
-  same-step = step-is (rewrite F) (rewritten F (rd .sound .ordered))
+  same-step = step-is (rewrite F) (rewritten F)
