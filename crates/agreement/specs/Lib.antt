@@ -21,3 +21,4 @@ pub mod Encoded
 pub mod Passed
 pub mod New
 pub mod Reads
+pub mod Again

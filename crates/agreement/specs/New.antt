@@ -31,6 +31,10 @@ use Rattle.agreement.specs.Step.{Ready, nearest-is}
 -- a file that passes 1 to 11, as far as its records count here
 pub record Regular (F : File) : Type 0 where
   pub ready : Ready F
+  pub some-chart : 0 < F .charts
+  pub charts : F .charts ≤ 8
+  pub most-states : (c : ℕ) → c < F .charts → F .chart c .states ≤ 16
+  pub initials : (c : ℕ) → c < F .charts → F .chart c .initial < F .chart c .states
   pub feedbacks : (c : ℕ) → c < F .charts → (F .chart c .feedback < 2 ^ 64) × (F .chart c .extra < 2 ^ 64)
   pub lists : (c : ℕ) → c < F .charts → Every Small (F .chart c .transitions)
   pub states : (c : ℕ) → c < F .charts → Every (λ t. (t .from < F .chart c .states) × (t .to < F .chart c .states)) (F .chart c .transitions)
