@@ -268,3 +268,8 @@ module _ (F : File) (rg : Regular F) (gv : Given F) where
     chart = λ c l. chart-back R fits c l;
     whole = tree-same R G (reads-back R fits) w (R .nodes - 1) (let h = some-node in omega arith);
   })
+
+  -- "No slaves remain"
+  pub new-slaves : fileOf (encode R) .slaves ≡ 0
+  unfolding fileAt shapeIn
+  new-slaves = ap (λ G. G .slaves) (file-is R fits)

@@ -22,3 +22,4 @@ pub mod Passed
 pub mod New
 pub mod Reads
 pub mod Again
+pub mod Calls

@@ -24,7 +24,7 @@ use Rattle.meaning.specs.Count.{anyUpTo}
 use Rattle.meaning.specs.Count.Laws.{or-left, or-right, any-never}
 use Rattle.meaning.specs.Meaning.{Set, same, Chart, guards, actions}
 use Rattle.meaning.specs.File.{File, endOf, trailer, bodyOf, shapeOf, chartOf, fileAt, fileOf}
-use Rattle.meaning.specs.Check.{firstOf, differ, notBelow, counts?, distance?, nonzero, zeros?, chart?, charts?, ends?, transitions?, slaves?, nodes?, naming?, inside?, fileTests, refusalOf}
+use Rattle.meaning.specs.Check.{Test, firstOf, differ, notBelow, counts?, distance?, nonzero, zeros?, chart?, charts?, ends?, transitions?, slaves?, nodes?, naming?, inside?, fileTests, refusalOf}
 use Rattle.meaning.specs.Check.Nodes.{sound}
 use Rattle.meaning.specs.Rewriting.{unionUpTo, used}
 use Rattle.meaning.specs.Laws.Bools.{same-refl, same→≡, same-≢}
@@ -47,13 +47,14 @@ pub record Passed (f : List ℕ) : Type 0 where
   pub naming : naming? (fileAt (shapeOf (trailer f)) (bodyOf f)) ≡ false
   pub inside : inside? (fileAt (shapeOf (trailer f)) (bodyOf f)) ≡ false
 
-first : (b : Bool) (n r : ℕ) → 0 < n → cond b n r ≡ 0 → (b ≡ false) × (r ≡ 0)
+pub first : (b : Bool) (n r : ℕ) → 0 < n → cond b n r ≡ 0 → (b ≡ false) × (r ≡ 0)
 first true n r l e = absurd (omega arith)
 first false n r l e = (refl, e)
 
-pub passed : (f : List ℕ) → refusalOf f ≡ 0 → Passed f
-unfolding refusalOf fileTests firstOf
-passed f e =
+-- of 1 to 11 and the tests after them, none applies
+pub passed-then : (f : List ℕ) (us : List Test) → firstOf (fileTests f ++ us) ≡ 0 → Passed f × (firstOf us ≡ 0)
+unfolding fileTests firstOf
+passed-then f us e =
     let p1 = first _ 1 _ (lit< tt) e in
     let p2 = first _ 2 _ (lit< tt) (p1 .1) in
     let p3 = first _ 3 _ (lit< tt) (p2 .1) in
@@ -64,28 +65,39 @@ passed f e =
     let p8 = first _ 8 _ (lit< tt) (p7 .1) in
     let p9 = first _ 9 _ (lit< tt) (p8 .1) in
     let p10 = first _ 10 _ (lit< tt) (p9 .1) in
-    let p11 = first _ 11 _ (lit< tt) (p10 .1) in
-    record {
-      long = p1 .0;
-      edition = p2 .0;
-      counts = p3 .0;
-      distance = p4 .0;
-      zeros = p5 .0;
-      charts = p6 .0;
-      transitions = p7 .0;
-      slaves = p8 .0;
-      nodes = p9 .0;
-      naming = p10 .0;
-      inside = p11 .0;
-    }
+    let p11 = first _ 11 _ (lit< tt) (p10 .1) in (
+      record {
+        long = p1 .0;
+        edition = p2 .0;
+        counts = p3 .0;
+        distance = p4 .0;
+        zeros = p5 .0;
+        charts = p6 .0;
+        transitions = p7 .0;
+        slaves = p8 .0;
+        nodes = p9 .0;
+        naming = p10 .0;
+        inside = p11 .0;
+      },
+      p11 .1,
+    )
 
-after : (b : Bool) (n r : ℕ) → b ≡ false → r ≡ 0 → cond b n r ≡ 0
-after b n r p q = ap (λ z. cond z n r) p ∙ q
+pub passed : (f : List ℕ) → refusalOf f ≡ 0 → Passed f
+unfolding refusalOf fileTests
+passed f e = passed-then f [] e .0
+
+after : (b : Bool) (n r s : ℕ) → b ≡ false → r ≡ s → cond b n r ≡ s
+after b n r s p q = ap (λ z. cond z n r) p ∙ q
+
+-- if 1 to 11 do not apply, the tests after them decide
+pub passes-then : (f : List ℕ) (us : List Test) → Passed f → firstOf (fileTests f ++ us) ≡ firstOf us
+unfolding fileTests firstOf
+passes-then f us p = after _ 1 _ _ (p .long) (after _ 2 _ _ (p .edition) (after _ 3 _ _ (p .counts) (after _ 4 _ _ (p .distance) (after _ 5 _ _ (p .zeros) (after _ 6 _ _ (p .charts)
+    (after _ 7 _ _ (p .transitions) (after _ 8 _ _ (p .slaves) (after _ 9 _ _ (p .nodes) (after _ 10 _ _ (p .naming) (after _ 11 _ _ (p .inside) refl))))))))))
 
 pub passes : (f : List ℕ) → Passed f → refusalOf f ≡ 0
 unfolding refusalOf fileTests firstOf
-passes f p = after _ 1 _ (p .long) (after _ 2 _ (p .edition) (after _ 3 _ (p .counts) (after _ 4 _ (p .distance) (after _ 5 _ (p .zeros) (after _ 6 _ (p .charts)
-    (after _ 7 _ (p .transitions) (after _ 8 _ (p .slaves) (after _ 9 _ (p .nodes) (after _ 10 _ (p .naming) (after _ 11 _ (p .inside) refl))))))))))
+passes f p = passes-then f [] p
 
 -- ── a test that is false ──
 
