@@ -6,6 +6,10 @@ use Prim.Native.Nat.{ℕ}
 abbrev pub theEdition : ℕ
 theEdition = 1
 
+-- signals are 0 to 63
+abbrev pub mostSignals : ℕ
+mostSignals = 64
+
 abbrev pub mostCharts : ℕ
 mostCharts = 8
 
@@ -78,3 +82,21 @@ noStep = 23
 
 abbrev pub shortRows : ℕ
 shortRows = 27
+
+abbrev pub noFreeSignal : ℕ
+noFreeSignal = 40
+
+abbrev pub manyFromState : ℕ
+manyFromState = 41
+
+abbrev pub manyInChart : ℕ
+manyInChart = 42
+
+abbrev pub manyInAll : ℕ
+manyInAll = 43
+
+abbrev pub manyNodes : ℕ
+manyNodes = 44
+
+abbrev pub shortOut : ℕ
+shortOut = 45

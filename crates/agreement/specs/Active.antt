@@ -1,0 +1,118 @@
+-- Which charts are active, and that it is settled by the masters, which have lower numbers.
+use mathlib.Core.Path.{_≡_, refl, sym, _∙_, ap, ap₂, subst, fun-ext}
+use mathlib.Core.Bool.{Bool, true, false, _&&_, _||_, not, cond, true≢false, false≢true}
+use mathlib.Core.Option.{Option, none, some}
+use Prim.Native.Nat.{ℕ, zero, suc, _+_, _≤_, _<_}
+use native.Mathlib.Omega.{arith}
+use Rattle.meaning.specs.Meaning.{Set, ∅, same, Chart, Tree, Slaves, leaf, comp, hide, dec, nil, snoc, Move, actionOf, after, inFaceChart, inFace, inFaces, out, outs, okChart, meets, ok, oks, permitted}
+use Rattle.signals.specs.Mask.{_∪_, _∩_, _∖_}
+use Rattle.meaning.specs.Laws.Bools.{same-refl, same→≡, same-≢, and-l, and-r, and-i, not-true}
+use Rattle.layout.specs.declared.record.Transition.{Transition}
+use Rattle.meaning.specs.File.{Has, HasS}
+use Rattle.meaning.specs.Laws.Above.{Above, AboveS, live-either}
+use Rattle.agreement.specs.Tree.{tree, nest, calls}
+
+module _ (state : ℕ → ℕ) (cfg : ℕ → ℕ) (M : ℕ → Move) where
+  unfoldable mutual
+    pub active : Tree → Bool → ℕ → Bool
+    active (leaf d) a c = a
+    active (comp p q x) a c = cond (Has p c) (active p a c) (active q a c)
+    active (hide p x y) a c = active p a c
+    active (dec d ss) a c = cond (same c d) a (actives ss (λ q. a && meets (cfg d) (M d) q) c)
+
+    pub actives : Slaves → (ℕ → Bool) → ℕ → Bool
+    actives nil f c = false
+    actives (snoc ss i t) f c = cond (Has t c) (active t (f (state i)) c) (actives ss f c)
+
+unfoldable pub some? : Move → Bool
+some? none = false
+some? (some t) = true
+
+pub okChart-some : (F : Set) (a : Bool) (o : Set) (s : ℕ) (m : Move) → okChart F a o s m ≡ true → some? m ≡ a
+unfolding okChart some?
+okChart-some F false o s none e = refl
+okChart-some F false o s (some t) e = absurd (false≢true e)
+okChart-some F true o s none e = absurd (false≢true e)
+okChart-some F true o s (some t) e = refl
+
+either : (b b′ x y z : Bool) → (b ≡ true → x ≡ y) → (b′ ≡ true → x ≡ z) → (b || b′) ≡ true → x ≡ cond b y z
+either true b′ x y z f g h = f refl
+either false b′ x y z f g h = g h
+
+both-ways : (b b′ y y′ z z′ : Bool) → (b ≡ true → y ≡ y′) → (b′ ≡ true → z ≡ z′) → (b || b′) ≡ true → cond b y z ≡ cond b y′ z′
+both-ways true b′ y y′ z z′ f g h = f refl
+both-ways false b′ y y′ z z′ f g h = g h
+
+module _ (E : ℕ → Chart) (state : ℕ → ℕ) (cfg : ℕ → ℕ) (M : ℕ → Move) where
+  mutual
+    unfolding ok Has active
+
+    -- a chart takes a transition exactly if it is active
+    pub ok-active : (t : Tree) (a : Bool) (o : Set) (c : ℕ) → Has t c ≡ true → ok E state cfg M t a o ≡ true → some? (M c) ≡ active state cfg M t a c
+    ok-active (leaf d) a o c h k = rw (same→≡ c d h) (okChart-some (E d .feedback) a o (cfg d) (M d) k)
+    ok-active (comp p q x) a o c h k = either (Has p c) (Has q c) _ _ _
+        (λ e. ok-active p a ((o ∪ ((out M p ∪ out M q) ∩ x)) ∩ inFace E p) c e (and-l _ _ k)) (λ e. ok-active q a ((o ∪ ((out M p ∪ out M q) ∩ x)) ∩ inFace E q) c e (and-r (ok E state cfg M p a ((o ∪ ((out M p ∪ out M q) ∩ x)) ∩ inFace E p)) _ k)) h
+    ok-active (hide p x y) a o c h k = ok-active p a (o ∖ x) c h k
+    ok-active (dec d ss) a o c h k = either (same c d) (HasS ss c) _ _ _
+        (λ e. rw (same→≡ c d e) (okChart-some (E d .feedback) a ((o ∪ (actionOf (M d) ∪ outs M ss) ∩ E d .feedback) ∩ inFaceChart (E d)) (cfg d) (M d) (and-l _ _ k)))
+        (λ e. oks-active ss (λ q. a && meets (cfg d) (M d) q) (o ∪ (actionOf (M d) ∪ outs M ss) ∩ E d .feedback) c e
+        (and-r (okChart (E d .feedback) a ((o ∪ (actionOf (M d) ∪ outs M ss) ∩ E d .feedback) ∩ inFaceChart (E d)) (cfg d) (M d)) _ k)) h
+
+    oks-active : (ss : Slaves) (f : ℕ → Bool) (z : Set) (c : ℕ) → HasS ss c ≡ true → oks E state cfg M ss f z ≡ true → some? (M c) ≡ actives state cfg M ss f c
+    oks-active nil f z c h k = absurd (false≢true h)
+    oks-active (snoc ss i t) f z c h k = either (Has t c) (HasS ss c) _ _ _
+        (λ e. ok-active t (f (state i)) (z ∩ inFace E t) c e (and-r (oks E state cfg M ss f z) _ k)) (λ e. oks-active ss f z c e (and-l _ _ k)) h
+
+module _ (state : ℕ → ℕ) (cfg : ℕ → ℕ) (M M₂ : ℕ → Move) (c : ℕ) (agree : (d : ℕ) → d < c → M d ≡ M₂ d) where
+  mutual
+    unfolding Has active
+
+    -- and that is settled by the charts below
+    pub active-agree : (t : Tree) (a : Bool) → Above t → Has t c ≡ true → active state cfg M t a c ≡ active state cfg M₂ t a c
+    active-agree (leaf d) a v h = refl
+    active-agree (comp p q x) a v h = both-ways (Has p c) (Has q c) _ _ _ _ (λ e. active-agree p a (v .0) e) (λ e. active-agree q a (v .1) e) h
+    active-agree (hide p x y) a v h = active-agree p a v h
+    active-agree (dec d ss) a v h = both-ways (same c d) (HasS ss c) _ _ _ _ (λ e. refl)
+        (λ e. rw (agree d (v .0 c e)) (actives-agree ss (λ q. a && meets (cfg d) (M₂ d) q) (v .1) e)) h
+
+    actives-agree : (ss : Slaves) (f : ℕ → Bool) → AboveS ss → HasS ss c ≡ true → actives state cfg M ss f c ≡ actives state cfg M₂ ss f c
+    actives-agree nil f v h = refl
+    actives-agree (snoc ss i t) f v h = both-ways (Has t c) (HasS ss c) _ _ _ _ (λ e. active-agree t (f (state i)) (v .1) e) (λ e. actives-agree ss f (v .0) e) h
+
+-- in a tree without decomposed charts, every chart takes a transition from its state
+abbrev pub Live : ℕ → Move → Type 0
+Live s none = ⊥
+Live s (some t) = t .from ≡ s
+
+okChart-live : (F : Set) (o : Set) (s : ℕ) (m : Move) → okChart F true o s m ≡ true → Live s m
+unfolding okChart
+okChart-live F o s none k = false≢true k
+okChart-live F o s (some t) k = same→≡ (t .from) s (and-l _ _ k)
+
+module _ (sig : ℕ → ℕ) (fbOf : ℕ → Set) (E : ℕ → Chart) (state : ℕ → ℕ) (cfg : ℕ → ℕ) (M : ℕ → Move) (c : ℕ) where
+  mutual
+    unfolding ok Has tree
+
+    pub live : (t : Tree) (o : Set) → Has t c ≡ true → ok E state cfg M (tree sig fbOf t) true o ≡ true → Live (cfg c) (M c)
+    live (leaf d) o h k = rw (same→≡ c d h) (okChart-live (E d .feedback) o (cfg d) (M d) k)
+    live (comp p q x) o h k = live-either (Has p c) (Has q c) _ (λ e. live p (z ∩ inFace E (tree sig fbOf p)) e (and-l _ _ k))
+        (λ e. live q (z ∩ inFace E (tree sig fbOf q)) e (and-r (ok E state cfg M (tree sig fbOf p) true (z ∩ inFace E (tree sig fbOf p))) _ k)) h
+      where
+        z : Set
+        z = o ∪ (out M (tree sig fbOf p) ∪ out M (tree sig fbOf q)) ∩ x
+    live (hide p x y) o h k = live p (o ∖ x) h k
+    live (dec d ss) o h k = live-s ss d (fbOf d ∪ calls sig ss) (o ∖ calls sig ss) h k
+
+    live-s : (ss : Slaves) (d : ℕ) (x o : Set) → (same c d || HasS ss c) ≡ true → ok E state cfg M (nest sig fbOf ss d x) true o ≡ true → Live (cfg c) (M c)
+    live-s nil d x o h k = live-either (same c d) false _ (λ e. rw (same→≡ c d e) (okChart-live (E d .feedback) o (cfg d) (M d) k)) (λ e. absurd (false≢true e)) h
+    live-s (snoc ss i t) d x o h k = live-either (Has t c) (same c d || HasS ss c) _
+        (λ e. live t (z ∩ inFace E (tree sig fbOf t)) e (and-r (ok E state cfg M (nest sig fbOf ss d x) true (z ∩ inFace E (nest sig fbOf ss d x))) _ k))
+        (λ e. live-s ss d x (z ∩ inFace E (nest sig fbOf ss d x)) e (and-l _ _ k)) (turn (same c d) (Has t c) (HasS ss c) h)
+      where
+        z : Set
+        z = o ∪ (out M (nest sig fbOf ss d x) ∪ out M (tree sig fbOf t)) ∩ x
+
+        turn : (a b g : Bool) → (a || (b || g)) ≡ true → (b || (a || g)) ≡ true
+        turn true true g e = refl
+        turn true false g e = refl
+        turn false b g e = e

@@ -1,0 +1,166 @@
+-- What the rewriting promises (demand 3), over the calls: where it is not refused, its bytes are a file that passes 1 to 11, has no slaves, and is
+-- answered like the file by every other call, for every configuration, input and buffer.
+use mathlib.Core.Path.{_≡_, refl, sym, _∙_, ap, ap₂, subst}
+use mathlib.Core.Bool.{Bool, true, false, _&&_, _||_, not, cond, true≢false, false≢true}
+use mathlib.Core.List.{List, [], _∷_, _++_, append-assoc}
+use Prim.Native.Nat.{ℕ, zero, suc, _+_, _*_, _-_, _^_, _≤_, _<_}
+use native.Mathlib.Omega.{arith}
+use borrow.Author.Tests.{ltb-false}
+use lib.Dec.{ltb, lit<}
+use lib.ListN.{length, getD}
+use Rattle.layout.specs.Le.{AllBytes}
+use Rattle.layout.specs.Body.Laws.{headAt-fits, nodeAt-fits}
+use Rattle.meaning.specs.Count.{anyUpTo}
+use Rattle.meaning.specs.Count.Laws.{any-never, any-cong}
+use Rattle.meaning.specs.Meaning.{Set, ∅, same, Chart, Answer, refused, given, inFace, outFace}
+use Rattle.meaning.specs.File.{File, trailer, bodyOf, shapeOf, chartOf, fileAt, fileOf, wholeOf}
+use Rattle.meaning.specs.Check.{Test, firstOf, differ, notBelow, fileTests, refusalOf}
+use Rattle.meaning.specs.Calls.{made, laidOver, firstRefusal, initials, firstBytes, inputOf, outputOf, configTests, stepRefusal, stepIn, stepOf, runRefusal, rowsOf, runBytes}
+use Rattle.meaning.specs.Rewriting.{chartWith, rewrittenChart, rewrite, rewriteTests, noFree?, fromState?, inChart?, transitionsIn, rewriteBytes, rewriteRefusal}
+use Rattle.meaning.specs.Laws.Bools.{same-refl, same→≡}
+use Rattle.agreement.specs.Step.{Ready, Valid, Rewritten, step-is}
+use Rattle.agreement.specs.Run.{run-is}
+use Rattle.agreement.specs.Faces.{input-is, output-is}
+use Rattle.agreement.specs.Passed.{Passed, first, passed-then, passes-then, passes, counted, charted, ended, smalls, body-bytes, ready, below, at-most}
+use Rattle.agreement.specs.New.{Regular}
+use Rattle.agreement.specs.Again.{Given, again, new-reads, new-slaves}
+
+-- ── what a call that is not refused has ──
+
+pub record Allowed (f : List ℕ) (room : ℕ) : Type 0 where
+  pub passed : Passed f
+  pub given : Given (fileOf f)
+  pub fits : length (rewriteBytes f) ≤ room
+
+pub allowed : (f : List ℕ) (room : ℕ) → rewriteRefusal f room ≡ 0 → Allowed f room
+unfolding rewriteRefusal rewriteTests firstOf
+allowed f room e =
+    let p = passed-then f _ (ap firstOf (sym (append-assoc (fileTests f) (rewriteTests (fileOf f)) _)) ∙ e) in
+    let q0 = first _ 40 _ (lit< tt) (p .1) in
+    let q1 = first _ 41 _ (lit< tt) (q0 .1) in
+    let q2 = first _ 42 _ (lit< tt) (q1 .1) in
+    let q3 = first _ 43 _ (lit< tt) (q2 .1) in
+    let q4 = first _ 44 _ (lit< tt) (q3 .1) in
+    let q5 = first _ 45 _ (lit< tt) (q4 .1) in
+    record {
+      passed = p .0;
+      given = record { room = q0 .0; leaving = q1 .0; lists = q2 .0; total = at-most 512 _ (q3 .0); nodes = at-most 64 _ (q4 .0) };
+      fits = at-most room _ (q5 .0);
+    }
+
+pub regular : (f : List ℕ) → AllBytes f → Passed f → Regular (fileOf f)
+unfolding fileOf fileAt chartOf shapeOf
+regular f ab p = record {
+  ready = ready f p ab;
+  some-chart = counted f p .some-chart;
+  charts = counted f p .charts;
+  most-states = λ c l. charted f p c l .states;
+  initials = λ c l. charted f p c l .initial;
+  feedbacks = λ c l. let h = headAt-fits (shapeOf (trailer f)) (bodyOf f) (body-bytes f p ab) c in (h .feedback, h .extra);
+  lists = λ c l. smalls f p ab c;
+  states = λ c l. ended f p c l;
+  sets = λ j l. let h = nodeAt-fits (shapeOf (trailer f)) (bodyOf f) (body-bytes f p ab) j in (h .x, h .y);
+}
+
+-- ── the promises ──
+
+made-same : (n : ℕ) (g h : ℕ → ℕ) → ((i : ℕ) → i < n → g i ≡ h i) → made n g ≡ made n h
+unfolding made
+made-same zero g h e = refl
+made-same (suc n) g h e = ap₂ (λ xs x. xs ++ (x ∷ [])) (made-same n g h (λ i l. e i (omega arith))) (e n (omega arith))
+
+module _ (f : List ℕ) (ab : AllBytes f) (room : ℕ) (ok : rewriteRefusal f room ≡ 0) where
+  abbrev f′ : List ℕ
+  f′ = rewriteBytes f
+
+  p : Passed f
+  p = allowed f room ok .passed
+
+  rg : Regular (fileOf f)
+  rg = regular f ab p
+
+  p′ : Passed f′
+  unfolding rewriteBytes
+  p′ = again (fileOf f) rg (allowed f room ok .given)
+
+  r : Rewritten (fileOf f) (fileOf f′)
+  unfolding rewriteBytes
+  r = new-reads (fileOf f) rg (allowed f room ok .given)
+
+  -- "checking": it is a file
+  pub same-check : refusalOf f′ ≡ 0
+  same-check = passes f′ p′
+
+  -- "No slaves remain"
+  pub no-slaves : fileOf f′ .slaves ≡ 0
+  unfolding rewriteBytes
+  no-slaves = new-slaves (fileOf f) rg (allowed f room ok .given)
+
+  states-same : (c : ℕ) → c < fileOf f .charts → fileOf f′ .chart c .states ≡ fileOf f .chart c .states
+  unfolding rewrittenChart chartWith
+  states-same c l = ap (λ C. C .states) (r .chart c l)
+
+  -- the first configuration
+  pub same-first : (buffer : List ℕ) → firstBytes f′ buffer ≡ firstBytes f buffer
+  unfolding firstBytes firstRefusal initials rewrittenChart chartWith
+  same-first buffer = ap₂ (λ n xs. cond (same n 0) (laidOver xs buffer) buffer)
+      (passes-then f′ _ p′ ∙ ap (λ n. firstOf (record { number = 22; applies = ltb (length buffer) n } ∷ [])) (r .charts) ∙ sym (passes-then f _ p))
+      (ap (λ n. made n (λ c. fileOf f′ .chart c .initial)) (r .charts) ∙ made-same (fileOf f .charts) _ _ (λ c l. ap (λ C. C .initial) (r .chart c l)))
+
+  -- the interface
+  pub same-input : inputOf f′ ≡ inputOf f
+  unfolding inputOf
+  same-input = ap₂ (λ n s. cond (same n 0) s ∅) (same-check ∙ sym (passes f p)) (input-is (fileOf f) (rg .ready) (fileOf f′) r)
+
+  pub same-output : outputOf f′ ≡ outputOf f
+  unfolding outputOf
+  same-output = ap₂ (λ n s. cond (same n 0) s ∅) (same-check ∙ sym (passes f p)) (output-is (fileOf f) (rg .ready) (fileOf f′) r)
+
+  -- configurations: 20 and 21
+  config-same : (config : List ℕ) → configTests f′ config ≡ configTests f config
+  unfolding configTests
+  config-same config = ap₂ (λ n b. record { number = 20; applies = differ (length config) n } ∷ record { number = 21; applies = b } ∷ []) (r .charts)
+      (ap (λ n. anyUpTo n (λ c. notBelow (getD config c 0) (fileOf f′ .chart c .states))) (r .charts)
+      ∙ any-cong (fileOf f .charts) _ _ (λ c l. ap (notBelow (getD config c 0)) (states-same c l)))
+
+  valid : (config : List ℕ) (us : List Test) → firstOf (configTests f config ++ us) ≡ 0 → Valid (fileOf f) config
+  unfolding configTests firstOf
+  valid config us e c l = below _ _ (any-never (fileOf f .charts) bad (inner .0) c l)
+    where
+      bad : ℕ → Bool
+      bad c = notBelow (getD config c 0) (fileOf f .chart c .states)
+
+      inner : (anyUpTo (fileOf f .charts) bad ≡ false) × (firstOf us ≡ 0)
+      inner = first (anyUpTo (fileOf f .charts) bad) 21 (firstOf us) (lit< tt) (first (differ (length config) (fileOf f .charts)) 20 (cond (anyUpTo (fileOf f .charts) bad) 21 (firstOf us)) (lit< tt) e .1)
+
+  -- what a call answers whose tests are 1 to 11, 20, 21 and one more
+  module _ {A : Type 0} (config : List ℕ) (u u′ : Test) (us : u′ ≡ u) (x x′ : A) (other : ℕ → A) (xs : Valid (fileOf f) config → x′ ≡ x) where
+    abbrev n : ℕ
+    n = firstOf ((fileTests f ++ configTests f config) ++ (u ∷ []))
+
+    tests : n ≡ firstOf (configTests f config ++ (u ∷ []))
+    tests = ap firstOf (append-assoc (fileTests f) (configTests f config) (u ∷ [])) ∙ passes-then f _ p
+
+    tests-same : firstOf ((fileTests f′ ++ configTests f′ config) ++ (u′ ∷ [])) ≡ n
+    tests-same = ap firstOf (append-assoc (fileTests f′) (configTests f′ config) (u′ ∷ [])) ∙ passes-then f′ _ p′
+        ∙ ap₂ (λ ts u. firstOf (ts ++ (u ∷ []))) (config-same config) us ∙ sym tests
+
+    answer-same : cond (same (firstOf ((fileTests f′ ++ configTests f′ config) ++ (u′ ∷ []))) 0) x′ (other (firstOf ((fileTests f′ ++ configTests f′ config) ++ (u′ ∷ [])))) ≡ cond (same n 0) x (other n)
+    answer-same = ap (λ k. cond (same k 0) x′ (other k)) tests-same ∙ go (same n 0) refl
+      where
+        go : (b : Bool) → same n 0 ≡ b → cond b x′ (other n) ≡ cond b x (other n)
+        go true e = xs (valid config (u ∷ []) (sym tests ∙ same→≡ n 0 e))
+        go false e = refl
+
+  -- the step
+  pub same-step : (config : List ℕ) (i : Set) (left : ℕ) → stepOf f′ config i left ≡ stepOf f config i left
+  unfolding stepOf stepRefusal
+  same-step config i left = answer-same config _ _ (ap (λ n. record { number = 22; applies = ltb left n }) (r .charts)) (stepIn (fileOf f) config i) (stepIn (fileOf f′) config i) refused
+      (λ v. step-is (fileOf f) (rg .ready) (fileOf f′) r config v i)
+
+  -- the run
+  pub same-run : (config : List ℕ) (inputs : List Set) (rows : List ℕ) → runBytes f′ config inputs rows ≡ runBytes f config inputs rows
+  unfolding runBytes runRefusal
+  same-run config inputs rows = answer-same config _ _ (ap (λ n. record { number = 27; applies = ltb (length rows) (length inputs * (10 + n)) }) (r .charts))
+      (laidOver (rowsOf (fileOf f) config inputs) rows) (laidOver (rowsOf (fileOf f′) config inputs) rows) (λ n. rows)
+      (λ v. ap (λ z. laidOver z rows) (run-is (fileOf f) (rg .ready) (fileOf f′) r inputs config v))

@@ -1,0 +1,36 @@
+-- A statement of every transition of a list.
+use mathlib.Core.Path.{_≡_, refl, sym, _∙_, ap, subst}
+use mathlib.Core.List.{List, [], _∷_, _++_, map}
+use Prim.Native.Nat.{ℕ, zero, suc, _+_, _≤_, _<_}
+use native.Mathlib.Nat.{add-zero}
+use native.Mathlib.Omega.{arith}
+use lib.ListN.{length, getD}
+use Rattle.layout.specs.Body.{from}
+use Rattle.layout.specs.declared.record.Transition.{Transition}
+
+abbrev pub Every : (Transition → Type 0) → List Transition → Type 0
+Every P [] = Unit {0}
+Every P (t ∷ ts) = P t × Every P ts
+
+module _ (P : Transition → Type 0) where
+  pub every-append : (a b : List Transition) → Every P a → Every P b → Every P (a ++ b)
+  every-append [] b h k = k
+  every-append (t ∷ a) b h k = (h .0, every-append a b (h .1) k)
+
+  pub every-at : (ts : List Transition) (k : ℕ) (d : Transition) → k < length ts → Every P ts → P (getD ts k d)
+  every-at [] k d l h = absurd (omega arith)
+  every-at (t ∷ ts) zero d l h = h .0
+  every-at (t ∷ ts) (suc k) d l h = every-at ts k d (omega arith) (h .1)
+
+  pub every-from : (f : ℕ → Transition) (k n : ℕ) → ((i : ℕ) → i < n → P (f (k + i))) → Every P (from f k n)
+  unfolding from
+  every-from f k zero h = tt
+  every-from f k (suc n) h = (subst (λ z. P (f z)) (add-zero k) (h 0 (omega arith)), every-from f (suc k) n (λ i l. subst (λ z. P (f z)) (let e : k + suc i ≡ suc k + i = omega arith in e) (h (suc i) (omega arith))))
+
+  pub every-map : (Q : Transition → Type 0) (g : Transition → Transition) → ((t : Transition) → P t → Q (g t)) → (ts : List Transition) → Every P ts → Every Q (map g ts)
+  every-map Q g h [] k = tt
+  every-map Q g h (t ∷ ts) k = (h t (k .0), every-map Q g h ts (k .1))
+
+  pub every-imp : (Q : Transition → Type 0) → ((t : Transition) → P t → Q t) → (ts : List Transition) → Every P ts → Every Q ts
+  every-imp Q h [] k = tt
+  every-imp Q h (t ∷ ts) k = (h t (k .0), every-imp Q h ts (k .1))

@@ -1,0 +1,129 @@
+-- The rewritten file steps as the file does, from each configuration and for each input; so its runs are the same, and its interfaces.
+use mathlib.Core.Path.{_≡_, refl, sym, _∙_, ap, ap₂, subst, fun-ext}
+use mathlib.Core.Bool.{Bool, true, false, _&&_, cond}
+use mathlib.Core.Option.{Option, none, some}
+use mathlib.Core.List.{List, [], _∷_, _++_}
+use Prim.Native.Nat.{ℕ, zero, suc, _+_, _-_, _^_, _≤_, _<_}
+use native.Mathlib.Omega.{arith}
+use lib.ListN.{length, getD}
+use Rattle.signals.specs.Mask.{_∪_, _∩_, _∖_}
+use Rattle.layout.specs.declared.record.Transition.{Transition}
+use Rattle.meaning.specs.Meaning.{Set, ∅, Chart, Move, Tree, Slaves, leaf, comp, hide, dec, nil, snoc, inFace, out, ok, permitted, moves, upd, Outcome, upto, outcome, search, outcomes, Answer, answer, refused, given}
+use Rattle.meaning.specs.File.{File, treeOf, wholeOf, Has}
+use Rattle.meaning.specs.Calls.{stepIn, afterStep, rowOf, rowsOf}
+use Rattle.meaning.specs.Rewriting.{used, call, chartWith, nearestSlave, callsBy, rewrittenChart, count, before, start, newName, rewrite}
+use Rattle.meaning.specs.Check.Nodes.{Sound}
+use Rattle.meaning.specs.Laws.Trees.{Ordered, Rule11, above-node, all-there}
+use Rattle.meaning.specs.Laws.Names.{Rule10, enc, kap, placed, joined, enc-last}
+use Rattle.agreement.specs.Every.{Every}
+use Rattle.agreement.specs.Tree.{calls, tree, nest, touch}
+use Rattle.agreement.specs.Same.{Old}
+use Rattle.agreement.specs.Charts.{OldChart}
+use Rattle.agreement.specs.Fit.{Fit, fit-node, nearest-fit}
+use Rattle.agreement.specs.Outcomes.{same-outcomes}
+use Rattle.agreement.specs.Free.{call-inj, old-chart, old-x}
+use Rattle.agreement.specs.Renamed.{slavesOf, touch-of, tree-ren, NodesR}
+use Rattle.agreement.specs.Laid.{nodesR, orderedR, start-suc}
+
+-- ── a rewritten tree has no slaves, so their states do not matter ──
+
+module _ (sig : ℕ → ℕ) (fb : ℕ → Set) (E : ℕ → Chart) (s₁ s₂ : ℕ → ℕ) (cfg : ℕ → ℕ) (M : ℕ → Move) where
+  mutual
+    unfolding ok tree
+
+    free-t : (t : Tree) (o : Set) → ok E s₁ cfg M (tree sig fb t) true o ≡ ok E s₂ cfg M (tree sig fb t) true o
+    free-t (leaf c) o = refl
+    free-t (comp p q x) o = ap₂ _&&_ (free-t p _) (free-t q _)
+    free-t (hide p x y) o = free-t p (o ∖ x)
+    free-t (dec c ss) o = free-s ss c (fb c ∪ calls sig ss) (o ∖ calls sig ss)
+
+    free-s : (ss : Slaves) (c : ℕ) (x o : Set) → ok E s₁ cfg M (nest sig fb ss c x) true o ≡ ok E s₂ cfg M (nest sig fb ss c x) true o
+    free-s nil c x o = refl
+    free-s (snoc ss i t) c x o = ap₂ _&&_ (free-s ss c x _) (free-t t _)
+
+module _ (E : ℕ → Chart) (s₁ s₂ : ℕ → ℕ) (cfg : ℕ → ℕ) (t : Tree) (inp : Set) (N : ℕ) (h : (M : ℕ → Move) → permitted E s₁ cfg M t inp ≡ permitted E s₂ cfg M t inp) where
+  free-search : (n c : ℕ) (ch : ℕ → ℕ) → search E s₁ cfg t inp N n c ch ≡ search E s₂ cfg t inp N n c ch
+  unfolding search outcome
+  free-search zero c ch = rw (h (moves E ch))
+  free-search (suc n) c ch = ap (upto (length (E c .transitions))) (fun-ext (λ v. free-search n (suc c) (upd ch c v)))
+
+-- ── the whole ──
+
+-- what a file is that passes 1 to 11, as far as it counts here
+pub record Ready (F : File) : Type 0 where
+  pub sound : Sound F
+  pub some-node : 1 ≤ F .nodes
+  pub some-state : (c : ℕ) → c < F .charts → 0 < F .chart c .states
+  pub ends : (c : ℕ) → c < F .charts → Every (λ t. t .to < F .chart c .states) (F .chart c .transitions)
+  -- its sets are of 64 signals
+  pub small : used F < 2 ^ 64
+
+-- a configuration of its charts' states
+abbrev pub Valid : File → List ℕ → Type 0
+Valid F config = (c : ℕ) → c < F .charts → getD config c 0 < F .chart c .states
+
+-- a file that is the rewriting of F as far as it is read
+pub record Rewritten (F F′ : File) : Type 0 where
+  pub charts : F′ .charts ≡ F .charts
+  pub chart : (c : ℕ) → c < F .charts → F′ .chart c ≡ rewrittenChart F c
+  pub whole : wholeOf F′ ≡ wholeOf (rewrite F)
+
+pub rewritten : (F : File) → Rewritten F (rewrite F)
+rewritten F = record { charts = refl; chart = λ c l. refl; whole = refl }
+
+-- the node by which the last is named is the last of the new file
+new-last : (F : File) (last : ℕ) → suc last ≡ F .nodes → suc (newName F last) ≡ start F (F .nodes)
+unfolding newName
+new-last F last e = let b = start-suc F last in let c = ap (start F) e in omega arith
+
+module _ (F : File) (rd : Ready F) where
+  abbrev last : ℕ
+  last = F .nodes - 1
+
+  is-last : suc last ≡ F .nodes
+  is-last = let h = rd .some-node in omega arith
+
+  abbrev fbs : ℕ → Set
+  fbs c = F .chart c .feedback
+
+  pub fits : Fit (call F) (kap F) (slavesOf F) (F .charts) (wholeOf F) none
+  fits = let s = rd .sound in subst (λ κ. Fit (call F) (kap F) (slavesOf F) (F .charts) (wholeOf F) κ) (enc-last F (s .ordered) (s .rule10) last is-last)
+      (fit-node F (s .ordered) (enc F) (kap F) (placed F (s .ordered) (s .rule10) (s .chart-there) (s .node-there)) (call F) (λ j l e. old-x F (rd .small) j l)
+      (F .nodes) last (let h = is-last in omega arith) (let h = is-last in omega arith))
+
+  pub has : (c : ℕ) → c < F .charts → Has (wholeOf F) c ≡ true
+  has c l = let s = rd .sound in all-there F (s .ordered) (joined F (s .ordered) (s .rule10) (s .chart-there) (s .node-there)) last c is-last l
+
+  -- the nearest slave, from the whole down, is the nearest from the chart up
+  pub nearest-is : (c : ℕ) → c < F .charts → nearestSlave F c ≡ kap F c
+  unfolding nearestSlave
+  nearest-is c l = nearest-fit (call F) (kap F) (slavesOf F) (F .charts) c (wholeOf F) none fits (has c l)
+
+  module _ (F′ : File) (rw′ : Rewritten F F′) where
+    -- the tree of the rewritten file is the rewriting of the tree
+    pub whole-is : wholeOf F′ ≡ tree (call F) (λ c. F .chart c .feedback) (wholeOf F)
+    whole-is = rw′ .whole ∙ ap (treeOf (rewrite F)) (let h = new-last F last is-last in omega arith)
+        ∙ tree-ren F (rewrite F) (rd .sound .ordered) (orderedR F (rd .sound .ordered)) (nodesR F) (F .nodes) last (let h = is-last in omega arith) (let h = is-last in omega arith)
+
+    pub chart-is : (c : ℕ) → c < F .charts → F′ .chart c ≡ chartWith (call F) (kap F c) (touch (call F) (F .state) (slavesOf F c)) (F .chart c)
+    unfolding rewrittenChart
+    chart-is c l = rw′ .chart c l ∙ ap₂ (λ κ T. chartWith (call F) κ T (F .chart c)) (nearest-is c l) (fun-ext (λ t. sym (touch-of F c t)))
+
+    -- ── the step ──
+
+    pub step-is : (config : List ℕ) → Valid F config → (inp : Set) → stepIn F′ config inp ≡ stepIn F config inp
+    unfolding stepIn outcomes permitted
+    step-is config v inp = let s = rd .sound in ap answer (rw (whole-is, rw′ .charts)
+        (free-search (F′ .chart) (F′ .state) (F .state) cfg T inp (F .charts)
+        (λ M. free-t (call F) fbs (F′ .chart) (F′ .state) (F .state) cfg M (wholeOf F) (inp ∩ inFace (F′ .chart) T)) (F .charts) zero (λ c. zero)
+        ∙ same-outcomes (call F) (F .state) (call-inj F) (kap F) (slavesOf F) (F .charts) (F .chart) (F′ .chart) cfg (wholeOf F) inp chart-is fits
+        (above-node F (s .ordered) (s .rule11) (F .nodes) last (let h = is-last in omega arith) (let h = is-last in omega arith)) has (old-chart F (rd .small)) v))
+      where
+        cfg : ℕ → ℕ
+        cfg c = getD config c 0
+
+        T : Tree
+        T = tree (call F) (λ c. F .chart c .feedback) (wholeOf F)
+
+  pub same-step : (config : List ℕ) → Valid F config → (inp : Set) → stepIn (rewrite F) config inp ≡ stepIn F config inp
+  same-step = step-is (rewrite F) (rewritten F)
