@@ -4,6 +4,7 @@ pub mod charts;
 pub mod file;
 pub mod limits;
 pub mod nodes;
+pub mod parts;
 pub mod slaves;
 pub mod trailer;
 pub mod zeros;

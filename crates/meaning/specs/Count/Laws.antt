@@ -7,7 +7,7 @@ use Prim.Native.Nat.{ℕ, zero, suc, _+_, _*_, _≤_, _<_}
 use native.Mathlib.Nat.{eq-or-lt-of-le, mul-zero, mul-suc}
 use native.Mathlib.Numerals.{add-one}
 use native.Mathlib.Omega.{arith}
-use Rattle.meaning.specs.Count.{anyUpTo, tally}
+use Rattle.meaning.specs.Count.{anyUpTo, tally, one}
 
 pub below-suc : (k n : ℕ) → k < suc n → (k ≡ n) ⊎ (k < n)
 below-suc k n l = eq-or-lt-of-le (let h : k ≤ n = omega arith in h)
@@ -85,3 +85,7 @@ pub tally-most : (m n : ℕ) (f : ℕ → ℕ) → ((k : ℕ) → f k ≤ m) →
 unfolding tally
 tally-most m zero f h = omega (arith, mul-zero m)
 tally-most m (suc n) f h = omega (arith, h n, tally-most m n f h, mul-suc m n)
+
+pub one-most : (b : Bool) → one b ≤ 1
+one-most true = omega arith
+one-most false = omega arith

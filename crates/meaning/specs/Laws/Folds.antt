@@ -5,15 +5,16 @@ use mathlib.Core.Path.{_≡_, refl, sym, _∙_, ap, ap₂}
 use mathlib.Core.Bool.{Bool, true, false, _||_, cond, or-comm}
 use mathlib.Core.List.{[], _∷_}
 use Prim.Native.Nat.{ℕ, zero, suc, _+_, _≤_, _<_}
+use native.Mathlib.Numerals.{add-one}
 use native.Mathlib.Omega.{arith}
 use borrow.Author.Tests.{eqb-true, eq-eqb}
 use lib.Dec.{eqb}
 use Rattle.signals.specs.Mask.{_∪_, _∖_, bit, single}
 use Rattle.signals.specs.Mask.Laws.{bit-union, bit-none, bit-single}
-use Rattle.signals.specs.Decide.{sets, A, ∅ₑ, _∪ₑ_, _∖ₑ_, _≐_}
+use Rattle.signals.specs.Decide.{sets, A, B, C, ∅ₑ, _∪ₑ_, _∖ₑ_, _≐_}
 use Rattle.meaning.specs.Meaning.{Set, ∅, same, Chart, Tree, Slaves, leaf, comp, hide, dec, nil, snoc, inFaceChart, inFace, inFaces, actions, outFace, outFaces}
 use Rattle.meaning.specs.File.{File, treeOf, gather, whole, Has, HasS}
-use Rattle.meaning.specs.Laws.Bools.{bool-eq, same-refl, same→≡}
+use Rattle.meaning.specs.Laws.Bools.{bool-eq, same-refl, same→≡, same-≢}
 use Rattle.meaning.specs.Laws.Trees.{Ordered, tree₀, tree₁, tree₂, or-left, or-right}
 
 -- ── the fold ──
@@ -37,6 +38,20 @@ module _ (own : ℕ → Set) (off : Set → Set → Set) where
 unfoldable pub joins : (ℕ → ℕ) → (ℕ → Set) → ℕ → ℕ → Set
 joins master v c zero = ∅
 joins master v c (suc i) = cond (same (master i) c) (joins master v c i ∪ v i) (joins master v c i)
+
+-- joined with a, as a loop over the slaves takes it: none passed, one more that is the chart's, one more that is not
+module _ (master : ℕ → ℕ) (v : ℕ → Set) (c a : ℕ) where
+  pub join-none : a ≡ a ∪ joins master v c 0
+  unfolding joins
+  join-none = sets (a ∷ []) [] (A ≐ A ∪ₑ ∅ₑ) tt
+
+  pub join-more : (i : ℕ) → master i ≡ c → a ∪ joins master v c i ∪ v i ≡ a ∪ joins master v c (i + 1)
+  unfolding joins
+  join-more i e = rw (add-one, ap (λ z. same z c) e ∙ same-refl c) (sets (a ∷ joins master v c i ∷ v i ∷ []) [] (A ∪ₑ B ∪ₑ C ≐ A ∪ₑ (B ∪ₑ C)) tt)
+
+  pub join-other : (i : ℕ) → (master i ≡ c → ⊥) → a ∪ joins master v c i ≡ a ∪ joins master v c (i + 1)
+  unfolding joins
+  join-other i e = rw (add-one, same-≢ (master i) c e)
 
 abbrev pub setByKind : ℕ → Set → Set → Set → Set
 setByKind zero p q r = p

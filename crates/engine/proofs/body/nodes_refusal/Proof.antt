@@ -15,11 +15,16 @@ returns-2 c =
     ∙ firstOf-here _ _ (sym (c .before .bad-naming .ensures) ∙ c .if2 .taken))
 
 bad-inside-requires : tie.Need-bad-inside-requires
-bad-inside-requires c κs =
-    (c .before .before .before .before .before .pre .0,
+bad-inside-requires c κs = (
+  c .before .before .before .before .before .pre .0,
+  (
     c .before .before .before .before .before .pre .1,
-    sym (c .before .before .before .bad-nodes .ensures) ∙ c .before .before .if1 .left,
-    sym (c .before .bad-naming .ensures) ∙ c .if2 .left)
+    (
+      sym (c .before .before .before .bad-nodes .ensures) ∙ c .before .before .if1 .left,
+      sym (c .before .bad-naming .ensures) ∙ c .if2 .left,
+    ),
+  ),
+)
 
 returns-3 : tie.Need-returns-3
 returns-3 c =
