@@ -1,2 +1,3 @@
--- What the contracts of engine cite beyond the crate meaning: what is known of a body after each check (Known).
+-- What the contracts of engine cite beyond the crate meaning: what is known of a body after each check (Known), and what the wiring leaves (Wire).
 pub mod Known
+pub mod Wire

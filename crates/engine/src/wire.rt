@@ -1,0 +1,135 @@
+// The wiring of a file: its tree folded into masks, once, so that a step looks at no tree. A row has a mask for each chart, a square one for
+// each two charts, that of c and d at 8 * c + d. What the masks are is in the crate wiring (Wire), and that a step may go by them too.
+ghost use mathlib.Core.Path.{_≡_};
+ghost use Prim.Native.Nat.{ℕ, _+_, _*_, _≤_, _<_};
+ghost use lib.ListN.{length, getD};
+ghost use Rattle.signals.specs.Mask.{_∪_, _∩_, _∖_};
+ghost use Rattle.meaning.specs.File.{treeOf, fileAt};
+ghost use Rattle.wiring.specs.Wire.{own};
+ghost use Rattle.engine.specs.Wire.{Row, Joins, Fed, Wirable, Wires};
+use layout::body::Shape;
+
+// What of a set offered to a part gets down to each chart, and what of each chart's action gets up to its output.
+pub struct Rows {
+    pub down: [u64; 8],
+    pub up: [u64; 8],
+}
+
+fn union_row(a: [u64; 8], b: [u64; 8]) -> [u64; 8]
+    ensures { λ r. ⌜ Row r (λ c. getD a c 0 ∪ getD b c 0) ⌝ }
+{
+    let mut r = a;
+    let mut c: usize = 0;
+    while c < 8 {
+        r[c] = a[c] | b[c];
+        c += 1;
+    }
+    r
+}
+
+fn less_row(a: [u64; 8], x: u64) -> [u64; 8]
+    ensures { λ r. ⌜ Row r (λ c. getD a c 0 ∖ x) ⌝ }
+{
+    let mut r = a;
+    let mut c: usize = 0;
+    while c < 8 {
+        r[c] = signals::less(a[c], x);
+        c += 1;
+    }
+    r
+}
+
+// A chart by itself: everything gets down to it, and up from it.
+fn alone(d: usize) -> Rows
+    requires { ⌜ d < 8 ⌝ }
+    ensures { λ r. ⌜ Row (r .down) (own d) × Row (r .up) (own d) ⌝ }
+{
+    let mut m = [0u64; 8];
+    m[d] = 18446744073709551615;
+    Rows { down: m, up: m }
+}
+
+fn beside(a: Rows, b: Rows) -> Rows
+    ensures { λ r. ⌜ Row (r .down) (λ c. getD (a .down) c 0 ∪ getD (b .down) c 0) × Row (r .up) (λ c. getD (a .up) c 0 ∪ getD (b .up) c 0) ⌝ }
+{
+    let ad = a.down;
+    let bd = b.down;
+    let au = a.up;
+    let bu = b.up;
+    Rows {
+        down: union_row(ad, bd),
+        up: union_row(au, bu),
+    }
+}
+
+// x is filtered from the input, y hidden from the output.
+fn hidden(a: Rows, x: u64, y: u64) -> Rows
+    ensures { λ r. ⌜ Row (r .down) (λ c. getD (a .down) c 0 ∖ x) × Row (r .up) (λ c. getD (a .up) c 0 ∖ y) ⌝ }
+{
+    let ad = a.down;
+    let au = a.up;
+    Rows {
+        down: less_row(ad, x),
+        up: less_row(au, y),
+    }
+}
+
+// Joins what is in m and a chart's `up` to that chart's mask, in the eight masks from `at` on.
+fn feed_row(back: &mut [u64], at: usize, m: u64, up: [u64; 8])
+    requires { ⌜ at + 8 ≤ length (now back) ⌝ }
+    ensures { λ _. ⌜ Fed at 8 m up (now (back .entry)) (now (back .exit)) ⌝ }
+{
+    let mut d: usize = 0;
+    while d < 8 {
+        back[at + d] = back[at + d] | (m & up[d]);
+        d += 1;
+    }
+}
+
+// Feedback of x over a part: what gets up from d, is in x and gets down to c.
+fn feed(back: &mut [u64], a: Rows, x: u64)
+    requires { ⌜ length (now back) ≡ 64 ⌝ }
+    ensures { λ _. ⌜ Joins (now (back .entry)) (now (back .exit)) (λ c d. getD (a .down) c 0 ∩ getD (a .up) d 0 ∩ x) ⌝ }
+{
+    let down = a.down;
+    let up = a.up;
+    let mut c: usize = 0;
+    while c < 8 {
+        feed_row(back, 8 * c, down[c] & x, up);
+        c += 1;
+    }
+}
+
+// The rows of node j's part; its feedback is joined to the square `back`.
+pub fn wire(n: Shape, body: &[u8], j: usize, back: &mut [u64]) -> Rows
+    requires { ⌜ Wirable n (now body) × (j < n .nodes) × (length (now back) ≡ 64) ⌝ }
+    ensures { λ r. ⌜ Wires (fileAt n (now (body .entry))) (treeOf (fileAt n (now (body .entry))) j) (now (back .entry)) (now (back .exit)) r ⌝ }
+{
+    let node = layout::body::node_at(n, body, j);
+    let a = node.a as usize;
+    if node.kind == 2 {
+        let part = wire(n, body, a, back);
+        return hidden(part, node.x, node.y);
+    }
+    if node.kind == 1 {
+        let left = wire(n, body, a, back);
+        let b = node.b as usize;
+        let right = wire(n, body, b, back);
+        let both = beside(left, right);
+        feed(back, both, node.x);
+        return both;
+    }
+    let mut rows = alone(a);
+    let mut i: usize = 0;
+    while i < n.slaves {
+        let slave = layout::body::slave_at(n, body, i);
+        if slave.chart == node.a {
+            let part = wire(n, body, slave.node as usize, back);
+            rows = beside(rows, part);
+        }
+        i += 1;
+    }
+    let head = layout::body::head_at(n, body, a);
+    feed(back, rows, head.feedback);
+    rows
+}
