@@ -22,11 +22,11 @@ pub any-more : (n : ℕ) (p : ℕ → Bool) → anyUpTo n p ≡ false → p n �
 unfolding anyUpTo
 any-more n p h g = rw (add-one, h) g
 
-or-left : (a b : Bool) → (a || b) ≡ false → a ≡ false
+pub or-left : (a b : Bool) → (a || b) ≡ false → a ≡ false
 or-left true b h = h
 or-left false b h = refl
 
-or-right : (a b : Bool) → (a || b) ≡ false → b ≡ false
+pub or-right : (a b : Bool) → (a || b) ≡ false → b ≡ false
 or-right true b h = absurd (false≢true (sym h))
 or-right false b h = h
 
