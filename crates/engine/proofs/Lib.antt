@@ -1,3 +1,5 @@
--- What proofs of engine share: lists that a loop fills (Filled); the wiring of a part from that of the parts that it names (Parts).
+-- What proofs of engine share: lists that a loop fills (Filled); the wiring of a part from that of the parts that it names (Parts); the walk down
+-- the nodes to each chart's nearest enclosing slave (Near).
 pub mod Filled
 pub mod Parts
+pub mod Near

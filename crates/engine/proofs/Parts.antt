@@ -65,24 +65,24 @@ module _ (n : Shape) (b : List ℕ) where
 module _ {n : Shape} {b : List ℕ} (w : Wirable n b) {j : ℕ} (p : j < n .nodes) {r : Node} (e : r ≡ nodeAt n b j) where
   pub lower-hide : r .kind ≡ 2 → r .a < j
   unfolding fileAt
-  lower-hide k = let i = is-node n b j e in let h = w .ordered .lower₂ j p (sym (i .kind) ∙ k) in omega (arith, i .a)
+  lower-hide k = let i = is-node n b j e in let h = w .sound .ordered .lower₂ j p (sym (i .kind) ∙ k) in omega (arith, i .a)
 
   pub lower-comp : r .kind ≡ 1 → (r .a < j) × (r .b < j)
   unfolding fileAt
-  lower-comp k = let i = is-node n b j e in let h = w .ordered .lower₁ j p (sym (i .kind) ∙ k) in (omega (arith, i .a), omega (arith, i .b))
+  lower-comp k = let i = is-node n b j e in let h = w .sound .ordered .lower₁ j p (sym (i .kind) ∙ k) in (omega (arith, i .a), omega (arith, i .b))
 
   module _ (k₂ : r .kind ≡ 2 → ⊥) (k₁ : r .kind ≡ 1 → ⊥) where
     pub kind-chart : fileAt n b .kind j ≡ 0
     unfolding fileAt
-    kind-chart = let i = is-node n b j e in let h = w .ordered .kinds j p in omega (arith, i .kind)
+    kind-chart = let i = is-node n b j e in let h = w .sound .ordered .kinds j p in omega (arith, i .kind)
 
     pub below-charts : r .a < n .charts
     unfolding fileAt
-    below-charts = let i = is-node n b j e in let h = w .chart-there j p kind-chart in omega (arith, i .a)
+    below-charts = let i = is-node n b j e in let h = w .sound .chart-there j p kind-chart in omega (arith, i .a)
 
     pub lower-slave : {i : ℕ} {s : Slave} → i < n .slaves → s ≡ slaveAt n b i → s .chart ≡ r .a → s .node < j
     unfolding fileAt
-    lower-slave {i} q f g = let u = is-slave n b i f in let h = w .ordered .lower₀ j p kind-chart i q (sym (u .chart) ∙ g ∙ is-node n b j e .a) in omega (arith, u .node)
+    lower-slave {i} q f g = let u = is-slave n b i f in let h = w .sound .ordered .lower₀ j p kind-chart i q (sym (u .chart) ∙ g ∙ is-node n b j e .a) in omega (arith, u .node)
 
 -- two rows joined, and two rows less x and y
 abbrev pub Beside : Rows → Rows → Rows → Type 0

@@ -8,7 +8,7 @@ use Rattle.signals.specs.Mask.{_∪_, _∩_}
 use Rattle.layout.specs.declared.body.Shape.{Shape}
 use Rattle.meaning.specs.Meaning.{Set, Tree}
 use Rattle.meaning.specs.File.{File, fileAt}
-use Rattle.meaning.specs.Laws.Trees.{Ordered}
+use Rattle.meaning.specs.Check.Nodes.{Sound}
 use Rattle.wiring.specs.Wire.{down, up, back}
 use Rattle.engine.specs.Known.{Sized}
 use Rattle.engine.specs.declared.wire.Rows.{Rows}
@@ -27,11 +27,10 @@ pub record Fed (at n : ℕ) (s : Set) (u l m : List ℕ) : Type 0 where
   pub below : (k : ℕ) → k < at → getD m k 0 ≡ getD l k 0
   pub above : (k : ℕ) → at + n ≤ k → getD m k 0 ≡ getD l k 0
 
--- what the wiring needs to know of a body
+-- what the wiring needs to know of a body: it passed the file check
 pub record Wirable (n : Shape) (b : List ℕ) : Type 0 where
   pub sized : Sized n b
-  pub ordered : Ordered (fileAt n b)
-  pub chart-there : (j : ℕ) → j < fileAt n b .nodes → fileAt n b .kind j ≡ 0 → fileAt n b .a j < fileAt n b .charts
+  pub sound : Sound (fileAt n b)
 
 -- the rows r are those of the tree t, and the square m is l with t's feedback joined to it
 pub record Wires (F : File) (t : Tree) (l m : List ℕ) (r : Rows) : Type 0 where

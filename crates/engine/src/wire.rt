@@ -6,8 +6,14 @@ ghost use lib.ListN.{length, getD};
 ghost use Rattle.signals.specs.Mask.{_∪_, _∩_, _∖_};
 ghost use Rattle.meaning.specs.File.{treeOf, fileAt};
 ghost use Rattle.wiring.specs.Wire.{own};
+ghost use Rattle.meaning.specs.Laws.Names.{enc};
 ghost use Rattle.engine.specs.Wire.{Row, Joins, Fed, Wirable, Wires};
+ghost use Rattle.engine.specs.Nearest.{Right, masterBy, stateBy, Seeds, Seeded, Hands, Notes, NearestIn};
 use layout::body::Shape;
+use layout::record::Slave;
+
+// The number of no slave and of no chart.
+const NONE: u8 = 255;
 
 // What of a set offered to a part gets down to each chart, and what of each chart's action gets up to its output.
 pub struct Rows {
@@ -132,4 +138,89 @@ pub fn wire(n: Shape, body: &[u8], j: usize, back: &mut [u64]) -> Rows
     let head = layout::body::head_at(n, body, a);
     feed(back, rows, head.feedback);
     rows
+}
+
+// The node of each slave stands in that slave: `near` has of a node the number of its nearest enclosing slave.
+fn seed(n: Shape, body: &[u8], near: &mut [u8])
+    requires { ⌜ Wirable n (now body) × (length (now near) ≡ 64) ⌝ }
+    ensures { λ _. ⌜ Seeds (fileAt n (now (body .entry))) (n .slaves) (now (near .entry)) (now (near .exit)) ⌝ }
+{
+    let mut i: usize = 0;
+    while i < n.slaves {
+        let slave = layout::body::slave_at(n, body, i);
+        let j = slave.node as usize;
+        near[j] = i as u8;
+        i += 1;
+    }
+}
+
+// The nodes that node j names stand in the slave that j stands in.
+fn hand(n: Shape, body: &[u8], j: usize, near: &mut [u8])
+    requires { ⌜ Wirable n (now body) × (j < n .nodes) × (length (now near) ≡ 64) × Right (fileAt n (now body)) (now near) j ⌝ }
+    ensures { λ _. ⌜ Hands (fileAt n (now (body .entry))) j (now (near .entry)) (now (near .exit)) ⌝ }
+{
+    let node = layout::body::node_at(n, body, j);
+    if node.kind == 0 {
+        return;
+    }
+    let i = near[j];
+    let a = node.a as usize;
+    near[a] = i;
+    if node.kind == 1 {
+        let b = node.b as usize;
+        near[b] = i;
+    }
+}
+
+// The nearest enclosing slave of node j; of no chart if there is none.
+fn enclosing(n: Shape, body: &[u8], j: usize, near: &[u8]) -> Slave
+    requires { ⌜ Wirable n (now body) × (j < n .nodes) × (length (now near) ≡ 64) × Right (fileAt n (now body)) (now near) j ⌝ }
+    ensures { λ r. ⌜ (r .chart ≡ masterBy (fileAt n (now (body .entry))) (enc (fileAt n (now (body .entry))) j)) × (r .state ≡ stateBy (fileAt n (now (body .entry))) (enc (fileAt n (now (body .entry))) j)) ⌝ }
+{
+    let i = near[j] as usize;
+    if i < n.slaves {
+        return layout::body::slave_at(n, body, i);
+    }
+    Slave {
+        chart: NONE,
+        state: 0,
+        node: 0,
+    }
+}
+
+// A chart stands in the slave that its node stands in: its master and state are noted in a search's small numbers.
+fn note(n: Shape, body: &[u8], j: usize, near: &[u8], small: &mut [u8])
+    requires { ⌜ Wirable n (now body) × (j < n .nodes) × (length (now near) ≡ 64) × Right (fileAt n (now body)) (now near) j × (length (now small) ≡ 96) ⌝ }
+    ensures { λ _. ⌜ Notes (fileAt n (now (body .entry))) j (now (small .entry)) (now (small .exit)) ⌝ }
+{
+    let node = layout::body::node_at(n, body, j);
+    if node.kind == 0 {
+        let slave = enclosing(n, body, j, near);
+        let c = node.a as usize;
+        small[72 + c] = slave.chart;
+        small[80 + c] = slave.state;
+    }
+}
+
+// From the last node down, so that a node's slave is known before the node is come to.
+fn walk(n: Shape, body: &[u8], near: &mut [u8], small: &mut [u8])
+    requires { ⌜ Wirable n (now body) × (length (now near) ≡ 64) × (length (now small) ≡ 96) × Seeded (fileAt n (now body)) (now near) ⌝ }
+    ensures { λ _. ⌜ NearestIn (fileAt n (now (body .entry))) (now (small .exit)) ⌝ }
+{
+    let mut j = n.nodes;
+    while 0 < j {
+        j -= 1;
+        note(n, body, j, near, small);
+        hand(n, body, j, near);
+    }
+}
+
+// Of each chart the master and the state of its nearest enclosing slave, in a search's small numbers.
+pub fn nearest(n: Shape, body: &[u8], small: &mut [u8])
+    requires { ⌜ Wirable n (now body) × (length (now small) ≡ 96) ⌝ }
+    ensures { λ _. ⌜ NearestIn (fileAt n (now (body .entry))) (now (small .exit)) ⌝ }
+{
+    let mut near = [NONE; 64];
+    seed(n, body, &mut near);
+    walk(n, body, &mut near, small);
 }

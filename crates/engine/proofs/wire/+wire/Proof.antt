@@ -64,7 +64,7 @@ module _ (t : ℕ) where
 
   returns : lts.Need-returns (callees t) (at t) wire.Post Inv-loop μ-loop
   unfolding fileAt
-  returns c = wires-hide _ (c .before .before .before .before .before .before .before .before .before .before .before .pre .1 .0 .ordered) _ (c .before .before .before .before .before .before .before .before .before .before .before .pre .1 .1) (is-node _ _ _ (c .before .before .before .before .before .before .before .before .node-at .ensures)) (c .before .before .before .before .before .if1 .taken) (c .before .before .before .wire .ensures) (c .hidden .ensures)
+  returns c = wires-hide _ (c .before .before .before .before .before .before .before .before .before .before .before .pre .1 .0 .sound .ordered) _ (c .before .before .before .before .before .before .before .before .before .before .before .pre .1 .1) (is-node _ _ _ (c .before .before .before .before .before .before .before .before .node-at .ensures)) (c .before .before .before .before .before .if1 .taken) (c .before .before .before .wire .ensures) (c .hidden .ensures)
 
   wire-requires-2 : lts.Need-wire-requires-2 (callees t) (at t) wire.Post Inv-loop μ-loop
   wire-requires-2 c κs = let s = c .before .before .before .before .before .before .before .before .before in let h = lower-comp (s .pre .1 .0) (s .pre .1 .1) (c .before .before .before .before .before .before .node-at .ensures) (c .before .if2 .taken) in (omega (arith, s .pre .0), (s .pre .1 .0, omega (arith, s .pre .1 .1), s .pre .1 .2))
@@ -77,13 +77,13 @@ module _ (t : ℕ) where
 
   returns-2 : lts.Need-returns-2 (callees t) (at t) wire.Post Inv-loop μ-loop
   unfolding fileAt
-  returns-2 c = wires-comp _ (c .before .before .before .before .before .before .before .before .before .before .before .before .before .before .before .before .before .before .before .before .before .before .pre .1 .0 .ordered) _ (c .before .before .before .before .before .before .before .before .before .before .before .before .before .before .before .before .before .before .before .before .before .before .pre .1 .1) (is-node _ _ _ (c .before .before .before .before .before .before .before .before .before .before .before .before .before .before .before .before .before .before .before .node-at .ensures)) (c .before .before .before .before .before .before .before .before .before .before .before .before .before .before .if2 .taken) (c .before .before .before .before .before .before .before .before .before .before .before .before .wire2 .ensures) (c .before .before .before .before .before .before .before .wire3 .ensures) (c .before .before .before .before .beside .ensures) (c .before .before .feed .ensures)
+  returns-2 c = wires-comp _ (c .before .before .before .before .before .before .before .before .before .before .before .before .before .before .before .before .before .before .before .before .before .before .pre .1 .0 .sound .ordered) _ (c .before .before .before .before .before .before .before .before .before .before .before .before .before .before .before .before .before .before .before .before .before .before .pre .1 .1) (is-node _ _ _ (c .before .before .before .before .before .before .before .before .before .before .before .before .before .before .before .before .before .before .before .node-at .ensures)) (c .before .before .before .before .before .before .before .before .before .before .before .before .before .before .if2 .taken) (c .before .before .before .before .before .before .before .before .before .before .before .before .wire2 .ensures) (c .before .before .before .before .before .before .before .wire3 .ensures) (c .before .before .before .before .beside .ensures) (c .before .before .feed .ensures)
 
   alone-requires : lts.Need-alone-requires (callees t) (at t) wire.Post Inv-loop μ-loop
   alone-requires c κs = let h = below-charts (c .before .before .before .before .before .before .before .before .pre .1 .0) (c .before .before .before .before .before .before .before .before .pre .1 .1) (c .before .before .before .before .before .node-at .ensures) (c .before .before .if1 .left) (c .if2 .left) in omega (arith, c .before .before .before .before .before .before .before .before .pre .1 .0 .sized .charts)
 
   loop-holds : lts.Need-loop-holds (callees t) (at t) wire.Post Inv-loop μ-loop
-  loop-holds c = (omega arith, refl, gathers-none _ (c .before .before .before .before .before .before .before .before .before .pre .1 .0 .ordered) _ _ (c .alone .ensures .0) (c .alone .ensures .1))
+  loop-holds c = (omega arith, refl, gathers-none _ (c .before .before .before .before .before .before .before .before .before .pre .1 .0 .sound .ordered) _ _ (c .alone .ensures .0) (c .alone .ensures .1))
 
   wire-requires-4 : lts.Need-wire-requires-4 (callees t) (at t) wire.Post Inv-loop μ-loop
   wire-requires-4 c κs = let s = c .before .before .before .before .before .before .before .before .before .before .before .before .before .before .before .before .before .before in let h = lower-slave (s .pre .1 .0) (s .pre .1 .1) (c .before .before .before .before .before .before .before .before .before .before .before .before .before .before .before .node-at .ensures) (c .before .before .before .before .before .before .before .before .before .before .before .before .if1 .left) (c .before .before .before .before .before .before .before .before .before .before .if2 .left) (c .before .before .before .before .before .before .if3 .taken) (c .before .before .before .before .before .slave-at .ensures) (c .before .before .if4 .taken) in (omega (arith, s .pre .0), (s .pre .1 .0, omega (arith, s .pre .1 .1), c .before .before .before .before .before .before .before .before .loop .inv .1 ∙ s .pre .1 .2))
@@ -96,8 +96,8 @@ module _ (t : ℕ) where
       let Now : List ℕ → Rows → Type 0 = λ m r. (length m ≡ length (s .args .back .now)) × Gathers F (c .before .before .before .before .before .before .before .before .before .before .before .before .before .node-at .result .a) (c .before .before .before .before .before .before .loop .i + 1) (s .args .back .now) m r in
       let z : Now (c .if4 .back) (c .if4 .rows) =
       ⊎-elim
-      (λ w. subst₂ Now (sym (w .7)) (sym (w .8)) (w .3 .kept .1 .1 .1 .0 ∙ v .1, gathers-in F (s .pre .1 .0 .ordered) _ (is-slave _ _ _ (c .before .before .before .slave-at .ensures)) (v .2) (w .0 .taken) (w .3 .ensures) (w .6 .ensures)))
-      (λ w. subst₂ Now (sym (w .1)) (sym (w .2)) (v .1, gathers-out F (s .pre .1 .0 .ordered) _ (is-slave _ _ _ (c .before .before .before .slave-at .ensures)) (v .2) (w .0 .left)))
+      (λ w. subst₂ Now (sym (w .7)) (sym (w .8)) (w .3 .kept .1 .1 .1 .0 ∙ v .1, gathers-in F (s .pre .1 .0 .sound .ordered) _ (is-slave _ _ _ (c .before .before .before .slave-at .ensures)) (v .2) (w .0 .taken) (w .3 .ensures) (w .6 .ensures)))
+      (λ w. subst₂ Now (sym (w .1)) (sym (w .2)) (v .1, gathers-out F (s .pre .1 .0 .sound .ordered) _ (is-slave _ _ _ (c .before .before .before .slave-at .ensures)) (v .2) (w .0 .left)))
       (c .if4 .came) in
       (omega arith, z .0, z .1)
 
@@ -113,7 +113,7 @@ module _ (t : ℕ) where
       let s = c .before .before .before .before .before .before .before .before .before .before .before .before .before .before .before .before .before in
       let v = c .before .before .before .before .before .before .before .loop .inv in
       let e : c .before .before .before .before .before .before .before .loop .i ≡ s .args .n .slaves = omega arith in
-      wires-chart _ (s .pre .1 .0 .ordered) _ (s .pre .1 .1) (is-node _ _ _ (c .before .before .before .before .before .before .before .before .before .before .before .before .before .before .node-at .ensures)) (kind-chart (s .pre .1 .0) (s .pre .1 .1) (c .before .before .before .before .before .before .before .before .before .before .before .before .before .before .node-at .ensures) (c .before .before .before .before .before .before .before .before .before .before .before .if1 .left) (c .before .before .before .before .before .before .before .before .before .if2 .left))
+      wires-chart _ (s .pre .1 .0 .sound .ordered) _ (s .pre .1 .1) (is-node _ _ _ (c .before .before .before .before .before .before .before .before .before .before .before .before .before .before .node-at .ensures)) (kind-chart (s .pre .1 .0) (s .pre .1 .1) (c .before .before .before .before .before .before .before .before .before .before .before .before .before .before .node-at .ensures) (c .before .before .before .before .before .before .before .before .before .before .before .if1 .left) (c .before .before .before .before .before .before .before .before .before .if2 .left))
       (rw e at (v .2)) (is-feedback _ _ _ (c .before .before .before .before .head-at .ensures)) (c .before .before .feed2 .ensures)
 
 pub +wire-spec : {M : Type 1} → statement M
