@@ -1,12 +1,14 @@
--- Lists that a loop fills, one place in each turn. In order: from the front (filled); a row of a square, and the square (fed, joined).
+-- Lists that a loop fills, one place in each turn. In order: from the front (filled); a row of a square, and the square (fed, joined); a part that
+-- was lent and is back (put).
 -- Assumes nothing.
 use mathlib.Core.Path.{_≡_, refl, sym, ap, _∙_}
-use mathlib.Core.List.{List, [], _∷_}
+use mathlib.Core.List.{List, [], _∷_, _++_}
 use Prim.Native.Nat.{ℕ, _+_, _*_, _≤_, _<_}
 use native.Mathlib.Omega.{arith}
 use borrow.Author.Count.{below-more}
-use lib.ListN.{length, getD, set}
-use lib.Seq.{getD-set-same, getD-set-other}
+use borrow.Rule.Slice.PartMut.{postOf, putMid}
+use lib.ListN.{length, getD, take, set, List·getD-append}
+use lib.Seq.{length-take-le, getD-append-add, getD-take, getD-set-same, getD-set-other}
 use Rattle.signals.specs.Mask.{_∪_, _∩_}
 use Rattle.signals.specs.Decide.{sets, A, B, C, D, _∪ₑ_, _∩ₑ_, _≐_}
 use Rattle.engine.specs.Wire.{Joins, Fed}
@@ -61,3 +63,15 @@ joined-more n x a u l m m′ h f =
           c p;
       rest = λ k p. f .above k (omega arith) ∙ h .rest k (omega arith);
     }
+
+-- ── a part that was lent and is back ──
+
+module _ (a k : ℕ) (xs ys : List ℕ) (h : a ≤ length xs) where
+  pub put-in : (i : ℕ) → i < length ys → getD (putMid a k xs ys) (a + i) 0 ≡ getD ys i 0
+  put-in i p =
+      ap (λ (j : ℕ). getD (putMid a k xs ys) (j + i) 0) (sym (length-take-le a xs h))
+      ∙ getD-append-add (take a xs) (ys ++ postOf a k xs) i 0
+      ∙ List·getD-append ys (postOf a k xs) 0 i p
+
+  pub put-below : (i : ℕ) → i < a → getD (putMid a k xs ys) i 0 ≡ getD xs i 0
+  put-below i p = List·getD-append (take a xs) (ys ++ postOf a k xs) 0 i (rw (length-take-le a xs h) p) ∙ getD-take a xs i 0 p

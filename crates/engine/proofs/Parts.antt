@@ -1,5 +1,5 @@
 -- What `wire` leaves of a node's part, from what it left of the parts that the node names. In order: a record that was read is the file's (Is);
--- hidden; composed; a chart and its slaves, of which the loop has joined the first k (Gathers).
+-- hidden; composed; a chart and its slaves, of which the loop has joined the first k (Gathers); the whole.
 -- Assumes nothing.
 use mathlib.Core.Path.{_≡_, refl, sym, ap, ap₂, _∙_}
 use mathlib.Core.List.{List, [], _∷_}
@@ -15,11 +15,11 @@ use Rattle.layout.specs.declared.record.Head.{Head}
 use Rattle.layout.specs.declared.record.Slave.{Slave}
 use Rattle.layout.specs.declared.record.Node.{Node}
 use Rattle.meaning.specs.Meaning.{Set, Tree, Slaves}
-use Rattle.meaning.specs.File.{File, gather, treeOf, chartOf, fileAt}
+use Rattle.meaning.specs.File.{File, gather, treeOf, wholeOf, chartOf, fileAt}
 use Rattle.meaning.specs.Laws.Trees.{Ordered}
 use Rattle.wiring.specs.Wire.{own, down, downs, up, ups, back, backs}
 use Rattle.wiring.specs.Rows.{down₀, down₁, down₂, up₀, up₁, up₂, back₀, back₁, back₂, slaves-none, slaves-out, downs-step, ups-step, backs-step}
-use Rattle.engine.specs.Wire.{Row, Joins, Wirable, Wires}
+use Rattle.engine.specs.Wire.{Row, Joins, Wirable, Wires, Whole}
 use Rattle.engine.specs.declared.wire.Rows.{Rows}
 
 -- ── a record that was read ──
@@ -217,3 +217,14 @@ wires-chart F w j p {n} is k {l} {m} {m′} {r} {x} g e f =
 
     ru : Row (r .up) (up (treeOf F j))
     ru c u = g .up-is c u ∙ ap (λ (k : ℕ). own k c ∪ ups (mine k) c) (is .a) ∙ sym (up₀ F w j c p k)
+
+-- ── the whole, from an empty square ──
+
+pub wires-whole : (F : File) (l m : List ℕ) (r : Rows) → ((k : ℕ) → k < 64 → getD l k 0 ≡ 0) → Wires F (wholeOf F) l m r → Whole F m r
+wires-whole F l m r e h =
+    record {
+      down-is = h .down-is;
+      up-is = h .up-is;
+      back-is = λ c d u v. h .back-is c d u v ∙ ap (λ (s : Set). s ∪ back (F .chart) (wholeOf F) c d) (e (8 * c + d) (omega arith))
+          ∙ sets (back (F .chart) (wholeOf F) c d ∷ []) [] (∅ₑ ∪ₑ A ≐ A) tt;
+    }

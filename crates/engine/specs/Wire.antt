@@ -7,7 +7,7 @@ use lib.ListN.{getD}
 use Rattle.signals.specs.Mask.{_∪_, _∩_}
 use Rattle.layout.specs.declared.body.Shape.{Shape}
 use Rattle.meaning.specs.Meaning.{Set, Tree}
-use Rattle.meaning.specs.File.{File, fileAt}
+use Rattle.meaning.specs.File.{File, wholeOf, fileAt}
 use Rattle.meaning.specs.Check.Nodes.{Sound}
 use Rattle.wiring.specs.Wire.{down, up, back}
 use Rattle.engine.specs.Known.{Sized}
@@ -37,3 +37,9 @@ pub record Wires (F : File) (t : Tree) (l m : List ℕ) (r : Rows) : Type 0 wher
   pub down-is : Row (r .down) (down t)
   pub up-is : Row (r .up) (up t)
   pub back-is : Joins l m (back (F .chart) t)
+
+-- the same of the whole, with no other feedback in the square m
+pub record Whole (F : File) (m : List ℕ) (r : Rows) : Type 0 where
+  pub down-is : Row (r .down) (down (wholeOf F))
+  pub up-is : Row (r .up) (up (wholeOf F))
+  pub back-is : (c d : ℕ) → c < 8 → d < 8 → getD m (8 * c + d) 0 ≡ back (F .chart) (wholeOf F) c d

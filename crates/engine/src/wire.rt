@@ -7,8 +7,9 @@ ghost use Rattle.signals.specs.Mask.{_∪_, _∩_, _∖_};
 ghost use Rattle.meaning.specs.File.{treeOf, fileAt};
 ghost use Rattle.wiring.specs.Wire.{own};
 ghost use Rattle.meaning.specs.Laws.Names.{enc};
-ghost use Rattle.engine.specs.Wire.{Row, Joins, Fed, Wirable, Wires};
+ghost use Rattle.engine.specs.Wire.{Row, Joins, Fed, Wirable, Wires, Whole};
 ghost use Rattle.engine.specs.Nearest.{Right, masterBy, stateBy, Seeds, Seeded, Hands, Notes, NearestIn};
+ghost use Rattle.engine.specs.Wired.{Wired};
 use layout::body::Shape;
 use layout::record::Slave;
 
@@ -140,6 +141,37 @@ pub fn wire(n: Shape, body: &[u8], j: usize, back: &mut [u64]) -> Rows
     rows
 }
 
+fn clear(m: &mut [u64])
+    ensures { λ _. ⌜ ((k : ℕ) → k < length (now (m .exit)) → getD (now (m .exit)) k 0 ≡ 0) ⌝ }
+{
+    let mut i: usize = 0;
+    while i < m.len() {
+        m[i] = 0;
+        i += 1;
+    }
+}
+
+fn put_row(m: &mut [u64], row: [u64; 8])
+    requires { ⌜ length (now m) ≡ 8 ⌝ }
+    ensures { λ _. ⌜ Row (now (m .exit)) (λ c. getD row c 0) ⌝ }
+{
+    let mut c: usize = 0;
+    while c < 8 {
+        m[c] = row[c];
+        c += 1;
+    }
+}
+
+// The rows of the whole; `back` has its feedback.
+fn whole(n: Shape, body: &[u8], back: &mut [u64]) -> Rows
+    requires { ⌜ Wirable n (now body) × (length (now back) ≡ 64) ⌝ }
+    ensures { λ r. ⌜ Whole (fileAt n (now (body .entry))) (now (back .exit)) r ⌝ }
+{
+    clear(back);
+    let last = n.nodes - 1;
+    wire(n, body, last, back)
+}
+
 // The node of each slave stands in that slave: `near` has of a node the number of its nearest enclosing slave.
 fn seed(n: Shape, body: &[u8], near: &mut [u8])
     requires { ⌜ Wirable n (now body) × (length (now near) ≡ 64) ⌝ }
@@ -223,4 +255,18 @@ pub fn nearest(n: Shape, body: &[u8], small: &mut [u8])
     let mut near = [NONE; 64];
     seed(n, body, &mut near);
     walk(n, body, &mut near, small);
+}
+
+// Wires a file that passed its check: the feedback and `up` go into a search's masks, the nearest slaves into its small numbers. The result is
+// what of the input gets down to each chart.
+pub fn wired(n: Shape, body: &[u8], masks: &mut [u64], small: &mut [u8]) -> [u64; 8]
+    requires { ⌜ Wirable n (now body) × (length (now masks) ≡ 336) × (length (now small) ≡ 96) ⌝ }
+    ensures { λ r. ⌜ Wired (fileAt n (now (body .entry))) r (now (masks .exit)) (now (small .exit)) ⌝ }
+{
+    let rows = whole(n, body, &mut masks[192..256]);
+    let up = rows.up;
+    put_row(&mut masks[328..336], up);
+    nearest(n, body, small);
+    let down = rows.down;
+    down
 }
