@@ -7,4 +7,5 @@ pub mod nodes;
 pub mod parts;
 pub mod slaves;
 pub mod trailer;
+pub mod wire;
 pub mod zeros;
