@@ -21,7 +21,7 @@ use Rattle.meaning.specs.Laws.Trees.{Placed, Joined, Namer, left, right, inside
 use Rattle.meaning.specs.Laws.Names.{enc, kap, enc-slave, enc-last, placed, joined}
 use Rattle.wiring.specs.Near.{enc-below}
 use Rattle.engine.specs.Nearest.{masterBy, stateBy, Noted, NearestIn, numberOf, Right, Seeded, Seeds, Handed, Hands, Notes}
-use Rattle.engine.proofs.Parts.{Is, IsSlave}
+use Rattle.engine.proofs.Wiring.{Is, IsSlave}
 
 -- two numbers are equal or not
 alike : {C : Type 0} (m n : ℕ) → (m ≡ n → C) → ((m ≡ n → ⊥) → C) → C

@@ -11,7 +11,7 @@ use borrow.Fn.PlainCycle.{Measures, is, falls, and}
 use lib.ListN.{length}
 use Rattle.meaning.specs.File.{File, fileAt}
 use Rattle.engine.specs.declared.wire.Rows.{Rows}
-use Rattle.engine.proofs.Parts.{Is, is-node, lower-hide, lower-comp, kind-chart, below-charts, lower-slave, is-slave, is-feedback, wires-hide, wires-comp, Gathers, gathers-none, gathers-in, gathers-out, wires-chart}
+use Rattle.engine.proofs.Wiring.{Is, is-node, lower-hide, lower-comp, kind-chart, below-charts, lower-slave, is-slave, is-feedback, wires-hide, wires-comp, Gathers, gathers-none, gathers-in, gathers-out, wires-chart}
 use Rattle.engine.proofs.wire.wire.Reads as wire
 use Rattle.engine.proofs.wire.wire.Kinds as wire-kinds
 use Rattle.engine.proofs.wire.+wire.Lts-wire as lts

@@ -4,7 +4,7 @@ use Prim.Native.Nat.{ℕ, _≤_, _<_}
 use native.Mathlib.Omega.{arith}
 use borrow.Author.Needs.{needs}
 use Rattle.meaning.specs.File.{fileAt}
-use Rattle.engine.proofs.Parts.{is-slave}
+use Rattle.engine.proofs.Wiring.{is-slave}
 use Rattle.engine.proofs.Near.{enclosed, alone}
 use Rattle.engine.proofs.wire.enclosing.Statement.{statement}
 use Rattle.engine.proofs.wire.enclosing.Tie as tie

@@ -4,7 +4,7 @@ use native.Mathlib.Omega.{arith}
 use borrow.Author.Needs.{needs}
 use lib.ListN.{length, length-set}
 use Rattle.meaning.specs.File.{fileAt}
-use Rattle.engine.proofs.Parts.{is-node, lower-comp}
+use Rattle.engine.proofs.Wiring.{is-node, lower-comp}
 use Rattle.engine.proofs.Near.{lower-a, hands-none, hands-hide, hands-comp}
 use Rattle.engine.proofs.wire.hand.Statement.{statement}
 use Rattle.engine.proofs.wire.hand.Tie as tie

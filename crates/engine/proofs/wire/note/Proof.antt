@@ -4,7 +4,7 @@ use native.Mathlib.Omega.{arith}
 use borrow.Author.Needs.{needs}
 use lib.ListN.{length, length-set}
 use Rattle.meaning.specs.File.{fileAt}
-use Rattle.engine.proofs.Parts.{is-node, below-charts}
+use Rattle.engine.proofs.Wiring.{is-node, below-charts}
 use Rattle.engine.proofs.Near.{notes-none, notes-chart}
 use Rattle.engine.proofs.wire.note.Statement.{statement}
 use Rattle.engine.proofs.wire.note.Tie as tie

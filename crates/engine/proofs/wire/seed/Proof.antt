@@ -6,7 +6,7 @@ use borrow.Author.Needs.{needs}
 use lib.ListN.{length, length-set}
 use Rattle.meaning.specs.File.{fileAt}
 use Rattle.engine.specs.Nearest.{Seeds}
-use Rattle.engine.proofs.Parts.{is-slave}
+use Rattle.engine.proofs.Wiring.{is-slave}
 use Rattle.engine.proofs.Near.{seeds-none, seeds-more}
 use Rattle.engine.proofs.wire.seed.Statement.{statement}
 use Rattle.engine.proofs.wire.seed.Tie as tie

@@ -2,7 +2,7 @@
 use native.Mathlib.Omega.{arith}
 use borrow.Author.Needs.{needs}
 use Rattle.meaning.specs.File.{fileAt}
-use Rattle.engine.proofs.Parts.{wires-whole}
+use Rattle.engine.proofs.Wiring.{wires-whole}
 use Rattle.engine.proofs.wire.whole.Statement.{statement}
 use Rattle.engine.proofs.wire.whole.Tie as tie
 
