@@ -29,6 +29,10 @@ mostInChart = 64
 abbrev pub mostFromState : ℕ
 mostFromState = 8
 
+-- bytes on the day program's standard input
+abbrev pub mostInput : ℕ
+mostInput = 65536
+
 -- ── refusals ──
 
 abbrev pub tooShort : ℕ
@@ -78,3 +82,9 @@ noStep = 23
 
 abbrev pub shortRows : ℕ
 shortRows = 27
+
+abbrev pub oddFront : ℕ
+oddFront = 30
+
+abbrev pub tooLong : ℕ
+tooLong = 31

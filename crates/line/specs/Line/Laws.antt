@@ -1,0 +1,2 @@
+-- Laws of lines.
+use mathlib.Core.Path.{_≡_, refl, sym, ap, _∙_}
