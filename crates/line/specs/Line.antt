@@ -1,16 +1,17 @@
--- What the day program prints (document 01, "The day program"): numbers in digits, fields, the line of a row, the whole output. Characters are
--- their ASCII bytes. Laws are in Line/Laws.antt; document 01's whole case is in Line/Example.antt.
+-- What the day program prints (document 01, "The day program"): numbers in digits, fields, the line of a row, the whole output. Laws are in Line/Laws.antt; document 01's whole case is in Line/Example.antt.
 use mathlib.Core.Bool.{Bool, true, false, cond}
 use mathlib.Core.List.{List, [], _∷_, _++_, map}
 use Prim.Native.Nat.{ℕ, zero, suc, _+_, _-_, _/_, _%_}
 use lib.Dec.{ltb}
 use lib.ListN.{length, getD, take, drop}
+use Prim.Native.Char.{code}
 use Rattle.layout.specs.Le.{le}
 use Rattle.meaning.specs.Numbers.{mostInput, tooLong, oddFront}
 use Rattle.meaning.specs.Meaning.{Set, same}
 use Rattle.meaning.specs.File.{fileOf, endOf, trailer}
 use Rattle.meaning.specs.Check.{Test, firstOf, fileTests, differ}
 use Rattle.meaning.specs.Calls.{initials, rowsOf}
+use Rattle.line.specs.Ascii.{ascii}
 pub mod Laws
 pub mod Example
 
@@ -18,7 +19,7 @@ pub mod Example
 
 -- 0 to 9, then a to f: "(lower case)"
 unfoldable pub digit : ℕ → ℕ
-digit d = cond (ltb d 10) (48 + d) (87 + d)
+digit d = cond (ltb d 10) (code "0" + d) (code "a" + (d - 10))
 
 -- the n lowest digits of a number, "highest digit first"
 unfoldable pub digits : ℕ → ℕ → ℕ → List ℕ
@@ -54,35 +55,19 @@ unfoldable pub joined : ℕ → List (List ℕ) → List ℕ
 joined b [] = []
 joined b (p ∷ ps) = p ++ behind b ps
 
-abbrev pub newline : ℕ
-newline = 10
-
-abbrev pub space : ℕ
-space = 32
-
-abbrev pub dot : ℕ
-dot = 46
-
 -- "Fields stand one space apart and every line ends in byte 10."
 unfoldable pub fields : List (List ℕ) → List ℕ
-fields fs = joined space fs ++ (newline ∷ [])
+fields fs = joined (code " ") fs ++ (10 ∷ [])
 
 -- "states joined by dots"
 unfoldable pub dotted : List ℕ → List ℕ
-dotted states = joined dot (map decimal states)
+dotted states = joined (code ".") (map decimal states)
 
 -- ── a line ──
 
 -- "`y` or `n`", by a row's mark: 1 for yes
 unfoldable pub letter : ℕ → ℕ
-letter mark = cond (same mark 1) 121 110
-
--- `refused`, `file`
-abbrev pub refusedWord : List ℕ
-refusedWord = 114 ∷ 101 ∷ 102 ∷ 117 ∷ 115 ∷ 101 ∷ 100 ∷ []
-
-abbrev pub fileWord : List ℕ
-fileWord = 102 ∷ 105 ∷ 108 ∷ 101 ∷ []
+letter mark = cond (same mark 1) (code "y") (code "n")
 
 -- of a row, whose output is in its first 8 bytes, its mark in byte 8 and its configuration from byte 10 on: "output as 16 hex digits (lower
 -- case), states joined by dots, `y` or `n`"
@@ -91,7 +76,7 @@ givenFields row = hex 16 (le 8 row) ∷ dotted (drop 10 row) ∷ (letter (getD r
 
 -- "`refused`, refusal"
 abbrev pub refusedFields : ℕ → List (List ℕ)
-refusedFields refusal = refusedWord ∷ decimal refusal ∷ []
+refusedFields refusal = ascii "refused" ∷ decimal refusal ∷ []
 
 -- byte 9 of a row is 0 or the refusal
 unfoldable pub rowFields : List ℕ → List (List ℕ)
@@ -103,7 +88,7 @@ lineOf number row = fields (decimal number ∷ rowFields row)
 
 -- "A bad file prints only `file refused N`"
 unfoldable pub fileRefused : ℕ → List ℕ
-fileRefused n = fields (fileWord ∷ refusedFields n)
+fileRefused n = fields (ascii "file" ∷ refusedFields n)
 
 -- ── the output ──
 
