@@ -55,13 +55,26 @@ unfoldable pub joined : ℕ → List (List ℕ) → List ℕ
 joined b [] = []
 joined b (p ∷ ps) = p ++ behind b ps
 
+abbrev pub space : ℕ
+space = code " "
+
+abbrev pub dot : ℕ
+dot = code "."
+
+abbrev pub newline : ℕ
+newline = 10
+
 -- "Fields stand one space apart and every line ends in byte 10."
 unfoldable pub fields : List (List ℕ) → List ℕ
-fields fs = joined (code " ") fs ++ (10 ∷ [])
+fields fs = joined space fs ++ (newline ∷ [])
+
+-- what follows the first field, to the line's end
+abbrev pub closing : List (List ℕ) → List ℕ
+closing fs = behind space fs ++ (newline ∷ [])
 
 -- "states joined by dots"
 unfoldable pub dotted : List ℕ → List ℕ
-dotted states = joined (code ".") (map decimal states)
+dotted states = joined dot (map decimal states)
 
 -- ── a line ──
 
