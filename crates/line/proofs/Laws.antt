@@ -1,4 +1,4 @@
--- What a loop that writes xs at a place has still to write, and its laws, in this order: all of it; one piece less; none of it; lengths. Assumes
+-- What a loop that writes xs at a place has still to write, and its laws, in this order: all of it; one piece less; none of it; its room. Assumes
 -- nothing.
 use mathlib.Core.Path.{_≡_, refl, sym, ap, _∙_}
 use mathlib.Core.List.{List, [], _++_}
@@ -8,7 +8,7 @@ use native.Mathlib.Omega.{arith}
 use lib.ListN.{length, length-append}
 use lib.Seq.{sets, length-sets}
 use Rattle.layout.specs.Le.Laws.{sets-append}
-use Rattle.line.specs.Put.{Put}
+use Rattle.line.specs.Put.{Put, Room}
 
 -- of xs, which goes to `at` of l, ys is left, and goes to j of m
 pub record Left (l : List ℕ) (at : ℕ) (xs m : List ℕ) (j : ℕ) (ys : List ℕ) : Type 0 where
@@ -31,3 +31,6 @@ module _ {l xs m : List ℕ} {at j : ℕ} where
 
   pub left-length : (ys : List ℕ) → Left l at xs m j ys → length m ≡ length l
   left-length ys w = sym (length-sets m j ys) ∙ ap length (w .is) ∙ length-sets l at xs
+
+  pub left-room : (ys : List ℕ) → Left l at xs m j ys → Room l at xs → Room m j ys
+  left-room ys w h = omega (arith, left-length ys w, w .place)

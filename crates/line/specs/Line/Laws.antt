@@ -1,21 +1,19 @@
--- Laws of lines, in this order: digits; how many digits a number has; how long states and lines are.
+-- Laws of lines, in this order: digits; how many digits a number has; states one after another; a line in its parts; how long a line is.
 use mathlib.Core.Path.{_≡_, refl, sym, ap, _∙_}
-use mathlib.Core.Bool.{Bool, true, false, cond}
-use mathlib.Core.List.{List, [], _∷_, _++_, map}
+use mathlib.Core.List.{List, [], _∷_, _++_, map, append-assoc, append-nil}
 use mathlib.Core.Logic.{_⊎_, inl, inr, ⊎-elim}
 use Prim.Native.Nat.{ℕ, zero, suc, _+_, _*_, _/_, _%_, _^_, _≤_, _<_}
-use Prim.Native.Char.{code}
 use native.Mathlib.Nat.{pow-suc}
 use native.Mathlib.Decide.{decLt}
 use native.Mathlib.Numerals.{add-one}
 use native.Mathlib.Omega.{arith}
-use borrow.Author.Tests.{lt-ltb, le-ltb, ltb-true, ltb-false}
-use lib.Dec.{ltb}
+use borrow.Author.Tests.{lt-ltb, le-ltb}
 use lib.ListN.{length, length-append, getD, drop, length-drop}
-use Rattle.layout.specs.Le.{AllBytes}
+use lib.Seq.{drop-cons}
+use Rattle.layout.specs.Le.{le, AllBytes}
 use Rattle.layout.specs.Le.Laws.{bytes-drop}
-use Rattle.meaning.specs.Meaning.{same}
-use Rattle.line.specs.Line.{digit, digits, widthTo, width, decimal, hex, behind, joined, fields, dotted, letter, givenFields, refusedFields, rowFields, lineOf, fileRefused}
+use Rattle.line.specs.Ascii.{ascii}
+use Rattle.line.specs.Line.{digits, widthTo, width, decimal, hex, behind, joined, space, dot, newline, fields, closing, dotted, letter, givenFields, refusedFields}
 
 -- ---- digits
 
@@ -57,3 +55,65 @@ width-le (suc n) x h =
 pub length-decimal : (x : ℕ) → length (decimal x) ≡ width x
 unfolding decimal
 length-decimal x = length-digits 10 (width x) x
+
+-- ---- states
+
+pub dotted-cons : (s : List ℕ) → 0 < length s → dotted s ≡ decimal (getD s 0 0) ++ behind dot (map decimal (drop 1 s))
+unfolding dotted joined
+dotted-cons [] h = absurd (omega arith)
+dotted-cons (x ∷ xs) h = refl
+
+-- the states from i on, each behind a dot: the first of them, and the others
+pub behind-cons : (s : List ℕ) (i : ℕ) → i < length s
+    → behind dot (map decimal (drop i s)) ≡ (dot ∷ decimal (getD s i 0)) ++ behind dot (map decimal (drop (suc i) s))
+unfolding behind
+behind-cons s i h = rw (drop-cons s i 0 h)
+
+-- ---- a line in its parts
+
+pub fields-cons : (p : List ℕ) (ps : List (List ℕ)) → fields (p ∷ ps) ≡ p ++ closing ps
+unfolding fields joined
+fields-cons p ps = append-assoc p (behind space ps) (newline ∷ [])
+
+pub closing-refused : (r : ℕ) → closing (refusedFields r) ≡ ascii " refused " ++ (decimal r ++ (newline ∷ []))
+unfolding behind
+closing-refused r = ap (λ (d : List ℕ). ascii " refused " ++ (d ++ (newline ∷ []))) (append-nil (decimal r))
+
+pub closing-given : (row : List ℕ)
+    → closing (givenFields row)
+    ≡ (space ∷ []) ++ (hex 16 (le 8 row) ++ ((space ∷ []) ++ (dotted (drop 10 row) ++ ((space ∷ []) ++ ((letter (getD row 8 0) ∷ []) ++ (newline ∷ []))))))
+unfolding behind
+closing-given row = simp append-assoc
+
+-- ---- how long a line is
+
+-- a byte has at most three digits
+byte-le : (b : ℕ) → b < 256 → length (decimal b) ≤ 3
+byte-le b h = rw length-decimal (width-le 2 b (omega arith))
+
+pub length-refused : (r : ℕ) → length (closing (refusedFields r)) ≡ 10 + length (decimal r)
+length-refused r = simp (closing-refused, length-append) (omega arith)
+
+pub refused-le : (r : ℕ) → r < 256 → length (closing (refusedFields r)) ≤ 13
+refused-le r h = rw length-refused (omega (arith, byte-le r h))
+
+behind-le : (s : List ℕ) → AllBytes s → length (behind dot (map decimal s)) ≤ 4 * length s
+unfolding behind
+behind-le [] h = omega arith
+behind-le (x ∷ xs) h = rw length-append (omega (arith, byte-le x (h 0), behind-le xs (λ i. h (suc i))))
+
+dotted-le : (s : List ℕ) → AllBytes s → length (dotted s) ≤ 4 * length s
+unfolding dotted joined
+dotted-le [] h = omega arith
+dotted-le (x ∷ xs) h = rw length-append (omega (arith, byte-le x (h 0), behind-le xs (λ i. h (suc i))))
+
+pub length-given : (row : List ℕ) → length (closing (givenFields row)) ≡ 21 + length (dotted (drop 10 row))
+length-given row = simp (closing-given, length-append, length-digits) (omega arith)
+
+-- 16 states at most
+pub given-le : (row : List ℕ) → AllBytes row → length row ≤ 26 → length (closing (givenFields row)) ≤ 85
+given-le row h k = rw length-given (omega (arith, dotted-le (drop 10 row) (bytes-drop 10 row h), length-drop 10 row))
+
+-- a u64 has at most 20 digits
+pub number-le : (n : ℕ) → n < 2 ^ 64 → length (decimal n) ≤ 20
+number-le n h = rw length-decimal (width-le 19 n (omega arith))

@@ -1,4 +1,5 @@
--- Laws of Put, in this order: one part after another; a byte; a buffer keeps its length; a line that begins at 0 lies over the buffer.
+-- Laws of Put and Room, in this order: one part after another; a byte; a buffer keeps its length; what is written at 0 lies over the buffer; room
+-- for a first part, and for what follows it.
 use mathlib.Core.Path.{_≡_, refl, sym, ap, _∙_}
 use mathlib.Core.List.{List, [], _∷_, _++_}
 use Prim.Native.Nat.{ℕ, _+_, _≤_}
@@ -8,7 +9,7 @@ use lib.ListN.{length, length-append, drop, take, set}
 use lib.Seq.{sets, sets-eq, length-sets}
 use Rattle.layout.specs.Le.Laws.{sets-append}
 use Rattle.meaning.specs.Calls.{laidOver}
-use Rattle.line.specs.Put.{Put}
+use Rattle.line.specs.Put.{Put, Room}
 
 -- a part, and a part right after it
 pub put-append : {l m n xs ys : List ℕ} {at j k : ℕ} → Put l at xs m j → Put m j ys n k → Put l at (xs ++ ys) n k
@@ -27,3 +28,10 @@ put-length {l} {m} {xs} {at} p = rw (p .is) (length-sets l at xs)
 -- what is written at 0
 pub put-over : {l m xs : List ℕ} {j : ℕ} → Put l 0 xs m j → length xs ≤ length l → m ≡ laidOver xs l
 put-over {l} {m} {xs} p h = p .is ∙ sets-eq xs l 0 (rw zero-add h) ∙ rw zero-add
+
+module _ (l : List ℕ) (at : ℕ) (xs ys : List ℕ) (h : Room l at (xs ++ ys)) where
+  pub room-first : Room l at xs
+  room-first = omega (arith, length-append xs ys)
+
+  pub room-next : {m : List ℕ} {j : ℕ} → Put l at xs m j → Room m j ys
+  room-next p = omega (arith, length-append xs ys, p .place, put-length p)
