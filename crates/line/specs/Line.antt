@@ -87,6 +87,13 @@ letter mark = cond (same mark 1) (code "y") (code "n")
 abbrev pub givenFields : List ℕ → List (List ℕ)
 givenFields row = hex 16 (le 8 row) ∷ dotted (drop 10 row) ∷ (letter (getD row 8 0) ∷ []) ∷ []
 
+-- two parts of such a line: the output with a space on either side, and the mark with a space before it, to the line's end
+abbrev pub outputPart : Set → List ℕ
+outputPart output = space ∷ hex 16 output ++ (space ∷ [])
+
+abbrev pub markPart : ℕ → List ℕ
+markPart mark = space ∷ letter mark ∷ newline ∷ []
+
 -- "`refused`, refusal"
 abbrev pub refusedFields : ℕ → List (List ℕ)
 refusedFields refusal = ascii "refused" ∷ decimal refusal ∷ []

@@ -5,7 +5,7 @@ ghost use mathlib.Core.List.{[], _∷_};
 ghost use Prim.Native.Nat.{_+_, _-_, _≤_, _<_, _^_};
 ghost use lib.ListN.{length};
 ghost use Rattle.meaning.specs.Calls.{laidOver};
-ghost use Rattle.line.specs.Line.{digit, digits, width, decimal, hex, dot, closing, dotted, letter, givenFields, refusedFields, lineOf, fileRefused};
+ghost use Rattle.line.specs.Line.{digit, digits, width, decimal, hex, dot, closing, dotted, letter, outputPart, markPart, givenFields, refusedFields, lineOf, fileRefused};
 ghost use Rattle.line.specs.Put.{Put, Room};
 
 // The character of a digit.
@@ -120,18 +120,34 @@ fn letter(mark: u8) -> u8
     if mark == 1 { b'y' } else { b'n' }
 }
 
+// An output between two spaces.
+fn put_output(out: &mut [u8], at: usize, output: u64) -> usize
+    requires { ⌜ Room (now out) at (outputPart output) ⌝ }
+    ensures { λ r. ⌜ Put (now (out .entry)) at (outputPart output) (now (out .exit)) r ⌝ }
+{
+    let digits = put_byte(out, at, b' ');
+    let end = put_hex(out, digits, output);
+    put_byte(out, end, b' ')
+}
+
+// A mark behind a space, and the line's end.
+fn put_mark(out: &mut [u8], at: usize, mark: u8) -> usize
+    requires { ⌜ Room (now out) at (markPart mark) ⌝ }
+    ensures { λ r. ⌜ Put (now (out .entry)) at (markPart mark) (now (out .exit)) r ⌝ }
+{
+    let next = put_byte(out, at, b' ');
+    let end = put_byte(out, next, letter(mark));
+    put_byte(out, end, b'\n')
+}
+
 // What follows the number in the line of a row with a step, to the line's end.
 fn put_given(out: &mut [u8], at: usize, row: &[u8]) -> usize
     requires { ⌜ (10 ≤ length (now row)) × Room (now out) at (closing (givenFields (now row))) ⌝ }
     ensures { λ r. ⌜ Put (now (out .entry)) at (closing (givenFields (now (row .entry)))) (now (out .exit)) r ⌝ }
 {
-    let output = put_byte(out, at, b' ');
-    let gap = put_hex(out, output, layout::number::le64(row, 0));
-    let states = put_byte(out, gap, b' ');
-    let gap2 = put_states(out, states, &row[10..]);
-    let mark = put_byte(out, gap2, b' ');
-    let end = put_byte(out, mark, letter(row[8]));
-    put_byte(out, end, b'\n')
+    let states = put_output(out, at, layout::number::le64(row, 0));
+    let mark = put_states(out, states, &row[10..]);
+    put_mark(out, mark, row[8])
 }
 
 // What follows the first field in the line of a refusal, to the line's end.

@@ -53,9 +53,11 @@ loop-again c =
     let l = c .before .before .before .loop in
     let a = c .before .before .before .before .before .args in
     let k = a .n - (l .i + 1) in
-    let e : a .n - l .i ≡ suc k = omega arith in
-    (omega arith, simp length-set (l .inv .1),
-    rw (c .place .ensures, c .before .digit .ensures) (lowest-first (l .out) (a .at) (a .base) k (l .left) ∙ (rw e at (l .inv .2))))
+    let e : a .n - l .i ≡ suc k = omega arith in (
+      omega arith,
+      simp length-set (l .inv .1),
+      rw (c .place .ensures, c .before .digit .ensures) (lowest-first (l .out) (a .at) (a .base) k (l .left) ∙ (rw e at (l .inv .2))),
+    )
 
 returns : tie.Need-returns Inv-loop μ-loop
 unfolding digits

@@ -1,90 +1,61 @@
+-- `line::put_given` meets its contract. Each part is written where the one before it ends. Assumes nothing.
+use mathlib.Core.Path.{_≡_, ap}
+use mathlib.Core.List.{List}
+use Prim.Native.Nat.{ℕ, _+_, _-_, _≤_}
+use native.Mathlib.Omega.{arith}
 use borrow.Author.Needs.{needs}
+use lib.ListN.{length, take, drop, length-drop}
+use lib.Seq.{take-all}
+use denote.Ref.{now}
+use Rattle.line.specs.Line.{dotted, closing, givenFields}
+use Rattle.line.specs.Line.Laws.{closing-given, length-given, length-output}
+use Rattle.line.specs.Put.{Room}
+use Rattle.line.specs.Put.Laws.{put-append}
 use Rattle.line.proofs.put_given.Statement.{statement}
 use Rattle.line.proofs.put_given.Tie as tie
-use Rattle.line.proofs.put_given.Reads as reads
-use Rattle.line.proofs.put_given.Lts as lts
-use Rattle.layout.proofs.number.le64.Reads as le64-reads
-use Rattle.line.proofs.letter.Reads as letter-reads
-use Rattle.line.proofs.put_byte.Reads as put-byte-reads
-use Rattle.line.proofs.put_hex.Reads as put-hex-reads
-use Rattle.line.proofs.put_states.Reads as put-states-reads
 
--- src/lib.rt:128:9
-put-byte-requires : tie.Need-put-byte-requires
-put-byte-requires c κs = ?
+-- the configuration is the row from byte 10 on
+config : (row : List ℕ) → take (length row - 10) (drop 10 row) ≡ drop 10 row
+config row = take-all (length row - 10) (drop 10 row) (omega (arith, length-drop 10 row))
 
--- src/lib.rt:129:36
-le64-requires : tie.Need-le64-requires
-le64-requires c κs = search needs
+-- room for all of it
+room : (c : tie.Start) → c .args .at + (21 + length (dotted (drop 10 (now (c .args .row))))) ≤ length (now (c .args .out))
+room c =
+    let h : Room (now (c .args .out)) (c .args .at) (closing (givenFields (now (c .args .row)))) = c .pre .1 in
+    omega (arith, length-given (now (c .args .row)))
 
--- src/lib.rt:129:9
-put-hex-requires : tie.Need-put-hex-requires
-put-hex-requires c κs = ?
+put-output-requires : tie.Need-put-output-requires
+put-output-requires c κs = omega (arith, room (c .before .before .before .before), length-output (c .le64 .result))
 
--- src/lib.rt:130:9
-put-byte-requires-2 : tie.Need-put-byte-requires-2
-put-byte-requires-2 c κs = ?
-
--- src/lib.rt:131:40
-sub-put-states : tie.Need-sub-put-states
-sub-put-states c = search needs
-
--- src/lib.rt:131:40
-part-put-states-start : tie.Need-part-put-states-start
-part-put-states-start c = search needs
-
--- src/lib.rt:131:40
-part-put-states-end : tie.Need-part-put-states-end
-part-put-states-end c = search needs
-
--- src/lib.rt:131:9
 put-states-requires : tie.Need-put-states-requires
-put-states-requires c κs = ?
+put-states-requires c κs =
+    let s = c .before .before .before .before .before .before .before .before .before in
+    rw (config (now (s .args .row))) (omega (arith, room s, length-output (c .before .before .before .before .before .le64 .result)))
 
--- src/lib.rt:132:9
-put-byte-requires-3 : tie.Need-put-byte-requires-3
-put-byte-requires-3 c κs = ?
+put-mark-requires : tie.Need-put-mark-requires
+put-mark-requires c κs =
+    let s = c .before .before .before .before .before .before .before .before .before .before .before .before .before .before in
+    let e = ap (λ (l : List ℕ). length (dotted l)) (config (now (s .args .row))) in
+    omega (arith, room s, length-output (c .before .before .before .before .before .before .before .before .before .before .le64 .result))
 
--- src/lib.rt:133:42
-shared-slice-read-letter : tie.Need-shared-slice-read-letter
-shared-slice-read-letter c = search needs
-
--- src/lib.rt:133:35
-letter-requires : tie.Need-letter-requires
-letter-requires c κs = search needs
-
--- src/lib.rt:133:9
-put-byte-requires-4 : tie.Need-put-byte-requires-4
-put-byte-requires-4 c κs = ?
-
--- src/lib.rt:134:5
-put-byte-requires-5 : tie.Need-put-byte-requires-5
-put-byte-requires-5 c κs = ?
-
--- src/lib.rt:124:1
-same-length : tie.Need-same-length
-same-length c = search needs
-
--- src/lib.rt:124:1
 returns : tie.Need-returns
-returns c = ?
+returns c =
+    let row = now (c .before .before .before .before .before .before .before .before .before .before .before .before .before .before .before .before .before .args .row) in
+    let output = rw (c .before .before .before .before .before .before .before .before .before .before .before .before .before .le64 .ensures) at (c .before .before .before .before .before .before .before .before .before .before .before .before .put-output .ensures) in
+    let states = rw (config row) at (c .before .before .before .before .before .before .before .put-states .ensures) in
+    rw closing-given (put-append output (put-append states (c .before .before .put-mark .ensures)))
 
 pub put-given-spec : {M : Type 1} → statement M
 put-given-spec =
     tie.close
     (tie.spec
-    put-byte-requires
-    le64-requires
-    put-hex-requires
-    put-byte-requires-2
-    sub-put-states
-    part-put-states-start
-    part-put-states-end
+    (λ c κs. search needs)
+    put-output-requires
+    (λ c. search needs)
+    (λ c. search needs)
+    (λ c. search needs)
     put-states-requires
-    put-byte-requires-3
-    shared-slice-read-letter
-    letter-requires
-    put-byte-requires-4
-    put-byte-requires-5
-    same-length
+    (λ c. search needs)
+    put-mark-requires
+    (λ c. search needs)
     returns)

@@ -54,11 +54,12 @@ put-state-requires c κs =
 loop-again : tie.Need-loop-again Inv-loop μ-loop
 loop-again c =
     let l = c .before .before .before .before .before .before .loop in
-    let states = now (c .before .before .before .before .before .before .before .before .before .before .before .before .before .before .before .args .states) in
-    (omega arith,
-    rw add-one
-    (left-put (dot ∷ decimal (getD states (l .i) 0)) (rest states (suc (l .i)))
-    (rw (behind-cons states (l .i) (omega arith)) at (l .inv .1)) (c .before .before .put-state .ensures)))
+    let states = now (c .before .before .before .before .before .before .before .before .before .before .before .before .before .before .before .args .states) in (
+      omega arith,
+      rw add-one
+          (left-put (dot ∷ decimal (getD states (l .i) 0)) (rest states (suc (l .i)))
+          (rw (behind-cons states (l .i) (omega arith)) at (l .inv .1)) (c .before .before .put-state .ensures)),
+    )
 
 same-length : tie.Need-same-length Inv-loop μ-loop
 same-length c =

@@ -29,11 +29,12 @@ loop-again : tie.Need-loop-again Inv-loop μ-loop
 loop-again c =
     let l = c .before .before .loop in
     let a = c .before .before .before .args in
-    let word = now (a .word) in
-    (omega arith,
-    rw (← add-assoc, add-one (l .i))
-    (left-put (getD word (l .i) 0 ∷ []) (drop (suc (l .i)) word) (rw (drop-cons word (l .i) 0 (omega arith)) at (l .inv .1))
-    (put-byte (l .out) (a .at + l .i) (getD word (l .i) 0))))
+    let word = now (a .word) in (
+      omega arith,
+      rw (← add-assoc, add-one (l .i))
+          (left-put (getD word (l .i) 0 ∷ []) (drop (suc (l .i)) word) (rw (drop-cons word (l .i) 0 (omega arith)) at (l .inv .1))
+          (put-byte (l .out) (a .at + l .i) (getD word (l .i) 0))),
+    )
 
 same-length : tie.Need-same-length Inv-loop μ-loop
 same-length c = left-length _ (c .before .loop .inv .1)

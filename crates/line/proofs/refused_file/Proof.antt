@@ -1,10 +1,6 @@
 -- `line::refused_file` meets its contract. Assumes nothing.
-use mathlib.Core.Path.{_∙_}
-use native.Mathlib.Nat.{zero-add}
 use native.Mathlib.Omega.{arith}
 use borrow.Author.Needs.{needs}
-use lib.ListN.{length, length-append}
-use denote.Ref.{now}
 use Rattle.line.specs.Ascii.{ascii}
 use Rattle.line.specs.Line.{fileRefused, refusedFields}
 use Rattle.line.specs.Line.Laws.{fields-cons, refused-le}
@@ -22,7 +18,7 @@ returns c =
     let a = c .before .before .before .before .before .before .before .before .before .before .args in
     let p = put-append (c .before .before .before .before .before .before .put-word .ensures) (c .before .before .put-refused .ensures) in
     let h = refused-le (a .n) (omega arith) in
-    rw (fields-cons (ascii "file") (refusedFields (a .n))) (p .place ∙ zero-add _, put-over p (omega arith))
+    rw (fields-cons (ascii "file") (refusedFields (a .n))) (put-over p (omega arith))
 
 pub refused-file-spec : {M : Type 1} → statement M
 refused-file-spec =

@@ -7,13 +7,14 @@ use native.Mathlib.Nat.{pow-suc}
 use native.Mathlib.Decide.{decLt}
 use native.Mathlib.Numerals.{add-one}
 use native.Mathlib.Omega.{arith}
-use borrow.Author.Tests.{lt-ltb, le-ltb}
+use borrow.Author.Tests.{lt-ltb, le-ltb, eq-eqb, ne-eqb}
 use lib.ListN.{length, length-append, getD, drop, length-drop}
 use lib.Seq.{drop-cons}
 use Rattle.layout.specs.Le.{le, AllBytes}
 use Rattle.layout.specs.Le.Laws.{bytes-drop}
+use Rattle.meaning.specs.Meaning.{same}
 use Rattle.line.specs.Ascii.{ascii}
-use Rattle.line.specs.Line.{digits, widthTo, width, decimal, hex, behind, joined, space, dot, newline, fields, closing, dotted, letter, givenFields, refusedFields}
+use Rattle.line.specs.Line.{digits, widthTo, width, decimal, hex, behind, joined, space, dot, newline, fields, closing, dotted, letter, outputPart, markPart, givenFields, refusedFields, rowFields, lineOf}
 
 -- ---- digits
 
@@ -75,13 +76,21 @@ pub fields-cons : (p : List ℕ) (ps : List (List ℕ)) → fields (p ∷ ps) �
 unfolding fields joined
 fields-cons p ps = append-assoc p (behind space ps) (newline ∷ [])
 
+-- a row with a step, and one with a refusal
+pub line-given : (n : ℕ) (row : List ℕ) → getD row 9 0 ≡ 0 → lineOf n row ≡ decimal n ++ closing (givenFields row)
+unfolding lineOf rowFields same
+line-given n row e = rw (eq-eqb _ _ e) (fields-cons (decimal n) (givenFields row))
+
+pub line-refused : (n : ℕ) (row : List ℕ) → (getD row 9 0 ≡ 0 → ⊥) → lineOf n row ≡ decimal n ++ closing (refusedFields (getD row 9 0))
+unfolding lineOf rowFields same
+line-refused n row f = rw (ne-eqb _ _ f) (fields-cons (decimal n) (refusedFields (getD row 9 0)))
+
 pub closing-refused : (r : ℕ) → closing (refusedFields r) ≡ ascii " refused " ++ (decimal r ++ (newline ∷ []))
 unfolding behind
 closing-refused r = ap (λ (d : List ℕ). ascii " refused " ++ (d ++ (newline ∷ []))) (append-nil (decimal r))
 
 pub closing-given : (row : List ℕ)
-    → closing (givenFields row)
-    ≡ (space ∷ []) ++ (hex 16 (le 8 row) ++ ((space ∷ []) ++ (dotted (drop 10 row) ++ ((space ∷ []) ++ ((letter (getD row 8 0) ∷ []) ++ (newline ∷ []))))))
+    → closing (givenFields row) ≡ outputPart (le 8 row) ++ (dotted (drop 10 row) ++ markPart (getD row 8 0))
 unfolding behind
 closing-given row = simp append-assoc
 
@@ -107,8 +116,11 @@ unfolding dotted joined
 dotted-le [] h = omega arith
 dotted-le (x ∷ xs) h = rw length-append (omega (arith, byte-le x (h 0), behind-le xs (λ i. h (suc i))))
 
+pub length-output : (o : ℕ) → length (outputPart o) ≡ 18
+length-output o = rw (length-append, length-digits)
+
 pub length-given : (row : List ℕ) → length (closing (givenFields row)) ≡ 21 + length (dotted (drop 10 row))
-length-given row = simp (closing-given, length-append, length-digits) (omega arith)
+length-given row = simp (closing-given, length-append) (omega (arith, length-digits 16 16 (le 8 row)))
 
 -- 16 states at most
 pub given-le : (row : List ℕ) → AllBytes row → length row ≤ 26 → length (closing (givenFields row)) ≤ 85

@@ -26,8 +26,8 @@ pub put-length : {l m xs : List ℕ} {at j : ℕ} → Put l at xs m j → length
 put-length {l} {m} {xs} {at} p = rw (p .is) (length-sets l at xs)
 
 -- what is written at 0
-pub put-over : {l m xs : List ℕ} {j : ℕ} → Put l 0 xs m j → length xs ≤ length l → m ≡ laidOver xs l
-put-over {l} {m} {xs} p h = p .is ∙ sets-eq xs l 0 (rw zero-add h) ∙ rw zero-add
+pub put-over : {l m xs : List ℕ} {j : ℕ} → Put l 0 xs m j → length xs ≤ length l → (j ≡ length xs) × (m ≡ laidOver xs l)
+put-over {l} {m} {xs} p h = (p .place ∙ zero-add _, p .is ∙ sets-eq xs l 0 (rw zero-add h) ∙ rw zero-add)
 
 module _ (l : List ℕ) (at : ℕ) (xs ys : List ℕ) (h : Room l at (xs ++ ys)) where
   pub room-first : Room l at xs
