@@ -52,7 +52,7 @@ fn put_digits(out: &mut [u8], at: usize, base: u64, n: usize, x: u64) -> usize
     at + n
 }
 
-pub fn put_decimal(out: &mut [u8], at: usize, x: u64) -> usize
+fn put_decimal(out: &mut [u8], at: usize, x: u64) -> usize
     requires { ⌜ Room (now out) at (decimal x) ⌝ }
     ensures { λ r. ⌜ Put (now (out .entry)) at (decimal x) (now (out .exit)) r ⌝ }
 {
@@ -60,7 +60,7 @@ pub fn put_decimal(out: &mut [u8], at: usize, x: u64) -> usize
 }
 
 // A set as 16 hex digits.
-pub fn put_hex(out: &mut [u8], at: usize, x: u64) -> usize
+fn put_hex(out: &mut [u8], at: usize, x: u64) -> usize
     requires { ⌜ Room (now out) at (hex 16 x) ⌝ }
     ensures { λ r. ⌜ Put (now (out .entry)) at (hex 16 x) (now (out .exit)) r ⌝ }
 {
@@ -97,7 +97,7 @@ fn put_state(out: &mut [u8], at: usize, state: u8) -> usize
 }
 
 // States joined by dots.
-pub fn put_states(out: &mut [u8], at: usize, states: &[u8]) -> usize
+fn put_states(out: &mut [u8], at: usize, states: &[u8]) -> usize
     requires { ⌜ Room (now out) at (dotted (now states)) ⌝ }
     ensures { λ r. ⌜ Put (now (out .entry)) at (dotted (now (states .entry))) (now (out .exit)) r ⌝ }
 {

@@ -55,5 +55,5 @@ printed = refl
 
 -- 31 goes before all others: these bytes hold no chart
 pub too-long : dayOf (zeros 65537) ≡ ascii "file refused 31\n"
-unfolding le bytes trailerOf headOf transitionOf slaveOf nodeOf headAt transitionAt slaveAt nodeAt startOf from transitionsOf anyUpTo tally same nth pick actionOf after guards inFaceChart inFace inFaces out outs okChart meets ok oks permitted upd moves nexts upto outcome search outcomes eqList agree answer gather build treeOf Has HasS trailer bodyOf shapeOf chartOf fileAt fileOf firstOf counts? distance? nonzero zeros? chart? charts? ends? leaving transitions? rising slave? slaves? nodeOfKind? nodes? names named held naming? inside? fileTests refusalOf made initials stepIn rowOf rowsOf digit digits widthTo width decimal behind joined fields dotted letter rowFields lineOf fileRefused frontOf dayRefusal inputsOf linesOf dayLines dayOf
+unfolding same firstOf digit digits widthTo width decimal behind joined fields fileRefused dayRefusal dayOf
 too-long = refl

@@ -1,8 +1,11 @@
--- Laws of lines, in this order: digits; how many digits a number has; states one after another; a line in its parts; how long a line is.
+-- Laws of lines, in this order: digits; how many digits a number has; states one after another; a line in its parts; the line of a
+-- row that a run writes; how long a line is.
 use mathlib.Core.Path.{_≡_, refl, sym, ap, _∙_}
+use mathlib.Core.Bool.{Bool, true, false, cond}
 use mathlib.Core.List.{List, [], _∷_, _++_, map, append-assoc, append-nil}
 use mathlib.Core.Logic.{_⊎_, inl, inr, ⊎-elim}
 use Prim.Native.Nat.{ℕ, zero, suc, _+_, _*_, _/_, _%_, _^_, _≤_, _<_}
+use Prim.Native.Char.{code}
 use native.Mathlib.Nat.{pow-suc}
 use native.Mathlib.Decide.{decLt}
 use native.Mathlib.Numerals.{add-one}
@@ -10,9 +13,10 @@ use native.Mathlib.Omega.{arith}
 use borrow.Author.Tests.{lt-ltb, le-ltb, eq-eqb, ne-eqb}
 use lib.ListN.{length, length-append, getD, drop, length-drop}
 use lib.Seq.{drop-cons}
-use Rattle.layout.specs.Le.{le, AllBytes}
-use Rattle.layout.specs.Le.Laws.{bytes-drop}
-use Rattle.meaning.specs.Meaning.{same}
+use Rattle.layout.specs.Le.{le, bytes, AllBytes}
+use Rattle.layout.specs.Le.Laws.{le-bytes-append, bytes-drop}
+use Rattle.meaning.specs.Meaning.{same, refused, given}
+use Rattle.meaning.specs.Calls.{rowOf}
 use Rattle.line.specs.Ascii.{ascii}
 use Rattle.line.specs.Line.{digits, widthTo, width, decimal, hex, behind, joined, space, dot, newline, fields, closing, dotted, letter, outputPart, markPart, givenFields, refusedFields, rowFields, lineOf}
 
@@ -93,6 +97,19 @@ pub closing-given : (row : List ℕ)
     → closing (givenFields row) ≡ outputPart (le 8 row) ++ (dotted (drop 10 row) ++ markPart (getD row 8 0))
 unfolding behind
 closing-given row = simp append-assoc
+
+-- ---- the line of a row that a run writes
+
+pub line-row-given : (n o : ℕ) (next config : List ℕ) (m : Bool) → o < 2 ^ 64
+    → lineOf n (rowOf (given o next m) config) ≡ fields (decimal n ∷ hex 16 o ∷ dotted next ∷ (cond m (code "y") (code "n") ∷ []) ∷ [])
+unfolding lineOf rowFields letter same bytes rowOf
+line-row-given n o next config false h = ap (λ (x : ℕ). fields (decimal n ∷ hex 16 x ∷ dotted next ∷ (code "n" ∷ []) ∷ [])) (le-bytes-append 8 o _ h)
+line-row-given n o next config true h = ap (λ (x : ℕ). fields (decimal n ∷ hex 16 x ∷ dotted next ∷ (code "y" ∷ []) ∷ [])) (le-bytes-append 8 o _ h)
+
+pub line-row-refused : (n r : ℕ) (config : List ℕ) → (r ≡ 0 → ⊥)
+    → lineOf n (rowOf (refused r) config) ≡ fields (decimal n ∷ ascii "refused" ∷ decimal r ∷ [])
+unfolding lineOf rowFields same bytes rowOf
+line-row-refused n r config f = rw (ne-eqb r 0 f)
 
 -- ---- how long a line is
 
