@@ -4,3 +4,7 @@ pub mod limits;
 pub mod nodes;
 pub mod parts;
 pub mod slaves;
+pub mod charts;
+pub mod limits;
+pub mod trailer;
+pub mod zeros;
