@@ -4,9 +4,25 @@ ghost use Prim.Native.Nat.{ℕ, _+_, _≤_, _<_};
 ghost use lib.ListN.{getD};
 ghost use Rattle.signals.specs.Mask.{_∪_};
 ghost use Rattle.layout.specs.Body.{from, transitionAt};
-ghost use Rattle.meaning.specs.Meaning.{guards, actions};
-ghost use Rattle.engine.specs.Known.{Sized};
+ghost use Rattle.meaning.specs.Meaning.{guards, actions, inFace, outFace};
+ghost use Rattle.meaning.specs.File.{fileAt, wholeOf};
+ghost use Rattle.meaning.specs.Check.Nodes.{Treed};
+ghost use Rattle.engine.specs.Known.{Sized, Summed};
+ghost use Rattle.engine.specs.Faces.{OwnOf};
+use crate::limits::MOST_CHARTS;
 use layout::body::Shape;
+
+pub struct Faces {
+    pub refusal: u8,
+    pub input: u64,
+    pub output: u64,
+}
+
+// Of each chart alone, both interfaces.
+struct Own {
+    input: [u64; MOST_CHARTS as usize],
+    output: [u64; MOST_CHARTS as usize],
+}
 
 // The extra set joined with the guards of `count` transitions from `start` on.
 fn guards(n: Shape, body: &[u8], start: usize, count: usize, extra: u64) -> u64
@@ -36,4 +52,41 @@ fn actions(n: Shape, body: &[u8], start: usize, count: usize) -> u64
         k += 1;
     }
     all
+}
+
+fn charts(n: Shape, body: &[u8]) -> Own
+    requires { ⌜ Sized n (now body) × Summed n (now body) ⌝ }
+    ensures { λ r. ⌜ OwnOf (fileAt n (now (body .entry))) (r .input) (r .output) (n .charts) ⌝ }
+{
+    let mut input = [0u64; MOST_CHARTS as usize];
+    let mut output = [0u64; MOST_CHARTS as usize];
+    let mut start: usize = 0;
+    let mut c: usize = 0;
+    while c < n.charts {
+        let h = layout::body::head_at(n, body, c);
+        let count = h.transitions as usize;
+        input[c] = guards(n, body, start, count, h.extra);
+        output[c] = actions(n, body, start, count);
+        start += count;
+        c += 1;
+    }
+    Own { input, output }
+}
+
+// Of a body that no check refuses.
+fn of_body(n: Shape, body: &[u8]) -> Faces
+    requires { ⌜ Sized n (now body) × (Summed n (now body) × Treed (fileAt n (now body))) ⌝ }
+    ensures { λ r. ⌜ r ≡ record { refusal = 0; input = inFace (fileAt n (now (body .entry)) .chart) (wholeOf (fileAt n (now (body .entry)))); output = outFace (fileAt n (now (body .entry)) .chart) (wholeOf (fileAt n (now (body .entry)))) } ⌝ }
+{
+    let own = charts(n, body);
+    let input = own.input;
+    let output = own.output;
+    let inputs = crate::parts::table(n, body, &input, crate::parts::Off::Input);
+    let outputs = crate::parts::table(n, body, &output, crate::parts::Off::Output);
+    let last = n.nodes - 1;
+    Faces {
+        refusal: 0,
+        input: inputs[last],
+        output: outputs[last],
+    }
 }

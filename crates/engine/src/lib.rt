@@ -1,10 +1,9 @@
 // The public calls of the chart engine over files in bytes. None has a `requires`: what is wrong is refused by number.
+pub mod charts;
 pub mod interface;
 pub mod limits;
 pub mod nodes;
 pub mod parts;
 pub mod slaves;
-pub mod charts;
-pub mod limits;
 pub mod trailer;
 pub mod zeros;
