@@ -18,6 +18,9 @@ pub const MOST_IN_CHART: u8 = 64;
 // Transitions from one state.
 pub const MOST_FROM_STATE: u8 = 8;
 
+// No refusal.
+pub const ACCEPTED: u8 = 0;
+
 pub const TOO_SHORT: u8 = 1;
 
 pub const OTHER_EDITION: u8 = 2;
