@@ -4,7 +4,8 @@ ghost use mathlib.Core.Bool.{_||_};
 ghost use lib.Dec.{ltb};
 ghost use Rattle.layout.specs.Body.{sizeOf};
 ghost use Rattle.meaning.specs.File.{shapeOf};
-ghost use Rattle.meaning.specs.Check.{counts?, differ};
+ghost use Rattle.meaning.specs.Check.{counts?, differ, firstOf};
+ghost use Rattle.engine.specs.Open.{trailerTests};
 use crate::limits;
 use layout::body::Shape;
 use layout::record::Trailer;
@@ -37,4 +38,20 @@ fn bad_distance(t: Trailer, end: usize) -> bool
 {
     let d = t.distance as usize;
     (d != layout::body::size(shape(t))) | (d > end)
+}
+
+// 2 to 4, of the trailer at `end`.
+pub fn refusal(t: Trailer, end: usize) -> u8
+    ensures { λ r. ⌜ r ≡ firstOf (trailerTests t end) ⌝ }
+{
+    if t.edition != limits::EDITION {
+        return limits::OTHER_EDITION;
+    }
+    if bad_counts(t) {
+        return limits::BAD_COUNTS;
+    }
+    if bad_distance(t, end) {
+        return limits::BAD_DISTANCE;
+    }
+    limits::ACCEPTED
 }

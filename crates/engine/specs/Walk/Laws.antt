@@ -15,7 +15,8 @@ use Rattle.layout.specs.declared.body.Shape.{Shape}
 use Rattle.layout.specs.declared.record.Transition.{Transition}
 use Rattle.meaning.specs.Numbers.{mostStates, mostFromState}
 use Rattle.meaning.specs.Check.{notBelow, inChart, ends?, leaving}
-use Rattle.meaning.specs.Check.Laws.{decided, eq-or-not, or-left, badAt, leaving-none, leaving-own, leaving-other}
+use Rattle.meaning.specs.Count.Laws.{or-left}
+use Rattle.meaning.specs.Check.Laws.{decided, eq-or-not, badAt, leaving-none, leaving-own, leaving-other}
 use Rattle.engine.specs.Walk.{next?, counted, Counts}
 
 module _ (n : Shape) (b : List ℕ) (c : ℕ) where

@@ -1,8 +1,8 @@
--- Laws of the file check, grouped under what they speak of: the first refusal that applies (`firstOf`), what a file that passes meets (`refusalOf`),
--- where a chart's transitions stand (`startOf`), what 6 gives (`charts?`), and over 8 transitions from one state, found as a walk goes (`transitions?`). Those of the tests 8 to
--- 11 are elsewhere, in Check/Nodes.antt.
+-- Laws of the file check, grouped under what they speak of: the first refusal that applies (`firstOf`); what a file that is not refused meets
+-- (`refusalOf`); what 3 gives (`counts?`); where a chart's transitions stand (`startOf`); what 6 gives (`charts?`); that over 8 transitions from one
+-- state are found as a walk goes (`transitions?`). Those of 8 to 11 are in Check/Nodes.antt.
 use mathlib.Core.Path.{_≡_, refl, sym, ap, ap₂, _∙_}
-use mathlib.Core.Bool.{Bool, true, false, _||_, not, cond, false≢true}
+use mathlib.Core.Bool.{Bool, true, false, _||_, not, cond}
 use mathlib.Core.List.{List, [], _∷_, _++_}
 use mathlib.Core.Logic.{_⊎_, inl, inr, ⊎-elim}
 use Prim.Native.Nat.{ℕ, zero, suc, _+_, _≤_, _<_}
@@ -14,33 +14,18 @@ use lib.Dec.{ltb, eqb, lit<}
 use lib.ListN.{length}
 use Rattle.layout.specs.Body.{headAt, startOf}
 use Rattle.layout.specs.declared.body.Shape.{Shape}
-use Rattle.meaning.specs.Numbers.{theEdition, mostStates, mostInChart, mostFromState}
+use Rattle.layout.specs.declared.record.Trailer.{Trailer}
+use Rattle.meaning.specs.Numbers.{theEdition, mostCharts, mostSlaves, mostNodes, mostTransitions, mostStates, mostInChart, mostFromState}
 use Rattle.meaning.specs.Count.{anyUpTo, tally, one}
-use Rattle.meaning.specs.Count.Laws.{below-suc, any-at, any-never, any-all, any-cong}
+use Rattle.meaning.specs.Count.Laws.{below-suc, or-left, or-right, or-three, or-four, any-at, any-never, any-all, any-cong}
 use Rattle.meaning.specs.Meaning.{same}
 use Rattle.meaning.specs.File.{endOf, trailer, bodyOf, shapeOf, fileAt, fileOf}
 use Rattle.meaning.specs.Check.{Test, firstOf, differ, notBelow, counts?, distance?, nonzero, zeros?, chart?, charts?, inChart, ends?, leaving, transitions?, slaves?, nodes?, naming?, inside?, bodyTests, fileTests, refusalOf}
 
 -- ── Bool ──
 
-pub or-left : (a b : Bool) → (a || b) ≡ false → a ≡ false
-or-left true b h = h
-or-left false b h = refl
-
-pub or-right : (a b : Bool) → (a || b) ≡ false → b ≡ false
-or-right true b h = absurd (false≢true (sym h))
-or-right false b h = h
-
 or-both : {a b : Bool} → a ≡ false → b ≡ false → (a || b) ≡ false
 or-both h g = rw (h, g)
-
-or-four : (a b c d : Bool) → (a || b || c || d) ≡ false → (a ≡ false) × (b ≡ false) × (c ≡ false) × (d ≡ false)
-or-four a b c d h = (
-  or-left a b (or-left (a || b) c (or-left (a || b || c) d h)),
-  or-right a b (or-left (a || b) c (or-left (a || b || c) d h)),
-  or-right (a || b) c (or-left (a || b || c) d h),
-  or-right (a || b || c) d h,
-)
 
 pub decided : (a : Bool) → (a ≡ true) ⊎ (a ≡ false)
 decided true = inl refl
@@ -150,6 +135,40 @@ call-refused f us h = firstOf-before (fileTests f) us h
 pub call-passed : (f : List ℕ) (us : List Test) → refusalOf f ≡ 0 → firstOf (fileTests f ++ us) ≡ firstOf us
 call-passed f us h = firstOf-++ (fileTests f) us (file-passes f h)
 
+-- ── counts? ──
+
+in-limit : (m most : ℕ) → (same m 0 || ltb most m) ≡ false → (0 < m) × (m ≤ most)
+unfolding same
+in-limit m most h =
+    let z = eqb-false m 0 (or-left (eqb m 0) (ltb most m) h) in
+    (omega (arith, z), ltb-false most m (or-right (eqb m 0) (ltb most m) h))
+
+-- counts that are in order
+pub record Counted (t : Trailer) : Type 0 where
+  pub some-chart : 0 < t .charts
+  pub charts : t .charts ≤ mostCharts
+  pub slaves : t .slaves ≤ mostSlaves
+  pub some-node : 0 < t .nodes
+  pub nodes : t .nodes ≤ mostNodes
+  pub transitions : t .transitions ≤ mostTransitions
+
+pub counted : (t : Trailer) → counts? t ≡ false → Counted t
+unfolding counts?
+counted t h =
+    let p =
+    or-four (same (t .charts) 0 || ltb mostCharts (t .charts)) (ltb mostSlaves (t .slaves)) (same (t .nodes) 0 || ltb mostNodes (t .nodes))
+    (ltb mostTransitions (t .transitions)) h in
+    let c = in-limit (t .charts) mostCharts (p .0) in
+    let k = in-limit (t .nodes) mostNodes (p .2) in
+    record {
+      some-chart = c .0;
+      charts = c .1;
+      slaves = ltb-false mostSlaves (t .slaves) (p .1);
+      some-node = k .0;
+      nodes = k .1;
+      transitions = ltb-false mostTransitions (t .transitions) (p .3);
+    }
+
 -- ── startOf ──
 
 module _ (n : Shape) (b : List ℕ) where
@@ -182,16 +201,17 @@ pub record Charted (n : Shape) (b : List ℕ) (c : ℕ) : Type 0 where
 
 module _ (n : Shape) (b : List ℕ) where
   chart-passed : (c : ℕ) → chart? n b c ≡ false → Charted n b c
-  unfolding chart? same
+  unfolding chart?
   chart-passed c h =
       let r = headAt n b c in
-      let p = or-four (eqb (r .states) 0) (ltb mostStates (r .states)) (notBelow (r .initial) (r .states)) (ltb mostInChart (r .transitions)) h in
-      let z = eqb-false (r .states) 0 (p .0) in
+      let p =
+      or-three (same (r .states) 0 || ltb mostStates (r .states)) (notBelow (r .initial) (r .states)) (ltb mostInChart (r .transitions)) h in
+      let s = in-limit (r .states) mostStates (p .0) in
       record {
-        some-state = omega (arith, z);
-        states = ltb-false mostStates (r .states) (p .1);
-        initial = ltb-true (r .initial) (r .states) (not-false _ (p .2));
-        transitions = ltb-false mostInChart (r .transitions) (p .3);
+        some-state = s .0;
+        states = s .1;
+        initial = ltb-true (r .initial) (r .states) (not-false _ (p .1));
+        transitions = ltb-false mostInChart (r .transitions) (p .2);
       }
 
   pub charted : charts? n b ≡ false → (c : ℕ) → c < n .charts → Charted n b c

@@ -7,7 +7,7 @@ use native.Mathlib.Omega.{arith}
 use borrow.Author.Tests.{ltb-true, not-false}
 use lib.Dec.{ltb}
 use Rattle.meaning.specs.Count.{anyUpTo}
-use Rattle.meaning.specs.Count.Laws.{or-left, or-right, any-never, one-most}
+use Rattle.meaning.specs.Count.Laws.{or-left, or-right, or-three, or-four, any-never, one-most}
 use Rattle.meaning.specs.Meaning.{same, Tree, Slaves, nil, snoc}
 use Rattle.meaning.specs.File.{File, treeOf, gather, whole, Has, HasS}
 use Rattle.meaning.specs.Check.{notBelow, differ, inOrder, slave?, slaves?, nodeOfKind?, nodes?, holds, names, named, held, naming?, inside?}
@@ -28,12 +28,6 @@ alike m n h = same→≡ m n (not-false (same m n) h)
 and-second : (a b : Bool) → (a && b) ≡ false → a ≡ true → b ≡ false
 and-second true b h e = h
 and-second false b h e = absurd (false≢true e)
-
-or-three : (a b c : Bool) → (a || b || c) ≡ false → (a ≡ false) × (b ≡ false) × (c ≡ false)
-or-three a b c h = let q = or-left (a || b) c h in (or-left a b q, or-right a b q, or-right (a || b) c h)
-
-or-four : (a b c d : Bool) → (a || b || c || d) ≡ false → (a ≡ false) × (b ≡ false) × (c ≡ false) × (d ≡ false)
-or-four a b c d h = let q = or-three a b c (or-left (a || b || c) d h) in (q .0, q .1, q .2, or-right (a || b || c) d h)
 
 -- the tree of each node is made of lower nodes and of the file's charts
 pub record Treed (F : File) : Type 0 where

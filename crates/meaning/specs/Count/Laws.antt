@@ -30,6 +30,12 @@ pub or-right : (a b : Bool) → (a || b) ≡ false → b ≡ false
 or-right true b h = absurd (false≢true (sym h))
 or-right false b h = h
 
+pub or-three : (a b c : Bool) → (a || b || c) ≡ false → (a ≡ false) × (b ≡ false) × (c ≡ false)
+or-three a b c h = let q = or-left (a || b) c h in (or-left a b q, or-right a b q, or-right (a || b) c h)
+
+pub or-four : (a b c d : Bool) → (a || b || c || d) ≡ false → (a ≡ false) × (b ≡ false) × (c ≡ false) × (d ≡ false)
+or-four a b c d h = let q = or-three a b c (or-left (a || b || c) d h) in (q .0, q .1, q .2, or-right (a || b || c) d h)
+
 or-last : (a : Bool) → (a || true) ≡ true
 or-last true = refl
 or-last false = refl
