@@ -6,9 +6,12 @@ ghost use Rattle.signals.specs.Mask.{_∪_};
 ghost use Rattle.layout.specs.Body.{from, transitionAt};
 ghost use Rattle.meaning.specs.Meaning.{guards, actions, inFace, outFace};
 ghost use Rattle.meaning.specs.File.{fileAt, wholeOf};
+ghost use Rattle.meaning.specs.Check.{refusalOf};
+ghost use Rattle.meaning.specs.Calls.{inputOf, outputOf};
 ghost use Rattle.meaning.specs.Check.Nodes.{Treed};
 ghost use Rattle.engine.specs.Known.{Sized, Summed};
 ghost use Rattle.engine.specs.Faces.{OwnOf};
+use crate::limits;
 use crate::limits::MOST_CHARTS;
 use layout::body::Shape;
 
@@ -85,8 +88,26 @@ fn of_body(n: Shape, body: &[u8]) -> Faces
     let outputs = crate::parts::table(n, body, &output, crate::parts::Off::Output);
     let last = n.nodes - 1;
     Faces {
-        refusal: 0,
+        refusal: limits::ACCEPTED,
         input: inputs[last],
         output: outputs[last],
     }
+}
+
+pub fn interface(file: &[u8]) -> Faces
+    ensures { λ r. ⌜ r ≡ record { refusal = refusalOf (now (file .entry)); input = inputOf (now (file .entry)); output = outputOf (now (file .entry)) } ⌝ }
+{
+    let o = crate::file::opened(file);
+    let r = o.refusal;
+    if r != limits::ACCEPTED {
+        return Faces {
+            refusal: r,
+            input: 0,
+            output: 0,
+        };
+    }
+    let n = o.shape;
+    let start = o.start;
+    let end = o.end;
+    of_body(n, &file[start..end])
 }
