@@ -1,11 +1,11 @@
 -- `interface::charts` meets its contract. The loop's invariant: the charts passed have their interfaces, and `start` is where the next one's transitions
 -- begin. Assumes nothing.
-use mathlib.Core.Path.{_≡_, refl, sym, ap, ap₂, _∙_}
+use mathlib.Core.Path.{_≡_, refl, sym, ap₂, _∙_}
 use mathlib.Core.List.{List}
 use Prim.Native.Nat.{ℕ, _+_, _≤_, _<_, _-_}
 use native.Mathlib.Omega.{arith}
 use borrow.Author.Needs.{needs}
-use lib.ListN.{length, getD, set, length-set}
+use lib.ListN.{length, length-set}
 use Rattle.signals.specs.Mask.{_∪_}
 use Rattle.layout.specs.Body.{headAt, startOf, from, transitionAt, transitionsOf}
 use Rattle.layout.specs.declared.body.Shape.{Shape}
@@ -14,7 +14,7 @@ use Rattle.meaning.specs.Numbers.{mostCharts}
 use Rattle.meaning.specs.Meaning.{guards, actions, inFaceChart}
 use Rattle.meaning.specs.File.{fileAt, chartOf}
 use Rattle.meaning.specs.Check.Laws.{start-none, start-more, start-in}
-use Rattle.engine.specs.Known.{Sized, Summed}
+use Rattle.engine.specs.Known.{Summed}
 use Rattle.engine.specs.Faces.{OwnOf}
 use Rattle.engine.specs.Parts.Laws.{fill-more}
 use Rattle.engine.proofs.interface.charts.Statement.{statement}
