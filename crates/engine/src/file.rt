@@ -9,7 +9,10 @@ ghost use Rattle.engine.specs.Open.{Opens};
 use crate::limits;
 use layout::body::Shape;
 
-// What the check of a file found: its refusal, and if there is none where the body stands and how many records of each kind it has.
+// The trailer's bytes.
+const TRAILER: usize = 12;
+
+// What the check of a file found: its refusal, and, if there is none, the body: how many records of each kind it has, and where it stands.
 pub struct Opening {
     pub refusal: u8,
     pub shape: Shape,
@@ -33,7 +36,7 @@ fn refused(r: u8) -> Opening
     }
 }
 
-// 1 to 11.
+// 1 to 11. The other calls begin here, and pick the body as `&file[start..end]`.
 pub fn opened(file: &[u8]) -> Opening
     ensures { λ o. ⌜ Opens (now (file .entry)) o ⌝ }
 {
@@ -57,8 +60,6 @@ pub fn opened(file: &[u8]) -> Opening
         end: end,
     }
 }
-
-const TRAILER: usize = 12;
 
 // Whether the file is in order: 0, or the first refusal that applies.
 pub fn check(file: &[u8]) -> u8

@@ -2,6 +2,7 @@
 pub mod body;
 pub mod charts;
 pub mod file;
+pub mod interface;
 pub mod limits;
 pub mod nodes;
 pub mod parts;

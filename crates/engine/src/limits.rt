@@ -12,7 +12,7 @@ pub const MOST_TRANSITIONS: u16 = 512;
 // In a chart.
 pub const MOST_STATES: u8 = 16;
 // The same as the length of a table by state.
-pub const STATES: usize = 16;
+pub const STATES: usize = MOST_STATES as usize;
 
 pub const MOST_IN_CHART: u8 = 64;
 // Transitions from one state.

@@ -1,10 +1,9 @@
 -- Laws of tables: one more value stored in a table that is right so far (`fill-more`); a slave's node is in it (`slave-there`); what a whole table says of a node (`filled`), for the charts
 -- inside (`inside-bit`).
 use mathlib.Core.Path.{_≡_, sym, ap, _∙_}
-use mathlib.Core.Bool.{Bool, true}
 use mathlib.Core.List.{List}
 use mathlib.Core.Logic.{⊎-elim}
-use Prim.Native.Nat.{ℕ, _+_, _≤_, _<_}
+use Prim.Native.Nat.{ℕ, _+_, _<_}
 use native.Mathlib.Nat.{lt-irrefl}
 use native.Mathlib.Omega.{arith}
 use lib.ListN.{length, getD, set}
@@ -15,7 +14,7 @@ use Rattle.layout.specs.declared.body.Shape.{Shape}
 use Rattle.layout.specs.declared.record.Slave.{Slave}
 use Rattle.meaning.specs.Numbers.{mostNodes}
 use Rattle.meaning.specs.Count.Laws.{below-suc}
-use Rattle.meaning.specs.Meaning.{Set, ∅}
+use Rattle.meaning.specs.Meaning.{Set}
 use Rattle.meaning.specs.File.{File, treeOf, Has, fileAt}
 use Rattle.meaning.specs.Laws.Folds.{fold, fold-own, has-fold}
 use Rattle.meaning.specs.Check.Nodes.{Treed, has-below}

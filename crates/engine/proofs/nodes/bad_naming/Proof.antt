@@ -1,5 +1,5 @@
 -- `nodes::bad_naming` meets its contract: it tests the three parts of the definition in turn. Assumes nothing.
-use mathlib.Core.Path.{_≡_, sym, _∙_}
+use mathlib.Core.Path.{sym, _∙_}
 use borrow.Author.Needs.{needs}
 use Rattle.meaning.specs.File.{fileAt}
 use Rattle.meaning.specs.Check.{naming?}
