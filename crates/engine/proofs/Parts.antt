@@ -1,14 +1,14 @@
 -- What `wire` leaves of a node's part, from what it left of the parts that the node names. In order: a record that was read is the file's (Is);
 -- hidden; composed; a chart and its slaves, of which the loop has joined the first k (Gathers); the whole.
 -- Assumes nothing.
-use mathlib.Core.Path.{_≡_, refl, sym, ap, ap₂, _∙_}
+use mathlib.Core.Path.{_≡_, sym, ap, ap₂, _∙_}
 use mathlib.Core.List.{List, [], _∷_}
-use Prim.Native.Nat.{ℕ, zero, suc, _+_, _*_, _≤_, _<_}
+use Prim.Native.Nat.{ℕ, suc, _+_, _*_, _<_}
 use native.Mathlib.Numerals.{add-one}
 use native.Mathlib.Omega.{arith}
-use lib.ListN.{length, getD}
+use lib.ListN.{getD}
 use Rattle.signals.specs.Mask.{_∪_, _∩_, _∖_}
-use Rattle.signals.specs.Decide.{sets, A, B, C, D, E, ∅ₑ, _∪ₑ_, _∩ₑ_, _≐_}
+use Rattle.signals.specs.Decide.{sets, A, B, C, D, ∅ₑ, _∪ₑ_, _≐_}
 use Rattle.layout.specs.Body.{headAt, slaveAt, nodeAt}
 use Rattle.layout.specs.declared.body.Shape.{Shape}
 use Rattle.layout.specs.declared.record.Head.{Head}
@@ -16,9 +16,8 @@ use Rattle.layout.specs.declared.record.Slave.{Slave}
 use Rattle.layout.specs.declared.record.Node.{Node}
 use Rattle.meaning.specs.Meaning.{Set, Tree, Slaves}
 use Rattle.meaning.specs.File.{File, gather, treeOf, wholeOf, chartOf, fileAt}
-use Rattle.meaning.specs.Laws.Trees.{Ordered}
 use Rattle.wiring.specs.Wire.{own, down, downs, up, ups, back, backs}
-use Rattle.wiring.specs.Rows.{down₀, down₁, down₂, up₀, up₁, up₂, back₀, back₁, back₂, slaves-none, slaves-out, downs-step, ups-step, backs-step}
+use Rattle.wiring.specs.Rows.{down₀, down₁, down₂, up₀, up₁, up₂, back₀, back₁, back₂, slaves-out, downs-step, ups-step, backs-step}
 use Rattle.engine.specs.Wire.{Row, Joins, Wirable, Wires, Whole}
 use Rattle.engine.specs.declared.wire.Rows.{Rows}
 
