@@ -11,7 +11,7 @@ use lib.ListN.{length, getD, take, set, List·getD-append}
 use lib.Seq.{length-take-le, getD-append-add, getD-take, getD-set-same, getD-set-other}
 use Rattle.signals.specs.Mask.{_∪_, _∩_}
 use Rattle.signals.specs.Decide.{sets, A, B, C, D, _∪ₑ_, _∩ₑ_, _≐_}
-use Rattle.engine.specs.Wire.{Joins, Fed}
+use Rattle.engine.specs.Wire.{Fed}
 
 -- ── from the front ──
 

@@ -1,14 +1,14 @@
 -- What `wire` leaves of a node's part, from what it left of the parts that the node names. In order: a record that was read is the file's (Is);
 -- hidden; composed; a chart and its slaves, of which the loop has joined the first k (Gathers); the whole.
 -- Assumes nothing.
-use mathlib.Core.Path.{_≡_, refl, sym, ap, ap₂, _∙_}
+use mathlib.Core.Path.{_≡_, sym, ap, ap₂, _∙_}
 use mathlib.Core.List.{List, [], _∷_}
-use Prim.Native.Nat.{ℕ, zero, suc, _+_, _*_, _≤_, _<_}
+use Prim.Native.Nat.{ℕ, suc, _+_, _*_, _<_}
 use native.Mathlib.Numerals.{add-one}
 use native.Mathlib.Omega.{arith}
-use lib.ListN.{length, getD}
+use lib.ListN.{getD}
 use Rattle.signals.specs.Mask.{_∪_, _∩_, _∖_}
-use Rattle.signals.specs.Decide.{sets, A, B, C, D, E, ∅ₑ, _∪ₑ_, _∩ₑ_, _≐_}
+use Rattle.signals.specs.Decide.{sets, A, B, C, D, ∅ₑ, _∪ₑ_, _≐_}
 use Rattle.layout.specs.Body.{headAt, slaveAt, nodeAt}
 use Rattle.layout.specs.declared.body.Shape.{Shape}
 use Rattle.layout.specs.declared.record.Head.{Head}
@@ -16,9 +16,8 @@ use Rattle.layout.specs.declared.record.Slave.{Slave}
 use Rattle.layout.specs.declared.record.Node.{Node}
 use Rattle.meaning.specs.Meaning.{Set, Tree, Slaves}
 use Rattle.meaning.specs.File.{File, gather, treeOf, wholeOf, chartOf, fileAt}
-use Rattle.meaning.specs.Laws.Trees.{Ordered}
 use Rattle.wiring.specs.Wire.{own, down, downs, up, ups, back, backs}
-use Rattle.wiring.specs.Rows.{down₀, down₁, down₂, up₀, up₁, up₂, back₀, back₁, back₂, slaves-none, slaves-out, downs-step, ups-step, backs-step}
+use Rattle.wiring.specs.Rows.{down₀, down₁, down₂, up₀, up₁, up₂, back₀, back₁, back₂, slaves-out, downs-step, ups-step, backs-step}
 use Rattle.engine.specs.Wire.{Row, Joins, Wirable, Wires, Whole}
 use Rattle.engine.specs.declared.wire.Rows.{Rows}
 
@@ -57,7 +56,7 @@ module _ (n : Shape) (b : List ℕ) where
         node = ap (λ (s : Slave). s .node) e;
       }
 
-  pub is-feedback : (c : ℕ) {h : Head} → h ≡ headAt n b c → h .feedback ≡ fileAt n b .chart c .feedback
+  is-feedback : (c : ℕ) {h : Head} → h ≡ headAt n b c → h .feedback ≡ fileAt n b .chart c .feedback
   unfolding fileAt chartOf
   is-feedback c e = ap (λ (h : Head). h .feedback) e
 
@@ -95,128 +94,172 @@ Hidden p x y r = Row (r .down) (λ c. getD (p .down) c 0 ∖ x) × Row (r .up) (
 abbrev pub Feeds : List ℕ → List ℕ → Rows → Set → Type 0
 Feeds l m r x = Joins l m (λ c d. getD (r .down) c 0 ∩ getD (r .up) d 0 ∩ x)
 
-module _ (F : File) (w : Ordered F) (j : ℕ) (p : j < F .nodes) {n : Node} (is : Is F j n) where
+module _ {n : Shape} {b : List ℕ} (w : Wirable n b) {j : ℕ} (p : j < n .nodes) {r : Node} (e : r ≡ nodeAt n b j) where
+  abbrev F : File
+  F = fileAt n b
+
   abbrev t : Tree
   t = treeOf F j
 
+  is : Is F j r
+  is = is-node n b j e
+
   -- ── hidden ──
 
-  pub wires-hide : n .kind ≡ 2 → {l m : List ℕ} {q r : Rows} → Wires F (treeOf F (n .a)) l m q → Hidden q (n .x) (n .y) r → Wires F t l m r
-  wires-hide e {l} h g =
+  pub wires-hide : r .kind ≡ 2 → {l m : List ℕ} {q q′ : Rows} → Wires F (treeOf F (r .a)) l m q → Hidden q (r .x) (r .y) q′ → Wires F t l m q′
+  unfolding fileAt
+  wires-hide e₂ {l} h g =
       record {
-        down-is = λ c u. g .0 c u ∙ ap (λ (s : Set). s ∖ n .x) (h .down-is c u)
-            ∙ ap₂ (λ (k : ℕ) (s : Set). down (treeOf F k) c ∖ s) (is .a) (is .x) ∙ sym (down₂ F w j c p k);
-        up-is = λ c u. g .1 c u ∙ ap (λ (s : Set). s ∖ n .y) (h .up-is c u)
-            ∙ ap₂ (λ (k : ℕ) (s : Set). up (treeOf F k) c ∖ s) (is .a) (is .y) ∙ sym (up₂ F w j c p k);
-        back-is = λ c d u v. h .back-is c d u v
-            ∙ ap (λ (s : Set). getD l (8 * c + d) 0 ∪ s) (ap (λ (k : ℕ). back (F .chart) (treeOf F k) c d) (is .a) ∙ sym (back₂ F w j c d p k));
+        down-is = λ c u.
+            g .0 c u
+            ∙ ap (λ (s : Set). s ∖ r .x) (h .down-is c u)
+            ∙ ap₂ (λ (k : ℕ) (s : Set). down (treeOf F k) c ∖ s) (is .a) (is .x)
+            ∙ sym (down₂ F (w .sound .ordered) j c p k);
+        up-is = λ c u.
+            g .1 c u
+            ∙ ap (λ (s : Set). s ∖ r .y) (h .up-is c u)
+            ∙ ap₂ (λ (k : ℕ) (s : Set). up (treeOf F k) c ∖ s) (is .a) (is .y)
+            ∙ sym (up₂ F (w .sound .ordered) j c p k);
+        back-is = λ c d u v.
+            h .back-is c d u v
+            ∙ ap (λ (s : Set). getD l (8 * c + d) 0 ∪ s) (ap (λ (k : ℕ). back (F .chart) (treeOf F k) c d) (is .a) ∙ sym (back₂ F (w .sound .ordered) j c d p k));
       }
     where
       k : F .kind j ≡ 2
-      k = sym (is .kind) ∙ e
+      k = sym (is .kind) ∙ e₂
 
   -- ── composed ──
 
-  pub wires-comp : n .kind ≡ 1 → {l l′ m m′ : List ℕ} {q q′ r : Rows} → Wires F (treeOf F (n .a)) l l′ q → Wires F (treeOf F (n .b)) l′ m q′ → Beside q q′ r → Feeds m m′ r (n .x) → Wires F t l m′ r
-  wires-comp e {l} {l′} {m} {m′} {q} {q′} {r} h h′ g f =
+  pub wires-comp : r .kind ≡ 1 → {l l′ m m′ : List ℕ} {q q′ o : Rows} → Wires F (treeOf F (r .a)) l l′ q → Wires F (treeOf F (r .b)) l′ m q′ → Beside q q′ o → Feeds m m′ o (r .x) → Wires F t l m′ o
+  unfolding fileAt
+  wires-comp e₁ {l} {l′} {m} {m′} {q} {q′} {o} h h′ g f =
       record {
-        down-is = rd;
-        up-is = ru;
-        back-is = λ c d u v. f c d u v ∙ rejoin c d u v ∙ ap (λ (s : Set). getD l (8 * c + d) 0 ∪ s) (sym (back₁ F w j c d p k));
+        down-is = od;
+        up-is = ou;
+        back-is = λ c d u v. f c d u v ∙ rejoin c d u v ∙ ap (λ (s : Set). getD l (8 * c + d) 0 ∪ s) (sym (back₁ F (w .sound .ordered) j c d p k));
       }
     where
       k : F .kind j ≡ 1
-      k = sym (is .kind) ∙ e
+      k = sym (is .kind) ∙ e₁
 
-      rd : Row (r .down) (down t)
-      rd c u = g .0 c u ∙ ap₂ _∪_ (h .down-is c u ∙ ap (λ (k : ℕ). down (treeOf F k) c) (is .a)) (h′ .down-is c u ∙ ap (λ (k : ℕ). down (treeOf F k) c) (is .b)) ∙ sym (down₁ F w j c p k)
+      od : Row (o .down) (down t)
+      od c u =
+          g .0 c u
+          ∙ ap₂ _∪_ (h .down-is c u ∙ ap (λ (k : ℕ). down (treeOf F k) c) (is .a)) (h′ .down-is c u ∙ ap (λ (k : ℕ). down (treeOf F k) c) (is .b))
+          ∙ sym (down₁ F (w .sound .ordered) j c p k)
 
-      ru : Row (r .up) (up t)
-      ru c u = g .1 c u ∙ ap₂ _∪_ (h .up-is c u ∙ ap (λ (k : ℕ). up (treeOf F k) c) (is .a)) (h′ .up-is c u ∙ ap (λ (k : ℕ). up (treeOf F k) c) (is .b)) ∙ sym (up₁ F w j c p k)
+      ou : Row (o .up) (up t)
+      ou c u =
+          g .1 c u
+          ∙ ap₂ _∪_ (h .up-is c u ∙ ap (λ (k : ℕ). up (treeOf F k) c) (is .a)) (h′ .up-is c u ∙ ap (λ (k : ℕ). up (treeOf F k) c) (is .b))
+          ∙ sym (up₁ F (w .sound .ordered) j c p k)
 
       -- first the left part's, then the right part's, then that between them
-      rejoin : (c d : ℕ) → c < 8 → d < 8 → getD m (8 * c + d) 0 ∪ getD (r .down) c 0 ∩ getD (r .up) d 0 ∩ n .x
+      rejoin : (c d : ℕ) → c < 8 → d < 8 → getD m (8 * c + d) 0 ∪ getD (o .down) c 0 ∩ getD (o .up) d 0 ∩ r .x
           ≡ getD l (8 * c + d) 0 ∪ ((back (F .chart) (treeOf F (F .a j)) c d ∪ back (F .chart) (treeOf F (F .b j)) c d) ∪ down t c ∩ up t d ∩ F .x j)
       rejoin c d u v =
-          ap₂ _∪_ (h′ .back-is c d u v ∙ ap₂ _∪_ (h .back-is c d u v ∙ ap (λ (k : ℕ). getD l (8 * c + d) 0 ∪ back (F .chart) (treeOf F k) c d) (is .a)) (ap (λ (k : ℕ). back (F .chart) (treeOf F k) c d) (is .b)))
-          (ap₂ _∩_ (ap₂ _∩_ (rd c u) (ru d v)) (is .x))
-          ∙ sets (getD l (8 * c + d) 0 ∷ back (F .chart) (treeOf F (F .a j)) c d ∷ back (F .chart) (treeOf F (F .b j)) c d ∷ (down t c ∩ up t d ∩ F .x j) ∷ []) [] (A ∪ₑ B ∪ₑ C ∪ₑ D ≐ A ∪ₑ (B ∪ₑ C ∪ₑ D)) tt
+          ap₂ _∪_
+          (h′ .back-is c d u v ∙ ap₂ _∪_ (h .back-is c d u v ∙ ap (λ (k : ℕ). getD l (8 * c + d) 0 ∪ back (F .chart) (treeOf F k) c d) (is .a)) (ap (λ (k : ℕ). back (F .chart) (treeOf F k) c d) (is .b)))
+          (ap₂ _∩_ (ap₂ _∩_ (od c u) (ou d v)) (is .x))
+          ∙ sets (getD l (8 * c + d) 0 ∷ back (F .chart) (treeOf F (F .a j)) c d ∷ back (F .chart) (treeOf F (F .b j)) c d ∷ (down t c ∩ up t d ∩ F .x j) ∷ []) []
+          (A ∪ₑ B ∪ₑ C ∪ₑ D ≐ A ∪ₑ (B ∪ₑ C ∪ₑ D)) tt
 
 -- ── a chart and its slaves ──
 
+-- the slaves of chart d among the first k
+abbrev mine : File → ℕ → ℕ → Slaves
+mine F d k = gather (F .master) (λ i. treeOf F (F .node i)) d k
+
 -- the rows of chart d with those of its slaves among the first k, and m is l with these slaves' feedback joined to it
 pub record Gathers (F : File) (d k : ℕ) (l m : List ℕ) (r : Rows) : Type 0 where
-  pub down-is : Row (r .down) (λ c. own d c ∪ downs (gather (F .master) (λ i. treeOf F (F .node i)) d k) c)
-  pub up-is : Row (r .up) (λ c. own d c ∪ ups (gather (F .master) (λ i. treeOf F (F .node i)) d k) c)
-  pub back-is : Joins l m (backs (F .chart) (gather (F .master) (λ i. treeOf F (F .node i)) d k))
+  pub down-is : Row (r .down) (λ c. own d c ∪ downs (mine F d k) c)
+  pub up-is : Row (r .up) (λ c. own d c ∪ ups (mine F d k) c)
+  pub back-is : Joins l m (backs (F .chart) (mine F d k))
 
-module _ (F : File) (w : Ordered F) (d : ℕ) where
-  pub gathers-none : (l : List ℕ) {r : Rows} → Row (r .down) (own d) → Row (r .up) (own d) → Gathers F d 0 l l r
-  unfolding gather down up back
-  gathers-none l f g =
-      record {
-        down-is = λ c u. f c u ∙ sets (own d c ∷ []) [] (A ≐ A ∪ₑ ∅ₑ) tt;
-        up-is = λ c u. g c u ∙ sets (own d c ∷ []) [] (A ≐ A ∪ₑ ∅ₑ) tt;
-        back-is = λ c e u v. sets (getD l (8 * c + e) 0 ∷ []) [] (A ≐ A ∪ₑ ∅ₑ) tt;
-      }
+pub gathers-none : (F : File) (d : ℕ) (l : List ℕ) {r : Rows} → Row (r .down) (own d) → Row (r .up) (own d) → Gathers F d 0 l l r
+unfolding gather down up back
+gathers-none F d l f g =
+    record {
+      down-is = λ c u. f c u ∙ sets (own d c ∷ []) [] (A ≐ A ∪ₑ ∅ₑ) tt;
+      up-is = λ c u. g c u ∙ sets (own d c ∷ []) [] (A ≐ A ∪ₑ ∅ₑ) tt;
+      back-is = λ c e u v. sets (getD l (8 * c + e) 0 ∷ []) [] (A ≐ A ∪ₑ ∅ₑ) tt;
+    }
 
-  module _ {i : ℕ} {l m : List ℕ} {r : Rows} {s : Slave} (is : IsSlave F i s) (h : Gathers F d i l m r) where
-    abbrev before : Slaves
-    before = gather (F .master) (λ i. treeOf F (F .node i)) d i
+-- one slave record more
+module _ {n : Shape} {b : List ℕ} (w : Wirable n b) {d i : ℕ} {l m : List ℕ} {r : Rows} {s : Slave} (e : s ≡ slaveAt n b i) (h : Gathers (fileAt n b) d i l m r) where
+  abbrev G : File
+  G = fileAt n b
 
-    pub gathers-out : (s .chart ≡ d → ⊥) → Gathers F d (i + 1) l m r
-    gathers-out e =
-        rw add-one
-        (record {
-          down-is = λ c u. h .down-is c u ∙ ap (λ (ss : Slaves). own d c ∪ downs ss c) z;
-          up-is = λ c u. h .up-is c u ∙ ap (λ (ss : Slaves). own d c ∪ ups ss c) z;
-          back-is = λ c e u v. h .back-is c e u v ∙ ap (λ (ss : Slaves). getD l (8 * c + e) 0 ∪ backs (F .chart) ss c e) z;
-        })
-      where
-        z : before ≡ gather (F .master) (λ i. treeOf F (F .node i)) d (suc i)
-        z = sym (slaves-out F w d i (λ q. e (is .chart ∙ q)))
+  it : IsSlave G i s
+  it = is-slave n b i e
 
-    pub gathers-in : s .chart ≡ d → {m′ : List ℕ} {q r′ : Rows} → Wires F (treeOf F (s .node)) m m′ q → Beside r q r′ → Gathers F d (i + 1) l m′ r′
-    gathers-in e g b =
-        rw add-one
-        (record {
-          down-is = λ c u. b .0 c u ∙ ap₂ _∪_ (h .down-is c u) (g .down-is c u ∙ ap (λ (k : ℕ). down (treeOf F k) c) (is .node))
-              ∙ assoc (own d c) (downs before c) (down (treeOf F (F .node i)) c) ∙ ap (λ (s : Set). own d c ∪ s) (sym (downs-step F w d i c z));
-          up-is = λ c u. b .1 c u ∙ ap₂ _∪_ (h .up-is c u) (g .up-is c u ∙ ap (λ (k : ℕ). up (treeOf F k) c) (is .node))
-              ∙ assoc (own d c) (ups before c) (up (treeOf F (F .node i)) c) ∙ ap (λ (s : Set). own d c ∪ s) (sym (ups-step F w d i c z));
-          back-is = λ c e u v. g .back-is c e u v ∙ ap₂ _∪_ (h .back-is c e u v) (ap (λ (k : ℕ). back (F .chart) (treeOf F k) c e) (is .node))
-              ∙ assoc (getD l (8 * c + e) 0) (backs (F .chart) before c e) (back (F .chart) (treeOf F (F .node i)) c e)
-              ∙ ap (λ (s : Set). getD l (8 * c + e) 0 ∪ s) (sym (backs-step F w d i c e z));
-        })
-      where
-        z : F .master i ≡ d
-        z = sym (is .chart) ∙ e
+  pub gathers-out : (s .chart ≡ d → ⊥) → Gathers G d (i + 1) l m r
+  gathers-out q =
+      rw add-one
+      (record {
+        down-is = λ c u. h .down-is c u ∙ ap (λ (ss : Slaves). own d c ∪ downs ss c) z;
+        up-is = λ c u. h .up-is c u ∙ ap (λ (ss : Slaves). own d c ∪ ups ss c) z;
+        back-is = λ c e u v. h .back-is c e u v ∙ ap (λ (ss : Slaves). getD l (8 * c + e) 0 ∪ backs (G .chart) ss c e) z;
+      })
+    where
+      z : mine G d i ≡ mine G d (suc i)
+      z = sym (slaves-out G (w .sound .ordered) d i (λ o. q (it .chart ∙ o)))
 
-        assoc : (x y z : Set) → x ∪ y ∪ z ≡ x ∪ (y ∪ z)
-        assoc x y z = sets (x ∷ y ∷ z ∷ []) [] (A ∪ₑ B ∪ₑ C ≐ A ∪ₑ (B ∪ₑ C)) tt
+  pub gathers-in : s .chart ≡ d → {m′ : List ℕ} {q r′ : Rows} → Wires G (treeOf G (s .node)) m m′ q → Beside r q r′ → Gathers G d (i + 1) l m′ r′
+  gathers-in o g y =
+      rw add-one
+      (record {
+        down-is = λ c u.
+            y .0 c u
+            ∙ ap₂ _∪_ (h .down-is c u) (g .down-is c u ∙ ap (λ (k : ℕ). down (treeOf G k) c) (it .node))
+            ∙ assoc (own d c) (downs (mine G d i) c) (down (treeOf G (G .node i)) c)
+            ∙ ap (λ (s : Set). own d c ∪ s) (sym (downs-step G (w .sound .ordered) d i c z));
+        up-is = λ c u.
+            y .1 c u
+            ∙ ap₂ _∪_ (h .up-is c u) (g .up-is c u ∙ ap (λ (k : ℕ). up (treeOf G k) c) (it .node))
+            ∙ assoc (own d c) (ups (mine G d i) c) (up (treeOf G (G .node i)) c)
+            ∙ ap (λ (s : Set). own d c ∪ s) (sym (ups-step G (w .sound .ordered) d i c z));
+        back-is = λ c e u v.
+            g .back-is c e u v
+            ∙ ap₂ _∪_ (h .back-is c e u v) (ap (λ (k : ℕ). back (G .chart) (treeOf G k) c e) (it .node))
+            ∙ assoc (getD l (8 * c + e) 0) (backs (G .chart) (mine G d i) c e) (back (G .chart) (treeOf G (G .node i)) c e)
+            ∙ ap (λ (s : Set). getD l (8 * c + e) 0 ∪ s) (sym (backs-step G (w .sound .ordered) d i c e z));
+      })
+    where
+      z : G .master i ≡ d
+      z = sym (it .chart) ∙ o
+
+      assoc : (x y z : Set) → x ∪ y ∪ z ≡ x ∪ (y ∪ z)
+      assoc x y z = sets (x ∷ y ∷ z ∷ []) [] (A ∪ₑ B ∪ₑ C ≐ A ∪ₑ (B ∪ₑ C)) tt
 
 -- all slaves joined, and the chart's feedback fed
-pub wires-chart : (F : File) (w : Ordered F) (j : ℕ) → j < F .nodes → {n : Node} → Is F j n → F .kind j ≡ 0 → {l m m′ : List ℕ} {r : Rows} {x : Set} → Gathers F (n .a) (F .slaves) l m r
-    → x ≡ F .chart (n .a) .feedback → Feeds m m′ r x → Wires F (treeOf F j) l m′ r
-wires-chart F w j p {n} is k {l} {m} {m′} {r} {x} g e f =
-    record {
-      down-is = rd;
-      up-is = ru;
-      back-is = λ c d u v. f c d u v
-          ∙ ap₂ _∪_ (g .back-is c d u v ∙ ap (λ (k : ℕ). getD l (8 * c + d) 0 ∪ backs (F .chart) (mine k) c d) (is .a))
-          (ap₂ _∩_ (ap₂ _∩_ (rd c u) (ru d v)) (e ∙ ap (λ (k : ℕ). F .chart k .feedback) (is .a)))
-          ∙ sets (getD l (8 * c + d) 0 ∷ backs (F .chart) (mine (F .a j)) c d ∷ (down (treeOf F j) c ∩ up (treeOf F j) d ∩ F .chart (F .a j) .feedback) ∷ []) [] (A ∪ₑ B ∪ₑ C ≐ A ∪ₑ (B ∪ₑ C)) tt
-          ∙ ap (λ (s : Set). getD l (8 * c + d) 0 ∪ s) (sym (back₀ F w j c d p k));
-    }
-  where
-    mine : ℕ → Slaves
-    mine a = gather (F .master) (λ i. treeOf F (F .node i)) a (F .slaves)
+module _ {n : Shape} {b : List ℕ} (w : Wirable n b) {j : ℕ} (p : j < n .nodes) {r : Node} (e : r ≡ nodeAt n b j) (k₂ : r .kind ≡ 2 → ⊥) (k₁ : r .kind ≡ 1 → ⊥) where
+  abbrev H : File
+  H = fileAt n b
 
-    rd : Row (r .down) (down (treeOf F j))
-    rd c u = g .down-is c u ∙ ap (λ (k : ℕ). own k c ∪ downs (mine k) c) (is .a) ∙ sym (down₀ F w j c p k)
+  pub wires-chart : {l m m′ : List ℕ} {q : Rows} {h : Head} → Gathers H (r .a) (n .slaves) l m q → h ≡ headAt n b (r .a) → Feeds m m′ q (h .feedback) → Wires H (treeOf H j) l m′ q
+  unfolding fileAt
+  wires-chart {l} {m} {m′} {q} {h} g y f =
+      record {
+        down-is = qd;
+        up-is = qu;
+        back-is = λ c d u v.
+            f c d u v
+            ∙ ap₂ _∪_ (g .back-is c d u v ∙ ap (λ (k : ℕ). getD l (8 * c + d) 0 ∪ backs (H .chart) (mine H k (n .slaves)) c d) (is-node n b j e .a))
+            (ap₂ _∩_ (ap₂ _∩_ (qd c u) (qu d v)) (is-feedback n b (r .a) y ∙ ap (λ (k : ℕ). H .chart k .feedback) (is-node n b j e .a)))
+            ∙ sets (getD l (8 * c + d) 0 ∷ backs (H .chart) (mine H (H .a j) (n .slaves)) c d ∷ (down (treeOf H j) c ∩ up (treeOf H j) d ∩ H .chart (H .a j) .feedback) ∷ []) []
+            (A ∪ₑ B ∪ₑ C ≐ A ∪ₑ (B ∪ₑ C)) tt
+            ∙ ap (λ (s : Set). getD l (8 * c + d) 0 ∪ s) (sym (back₀ H (w .sound .ordered) j c d p k));
+      }
+    where
+      k : H .kind j ≡ 0
+      k = kind-chart w p e k₂ k₁
 
-    ru : Row (r .up) (up (treeOf F j))
-    ru c u = g .up-is c u ∙ ap (λ (k : ℕ). own k c ∪ ups (mine k) c) (is .a) ∙ sym (up₀ F w j c p k)
+      qd : Row (q .down) (down (treeOf H j))
+      qd c u = g .down-is c u ∙ ap (λ (k : ℕ). own k c ∪ downs (mine H k (n .slaves)) c) (is-node n b j e .a) ∙ sym (down₀ H (w .sound .ordered) j c p k)
+
+      qu : Row (q .up) (up (treeOf H j))
+      qu c u = g .up-is c u ∙ ap (λ (k : ℕ). own k c ∪ ups (mine H k (n .slaves)) c) (is-node n b j e .a) ∙ sym (up₀ H (w .sound .ordered) j c p k)
 
 -- ── the whole, from an empty square ──
 

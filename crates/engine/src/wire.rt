@@ -13,8 +13,25 @@ ghost use Rattle.engine.specs.Wired.{Wired};
 use layout::body::Shape;
 use layout::record::Slave;
 
+// The set of all signals.
+const ALL: u64 = 18446744073709551615;
+
 // The number of no slave and of no chart.
 const NONE: u8 = 255;
+
+// Where a search's tables have what the wiring gives: the square of feedback and the row `up` among its masks, the masters and the states of the
+// nearest slaves among its small numbers.
+const BACK: usize = 192;
+
+const BACK_END: usize = 256;
+
+const UP: usize = 328;
+
+const UP_END: usize = 336;
+
+const MASTER: usize = 72;
+
+const STATE: usize = 80;
 
 // What of a set offered to a part gets down to each chart, and what of each chart's action gets up to its output.
 pub struct Rows {
@@ -52,7 +69,7 @@ fn alone(d: usize) -> Rows
     ensures { λ r. ⌜ Row (r .down) (own d) × Row (r .up) (own d) ⌝ }
 {
     let mut m = [0u64; 8];
-    m[d] = 18446744073709551615;
+    m[d] = ALL;
     Rows { down: m, up: m }
 }
 
@@ -229,8 +246,8 @@ fn note(n: Shape, body: &[u8], j: usize, near: &[u8], small: &mut [u8])
     if node.kind == 0 {
         let slave = enclosing(n, body, j, near);
         let c = node.a as usize;
-        small[72 + c] = slave.chart;
-        small[80 + c] = slave.state;
+        small[MASTER + c] = slave.chart;
+        small[STATE + c] = slave.state;
     }
 }
 
@@ -263,9 +280,9 @@ pub fn wired(n: Shape, body: &[u8], masks: &mut [u64], small: &mut [u8]) -> [u64
     requires { ⌜ Wirable n (now body) × (length (now masks) ≡ 336) × (length (now small) ≡ 96) ⌝ }
     ensures { λ r. ⌜ Wired (fileAt n (now (body .entry))) r (now (masks .exit)) (now (small .exit)) ⌝ }
 {
-    let rows = whole(n, body, &mut masks[192..256]);
+    let rows = whole(n, body, &mut masks[BACK..BACK_END]);
     let up = rows.up;
-    put_row(&mut masks[328..336], up);
+    put_row(&mut masks[UP..UP_END], up);
     nearest(n, body, small);
     let down = rows.down;
     down

@@ -1,6 +1,5 @@
 -- `wire::enclosing` meets its contract: a slave's number is below the number of slaves, and 255 is not. Assumes nothing.
 use mathlib.Core.Path.{_∙_}
-use Prim.Native.Nat.{ℕ, _≤_, _<_}
 use native.Mathlib.Omega.{arith}
 use borrow.Author.Needs.{needs}
 use Rattle.meaning.specs.File.{fileAt}

@@ -1,8 +1,7 @@
 -- `wire::feed_row` meets its contract: the masks below d are joined. Assumes nothing.
 use mathlib.Core.Path.{_≡_, refl}
-use Prim.Native.Nat.{ℕ, _-_, _≤_, _<_}
+use Prim.Native.Nat.{_-_, _≤_}
 use native.Mathlib.Omega.{arith}
-use borrow.Author.Needs.{needs}
 use lib.ListN.{length, length-set}
 use Rattle.engine.specs.Wire.{Fed}
 use Rattle.engine.proofs.Filled.{fed-none, fed-more}

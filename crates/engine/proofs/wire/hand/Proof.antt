@@ -1,8 +1,7 @@
 -- `wire::hand` meets its contract: by kind, the laws of Near. Assumes nothing.
-use Prim.Native.Nat.{ℕ, _≤_, _<_}
 use native.Mathlib.Omega.{arith}
 use borrow.Author.Needs.{needs}
-use lib.ListN.{length, length-set}
+use lib.ListN.{length-set}
 use Rattle.meaning.specs.File.{fileAt}
 use Rattle.engine.proofs.Wiring.{is-node, lower-comp}
 use Rattle.engine.proofs.Near.{lower-a, hands-none, hands-hide, hands-comp}

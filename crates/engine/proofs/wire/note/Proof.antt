@@ -1,8 +1,8 @@
 -- `wire::note` meets its contract: by whether node j holds a chart, the laws of Near. Assumes nothing.
-use Prim.Native.Nat.{ℕ, _≤_, _<_}
+use Prim.Native.Nat.{_<_}
 use native.Mathlib.Omega.{arith}
 use borrow.Author.Needs.{needs}
-use lib.ListN.{length, length-set}
+use lib.ListN.{length-set}
 use Rattle.meaning.specs.File.{fileAt}
 use Rattle.engine.proofs.Wiring.{is-node, below-charts}
 use Rattle.engine.proofs.Near.{notes-none, notes-chart}

@@ -1,11 +1,11 @@
 -- `wire::wired` meets its contract: each part of the masks keeps what was put there. Assumes nothing.
-use mathlib.Core.Path.{_≡_, sym, _∙_}
+use mathlib.Core.Path.{_≡_, _∙_}
 use mathlib.Core.List.{List}
-use Prim.Native.Nat.{ℕ, _+_, _*_, _≤_, _<_}
+use Prim.Native.Nat.{ℕ, _+_, _*_, _<_}
 use native.Mathlib.Omega.{arith}
 use borrow.Author.Needs.{needs}
 use borrow.Rule.Slice.PartMut.{midOf, putMid, same-len-mid}
-use lib.ListN.{length, getD, take, drop, length-take, length-drop}
+use lib.ListN.{length, getD, length-take, length-drop}
 use Rattle.engine.proofs.Filled.{put-in, put-below}
 use Rattle.engine.proofs.wire.wired.Statement.{statement}
 use Rattle.engine.proofs.wire.wired.Tie as tie
