@@ -128,13 +128,13 @@ module _ (F : File) where
   unfolding newName
   ren-is j k s e f = ap₂ (λ k s. start F j + before F k s) e f
 
-  comp-node : (j : ℕ) → j < F .nodes → F .kind j ≡ 1 → newNode F (newName F j) ≡ record { kind = 1; a = newName F (F .a j); b = newName F (F .b j); x = F .x j; y = ∅ }
+  pub comp-node : (j : ℕ) → j < F .nodes → F .kind j ≡ 1 → newNode F (newName F j) ≡ record { kind = 1; a = newName F (F .a j); b = newName F (F .b j); x = F .x j; y = ∅ }
   comp-node j l e = ap (newNode F) (ren-is j 1 (count F (F .a j) (F .slaves)) e refl) ∙ at-node j 0 1 (count F (F .a j) (F .slaves)) l e refl (omega arith)
 
-  hide-node : (j : ℕ) → j < F .nodes → F .kind j ≡ 2 → newNode F (newName F j) ≡ record { kind = 2; a = newName F (F .a j); b = 0; x = F .x j; y = F .y j }
+  pub hide-node : (j : ℕ) → j < F .nodes → F .kind j ≡ 2 → newNode F (newName F j) ≡ record { kind = 2; a = newName F (F .a j); b = 0; x = F .x j; y = F .y j }
   hide-node j l e = ap (newNode F) (ren-is j 2 (count F (F .a j) (F .slaves)) e refl) ∙ at-node j 0 2 (count F (F .a j) (F .slaves)) l e refl (omega arith)
 
-  base-node : (j : ℕ) → j < F .nodes → F .kind j ≡ 0 → newNode F (start F j) ≡ record { kind = 0; a = F .a j; b = 0; x = ∅; y = ∅ }
+  pub base-node : (j : ℕ) → j < F .nodes → F .kind j ≡ 0 → newNode F (start F j) ≡ record { kind = 0; a = F .a j; b = 0; x = ∅; y = ∅ }
   base-node j l e = ap (newNode F) (sym (add-zero (start F j))) ∙ go (count F (F .a j) (F .slaves)) refl
     where
       go : (s : ℕ) → count F (F .a j) (F .slaves) ≡ s → newNode F (start F j + 0) ≡ record { kind = 0; a = F .a j; b = 0; x = ∅; y = ∅ }

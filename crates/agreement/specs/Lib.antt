@@ -23,3 +23,4 @@ pub mod New
 pub mod Reads
 pub mod Again
 pub mod Calls
+pub mod Plain

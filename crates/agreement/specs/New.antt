@@ -52,7 +52,7 @@ nearest-below F (suc f) j i e = go (bySlave F j) refl (byNode F j) e (λ k q. ne
     go none p (some k) e ih = ih k e
     go none p none e ih = absurd (let z : _≡_ {A = ℕ} 0 1 = cc in omega arith)
 
-kap-below : (F : File) (c i : ℕ) → kap F c ≡ some i → i < F .slaves
+pub kap-below : (F : File) (c i : ℕ) → kap F c ≡ some i → i < F .slaves
 unfolding kap enc
 kap-below F c i e = go (find (F .nodes) (λ k. same (F .kind k) 0 && same (F .a k) c)) e
   where
