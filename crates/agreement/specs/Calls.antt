@@ -7,13 +7,13 @@ use Prim.Native.Nat.{ℕ, zero, suc, _+_, _*_, _-_, _^_, _≤_, _<_}
 use native.Mathlib.Omega.{arith}
 use borrow.Author.Tests.{ltb-false}
 use lib.Dec.{ltb, lit<}
-use lib.ListN.{length, getD}
+use lib.ListN.{length, getD, drop}
 use Rattle.layout.specs.Le.{AllBytes}
 use Rattle.layout.specs.Body.Laws.{headAt-fits, nodeAt-fits}
 use Rattle.meaning.specs.Count.{anyUpTo}
 use Rattle.meaning.specs.Count.Laws.{any-never, any-cong}
 use Rattle.meaning.specs.Meaning.{Set, ∅, same, Chart, Answer, refused, given, inFace, outFace}
-use Rattle.meaning.specs.File.{File, trailer, bodyOf, shapeOf, chartOf, fileAt, fileOf, wholeOf}
+use Rattle.meaning.specs.File.{File, endOf, trailer, bodyOf, shapeOf, chartOf, fileAt, fileOf, wholeOf}
 use Rattle.meaning.specs.Check.{Test, firstOf, differ, notBelow, fileTests, refusalOf}
 use Rattle.meaning.specs.Calls.{made, laidOver, firstRefusal, initials, firstBytes, inputOf, outputOf, configTests, stepRefusal, stepIn, stepOf, runRefusal, rowsOf, runBytes}
 use Rattle.meaning.specs.Rewriting.{chartWith, rewrittenChart, rewrite, rewriteTests, noFree?, fromState?, inChart?, transitionsIn, rewriteBytes, rewriteRefusal}
@@ -21,8 +21,10 @@ use Rattle.meaning.specs.Laws.Bools.{same-refl, same→≡}
 use Rattle.agreement.specs.Step.{Ready, Valid, Rewritten, step-is}
 use Rattle.agreement.specs.Run.{run-is}
 use Rattle.agreement.specs.Faces.{input-is, output-is}
-use Rattle.agreement.specs.Passed.{Passed, first, passed-then, passes-then, passes, counted, charted, ended, smalls, body-bytes, ready, below, at-most}
+use Rattle.agreement.specs.Passed.{Passed, passed, first, passed-then, passes-then, passes, counted, charted, ended, smalls, body-bytes, ready, below, at-most}
 use Rattle.agreement.specs.New.{Regular}
+use Rattle.agreement.specs.Plain.{plain-same}
+use Rattle.agreement.specs.Written.{encode-again}
 use Rattle.agreement.specs.Again.{Given, again, new-reads, new-slaves}
 
 -- ── what a call that is not refused has ──
@@ -164,3 +166,8 @@ module _ (f : List ℕ) (ab : AllBytes f) (room : ℕ) (ok : rewriteRefusal f ro
   same-run config inputs rows = answer-same config _ _ (ap (λ n. record { number = 27; applies = ltb (length rows) (length inputs * (10 + n)) }) (r .charts))
       (laidOver (rowsOf (fileOf f) config inputs) rows) (laidOver (rowsOf (fileOf f′) config inputs) rows) (λ n. rows)
       (λ v. ap (λ z. laidOver z rows) (run-is (fileOf f) (rg .ready) (fileOf f′) r inputs config v))
+
+-- a file without slaves rewrites to itself, without its front
+pub plain-rewrites : (f : List ℕ) → AllBytes f → refusalOf f ≡ 0 → fileOf f .slaves ≡ 0 → rewriteBytes f ≡ drop (endOf f - trailer f .distance) f
+unfolding rewriteBytes fileOf
+plain-rewrites f ab e none-there = let p = passed f e in plain-same (fileOf f) (ready f p ab) (p .nodes) none-there ∙ encode-again f p ab

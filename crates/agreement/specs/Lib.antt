@@ -24,3 +24,4 @@ pub mod Reads
 pub mod Again
 pub mod Calls
 pub mod Plain
+pub mod Written
