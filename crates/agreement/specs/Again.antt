@@ -2,16 +2,16 @@
 use mathlib.Core.Path.{_≡_, refl, sym, _∙_, ap, ap₂, subst}
 use mathlib.Core.Bool.{Bool, true, false, _&&_, _||_, not, cond, true≢false, false≢true}
 use mathlib.Core.List.{List, [], _∷_, _++_, append-nil}
-use Prim.Native.Nat.{ℕ, zero, suc, _+_, _*_, _-_, _^_, _≤_, _<_}
+use Prim.Native.Nat.{ℕ, zero, suc, _+_, _*_, _-_, _≤_, _<_}
 use native.Mathlib.Omega.{arith}
-use borrow.Author.Tests.{lt-ltb, le-ltb, ltb-false}
-use lib.Dec.{ltb, lit<}
-use lib.ListN.{length, getD, take, drop, List·getD-append}
+use borrow.Author.Tests.{lt-ltb, le-ltb}
+use lib.Dec.{ltb}
+use lib.ListN.{length, getD, drop, List·getD-append}
 use lib.Seq.{getD-drop}
 use Rattle.layout.specs.Le.{bytes}
 use Rattle.layout.specs.Record.{trailerBytes, headBytes, transitionBytes, nodeBytes}
 use Rattle.layout.specs.Record.Laws.{length-trailer, length-head, length-transition, length-node}
-use Rattle.layout.specs.Body.{transitionsFrom, slavesFrom, nodesFrom, sizeOf, headAt, transitionAt, nodeAt, startOf, transitionsOf}
+use Rattle.layout.specs.Body.{transitionsFrom, nodesFrom, sizeOf, headAt, transitionAt, nodeAt, startOf}
 use Rattle.layout.specs.declared.body.Shape.{Shape}
 use Rattle.layout.specs.declared.record.Trailer.{Trailer}
 use Rattle.layout.specs.declared.record.Head.{Head}
@@ -19,17 +19,17 @@ use Rattle.layout.specs.declared.record.Transition.{Transition}
 use Rattle.layout.specs.declared.record.Node.{Node}
 use Rattle.meaning.specs.Count.{anyUpTo, tally, one}
 use Rattle.meaning.specs.Count.Laws.{any-all, any-never}
-use Rattle.meaning.specs.Meaning.{Set, ∅, same, Chart}
-use Rattle.meaning.specs.File.{File, endOf, trailer, bodyOf, shapeOf, chartOf, fileAt, fileOf, treeOf, wholeOf}
+use Rattle.meaning.specs.Meaning.{same}
+use Rattle.meaning.specs.File.{File, endOf, trailer, bodyOf, shapeOf, fileAt, fileOf}
 use Rattle.meaning.specs.Check.{differ, notBelow, counts?, distance?, nonzero, zeros?, chart?, charts?, ends?, leaving, transitions?, slaves?, nodeOfKind?, nodes?, names, named, held, naming?, inside?, refusalOf}
-use Rattle.meaning.specs.Rewriting.{chartWith, rewrittenChart, newNode, rewrite, start, leavingIn, transitionsIn, noFree?, fromState?, inChart?, headFor, shapeIn, bodyBytes, encode}
+use Rattle.meaning.specs.Rewriting.{chartWith, rewrittenChart, rewrite, leavingIn, transitionsIn, noFree?, fromState?, inChart?, headFor, shapeIn, bodyBytes, encode}
 use Rattle.meaning.specs.Laws.Bools.{same-refl, same→≡, same-≢}
 use Rattle.meaning.specs.Laws.Trees.{Ordered}
 use Rattle.meaning.specs.Laws.Names.{Rule10}
-use Rattle.agreement.specs.Every.{Every, every-at}
+use Rattle.agreement.specs.Every.{every-at}
 use Rattle.agreement.specs.Laid.{orderedR, start-mono, start-suc}
 use Rattle.agreement.specs.Recheck.{tally-cong, tally-front, rule10R}
-use Rattle.agreement.specs.Step.{Ready, Rewritten}
+use Rattle.agreement.specs.Step.{Rewritten}
 use Rattle.agreement.specs.Encoded.{noTransition, Fits, nodeIn, head-there, some-transition-there, node-there, head-is, start-is, transition-is, node-is, chart-back, trailerFor, length-encode, end-is, trailer-there, trailer-is, body-is, shape-is, file-is}
 use Rattle.agreement.specs.Reads.{reads-back, tree-same}
 use Rattle.agreement.specs.Passed.{Passed, passes}

@@ -1,24 +1,23 @@
 -- What the rewriting promises (demand 3), over the calls: where it is not refused, its bytes are a file that passes 1 to 11, has no slaves, and is
 -- answered like the file by every other call, for every configuration, input and buffer.
-use mathlib.Core.Path.{_≡_, refl, sym, _∙_, ap, ap₂, subst}
-use mathlib.Core.Bool.{Bool, true, false, _&&_, _||_, not, cond, true≢false, false≢true}
+use mathlib.Core.Path.{_≡_, refl, sym, _∙_, ap, ap₂}
+use mathlib.Core.Bool.{Bool, true, false, cond}
 use mathlib.Core.List.{List, [], _∷_, _++_, append-assoc}
-use Prim.Native.Nat.{ℕ, zero, suc, _+_, _*_, _-_, _^_, _≤_, _<_}
+use Prim.Native.Nat.{ℕ, zero, suc, _+_, _*_, _-_, _≤_, _<_}
 use native.Mathlib.Omega.{arith}
-use borrow.Author.Tests.{ltb-false}
 use lib.Dec.{ltb, lit<}
 use lib.ListN.{length, getD, drop}
 use Rattle.layout.specs.Le.{AllBytes}
 use Rattle.layout.specs.Body.Laws.{headAt-fits, nodeAt-fits}
 use Rattle.meaning.specs.Count.{anyUpTo}
 use Rattle.meaning.specs.Count.Laws.{any-never, any-cong}
-use Rattle.meaning.specs.Meaning.{Set, ∅, same, Chart, Answer, refused, given, inFace, outFace}
-use Rattle.meaning.specs.File.{File, endOf, trailer, bodyOf, shapeOf, chartOf, fileAt, fileOf, wholeOf}
+use Rattle.meaning.specs.Meaning.{Set, ∅, same, refused, given}
+use Rattle.meaning.specs.File.{endOf, trailer, bodyOf, shapeOf, chartOf, fileAt, fileOf}
 use Rattle.meaning.specs.Check.{Test, firstOf, differ, notBelow, fileTests, refusalOf}
 use Rattle.meaning.specs.Calls.{made, laidOver, firstRefusal, initials, firstBytes, inputOf, outputOf, configTests, stepRefusal, stepIn, stepOf, runRefusal, rowsOf, runBytes}
-use Rattle.meaning.specs.Rewriting.{chartWith, rewrittenChart, rewrite, rewriteTests, noFree?, fromState?, inChart?, transitionsIn, rewriteBytes, rewriteRefusal}
-use Rattle.meaning.specs.Laws.Bools.{same-refl, same→≡}
-use Rattle.agreement.specs.Step.{Ready, Valid, Rewritten, step-is}
+use Rattle.meaning.specs.Rewriting.{chartWith, rewrittenChart, rewriteTests, rewriteBytes, rewriteRefusal}
+use Rattle.meaning.specs.Laws.Bools.{same→≡}
+use Rattle.agreement.specs.Step.{Valid, Rewritten, step-is}
 use Rattle.agreement.specs.Run.{run-is}
 use Rattle.agreement.specs.Faces.{input-is, output-is}
 use Rattle.agreement.specs.Passed.{Passed, passed, first, passed-then, passes-then, passes, counted, charted, ended, smalls, body-bytes, ready, below, at-most}

@@ -1,18 +1,18 @@
 -- The rewriting keeps both interfaces of the whole. (Inside, a rewritten part has the nearest call besides: `face-t` of Same.)
-use mathlib.Core.Path.{_≡_, refl, sym, _∙_, ap, ap₂, subst, subst₂}
+use mathlib.Core.Path.{_≡_, refl, _∙_, ap, ap₂, subst₂}
 use mathlib.Core.Bool.{Bool, true, false, _||_, cond}
 use mathlib.Core.Option.{Option, none, some}
 use mathlib.Core.List.{List, [], _∷_, _++_, map}
-use Prim.Native.Nat.{ℕ, zero, suc, _+_, _≤_, _<_}
-use Rattle.signals.specs.Mask.{_∪_, _∩_, _∖_, single}
-use Rattle.signals.specs.Decide.{sets, A, B, C, D, ∅ₑ, _∪ₑ_, _∩ₑ_, _∖ₑ_, _≐_, _⊑_, _⊥ₑ_}
+use Prim.Native.Nat.{ℕ, zero, suc, _+_, _<_}
+use Rattle.signals.specs.Mask.{_∪_, _∖_, single}
+use Rattle.signals.specs.Decide.{sets, A, B, C, D, ∅ₑ, _∪ₑ_, _∖ₑ_, _≐_, _⊑_, _⊥ₑ_}
 use Rattle.layout.specs.declared.record.Transition.{Transition}
 use Rattle.meaning.specs.Meaning.{Set, ∅, same, Chart, Tree, Slaves, leaf, comp, hide, dec, nil, snoc, Move, actions, inFaceChart, inFace, outFace, outFaces}
 use Rattle.meaning.specs.File.{File, wholeOf}
 use Rattle.meaning.specs.Rewriting.{call, callIn, idle, idles, called, chartWith, rewrite}
 use Rattle.meaning.specs.Laws.Names.{kap}
 use Rattle.agreement.specs.Tree.{calls, tree, nest, touch, moveR}
-use Rattle.agreement.specs.Same.{Old, OldMove, At, Rw, Rws, old-none, old-join, old-less, calls-old, face-t}
+use Rattle.agreement.specs.Same.{Old, At, Rw, Rws, old-none, old-join, old-less, calls-old, face-t}
 use Rattle.agreement.specs.Charts.{OldTs, OldChart, face-is, old-faceChart}
 use Rattle.agreement.specs.Fit.{Fit, FitS}
 use Rattle.agreement.specs.Free.{call-inj, old-chart}

@@ -1,23 +1,22 @@
 -- The call signals: no two slaves have the same, none is in a set of the file, and each is the lowest number left. In this order: unions; the
 -- numbers that a set lacks; the calls; sets of the file.
-use mathlib.Core.Path.{_≡_, refl, sym, _∙_, ap, ap₂, subst}
-use mathlib.Core.Bool.{Bool, true, false, cond, true≢false, false≢true}
+use mathlib.Core.Path.{_≡_, refl, sym, _∙_, ap}
+use mathlib.Core.Bool.{Bool, true, false, cond, true≢false}
 use mathlib.Core.List.{List, [], _∷_, _++_}
-use Prim.Native.Nat.{ℕ, zero, suc, _+_, _^_, _≤_, _<_}
+use Prim.Native.Nat.{ℕ, zero, suc, _+_, _^_, _<_}
 use native.Mathlib.Omega.{arith}
 use native.Mathlib.Decide.{decLt}
 use lib.ListN.{length, getD, length-append, List·getD-append, List·getD-eq-default}
 use lib.Seq.{getD-at}
-use Rattle.signals.specs.Mask.{_∪_, _∩_, _∖_, bit, single}
+use Rattle.signals.specs.Mask.{_∪_, _∖_, bit, single}
 use Rattle.signals.specs.Mask.Laws.{bit-high, single-apart}
-use Rattle.signals.specs.Decide.{Claim, sets, A, B, C, D, E as Eₑ, ∅ₑ, _∪ₑ_, _∩ₑ_, _∖ₑ_, _≐_, _⊑_, _⊥ₑ_}
+use Rattle.signals.specs.Decide.{Claim, sets, A, B, C, D, E as Eₑ, _∪ₑ_, _⊑_, _⊥ₑ_}
 use Rattle.layout.specs.declared.record.Transition.{Transition}
-use Rattle.meaning.specs.Meaning.{Set, ∅, same, Chart, guards, actions}
+use Rattle.meaning.specs.Meaning.{Set, ∅, guards, actions}
 use Rattle.meaning.specs.File.{File}
 use Rattle.meaning.specs.Count.Laws.{below-suc}
 use Rattle.meaning.specs.Rewriting.{unionUpTo, lacking, used, free, call}
-use Rattle.meaning.specs.Laws.Bools.{same→≡}
-use Rattle.agreement.specs.Same.{Old, OldMove}
+use Rattle.agreement.specs.Same.{Old}
 use Rattle.agreement.specs.Charts.{OldTs, OldChart}
 use mathlib.Core.Logic.{_⊎_, ⊎-elim}
 

@@ -1,23 +1,22 @@
 -- The nodes of the rewritten file, laid down in order.
-use mathlib.Core.Path.{_≡_, refl, sym, _∙_, ap, ap₂, subst, subst₂, fun-ext}
-use mathlib.Core.Bool.{Bool, true, false, _&&_, _||_, not, cond, true≢false, false≢true}
-use mathlib.Core.Option.{Option, none, some}
+use mathlib.Core.Path.{_≡_, refl, sym, _∙_, ap, ap₂, subst, subst₂}
+use mathlib.Core.Bool.{Bool, true, false, cond, false≢true}
 use mathlib.Core.Logic.{_≢_}
 use mathlib.Core.List.{List, [], _∷_, _++_}
 use Prim.Native.Nat.{ℕ, zero, suc, _+_, _≤_, _<_}
-use native.Mathlib.Nat.{add-zero, zero-add, add-suc, suc-add, add-assoc}
+use native.Mathlib.Nat.{add-zero, zero-add}
 use native.Mathlib.Omega.{arith}
 use lib.ListN.{length, getD, length-append, List·getD-append}
 use lib.Seq.{getD-append-add, getD-at}
-use Rattle.meaning.specs.Meaning.{Set, ∅, same, Chart, Tree, Slaves, leaf, comp, hide, dec, nil, snoc}
+use Rattle.meaning.specs.Meaning.{Set, ∅, same}
 use Rattle.signals.specs.Mask.{_∪_}
 use Rattle.layout.specs.declared.record.Node.{Node}
-use Rattle.meaning.specs.Laws.Bools.{same-refl, same→≡, same-≢}
+use Rattle.meaning.specs.Laws.Bools.{same-refl, same→≡}
 use Rattle.meaning.specs.Rewriting.{callsOf, count, before, start, newName, composed, madeBy, madeFor, laid, newNode, rewrite}
-use Rattle.meaning.specs.File.{File, whole, gather, treeOf}
-use Rattle.meaning.specs.Laws.Trees.{Ordered, tree₀, tree₁, tree₂}
+use Rattle.meaning.specs.File.{File}
+use Rattle.meaning.specs.Laws.Trees.{Ordered}
 use Rattle.meaning.specs.Count.{one, tally}
-use Rattle.agreement.specs.Renamed.{slavesOf, NodesR, tally-mono}
+use Rattle.agreement.specs.Renamed.{NodesR, tally-mono}
 
 -- what stands past the last node
 abbrev pub noNode : Node

@@ -1,28 +1,24 @@
 -- What the records of a rewritten file are, if F passes 1 to 11 and 40 does not apply: sets of 64 signals, transitions between states, nodes with
 -- unused fields zero. In this order: calls; the nearest slave; charts; nodes.
-use mathlib.Core.Path.{_≡_, refl, sym, _∙_, ap, ap₂, subst}
-use mathlib.Core.Bool.{Bool, true, false, _&&_, not, cond, true≢false, false≢true}
+use mathlib.Core.Path.{_≡_, refl, sym}
+use mathlib.Core.Bool.{Bool, true, false, _&&_, cond}
 use mathlib.Core.Option.{Option, none, some}
 use mathlib.Core.List.{List, [], _∷_, _++_, map}
-use mathlib.Core.Logic.{_≢_}
-use Prim.Native.Nat.{ℕ, zero, suc, _+_, _*_, _-_, _^_, _≤_, _<_}
-use native.Mathlib.Nat.{add-zero, zero-add}
+use Prim.Native.Nat.{ℕ, zero, suc, _+_, _-_, _^_, _≤_, _<_}
 use native.Mathlib.Omega.{arith}
 use borrow.Author.Tests.{ltb-false}
-use lib.Dec.{ltb, lit<}
-use lib.ListN.{length, getD, length-append}
+use lib.Dec.{lit<}
+use lib.ListN.{length, getD}
 use Rattle.signals.specs.Mask.{_∪_, single}
 use Rattle.signals.specs.Mask.Laws.{union-lt}
 use Rattle.signals.specs.All.{single-lt}
 use Rattle.layout.specs.declared.record.Transition.{Transition}
 use Rattle.layout.specs.declared.record.Node.{Node}
-use Rattle.meaning.specs.Meaning.{Set, ∅, same, Chart}
+use Rattle.meaning.specs.Meaning.{Set, ∅, same}
 use Rattle.meaning.specs.File.{File}
-use Rattle.meaning.specs.Check.{names}
 use Rattle.meaning.specs.Rewriting.{unionUpTo, free, call, callIn, called, idle, idles, chartWith, nearestSlave, isOf, touches, callsBy, callsOf, rewrittenChart, noFree?, count, start, newName, composed, madeBy, madeFor, laid, newNode, rewrite}
-use Rattle.meaning.specs.Laws.Bools.{same-refl}
 use Rattle.meaning.specs.Laws.Names.{up, find, find-some, bySlave, byNode, nearest, enc, kap}
-use Rattle.agreement.specs.Every.{Every, every-append, every-map, every-imp}
+use Rattle.agreement.specs.Every.{Every, every-append, every-map}
 use Rattle.agreement.specs.Encoded.{Small}
 use Rattle.agreement.specs.Free.{call-small}
 use Rattle.agreement.specs.Laid.{noNode, laid-length}

@@ -1,33 +1,32 @@
 -- What a file is that passes 1 to 11: each test false; its counts, states and transitions in range; its sets of 64 signals; all that the theorem on
 -- steps assumes (`ready`).
-use mathlib.Core.Path.{_≡_, refl, sym, _∙_, ap, ap₂, subst}
-use mathlib.Core.Bool.{Bool, true, false, _&&_, _||_, not, cond, true≢false, false≢true}
+use mathlib.Core.Path.{_≡_, refl, sym, _∙_, ap, subst}
+use mathlib.Core.Bool.{Bool, true, false, _||_, cond, true≢false}
 use mathlib.Core.List.{List, [], _∷_, _++_}
-use Prim.Native.Nat.{ℕ, zero, suc, _+_, _*_, _-_, _^_, _≤_, _<_}
+use Prim.Native.Nat.{ℕ, zero, suc, _+_, _-_, _^_, _≤_, _<_}
 use native.Mathlib.Omega.{arith}
 use native.Mathlib.Decide.{decLt}
 use borrow.Author.Tests.{ltb-true, ltb-false, not-false}
 use lib.Dec.{ltb, lit<}
-use lib.ListN.{length, getD, take, drop, List·getD-eq-default, length-take}
+use lib.ListN.{length, getD, take, List·getD-eq-default, length-take}
 use lib.Seq.{getD-take}
 use Rattle.signals.specs.Mask.{_∪_}
 use Rattle.signals.specs.Mask.Laws.{union-lt}
 use Rattle.layout.specs.Le.{AllBytes}
 use Rattle.layout.specs.Le.Laws.{bytes-drop}
-use Rattle.layout.specs.Body.{sizeOf, headAt, transitionAt, startOf, transitionsOf, from}
+use Rattle.layout.specs.Body.{headAt, transitionAt, startOf, transitionsOf}
 use Rattle.layout.specs.Body.Laws.{headAt-fits, transitionAt-fits, nodeAt-fits}
 use Rattle.layout.specs.declared.body.Shape.{Shape}
-use Rattle.layout.specs.declared.record.Trailer.{Trailer}
 use Rattle.layout.specs.declared.record.Transition.{Transition}
 use Rattle.meaning.specs.Numbers.{theEdition}
 use Rattle.meaning.specs.Count.{anyUpTo}
 use Rattle.meaning.specs.Count.Laws.{or-left, or-right, any-never}
-use Rattle.meaning.specs.Meaning.{Set, same, Chart, guards, actions}
-use Rattle.meaning.specs.File.{File, endOf, trailer, bodyOf, shapeOf, chartOf, fileAt, fileOf}
+use Rattle.meaning.specs.Meaning.{Set, same, guards, actions}
+use Rattle.meaning.specs.File.{endOf, trailer, bodyOf, shapeOf, chartOf, fileAt, fileOf}
 use Rattle.meaning.specs.Check.{Test, firstOf, differ, notBelow, counts?, distance?, nonzero, zeros?, chart?, charts?, ends?, transitions?, slaves?, nodes?, naming?, inside?, fileTests, refusalOf}
 use Rattle.meaning.specs.Check.Nodes.{sound}
 use Rattle.meaning.specs.Rewriting.{unionUpTo, used}
-use Rattle.meaning.specs.Laws.Bools.{same-refl, same→≡, same-≢}
+use Rattle.meaning.specs.Laws.Bools.{same-refl, same→≡}
 use Rattle.agreement.specs.Every.{Every, every-from, every-imp}
 use Rattle.agreement.specs.Encoded.{Small}
 use Rattle.agreement.specs.Step.{Ready}

@@ -1,24 +1,20 @@
 -- A file without slaves rewrites to itself: record by record, so byte by byte.
-use mathlib.Core.Path.{_≡_, refl, sym, _∙_, ap, ap₂, subst}
-use mathlib.Core.Bool.{Bool, true, false, _&&_, _||_, not, cond, true≢false}
+use mathlib.Core.Path.{_≡_, refl, sym, _∙_, ap, ap₂}
+use mathlib.Core.Bool.{true, false, _&&_, _||_, cond, true≢false}
 use mathlib.Core.Option.{Option, none, some}
 use mathlib.Core.List.{List, [], _∷_, _++_, map, append-nil}
-use Prim.Native.Nat.{ℕ, zero, suc, _+_, _*_, _-_, _≤_, _<_}
-use native.Mathlib.Nat.{add-zero}
+use Prim.Native.Nat.{ℕ, zero, suc, _+_, _-_, _<_}
 use native.Mathlib.Omega.{arith}
 use lib.ListN.{length}
 use Rattle.signals.specs.Mask.{_∪_, single}
 use Rattle.signals.specs.Decide.{sets, A, ∅ₑ, _∪ₑ_, _≐_}
 use Rattle.layout.specs.Body.{sizeOf}
 use Rattle.layout.specs.Record.{trailerBytes, headBytes, slaveBytes, nodeBytes}
-use Rattle.layout.specs.declared.body.Shape.{Shape}
 use Rattle.layout.specs.declared.record.Transition.{Transition}
-use Rattle.layout.specs.declared.record.Slave.{Slave}
-use Rattle.layout.specs.declared.record.Node.{Node}
 use Rattle.meaning.specs.Numbers.{theEdition}
 use Rattle.meaning.specs.Count.{tally}
 use Rattle.meaning.specs.Count.Laws.{or-left, or-right, any-never}
-use Rattle.meaning.specs.Meaning.{Set, ∅, Chart}
+use Rattle.meaning.specs.Meaning.{Set, ∅}
 use Rattle.meaning.specs.File.{File}
 use Rattle.meaning.specs.Check.{nodeOfKind?, nodes?, notBelow, differ}
 use Rattle.meaning.specs.Rewriting.{unionUpTo, call, callIn, called, idles, chartWith, nearestSlave, isOf, touches, callsBy, rewrittenChart, count, before, start, newName, newNode, rewrite, inTurn, headFor, transitionsBytes, transitionsIn, shapeIn, bodyBytes, encode}

@@ -1,26 +1,25 @@
 -- The rewritten file passes rule 10: each chart is held once, each node but the last named once. The names of all new nodes are summed node by node.
-use mathlib.Core.Path.{_≡_, refl, sym, _∙_, ap, ap₂, subst, subst₂, fun-ext}
-use mathlib.Core.Bool.{Bool, true, false, _&&_, _||_, not, cond, true≢false, false≢true}
-use mathlib.Core.Option.{Option, none, some}
+use mathlib.Core.Path.{_≡_, refl, sym, _∙_, ap, ap₂, subst}
+use mathlib.Core.Bool.{Bool, true, false, _&&_, cond, false≢true}
+use mathlib.Core.Option.{none}
 use mathlib.Core.Logic.{_≢_}
 use mathlib.Core.List.{List, [], _∷_, _++_}
 use Prim.Native.Nat.{ℕ, zero, suc, _+_, _-_, _≤_, _<_}
-use native.Mathlib.Nat.{add-zero, zero-add, add-suc, suc-add, add-assoc}
+use native.Mathlib.Nat.{add-zero, zero-add}
 use native.Mathlib.Omega.{arith}
 use native.Mathlib.Decide.{decLt}
-use lib.Dec.{T, ltb, ltb→lt, nltb→le, lt→ltb}
-use lib.ListN.{length, getD, length-append, List·getD-append}
-use Rattle.meaning.specs.Meaning.{Set, ∅, same, Chart, Slaves}
+use lib.ListN.{length, getD}
+use Rattle.meaning.specs.Meaning.{Set, ∅, same}
 use Rattle.signals.specs.Mask.{_∪_}
-use Rattle.meaning.specs.Laws.Bools.{same-refl, same→≡, same-≢, bool-eq, and-l, and-r, and-i, not-true}
+use Rattle.meaning.specs.Laws.Bools.{same-refl, same→≡, same-≢, bool-eq}
 use Rattle.meaning.specs.File.{File}
 use Rattle.meaning.specs.Laws.Trees.{Ordered}
 use Rattle.meaning.specs.Count.{one, tally}
-use Rattle.meaning.specs.Laws.Names.{tally-ge, tally-two, tally-find, Rule10}
+use Rattle.meaning.specs.Laws.Names.{tally-ge, Rule10}
 use Rattle.meaning.specs.Check.{names, named, held}
 use Rattle.meaning.specs.Rewriting.{callsOf, count, before, start, newName, composed, madeBy, madeFor, laid, newNode, rewrite}
 use Rattle.agreement.specs.Renamed.{tally-mono}
-use Rattle.agreement.specs.Laid.{noNode, widthOf, width, start-suc, start-mono, inside, last-width, ren-inside, laid-length, parts-length}
+use Rattle.agreement.specs.Laid.{noNode, widthOf, width, start-suc, start-mono, last-width, laid-length}
 use Rattle.layout.specs.declared.record.Node.{Node}
 
 -- ── sums ──

@@ -1,18 +1,18 @@
 -- A tree and its rewriting: the same is offered, put out and permitted. In this order: sets without calls; the rule of a chart; interfaces;
 -- outputs; choices permitted (`ok-t`).
-use mathlib.Core.Path.{_≡_, refl, sym, _∙_, ap, ap₂, subst}
-use mathlib.Core.Bool.{Bool, true, false, _&&_, _||_, not, cond, true≢false, false≢true, and-true, and-assoc}
+use mathlib.Core.Path.{_≡_, refl, sym, _∙_, ap, ap₂}
+use mathlib.Core.Bool.{Bool, true, false, _&&_, _||_, cond, false≢true, and-true, and-assoc}
 use mathlib.Core.Option.{Option, none, some}
-use mathlib.Core.List.{List, [], _∷_}
-use Prim.Native.Nat.{ℕ, zero, suc, _+_, _≤_, _<_}
+use mathlib.Core.List.{[], _∷_}
+use Prim.Native.Nat.{ℕ}
 use lib.Dec.{eqb}
 use Rattle.signals.specs.Mask.{_∪_, _∩_, _∖_, single, bit, within, apart}
-use Rattle.signals.specs.Mask.Laws.{bit-single, bit-none, single-apart, apart-single}
+use Rattle.signals.specs.Mask.Laws.{bit-single, bit-none, single-apart}
 use Rattle.signals.specs.Decide.{sets, A, B, C, D, E as Eₑ, F as Fₑ, G as Gₑ, H as Hₑ, ∅ₑ, _∪ₑ_, _∩ₑ_, _∖ₑ_, _≐_, _⊑_, _⊥ₑ_}
 use Rattle.layout.specs.declared.record.Transition.{Transition}
-use Rattle.meaning.specs.Meaning.{Set, ∅, same, Chart, Tree, Slaves, leaf, comp, hide, dec, nil, snoc, Move, actionOf, after, inFaceChart, inFace, inFaces, out, outs, okChart, meets, ok, oks, permitted}
+use Rattle.meaning.specs.Meaning.{Set, ∅, same, Chart, Tree, Slaves, leaf, comp, hide, dec, nil, snoc, Move, actionOf, after, inFaceChart, inFace, inFaces, out, outs, okChart, meets, ok, oks}
 use Rattle.meaning.specs.Rewriting.{callIn, called, idle}
-use Rattle.meaning.specs.Laws.Bools.{same-refl, same→≡, same-≢, and-l, and-r, and-i, and-cong, not-true}
+use Rattle.meaning.specs.Laws.Bools.{same-refl, same→≡, same-≢, and-l, and-i, and-cong, not-true}
 use Rattle.agreement.specs.Tree.{calls, on, tree, nest, touch, moveR}
 
 -- ── sets without calls ──

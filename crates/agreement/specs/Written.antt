@@ -1,13 +1,13 @@
 -- The bytes of a file that passes 1 to 11, read and written again, are its body and trailer. In this order: numbers; records; records in turn; the
 -- body; the file.
-use mathlib.Core.Path.{_≡_, refl, sym, _∙_, ap, ap₂, subst}
-use mathlib.Core.Bool.{Bool, true, false, _||_}
-use mathlib.Core.List.{List, [], _∷_, _++_, append-nil}
-use Prim.Native.Nat.{ℕ, zero, suc, _+_, _*_, _-_, _/_, _%_, _^_, _≤_, _<_}
+use mathlib.Core.Path.{_≡_, refl, sym, _∙_, ap, ap₂}
+use mathlib.Core.Bool.{false, _||_}
+use mathlib.Core.List.{List, [], _∷_, _++_}
+use Prim.Native.Nat.{ℕ, zero, suc, _+_, _*_, _-_, _/_, _%_, _≤_, _<_}
 use native.Mathlib.Nat.{add-zero, mul-zero, mul-suc}
 use native.Mathlib.Omega.{arith}
 use lib.Arith.{digits-mod, digits-div}
-use lib.ListN.{length, getD, take, drop, length-append, length-take, length-drop, take-append-drop}
+use lib.ListN.{length, getD, take, drop, length-drop, take-append-drop}
 use lib.Seq.{take-add, drop-drop, ext-getD, getD-take, getD-drop, length-take-le, take-all}
 use Rattle.layout.specs.Le.{le, bytes, AllBytes}
 use Rattle.layout.specs.Le.Laws.{bytes-drop}
@@ -15,12 +15,10 @@ use Rattle.layout.specs.Record.{trailerOf, headOf, transitionOf, slaveOf, nodeO
 use Rattle.layout.specs.Body.{transitionsFrom, slavesFrom, nodesFrom, sizeOf, headAt, transitionAt, slaveAt, nodeAt, startOf, from, transitionsOf}
 use Rattle.layout.specs.Body.Laws.{length-from, getD-from, startOf-mono}
 use Rattle.layout.specs.declared.body.Shape.{Shape}
-use Rattle.layout.specs.declared.record.Trailer.{Trailer}
 use Rattle.layout.specs.declared.record.Transition.{Transition}
 use Rattle.meaning.specs.Numbers.{theEdition}
 use Rattle.meaning.specs.Count.{anyUpTo, tally}
 use Rattle.meaning.specs.Count.Laws.{or-left, or-right, any-never}
-use Rattle.meaning.specs.Meaning.{Set}
 use Rattle.meaning.specs.File.{File, endOf, trailer, bodyOf, shapeOf, chartOf, fileAt, fileOf}
 use Rattle.meaning.specs.Check.{differ, nonzero, zeros?, chart?, charts?, distance?}
 use Rattle.meaning.specs.Rewriting.{inTurn, headFor, transitionsBytes, transitionsIn, shapeIn, bodyBytes, encode}

@@ -1,7 +1,7 @@
 -- The rewriting (document 01, "The rewriting"): a file with slaves becomes a file without, sentence by sentence. In this order: the call signals;
 -- the charts; the nodes; the rewritten file; refusals 40 to 44; the file in bytes; what the call answers. That the rewritten file steps as the
 -- file does is proved in the crate agreement.
-use mathlib.Core.Bool.{Bool, true, false, _&&_, _||_, cond}
+use mathlib.Core.Bool.{Bool, _&&_, _||_, cond}
 use mathlib.Core.Option.{Option, none, some}
 use mathlib.Core.List.{List, [], _∷_, _++_, map}
 use Prim.Native.Nat.{ℕ, zero, suc, _+_}
