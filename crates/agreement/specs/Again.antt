@@ -126,7 +126,7 @@ module _ (F : File) (rg : Regular F) (gv : Given F) where
   r10 : Rule10 R
   r10 = rule10R F (rg .ready .sound .ordered) (rg .ready .sound .rule10) (rg .ready .sound .node-there)
 
-  some-node : 0 < R .nodes
+  pub some-node : 0 < R .nodes
   some-node = let a = start-mono F (F .nodes) 1 (rg .ready .some-node) in let z = start-suc F 0 in omega arith
 
   -- ── 1 to 5 ──
@@ -203,10 +203,10 @@ module _ (F : File) (rg : Regular F) (gv : Given F) where
   slaves = refl
 
   -- what is known of a new node
-  abbrev Known : ℕ → Node → Type 0
+  abbrev pub Known : ℕ → Node → Type 0
   Known j d = Formed F rg (gv .room) d × (d .kind ≡ 1 → (d .a < j) × (d .b < j)) × (d .kind ≡ 2 → d .a < j)
 
-  known : (j : ℕ) → j < R .nodes → Known j (nodeAt n b j)
+  pub known : (j : ℕ) → j < R .nodes → Known j (nodeAt n b j)
   known j l = subst (Known j) (sym (node-is R fits j l)) (formed F rg (gv .room) j l, w .lower₁ j l, w .lower₂ j l)
 
   nodes : nodes? G ≡ false

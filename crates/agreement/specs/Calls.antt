@@ -8,6 +8,7 @@ use native.Mathlib.Omega.{arith}
 use lib.Dec.{ltb, lit<}
 use lib.ListN.{length, getD, drop}
 use Rattle.layout.specs.Le.{AllBytes}
+use Rattle.layout.specs.Body.{sizeOf}
 use Rattle.layout.specs.Body.Laws.{headAt-fits, nodeAt-fits}
 use Rattle.meaning.specs.Count.{anyUpTo}
 use Rattle.meaning.specs.Count.Laws.{any-never, any-cong}
@@ -15,8 +16,8 @@ use Rattle.meaning.specs.Meaning.{Set, ∅, same, refused, given}
 use Rattle.meaning.specs.File.{endOf, trailer, bodyOf, shapeOf, chartOf, fileAt, fileOf}
 use Rattle.meaning.specs.Check.{Test, firstOf, differ, notBelow, fileTests, refusalOf}
 use Rattle.meaning.specs.Calls.{made, laidOver, firstRefusal, initials, firstBytes, inputOf, outputOf, configTests, stepRefusal, stepIn, stepOf, runRefusal, rowsOf, runBytes}
-use Rattle.meaning.specs.Rewriting.{chartWith, rewrittenChart, rewriteTests, rewriteBytes, rewriteRefusal}
-use Rattle.meaning.specs.Laws.Bools.{same→≡}
+use Rattle.meaning.specs.Rewriting.{chartWith, rewrittenChart, rewriteTests, rewriteBytes, rewriteRefusal, rewrite, rewriteLength, shapeIn}
+use Rattle.meaning.specs.Laws.Bools.{same-refl, same→≡}
 use Rattle.agreement.specs.Step.{Valid, Rewritten, step-is}
 use Rattle.agreement.specs.Run.{run-is}
 use Rattle.agreement.specs.Faces.{input-is, output-is}
@@ -24,7 +25,9 @@ use Rattle.agreement.specs.Passed.{Passed, passed, first, passed-then, p
 use Rattle.agreement.specs.New.{Regular}
 use Rattle.agreement.specs.Plain.{plain-same}
 use Rattle.agreement.specs.Written.{encode-again}
-use Rattle.agreement.specs.Again.{Given, again, new-reads, new-slaves}
+use Rattle.agreement.specs.Again.{Given, fits, again, new-reads, new-slaves}
+use Rattle.agreement.specs.Bytes.{new-bytes as bytes-new}
+use Rattle.agreement.specs.Encoded.{length-encode, end-is, trailer-is}
 
 -- ── what a call that is not refused has ──
 
@@ -96,6 +99,21 @@ module _ (f : List ℕ) (ab : AllBytes f) (room : ℕ) (ok : rewriteRefusal f ro
   pub no-slaves : fileOf f′ .slaves ≡ 0
   unfolding rewriteBytes
   no-slaves = new-slaves (fileOf f) rg (allowed f room ok .given)
+
+  -- it is made of bytes, as many as the layout has
+  pub new-bytes : AllBytes f′
+  unfolding rewriteBytes
+  new-bytes = bytes-new (fileOf f) rg (allowed f room ok .given)
+
+  pub length-is : rewriteLength f room ≡ sizeOf (shapeIn (rewrite (fileOf f))) + 12
+  unfolding rewriteLength rewriteBytes
+  length-is = ap (λ n. cond (same n 0) (length f′) 0) ok ∙ ap (λ b. cond b (length f′) 0) (same-refl 0)
+      ∙ length-encode (rewrite (fileOf f)) (fits (fileOf f) rg (allowed f room ok .given))
+
+  no-front : endOf f′ - trailer f′ .distance ≡ 0
+  unfolding rewriteBytes
+  no-front = let ft = fits (fileOf f) rg (allowed f room ok .given) in
+      ap₂ _-_ (end-is (rewrite (fileOf f)) ft) (ap (λ t. t .distance) (trailer-is (rewrite (fileOf f)) ft)) ∙ omega arith
 
   states-same : (c : ℕ) → c < fileOf f .charts → fileOf f′ .chart c .states ≡ fileOf f .chart c .states
   unfolding rewrittenChart chartWith
@@ -170,3 +188,8 @@ module _ (f : List ℕ) (ab : AllBytes f) (room : ℕ) (ok : rewriteRefusal f ro
 pub plain-rewrites : (f : List ℕ) → AllBytes f → refusalOf f ≡ 0 → fileOf f .slaves ≡ 0 → rewriteBytes f ≡ drop (endOf f - trailer f .distance) f
 unfolding rewriteBytes fileOf
 plain-rewrites f ab e none-there = let p = passed f e in plain-same (fileOf f) (ready f p ab) (p .nodes) none-there ∙ encode-again f p ab
+
+-- rewritten again, a rewritten file stays as it is
+pub twice : (f : List ℕ) → AllBytes f → (room : ℕ) → rewriteRefusal f room ≡ 0 → rewriteBytes (rewriteBytes f) ≡ rewriteBytes f
+twice f ab room ok = plain-rewrites (rewriteBytes f) (new-bytes f ab room ok) (same-check f ab room ok) (no-slaves f ab room ok)
+    ∙ ap (λ k. drop k (rewriteBytes f)) (no-front f ab room ok)
