@@ -28,7 +28,8 @@ use Rattle.meaning.specs.Laws.Trees.{Ordered}
 use Rattle.meaning.specs.Laws.Names.{Rule10}
 use Rattle.agreement.specs.Every.{every-at}
 use Rattle.agreement.specs.Laid.{orderedR, start-mono, start-suc}
-use Rattle.agreement.specs.Recheck.{tally-cong, tally-front, rule10R}
+use Rattle.agreement.specs.Recheck.{rule10R}
+use Rattle.agreement.specs.Sums.{tally-cong, tally-front}
 use Rattle.agreement.specs.Step.{Rewritten}
 use Rattle.agreement.specs.Encoded.{noTransition, Fits, nodeIn, head-there, some-transition-there, node-there, head-is, start-is, transition-is, node-is, chart-back, trailerFor, length-encode, end-is, trailer-there, trailer-is, body-is, shape-is, file-is}
 use Rattle.agreement.specs.Reads.{reads-back, tree-same}

@@ -7,10 +7,11 @@ use Prim.Native.Nat.{ℕ, zero, suc, _+_, _-_, _^_, _≤_, _<_}
 use native.Mathlib.Omega.{arith}
 use native.Mathlib.Decide.{decLt}
 use borrow.Author.Tests.{eq-eqb, ne-eqb}
+use lib.Dec.{lit<}
 use lib.ListN.{length, getD, length-append, List·getD-append, List·getD-eq-default}
 use lib.Seq.{getD-at}
 use Rattle.signals.specs.Mask.{_∪_, _∖_, bit, single}
-use Rattle.signals.specs.Mask.Laws.{bit-single, bit-none, bit-union, within-at, bit-high, single-apart}
+use Rattle.signals.specs.Mask.Laws.{bit-single, bit-none, bit-union, within-at, bit-high, union-lt, single-apart}
 use Rattle.signals.specs.All.{bit-all}
 use Rattle.signals.specs.Decide.{Claim, sets, A, B, C, D, E as Eₑ, _∪ₑ_, _⊑_, _⊥ₑ_}
 use Rattle.layout.specs.declared.record.Transition.{Transition}
@@ -29,6 +30,11 @@ unfolding unionUpTo
 union-in zero f i l = absurd (omega arith)
 union-in (suc n) f i l = ⊎-elim (λ e. rw e (sets (unionUpTo n f ∷ f n ∷ []) [] (B ⊑ A ∪ₑ B) tt))
     (λ m. sets (unionUpTo n f ∷ f n ∷ f i ∷ []) (C ⊑ A ∷ []) (C ⊑ A ∪ₑ B) tt (union-in n f i m)) (below-suc i n l)
+
+pub union-small : (k : ℕ) (g : ℕ → Set) → ((i : ℕ) → i < k → g i < 2 ^ 64) → unionUpTo k g < 2 ^ 64
+unfolding unionUpTo
+union-small zero g h = lit< tt
+union-small (suc k) g h = union-lt 64 (unionUpTo k g) (g k) (union-small k g (λ i l. h i (omega arith))) (h k (omega arith))
 
 -- ── lacking ──
 

@@ -16,7 +16,8 @@ use Rattle.meaning.specs.Rewriting.{callsOf, count, before, start, newName, com
 use Rattle.meaning.specs.File.{File}
 use Rattle.meaning.specs.Laws.Trees.{Ordered}
 use Rattle.meaning.specs.Count.{one, tally}
-use Rattle.agreement.specs.Renamed.{NodesR, tally-mono}
+use Rattle.agreement.specs.Renamed.{NodesR}
+use Rattle.agreement.specs.Sums.{count-less}
 
 -- what stands past the last node
 abbrev pub noNode : Node
@@ -101,11 +102,8 @@ module _ (F : File) where
       nd : ℕ → Node
       nd i = record { kind = 1; a = at + count F c i; b = newName F (F .node i); x = F .chart c .feedback ∪ callsOf F c; y = ∅ }
 
-      count-suc : (i : ℕ) → tally (suc i) (λ i. one (same (F .master i) c)) ≡ one (same (F .master i) c) + count F c i
-      count-suc i = refl
-
       less : i < k → count F c i < count F c k
-      less h = let a = tally-mono k (suc i) (λ i. one (same (F .master i) c)) h in let b : one (same (F .master i) c) ≡ 1 = ap one (ap (λ z. same z c) e ∙ same-refl c) in let d = count-suc i in omega arith
+      less h = count-less F c i k h (ap (λ z. same z c) e ∙ same-refl c)
 
       go : (d : Bool) → same (F .master k) c ≡ d → (f : Bool) → same i k ≡ f → (i < k → getD (composed F c at k) (count F c i) noNode ≡ nd i)
           → getD (cond d (composed F c at k ++ (nd k ∷ [])) (composed F c at k)) (count F c i) noNode ≡ nd i
@@ -145,12 +143,8 @@ module _ (F : File) where
   unfolding tally
   part-node j i l e m q = go (count F (F .a j) (F .slaves)) refl
     where
-      count-suc : tally (suc i) (λ i. one (same (F .master i) (F .a j))) ≡ one (same (F .master i) (F .a j)) + count F (F .a j) i
-      count-suc = refl
-
       less : count F (F .a j) i < count F (F .a j) (F .slaves)
-      less = let a = tally-mono (F .slaves) (suc i) (λ i. one (same (F .master i) (F .a j))) m in
-          let b : one (same (F .master i) (F .a j)) ≡ 1 = ap one (ap (λ z. same z (F .a j)) q ∙ same-refl (F .a j)) in let d = count-suc in omega arith
+      less = count-less F (F .a j) i (F .slaves) m (ap (λ z. same z (F .a j)) q ∙ same-refl (F .a j))
 
       go : (s : ℕ) → count F (F .a j) (F .slaves) ≡ s
           → newNode F (start F j + suc (count F (F .a j) i)) ≡ record { kind = 1; a = start F j + count F (F .a j) i; b = newName F (F .node i); x = F .chart (F .a j) .feedback ∪ callsOf F (F .a j); y = ∅ }

@@ -16,11 +16,11 @@ use Rattle.layout.specs.declared.record.Transition.{Transition}
 use Rattle.layout.specs.declared.record.Node.{Node}
 use Rattle.meaning.specs.Meaning.{Set, ∅, same}
 use Rattle.meaning.specs.File.{File}
-use Rattle.meaning.specs.Rewriting.{unionUpTo, free, call, callIn, called, idle, idles, chartWith, nearestSlave, isOf, touches, callsBy, callsOf, rewrittenChart, noFree?, count, start, newName, composed, madeBy, madeFor, laid, newNode, rewrite}
+use Rattle.meaning.specs.Rewriting.{free, call, callIn, called, idle, idles, chartWith, nearestSlave, isOf, touches, callsBy, callsOf, rewrittenChart, noFree?, count, start, newName, composed, madeBy, madeFor, laid, newNode, rewrite}
 use Rattle.meaning.specs.Laws.Names.{up, find, find-some, bySlave, byNode, nearest, enc, kap}
 use Rattle.agreement.specs.Every.{Every, every-append, every-map}
 use Rattle.agreement.specs.Encoded.{Small}
-use Rattle.agreement.specs.Free.{call-small}
+use Rattle.agreement.specs.Free.{union-small, call-small}
 use Rattle.agreement.specs.Laid.{noNode, laid-length}
 use Rattle.agreement.specs.Step.{Ready, nearest-is}
 
@@ -83,18 +83,13 @@ module _ (F : File) (rg : Regular F) (room : noFree? F ≡ false) where
   cond-lt true s h = h
   cond-lt false s h = lit< tt
 
-  union-lts : (k : ℕ) (g : ℕ → Set) → ((i : ℕ) → i < k → g i < 2 ^ 64) → unionUpTo k g < 2 ^ 64
-  unfolding unionUpTo
-  union-lts zero g h = lit< tt
-  union-lts (suc k) g h = union-lt 64 (unionUpTo k g) (g k) (union-lts k g (λ i l. h i (omega arith))) (h k (omega arith))
-
   by-lt : (c : ℕ) (t : Transition) → callsBy F c t < 2 ^ 64
   unfolding callsBy
-  by-lt c t = union-lts (F .slaves) _ (λ i l. cond-lt (isOf F c i && touches F t i) (single (call F i)) (call-lt i l))
+  by-lt c t = union-small (F .slaves) _ (λ i l. cond-lt (isOf F c i && touches F t i) (single (call F i)) (call-lt i l))
 
   pub of-lt : (c : ℕ) → callsOf F c < 2 ^ 64
   unfolding callsOf
-  of-lt c = union-lts (F .slaves) _ (λ i l. cond-lt (isOf F c i) (single (call F i)) (call-lt i l))
+  of-lt c = union-small (F .slaves) _ (λ i l. cond-lt (isOf F c i) (single (call F i)) (call-lt i l))
 
   -- ── charts ──
 

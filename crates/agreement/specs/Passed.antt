@@ -21,14 +21,15 @@ use Rattle.layout.specs.declared.record.Transition.{Transition}
 use Rattle.meaning.specs.Numbers.{theEdition}
 use Rattle.meaning.specs.Count.{anyUpTo}
 use Rattle.meaning.specs.Count.Laws.{or-left, or-right, any-never}
-use Rattle.meaning.specs.Meaning.{Set, same, guards, actions}
+use Rattle.meaning.specs.Meaning.{same, guards, actions}
 use Rattle.meaning.specs.File.{endOf, trailer, bodyOf, shapeOf, chartOf, fileAt, fileOf}
 use Rattle.meaning.specs.Check.{Test, firstOf, differ, notBelow, counts?, distance?, nonzero, zeros?, chart?, charts?, ends?, transitions?, slaves?, nodes?, naming?, inside?, fileTests, refusalOf}
 use Rattle.meaning.specs.Check.Nodes.{sound}
-use Rattle.meaning.specs.Rewriting.{unionUpTo, used}
+use Rattle.meaning.specs.Rewriting.{used}
 use Rattle.meaning.specs.Laws.Bools.{same-refl, same→≡}
 use Rattle.agreement.specs.Every.{Every, every-from, every-imp}
 use Rattle.agreement.specs.Encoded.{Small}
+use Rattle.agreement.specs.Free.{union-small}
 use Rattle.agreement.specs.Step.{Ready}
 
 -- ── the tests ──
@@ -204,16 +205,11 @@ module _ (f : List ℕ) (p : Passed f) where
     actions-small [] h = lit< tt
     actions-small (t ∷ ts) h = union-lt 64 (t .action) (actions ts) (h .0 .2) (actions-small ts (h .1))
 
-    union-small : (k : ℕ) (g : ℕ → Set) → ((i : ℕ) → g i < 2 ^ 64) → unionUpTo k g < 2 ^ 64
-    unfolding unionUpTo
-    union-small zero g h = lit< tt
-    union-small (suc k) g h = union-lt 64 (unionUpTo k g) (g k) (union-small k g h) (h k)
-
     pub used-small : used (fileOf f) < 2 ^ 64
     unfolding used fileOf fileAt chartOf
     used-small = union-lt 64 _ _
-        (union-small (n .charts) _ (λ c. let h = headAt-fits n b body-bytes c in union-lt 64 _ _ (union-lt 64 _ _ (union-lt 64 _ _ (guards-small _ (smalls c)) (actions-small _ (smalls c))) (h .feedback)) (h .extra)))
-        (union-small (n .nodes) _ (λ j. let h = nodeAt-fits n b body-bytes j in union-lt 64 _ _ (h .x) (h .y)))
+        (union-small (n .charts) _ (λ c l. let h = headAt-fits n b body-bytes c in union-lt 64 _ _ (union-lt 64 _ _ (union-lt 64 _ _ (guards-small _ (smalls c)) (actions-small _ (smalls c))) (h .feedback)) (h .extra)))
+        (union-small (n .nodes) _ (λ j l. let h = nodeAt-fits n b body-bytes j in union-lt 64 _ _ (h .x) (h .y)))
 
     -- ── all of it ──
 

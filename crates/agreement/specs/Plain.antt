@@ -24,7 +24,7 @@ use Rattle.agreement.specs.Laid.{comp-node, hide-node, base-node}
 use Rattle.agreement.specs.New.{kap-below}
 use Rattle.agreement.specs.Passed.{alike}
 use Rattle.agreement.specs.Reads.{Reads}
-use Rattle.agreement.specs.Recheck.{tally-cong}
+use Rattle.agreement.specs.Sums.{tally-cong}
 use Rattle.agreement.specs.Step.{Ready, nearest-is}
 
 module _ (F : File) (rd : Ready F) (none-there : F .slaves ≡ 0) where
