@@ -11,10 +11,15 @@ pub const MOST_NODES: u8 = 64;
 pub const MOST_TRANSITIONS: u16 = 512;
 // In a chart.
 pub const MOST_STATES: u8 = 16;
+// The same as the length of a table by state.
+pub const STATES: usize = 16;
 
 pub const MOST_IN_CHART: u8 = 64;
 // Transitions from one state.
 pub const MOST_FROM_STATE: u8 = 8;
+
+// No refusal.
+pub const ACCEPTED: u8 = 0;
 
 pub const TOO_SHORT: u8 = 1;
 

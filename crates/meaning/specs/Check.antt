@@ -12,6 +12,7 @@ use Rattle.meaning.specs.Numbers.{theEdition, mostCharts, mostSlaves, mo
 use Rattle.meaning.specs.Count.{anyUpTo, tally, one}
 use Rattle.meaning.specs.Meaning.{same}
 use Rattle.meaning.specs.File.{File, treeOf, Has, endOf, trailer, bodyOf, shapeOf, fileAt, fileOf}
+pub mod Laws
 pub mod Nodes
 
 -- ── the first refusal that applies ──

@@ -33,6 +33,10 @@ mostInChart = 64
 abbrev pub mostFromState : ℕ
 mostFromState = 8
 
+-- bytes on the day program's standard input
+abbrev pub mostInput : ℕ
+mostInput = 65536
+
 -- ── refusals ──
 
 abbrev pub tooShort : ℕ
@@ -100,3 +104,9 @@ manyNodes = 44
 
 abbrev pub shortOut : ℕ
 shortOut = 45
+
+abbrev pub oddFront : ℕ
+oddFront = 30
+
+abbrev pub tooLong : ℕ
+tooLong = 31

@@ -7,6 +7,7 @@ use Rattle.signals.specs.Mask.{_∪_, _∩_, _∖_}
 use Rattle.signals.specs.Decide.{sets, A, B, C, ∅ₑ, _∪ₑ_, _∩ₑ_, _≐_}
 use Rattle.meaning.specs.Meaning.{Set, ∅, same, Chart, Tree, Slaves, leaf, comp, hide, dec, nil, snoc}
 use Rattle.meaning.specs.File.{File, whole, gather, treeOf}
+use Rattle.meaning.specs.Laws.Bools.{same-refl, same-≢}
 use Rattle.meaning.specs.Laws.Trees.{Ordered, tree₀, tree₁, tree₂}
 use Rattle.wiring.specs.Wire.{own, down, downs, up, ups, back, backs}
 
@@ -65,11 +66,30 @@ module _ (F : File) (w : Ordered F) where
   unfolding back
   back₂ j c e l k = rw (tree₂ F w j l k)
 
-  -- the loop over the slaves
-  pub downs-step : (d k c : ℕ) → downs (some-of d (suc k)) c ≡ cond (same (F .master k) d) (downs (some-of d k) c ∪ down (treeOf F (F .node k)) c) (downs (some-of d k) c)
-  unfolding gather down
-  downs-step d k c = go (same (F .master k) d)
-    where
-      go : (b : Bool) → downs (cond b (snoc (some-of d k) k (treeOf F (F .node k))) (some-of d k)) c ≡ cond b (downs (some-of d k) c ∪ down (treeOf F (F .node k)) c) (downs (some-of d k) c)
-      go true = refl
-      go false = refl
+  -- ── the loop over the slaves ──
+
+  -- slave k is one of chart d's, or not
+  pub slaves-in : (d k : ℕ) → F .master k ≡ d → some-of d (suc k) ≡ snoc (some-of d k) k (treeOf F (F .node k))
+  unfolding gather
+  slaves-in d k e = ap (λ b. cond b (snoc (some-of d k) k (treeOf F (F .node k))) (some-of d k)) (ap (λ m. same m d) e ∙ same-refl d)
+
+  pub slaves-out : (d k : ℕ) → (F .master k ≡ d → ⊥) → some-of d (suc k) ≡ some-of d k
+  unfolding gather
+  slaves-out d k h = ap (λ b. cond b (snoc (some-of d k) k (treeOf F (F .node k))) (some-of d k)) (same-≢ (F .master k) d h)
+
+  pub slaves-none : (d : ℕ) → some-of d zero ≡ nil
+  unfolding gather
+  slaves-none d = refl
+
+  pub downs-step : (d k c : ℕ) → F .master k ≡ d → downs (some-of d (suc k)) c ≡ downs (some-of d k) c ∪ down (treeOf F (F .node k)) c
+  unfolding down
+  downs-step d k c e = ap (λ ss. downs ss c) (slaves-in d k e)
+
+  pub ups-step : (d k e : ℕ) → F .master k ≡ d → ups (some-of d (suc k)) e ≡ ups (some-of d k) e ∪ up (treeOf F (F .node k)) e
+  unfolding up
+  ups-step d k e q = ap (λ ss. ups ss e) (slaves-in d k q)
+
+  pub backs-step : (d k c e : ℕ) → F .master k ≡ d
+      → backs (F .chart) (some-of d (suc k)) c e ≡ backs (F .chart) (some-of d k) c e ∪ back (F .chart) (treeOf F (F .node k)) c e
+  unfolding back
+  backs-step d k c e q = ap (λ ss. backs (F .chart) ss c e) (slaves-in d k q)

@@ -7,10 +7,10 @@ use native.Mathlib.Omega.{arith}
 use borrow.Author.Tests.{ltb-true, not-false}
 use lib.Dec.{ltb}
 use Rattle.meaning.specs.Count.{anyUpTo}
-use Rattle.meaning.specs.Count.Laws.{or-left, or-right, any-never}
+use Rattle.meaning.specs.Count.Laws.{or-left, or-right, or-three, or-four, any-never, one-most}
 use Rattle.meaning.specs.Meaning.{same, Tree, Slaves, nil, snoc}
 use Rattle.meaning.specs.File.{File, treeOf, gather, whole, Has, HasS}
-use Rattle.meaning.specs.Check.{notBelow, differ, inOrder, slave?, slaves?, nodeOfKind?, nodes?, holds, named, held, naming?, inside?}
+use Rattle.meaning.specs.Check.{notBelow, differ, inOrder, slave?, slaves?, nodeOfKind?, nodes?, holds, names, named, held, naming?, inside?}
 use Rattle.meaning.specs.Laws.Bools.{same-refl, same→≡, same-≢, and-i}
 use Rattle.meaning.specs.Laws.Above.{live-either}
 use Rattle.meaning.specs.Laws.Trees.{Ordered, Rule11, tree₀, tree₁, tree₂}
@@ -28,12 +28,6 @@ alike m n h = same→≡ m n (not-false (same m n) h)
 and-second : (a b : Bool) → (a && b) ≡ false → a ≡ true → b ≡ false
 and-second true b h e = h
 and-second false b h e = absurd (false≢true e)
-
-or-three : (a b c : Bool) → (a || b || c) ≡ false → (a ≡ false) × (b ≡ false) × (c ≡ false)
-or-three a b c h = let q = or-left (a || b) c h in (or-left a b q, or-right a b q, or-right (a || b) c h)
-
-or-four : (a b c d : Bool) → (a || b || c || d) ≡ false → (a ≡ false) × (b ≡ false) × (c ≡ false) × (d ≡ false)
-or-four a b c d h = let q = or-three a b c (or-left (a || b || c) d h) in (q .0, q .1, q .2, or-right (a || b || c) d h)
 
 -- the tree of each node is made of lower nodes and of the file's charts
 pub record Treed (F : File) : Type 0 where
@@ -111,6 +105,12 @@ module _ (F : File) where
 
       at : (j : ℕ) → j < F .nodes → differ (named F j) (cond (same (suc j) (F .nodes)) 0 1) ≡ false
       at j l = any-never (F .nodes) (λ j. differ (named F j) (cond (same (suc j) (F .nodes)) 0 1)) (q .1) j l
+
+  -- a node names at most two others; three is plain from the sum
+  pub names-most : (k j : ℕ) → names F k j ≤ 3
+  unfolding names
+  names-most k j =
+      omega (arith, one-most (same (F .kind k) 1 && same (F .a k) j), one-most (same (F .kind k) 1 && same (F .b k) j), one-most (same (F .kind k) 2 && same (F .a k) j))
 
   -- ── 8 to 10 ──
 

@@ -3,11 +3,11 @@
 use mathlib.Core.Path.{_≡_, refl, sym, ap, _∙_}
 use mathlib.Core.Bool.{Bool, true, false, _||_, false≢true}
 use mathlib.Core.Logic.{_⊎_, ⊎-elim}
-use Prim.Native.Nat.{ℕ, zero, suc, _+_, _≤_, _<_}
-use native.Mathlib.Nat.{eq-or-lt-of-le}
+use Prim.Native.Nat.{ℕ, zero, suc, _+_, _*_, _≤_, _<_}
+use native.Mathlib.Nat.{eq-or-lt-of-le, mul-zero, mul-suc}
 use native.Mathlib.Numerals.{add-one}
 use native.Mathlib.Omega.{arith}
-use Rattle.meaning.specs.Count.{anyUpTo, tally}
+use Rattle.meaning.specs.Count.{anyUpTo, tally, one}
 
 pub below-suc : (k n : ℕ) → k < suc n → (k ≡ n) ⊎ (k < n)
 below-suc k n l = eq-or-lt-of-le (let h : k ≤ n = omega arith in h)
@@ -30,6 +30,12 @@ pub or-right : (a b : Bool) → (a || b) ≡ false → b ≡ false
 or-right true b h = absurd (false≢true (sym h))
 or-right false b h = h
 
+pub or-three : (a b c : Bool) → (a || b || c) ≡ false → (a ≡ false) × (b ≡ false) × (c ≡ false)
+or-three a b c h = let q = or-left (a || b) c h in (or-left a b q, or-right a b q, or-right (a || b) c h)
+
+pub or-four : (a b c d : Bool) → (a || b || c || d) ≡ false → (a ≡ false) × (b ≡ false) × (c ≡ false) × (d ≡ false)
+or-four a b c d h = let q = or-three a b c (or-left (a || b || c) d h) in (q .0, q .1, q .2, or-right (a || b || c) d h)
+
 or-last : (a : Bool) → (a || true) ≡ true
 or-last true = refl
 or-last false = refl
@@ -46,6 +52,10 @@ unfolding anyUpTo
 any-never zero p h k l = absurd (omega arith)
 any-never (suc n) p h k l =
     ⊎-elim (λ q. rw q (or-right (anyUpTo n p) (p n) h)) (λ m. any-never n p (or-left (anyUpTo n p) (p n) h) k m) (below-suc k n l)
+
+-- a counter that is at the limit has passed all
+pub any-done : (i n : ℕ) (p : ℕ → Bool) → i ≤ n → n ≤ i → anyUpTo i p ≡ false → false ≡ anyUpTo n p
+any-done i n p a b h = let e : n ≡ i = omega arith in rw e (sym h)
 
 pub any-all : (n : ℕ) (p : ℕ → Bool) → ((k : ℕ) → k < n → p k ≡ false) → anyUpTo n p ≡ false
 unfolding anyUpTo
@@ -66,3 +76,16 @@ tally-none f = refl
 pub tally-more : (n : ℕ) (f : ℕ → ℕ) → tally (n + 1) f ≡ f n + tally n f
 unfolding tally
 tally-more n f = rw add-one
+
+pub tally-done : (i n : ℕ) (f : ℕ → ℕ) → i ≤ n → n ≤ i → tally i f ≡ tally n f
+tally-done i n f a b = let e : i ≡ n = omega arith in rw e
+
+-- where each part is at most m, the sum is at most m for each
+pub tally-most : (m n : ℕ) (f : ℕ → ℕ) → ((k : ℕ) → f k ≤ m) → tally n f ≤ m * n
+unfolding tally
+tally-most m zero f h = omega (arith, mul-zero m)
+tally-most m (suc n) f h = omega (arith, h n, tally-most m n f h, mul-suc m n)
+
+pub one-most : (b : Bool) → one b ≤ 1
+one-most true = omega arith
+one-most false = omega arith

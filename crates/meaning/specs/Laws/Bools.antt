@@ -97,6 +97,12 @@ same→≡ m n e = eqb→eq m n (≡→T (eqb m n) e)
 pub same-≢ : (m n : ℕ) → (m ≡ n → ⊥) → same m n ≡ false
 same-≢ m n h = not-true (λ e. h (same→≡ m n e))
 
+pub differs : (m n : ℕ) → (m ≡ n → ⊥) → not (same m n) ≡ true
+differs m n h = ap not (same-≢ m n h)
+
+pub agrees : (m n : ℕ) → m ≡ n → not (same m n) ≡ false
+agrees m n e = rw e (ap not (same-refl n))
+
 -- ── a test of all numbers below a limit ──
 
 unfoldable pub every : ℕ → (ℕ → Bool) → Bool

@@ -1,0 +1,66 @@
+-- The nearest enclosing slave of each node and of each chart (crate meaning, Laws/Names: enc and kap), in bytes.
+use mathlib.Core.Path.{_≡_}
+use mathlib.Core.List.{List}
+use mathlib.Core.Option.{Option, none, some}
+use Prim.Native.Nat.{ℕ, suc, _<_}
+use lib.ListN.{getD}
+use Rattle.meaning.specs.File.{File}
+use Rattle.meaning.specs.Laws.Names.{enc, kap}
+use Rattle.search.specs.Table.{masterAt, slaveStateAt}
+
+-- ── of a chart, as a search reads it ──
+
+-- a slave's master, 255 for none; and its state
+unfoldable pub masterBy : File → Option ℕ → ℕ
+masterBy F none = 255
+masterBy F (some i) = F .master i
+
+unfoldable pub stateBy : File → Option ℕ → ℕ
+stateBy F none = 0
+stateBy F (some i) = F .state i
+
+module _ (F : File) where
+  abbrev pub Noted : List ℕ → ℕ → Type 0
+  Noted s c = (masterAt s c ≡ masterBy F (kap F c)) × (slaveStateAt s c ≡ stateBy F (kap F c))
+
+  -- every chart's
+  abbrev pub NearestIn : List ℕ → Type 0
+  NearestIn s = (c : ℕ) → c < F .charts → Noted s c
+
+-- ── of a node, while the nodes are walked ──
+
+-- a slave's number, 255 for none
+unfoldable pub numberOf : Option ℕ → ℕ
+numberOf none = 255
+numberOf (some i) = i
+
+module _ (F : File) where
+  -- l has node k's
+  abbrev pub Right : List ℕ → ℕ → Type 0
+  Right l k = getD l k 0 ≡ numberOf (enc F k)
+
+  -- m has the last node's and those of the slaves' nodes
+  pub record Seeded (m : List ℕ) : Type 0 where
+    pub last : (j : ℕ) → suc j ≡ F .nodes → Right m j
+    pub slaves : (i : ℕ) → i < F .slaves → Right m (F .node i)
+
+  -- m has those of the first n slaves' nodes, and what l has
+  pub record Seeds (n : ℕ) (l m : List ℕ) : Type 0 where
+    pub slaves : (i : ℕ) → i < n → Right m (F .node i)
+    pub stays : (k : ℕ) → Right l k → Right m k
+
+  -- m has those of the nodes that node j names
+  pub record Handed (j : ℕ) (m : List ℕ) : Type 0 where
+    pub left : F .kind j ≡ 1 → Right m (F .a j)
+    pub right : F .kind j ≡ 1 → Right m (F .b j)
+    pub inside : F .kind j ≡ 2 → Right m (F .a j)
+
+  -- and what l has
+  pub record Hands (j : ℕ) (l m : List ℕ) : Type 0 where
+    pub handed : Handed j m
+    pub stays : (k : ℕ) → Right l k → Right m k
+
+  -- m has those of node j's chart, if it holds one, and of the charts of which l has them
+  pub record Notes (j : ℕ) (l m : List ℕ) : Type 0 where
+    pub noted : F .kind j ≡ 0 → Noted F m (F .a j)
+    pub stays : (c : ℕ) → c < F .charts → Noted F l c → Noted F m c

@@ -1,0 +1,195 @@
+-- The thirteen rows of document 01, "Charts to hold it against": seventeen answers over the bytes of chart files, as one table and one claim.
+use mathlib.Core.Path.{_≡_, refl}
+use mathlib.Core.Bool.{Bool, true, false}
+use mathlib.Core.List.{List, [], _∷_, _++_}
+use Prim.Native.Nat.{ℕ, zero, suc, _+_, _^_}
+use lib.ListN.{length}
+use Rattle.signals.specs.Mask.{_∪_, single}
+use Rattle.layout.specs.Le.{le, bytes}
+use Rattle.layout.specs.Record.{trailerOf, headOf, transitionOf, slaveOf, nodeOf, trailerBytes, headBytes, transitionBytes, slaveBytes, nodeBytes}
+use Rattle.layout.specs.Body.{headAt, transitionAt, slaveAt, nodeAt, startOf, from, transitionsOf}
+use Rattle.layout.specs.declared.record.Head.{Head}
+use Rattle.layout.specs.declared.record.Node.{Node}
+use Rattle.layout.specs.declared.record.Slave.{Slave}
+use Rattle.layout.specs.declared.record.Transition.{Transition}
+use Rattle.meaning.specs.Count.{anyUpTo, tally}
+use Rattle.meaning.specs.Meaning.{Set, same, Answer, refused, given, nth, pick, actionOf, after, guards, inFaceChart, inFace, inFaces, out, outs, okChart, meets, ok, oks, permitted, upd, moves, nexts, upto, outcome, search, outcomes, eqList, agree, answer}
+use Rattle.meaning.specs.File.{gather, build, treeOf, Has, HasS, trailer, bodyOf, shapeOf, chartOf, fileAt, fileOf}
+use Rattle.meaning.specs.Check.{firstOf, counts?, distance?, nonzero, zeros?, chart?, charts?, ends?, leaving, transitions?, rising, slave?, slaves?, nodeOfKind?, nodes?, names, named, held, naming?, inside?, fileTests, refusalOf}
+use Rattle.meaning.specs.Calls.{configTests, stepRefusal, stepIn, stepOf}
+
+-- ── how the rows are written down ──
+
+-- the set of the signals listed
+set : List ℕ → Set
+set [] = 0
+set (x ∷ xs) = single x ∪ set xs
+
+-- from, to, needs, bars, out
+transition : ℕ → ℕ → List ℕ → List ℕ → List ℕ → Transition
+unfolding set
+transition f t n b a = record { from = f; to = t; needed = set n; barred = set b; action = set a }
+
+-- a chart of two states, from state 0 on, with its feedback
+pub record Drawn : Type 0 where
+  pub lines : List Transition
+  pub feedback : List ℕ
+
+head : Drawn → Head
+unfolding set
+head d = record { states = 2; initial = 0; transitions = length (d .lines); feedback = set (d .feedback); extra = 0 }
+
+joined : {A : Type 0} → (A → List ℕ) → List A → List ℕ
+joined f [] = []
+joined f (x ∷ xs) = f x ++ joined f xs
+
+-- the transitions of all charts, those of chart 0 first
+drawnLines : List Drawn → List Transition
+drawnLines [] = []
+drawnLines (d ∷ ds) = d .lines ++ drawnLines ds
+
+body : List Drawn → List Slave → List Node → List ℕ
+unfolding joined drawnLines head
+body ds ss ns =
+    joined (λ d. headBytes (head d)) ds ++ joined transitionBytes (drawnLines ds) ++ joined slaveBytes ss ++ joined nodeBytes ns
+
+-- a chart file with no front
+file : List Drawn → List Slave → List Node → List ℕ
+unfolding body drawnLines
+file ds ss ns =
+    body ds ss ns
+    ++ trailerBytes
+    (record {
+      distance = length (body ds ss ns);
+      charts = length ds;
+      slaves = length ss;
+      nodes = length ns;
+      edition = 1;
+      transitions = length (drawnLines ds);
+    })
+
+held₀ : ℕ → Node
+held₀ c = record { kind = 0; a = c; b = 0; x = 0; y = 0 }
+
+composed : ℕ → ℕ → List ℕ → Node
+unfolding set
+composed a b x = record { kind = 1; a = a; b = b; x = set x; y = 0 }
+
+hidden : ℕ → List ℕ → List ℕ → Node
+unfolding set
+hidden a x y = record { kind = 2; a = a; b = 0; x = set x; y = set y }
+
+-- one chart alone
+alone : List Transition → List ℕ → List ℕ
+unfolding file held₀
+alone ts f = file (record { lines = ts; feedback = f } ∷ []) [] (held₀ 0 ∷ [])
+
+-- two charts side by side, F the feedback between them, and the nodes above
+beside : Transition → Transition → List ℕ → List Node → List ℕ
+unfolding file held₀ composed
+beside s t f above =
+    file (record { lines = s ∷ []; feedback = [] } ∷ record { lines = t ∷ []; feedback = [] } ∷ []) []
+    (held₀ 0 ∷ held₀ 1 ∷ composed 0 1 f ∷ above)
+
+-- ── the charts ──
+
+L1 : List ℕ
+unfolding alone transition
+L1 = alone (transition 0 1 (0 ∷ []) [] (0 ∷ []) ∷ []) (0 ∷ [])
+
+L2 : List ℕ
+unfolding alone transition
+L2 = alone (transition 0 1 [] (0 ∷ []) (0 ∷ []) ∷ []) (0 ∷ [])
+
+L3 : List ℕ
+unfolding alone transition
+L3 = alone (transition 0 1 (0 ∷ []) [] (0 ∷ []) ∷ []) []
+
+-- P1, P2 and P3: the feedback between, and the nodes above
+P : List ℕ → List Node → List ℕ
+unfolding beside transition
+P = beside (transition 0 1 (0 ∷ []) [] (1 ∷ [])) (transition 0 1 (1 ∷ []) [] (2 ∷ []))
+
+P4 : List ℕ
+unfolding beside transition
+P4 = beside (transition 0 1 (1 ∷ []) [] (0 ∷ [])) (transition 0 1 (0 ∷ []) [] (1 ∷ [])) (0 ∷ 1 ∷ []) []
+
+N1 : List ℕ
+unfolding alone transition
+N1 = alone (transition 0 0 [] [] (1 ∷ []) ∷ transition 0 1 [] [] (2 ∷ []) ∷ []) []
+
+N2 : List ℕ
+unfolding alone transition
+N2 = alone (transition 0 1 [] [] (1 ∷ []) ∷ transition 0 1 [] [] (1 ∷ []) ∷ []) []
+
+D : List ℕ
+unfolding file transition held₀
+D =
+    file
+    (record {
+      lines = transition 0 1 (0 ∷ []) [] (1 ∷ []) ∷ transition 0 0 [] (0 ∷ []) [] ∷ transition 1 0 (3 ∷ []) [] [] ∷ [];
+      feedback = 1 ∷ [];
+    }
+    ∷ record { lines = transition 0 1 (1 ∷ []) [] (2 ∷ []) ∷ transition 1 1 (3 ∷ []) [] (4 ∷ []) ∷ []; feedback = [] }
+    ∷ [])
+    (record { chart = 0; state = 1; node = 0 } ∷ []) (held₀ 1 ∷ held₀ 0 ∷ [])
+
+-- ── the table ──
+
+-- a step of a file from a configuration under the signals listed
+step : List ℕ → List ℕ → List ℕ → Answer
+unfolding set
+step f config i = stepOf f config (set i) (length config)
+
+-- next configuration, output, mark
+gives : List ℕ → List ℕ → Bool → Answer
+unfolding set
+gives next o m = given (set o) next m
+
+pub answers : List Answer
+unfolding step L1 L2 L3 P P4 N1 N2 D hidden
+answers =
+    step L1 (0 ∷ []) []
+    ∷ step L2 (0 ∷ []) []
+    ∷ step L2 (0 ∷ []) (0 ∷ [])
+    ∷ step L3 (0 ∷ []) []
+    ∷ step (P (1 ∷ []) []) (0 ∷ 0 ∷ []) (0 ∷ [])
+    ∷ step (P [] []) (0 ∷ 0 ∷ []) (0 ∷ [])
+    ∷ step (P (1 ∷ []) (hidden 2 (1 ∷ []) (1 ∷ []) ∷ [])) (0 ∷ 0 ∷ []) (0 ∷ [])
+    ∷ step (P (1 ∷ []) (hidden 2 (1 ∷ []) (1 ∷ []) ∷ [])) (0 ∷ 0 ∷ []) (1 ∷ [])
+    ∷ step P4 (0 ∷ 0 ∷ []) []
+    ∷ step N1 (0 ∷ []) []
+    ∷ step N2 (0 ∷ []) []
+    ∷ step D (0 ∷ 0 ∷ []) (0 ∷ [])
+    ∷ step D (0 ∷ 0 ∷ []) (0 ∷ 9 ∷ [])
+    ∷ step D (0 ∷ 0 ∷ []) []
+    ∷ step D (1 ∷ 1 ∷ []) (3 ∷ [])
+    ∷ step D (0 ∷ 1 ∷ []) (0 ∷ [])
+    ∷ step D (0 ∷ 1 ∷ []) (0 ∷ 3 ∷ [])
+    ∷ []
+
+pub table : List Answer
+unfolding gives
+table =
+    gives (1 ∷ []) (0 ∷ []) true  -- L1
+    ∷ refused 23  -- L2
+    ∷ refused 23
+    ∷ refused 23  -- L3
+    ∷ gives (1 ∷ 1 ∷ []) (1 ∷ 2 ∷ []) true  -- P1
+    ∷ refused 23  -- P2
+    ∷ gives (1 ∷ 1 ∷ []) (2 ∷ []) true  -- P3
+    ∷ refused 23
+    ∷ gives (1 ∷ 1 ∷ []) (0 ∷ 1 ∷ []) true  -- P4
+    ∷ gives (0 ∷ []) (1 ∷ []) false  -- N1
+    ∷ gives (1 ∷ []) (1 ∷ []) true  -- N2
+    ∷ gives (1 ∷ 1 ∷ []) (1 ∷ 2 ∷ []) true  -- D1
+    ∷ gives (1 ∷ 1 ∷ []) (1 ∷ 2 ∷ []) true
+    ∷ gives (0 ∷ 0 ∷ []) [] true  -- D2
+    ∷ gives (0 ∷ 1 ∷ []) (4 ∷ []) true  -- D3
+    ∷ refused 23  -- D4
+    ∷ gives (1 ∷ 1 ∷ []) (1 ∷ 4 ∷ []) true
+    ∷ []
+
+pub thirteen : answers ≡ table
+unfolding answers table single le bytes trailerOf headOf transitionOf slaveOf nodeOf trailerBytes headBytes transitionBytes slaveBytes nodeBytes headAt transitionAt slaveAt nodeAt startOf from transitionsOf anyUpTo tally same nth pick actionOf after guards inFaceChart inFace inFaces out outs okChart meets ok oks permitted upd moves nexts upto outcome search outcomes eqList agree answer gather build treeOf Has HasS trailer bodyOf shapeOf chartOf fileAt fileOf firstOf counts? distance? nonzero zeros? chart? charts? ends? leaving transitions? rising slave? slaves? nodeOfKind? nodes? names named held naming? inside? fileTests refusalOf configTests stepRefusal stepIn stepOf
+thirteen = refl

@@ -1,0 +1,275 @@
+//! The charts that the cases are about: document 01's own, and a few more, each as small as its
+//! purpose allows.
+
+use crate::limits::*;
+use crate::model::{Chart, Model, Node, Slave, Transition};
+use crate::set::Set;
+
+/// A transition, sets by their signals.
+pub fn go(from: u8, to: u8, needed: &[u32], barred: &[u32], action: &[u32]) -> Transition {
+    Transition {
+        from,
+        to,
+        needed: Set::of(needed),
+        barred: Set::of(barred),
+        action: Set::of(action),
+    }
+}
+
+/// A chart with initial state 0 and no extra set.
+pub fn chart(states: u8, feedback: &[u32], transitions: Vec<Transition>) -> Chart {
+    Chart {
+        states,
+        initial: 0,
+        feedback: Set::of(feedback),
+        extra: Set::EMPTY,
+        transitions,
+    }
+}
+
+/// A slave record.
+pub fn slave(chart: u8, state: u8, node: u8) -> Slave {
+    Slave { chart, state, node }
+}
+
+/// A node that holds a chart.
+pub fn leaf(chart: u8) -> Node {
+    Node::Chart { chart }
+}
+
+/// A composed node.
+pub fn composed(a: u8, b: u8, feedback: &[u32]) -> Node {
+    let feedback = Set::of(feedback);
+    Node::Composed { a, b, feedback }
+}
+
+/// A hidden node.
+pub fn hidden(part: u8, filtered: &[u32], hidden: &[u32]) -> Node {
+    Node::Hidden {
+        part,
+        filtered: Set::of(filtered),
+        hidden: Set::of(hidden),
+    }
+}
+
+/// One chart that is the whole.
+pub fn alone(chart: Chart) -> Model {
+    Model {
+        charts: vec![chart],
+        slaves: vec![],
+        nodes: vec![leaf(0)],
+    }
+}
+
+/// Two charts composed.
+pub fn beside(first: Chart, second: Chart, feedback: &[u32]) -> Model {
+    Model {
+        charts: vec![first, second],
+        slaves: vec![],
+        nodes: vec![leaf(0), leaf(1), composed(0, 1, feedback)],
+    }
+}
+
+/// A master, chart 0, and one slave, chart 1, in one of its states.
+pub fn decomposed(master: Chart, state: u8, inner: Chart) -> Model {
+    Model {
+        charts: vec![master, inner],
+        slaves: vec![slave(0, state, 0)],
+        nodes: vec![leaf(1), leaf(0)],
+    }
+}
+
+/// The model with its whole hidden once more.
+pub fn wrapped(mut model: Model, filtered: &[u32], hides: &[u32]) -> Model {
+    let whole = model.whole() as u8;
+    model.nodes.push(hidden(whole, filtered, hides));
+    model
+}
+
+/// 01: "Whole case: ... one chart, 2 states, initial 0, empty sets; 0 to 1 needs {0}, puts out {1};
+/// 1 to 0 needs {1}; node kind 0."
+pub fn whole_case() -> Model {
+    alone(chart(
+        2,
+        &[],
+        vec![go(0, 1, &[0], &[], &[1]), go(1, 0, &[1], &[], &[])],
+    ))
+}
+
+/// 01, L1: "0 to 1 needs {0}, out {0}; F {0}".
+pub fn l1() -> Model {
+    alone(chart(2, &[0], vec![go(0, 1, &[0], &[], &[0])]))
+}
+
+/// 01, L2: "as L1 but bars {0}".
+pub fn l2() -> Model {
+    alone(chart(2, &[0], vec![go(0, 1, &[], &[0], &[0])]))
+}
+
+/// 01, L3: "L1, F empty".
+pub fn l3() -> Model {
+    alone(chart(2, &[], vec![go(0, 1, &[0], &[], &[0])]))
+}
+
+/// 01, P1: "0 to 1 needs {0}, out {1}; beside it 0 to 1 needs {1}, out {2}; F {1} between".
+pub fn p1() -> Model {
+    p1_with(&[1])
+}
+
+/// 01, P2: "P1, F empty".
+pub fn p2() -> Model {
+    p1_with(&[])
+}
+
+/// P1 with any feedback between.
+fn p1_with(feedback: &[u32]) -> Model {
+    beside(
+        chart(2, &[], vec![go(0, 1, &[0], &[], &[1])]),
+        chart(2, &[], vec![go(0, 1, &[1], &[], &[2])]),
+        feedback,
+    )
+}
+
+/// 01, P3: "P1 hidden, x and y {1}".
+pub fn p3() -> Model {
+    wrapped(p1(), &[1], &[1])
+}
+
+/// 01, P4: "0 to 1 needs {1}, out {0}; beside it 0 to 1 needs {0}, out {1}; F {0,1} between".
+pub fn p4() -> Model {
+    beside(
+        chart(2, &[], vec![go(0, 1, &[1], &[], &[0])]),
+        chart(2, &[], vec![go(0, 1, &[0], &[], &[1])]),
+        &[0, 1],
+    )
+}
+
+/// 01, N1: "0 to 0 out {1}; 0 to 1 out {2}".
+pub fn n1() -> Model {
+    let transitions = vec![go(0, 0, &[], &[], &[1]), go(0, 1, &[], &[], &[2])];
+    alone(chart(2, &[], transitions))
+}
+
+/// 01, N2: "0 to 1 out {1}, twice".
+pub fn n2() -> Model {
+    let transitions = vec![go(0, 1, &[], &[], &[1]), go(0, 1, &[], &[], &[1])];
+    alone(chart(2, &[], transitions))
+}
+
+/// 01, D: "chart 0, F {1}: 0 to 1 needs {0}, out {1}; 0 to 0 bars {0}; 1 to 0 needs {3}. Slave of
+/// state 1, chart 1: 0 to 1 needs {1}, out {2}; 1 to 1 needs {3}, out {4}."
+pub fn d() -> Model {
+    decomposed(
+        chart(
+            2,
+            &[1],
+            vec![
+                go(0, 1, &[0], &[], &[1]),
+                go(0, 0, &[], &[0], &[]),
+                go(1, 0, &[3], &[], &[]),
+            ],
+        ),
+        1,
+        chart(
+            2,
+            &[],
+            vec![go(0, 1, &[1], &[], &[2]), go(1, 1, &[3], &[], &[4])],
+        ),
+    )
+}
+
+/// D hidden: a file with every kind of record and of node but a composed one.
+pub fn d_hidden() -> Model {
+    wrapped(d(), &[], &[2])
+}
+
+/// A slave inside a slave: chart 0 moves between 0 and 1, its slave chart 1 in state 1 does so too,
+/// and has chart 2 in its state 1.
+pub fn nested() -> Model {
+    let mover = |signal| {
+        let moves = vec![
+            go(0, 1, &[signal], &[], &[signal + 8]),
+            go(0, 0, &[], &[signal], &[]),
+            go(1, 0, &[signal], &[], &[]),
+            go(1, 1, &[], &[signal], &[signal + 16]),
+        ];
+        chart(2, &[], moves)
+    };
+    Model {
+        charts: vec![mover(0), mover(1), mover(2)],
+        slaves: vec![slave(0, 1, 1), slave(1, 1, 0)],
+        nodes: vec![leaf(2), leaf(1), leaf(0)],
+    }
+}
+
+/// A chart with one state, one transition with an empty guard and an action of one signal.
+pub fn ticking(signal: u32) -> Chart {
+    chart(1, &[], vec![go(0, 0, &[], &[], &[signal])])
+}
+
+/// This many charts with one state, composed one after the other.
+pub fn row_of(charts: u8) -> Model {
+    row_of_charts(
+        (0..charts)
+            .map(|number| ticking(u32::from(number)))
+            .collect(),
+    )
+}
+
+/// Charts composed one after the other, without feedback.
+pub fn row_of_charts(charts: Vec<Chart>) -> Model {
+    let count = charts.len() as u8;
+    let mut nodes: Vec<Node> = (0..count).map(leaf).collect();
+    for number in 1..count {
+        let so_far = if number == 1 {
+            0
+        } else {
+            nodes.len() as u8 - 1
+        };
+        nodes.push(composed(so_far, number, &[]));
+    }
+    Model {
+        charts,
+        slaves: vec![],
+        nodes,
+    }
+}
+
+/// A master with one slave in each of its states, as many as asked for; chart 0 starts in state 0
+/// and can stay there or move to any other state, whatever is offered.
+pub fn master_of(slaves: u8) -> Model {
+    let moves = (0..slaves).map(|to| go(0, to, &[], &[], &[])).collect();
+    let mut charts = vec![chart(slaves, &[], moves)];
+    charts.extend((0..slaves).map(|number| ticking(u32::from(number) + 1)));
+    let mut nodes: Vec<Node> = (1..=slaves).map(leaf).collect();
+    nodes.push(leaf(0));
+    Model {
+        charts,
+        slaves: (0..slaves).map(|state| slave(0, state, state)).collect(),
+        nodes,
+    }
+}
+
+/// A chart of one state, hidden again and again until there are this many nodes.
+pub fn hidden_deep(nodes: u8) -> Model {
+    let mut model = alone(ticking(5));
+    while model.nodes.len() < usize::from(nodes) {
+        model = wrapped(model, &[], &[]);
+    }
+    model
+}
+
+/// A chart of this many states with this many transitions, each from the next state in turn.
+pub fn spread(states: u8, transitions: usize) -> Chart {
+    let moves = (0..transitions).map(|place| {
+        let from = (place % usize::from(states)) as u8;
+        go(from, (from + 1) % states, &[], &[], &[])
+    });
+    chart(states, &[], moves.collect())
+}
+
+/// As many charts, each with as many transitions, as a file can have.
+pub fn fullest() -> Model {
+    let full = spread(STATES as u8, CHART_TRANSITIONS);
+    row_of_charts(vec![full; CHARTS])
+}

@@ -1,0 +1,268 @@
+//! One call as recorded bytes, and its answer as a line of text.
+//!
+//! A command is a header of 16 bytes, numbers little-endian: op (1 byte), length of the name (1),
+//! of the configuration (2), of the file (4), room, which is the length of the lent buffer (4),
+//! number of inputs (2), two zero bytes. Then the name, the file, the configuration, the inputs (8
+//! bytes each). Before the call each byte of the lent buffer is [`FILL`].
+
+use crate::set::Set;
+use crate::{check, first, interface, rewrite, run, step};
+
+/// The value of each lent byte before a call.
+pub const FILL: u8 = 0xA5;
+/// The bytes of a command's header.
+pub const HEADER_BYTES: usize = 16;
+/// The longest file and the largest lent buffer of a command.
+pub const MOST_BYTES: usize = 65_536;
+/// The most inputs of a command.
+pub const MOST_INPUTS: usize = 4_096;
+
+/// Which call is made.
+#[derive(Clone, Copy, PartialEq, Eq, Debug)]
+pub enum Op {
+    Check,
+    First,
+    Interface,
+    Step,
+    Run,
+    Rewrite,
+}
+
+/// All ops; the place of each is its number in the header.
+pub const OPS: [Op; 6] = [
+    Op::Check,
+    Op::First,
+    Op::Interface,
+    Op::Step,
+    Op::Run,
+    Op::Rewrite,
+];
+
+/// One call, with all that is lent to it.
+#[derive(Clone, PartialEq, Eq, Debug)]
+pub struct Command {
+    pub op: Op,
+    pub name: String,
+    pub file: Vec<u8>,
+    pub configuration: Vec<u8>,
+    pub room: usize,
+    pub inputs: Vec<Set>,
+}
+
+/// The answer of a call: the refusal, and the line that is printed for it.
+#[derive(Clone, PartialEq, Eq, Debug)]
+pub struct Answer {
+    pub refusal: u8,
+    pub line: String,
+}
+
+impl Command {
+    /// A check of a file.
+    pub fn check(name: &str, file: Vec<u8>) -> Command {
+        Command {
+            op: Op::Check,
+            name: name.to_string(),
+            file,
+            configuration: vec![],
+            room: 0,
+            inputs: vec![],
+        }
+    }
+
+    /// The first configuration of a file, into a buffer of this length.
+    pub fn first(name: &str, file: Vec<u8>, room: usize) -> Command {
+        Command {
+            op: Op::First,
+            room,
+            ..Command::check(name, file)
+        }
+    }
+
+    /// The interface of a file.
+    pub fn interface(name: &str, file: Vec<u8>) -> Command {
+        Command {
+            op: Op::Interface,
+            ..Command::check(name, file)
+        }
+    }
+
+    /// A step of a file, into a buffer of this length.
+    pub fn step(
+        name: &str,
+        file: Vec<u8>,
+        configuration: &[u8],
+        input: Set,
+        room: usize,
+    ) -> Command {
+        Command {
+            op: Op::Step,
+            configuration: configuration.to_vec(),
+            room,
+            inputs: vec![input],
+            ..Command::check(name, file)
+        }
+    }
+
+    /// A run of a file, into a buffer of this length.
+    pub fn run(
+        name: &str,
+        file: Vec<u8>,
+        configuration: &[u8],
+        inputs: &[Set],
+        room: usize,
+    ) -> Command {
+        Command {
+            op: Op::Run,
+            configuration: configuration.to_vec(),
+            room,
+            inputs: inputs.to_vec(),
+            ..Command::check(name, file)
+        }
+    }
+
+    /// The rewriting of a file, into a buffer of this length.
+    pub fn rewrite(name: &str, file: Vec<u8>, room: usize) -> Command {
+        Command {
+            op: Op::Rewrite,
+            room,
+            ..Command::check(name, file)
+        }
+    }
+
+    /// The command as recorded bytes.
+    pub fn encode(&self) -> Vec<u8> {
+        let op = OPS.iter().position(|&op| op == self.op).unwrap();
+        let mut bytes = vec![op as u8, u8::try_from(self.name.len()).unwrap()];
+        let configuration = u16::try_from(self.configuration.len()).unwrap();
+        let inputs = u16::try_from(self.inputs.len()).unwrap();
+        assert!(self.file.len() <= MOST_BYTES && self.room <= MOST_BYTES);
+        assert!(self.inputs.len() <= MOST_INPUTS);
+        bytes.extend(configuration.to_le_bytes());
+        bytes.extend((self.file.len() as u32).to_le_bytes());
+        bytes.extend((self.room as u32).to_le_bytes());
+        bytes.extend(inputs.to_le_bytes());
+        bytes.extend([0; 2]);
+        bytes.extend(self.name.as_bytes());
+        bytes.extend(&self.file);
+        bytes.extend(&self.configuration);
+        bytes.extend(self.inputs.iter().flat_map(|input| input.bytes()));
+        bytes
+    }
+
+    /// The answer of the call, made with a lent buffer of its own.
+    pub fn answer(&self) -> Answer {
+        let mut lent = vec![FILL; self.room];
+        let (refusal, fields) = self.call(&mut lent);
+        let mut line = format!("{} {}", self.name, word(self.op));
+        for field in [vec![refusal.to_string()], fields].concat() {
+            line.push(' ');
+            line.push_str(&field);
+        }
+        line.push('\n');
+        Answer { refusal, line }
+    }
+
+    /// The call itself: its refusal and the fields after it.
+    fn call(&self, lent: &mut [u8]) -> (u8, Vec<String>) {
+        match self.op {
+            Op::Check => (check(&self.file), vec![]),
+            Op::First => {
+                let refusal = first(&self.file, lent);
+                (refusal, vec![hex(lent)])
+            }
+            Op::Interface => {
+                let found = interface(&self.file);
+                (found.refusal, vec![found.input.hex(), found.output.hex()])
+            }
+            Op::Step => {
+                let stepped = step(&self.file, &self.configuration, self.inputs[0], lent);
+                let mark = if stepped.mark { "y" } else { "n" };
+                let fields = vec![stepped.output.hex(), mark.to_string(), hex(lent)];
+                (stepped.refusal, fields)
+            }
+            Op::Run => {
+                let refusal = run(&self.file, &self.configuration, &self.inputs, lent);
+                (refusal, vec![hex(lent)])
+            }
+            Op::Rewrite => {
+                let rewritten = rewrite(&self.file, lent);
+                let fields = vec![rewritten.length.to_string(), hex(lent)];
+                (rewritten.refusal, fields)
+            }
+        }
+    }
+}
+
+/// The word of an op in a line.
+fn word(op: Op) -> &'static str {
+    match op {
+        Op::Check => "check",
+        Op::First => "first",
+        Op::Interface => "interface",
+        Op::Step => "step",
+        Op::Run => "run",
+        Op::Rewrite => "rewrite",
+    }
+}
+
+/// A lent buffer in a line: two lower-case digits a byte, or `-` for none.
+fn hex(lent: &[u8]) -> String {
+    if lent.is_empty() {
+        return "-".to_string();
+    }
+    lent.iter().map(|byte| format!("{byte:02x}")).collect()
+}
+
+/// Recorded bytes as commands, or what is wrong with them.
+pub fn decode_all(mut bytes: &[u8]) -> Result<Vec<Command>, String> {
+    let mut commands = Vec::new();
+    while !bytes.is_empty() {
+        commands.push(decode(&mut bytes).map_err(|what| {
+            let place = commands.len();
+            format!("command {place}: {what}")
+        })?);
+    }
+    Ok(commands)
+}
+
+/// The next recorded command, taken off the bytes.
+fn decode(bytes: &mut &[u8]) -> Result<Command, String> {
+    let header = take(bytes, HEADER_BYTES)?;
+    let number = |from: usize, to: usize| {
+        let digits = header[from..to].iter().rev();
+        digits.fold(0, |sum, &byte| sum * 256 + usize::from(byte))
+    };
+    let op = *OPS.get(number(0, 1)).ok_or("no such op")?;
+    let (room, inputs) = (number(8, 12), number(12, 14));
+    let name = take(bytes, number(1, 2))?;
+    let file = take(bytes, number(4, 8))?.to_vec();
+    let configuration = take(bytes, number(2, 4))?.to_vec();
+    let inputs = take(bytes, inputs * 8)?;
+    if room > MOST_BYTES || file.len() > MOST_BYTES || inputs.len() > MOST_INPUTS * 8 {
+        return Err("too large".to_string());
+    }
+    if op == Op::Step && inputs.len() != 8 {
+        return Err("a step has exactly one input".to_string());
+    }
+    Ok(Command {
+        op,
+        name: String::from_utf8(name.to_vec()).map_err(|_| "name not text")?,
+        file,
+        configuration,
+        room,
+        inputs: inputs
+            .chunks_exact(8)
+            .map(|set| Set(u64::from_le_bytes(set.try_into().unwrap())))
+            .collect(),
+    })
+}
+
+/// The next bytes, if there are that many.
+fn take<'a>(bytes: &mut &'a [u8], count: usize) -> Result<&'a [u8], String> {
+    if bytes.len() < count {
+        return Err("breaks off".to_string());
+    }
+    let (taken, rest) = bytes.split_at(count);
+    *bytes = rest;
+    Ok(taken)
+}

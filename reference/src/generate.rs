@@ -1,0 +1,707 @@
+//! Random calls, the same for the same seed: files of all shapes, right and damaged, with right and
+//! wrong configurations, buffers and fronts.
+
+use crate::cases::rewrite::rewritten_bytes;
+use crate::cases::run::rows_bytes;
+use crate::check::accept;
+use crate::command::Command;
+use crate::file::Records;
+use crate::limits::*;
+use crate::model::{Chart, Model, Node, Slave, Transition};
+use crate::set::Set;
+
+/// A deterministic source of numbers (splitmix64).
+pub struct Random {
+    state: u64,
+}
+
+impl Random {
+    /// The source of a seed.
+    pub fn new(seed: u64) -> Random {
+        Random { state: seed }
+    }
+
+    /// The next 64 bits.
+    pub fn bits(&mut self) -> u64 {
+        self.state = self.state.wrapping_add(0x9e37_79b9_7f4a_7c15);
+        let mut mixed = self.state;
+        mixed = (mixed ^ (mixed >> 30)).wrapping_mul(0xbf58_476d_1ce4_e5b9);
+        mixed = (mixed ^ (mixed >> 27)).wrapping_mul(0x94d0_49bb_1331_11eb);
+        mixed ^ (mixed >> 31)
+    }
+
+    /// A number below a bound.
+    pub fn below(&mut self, bound: usize) -> usize {
+        (self.bits() % bound as u64) as usize
+    }
+
+    /// A number from one to another, both included.
+    pub fn between(&mut self, low: usize, high: usize) -> usize {
+        low + self.below(high - low + 1)
+    }
+
+    /// Yes in this many of a hundred cases.
+    pub fn chance(&mut self, percent: usize) -> bool {
+        self.below(100) < percent
+    }
+
+    /// One of a list.
+    pub fn pick<T: Clone>(&mut self, list: &[T]) -> T {
+        list[self.below(list.len())].clone()
+    }
+
+    /// The list in another order.
+    pub fn shuffle<T>(&mut self, list: &mut [T]) {
+        for place in (1..list.len()).rev() {
+            list.swap(place, self.below(place + 1));
+        }
+    }
+
+    /// Each of the signals with this chance.
+    pub fn subset(&mut self, signals: &[u32], percent: usize) -> Set {
+        let mut set = Set::EMPTY;
+        for &signal in signals {
+            if self.chance(percent) {
+                set = set.joined(Set::one(signal));
+            }
+        }
+        set
+    }
+}
+
+/// What a random file is to be like. Chances are percents.
+#[derive(Clone, Debug)]
+pub struct Shape {
+    /// The number of charts.
+    pub charts: usize,
+    /// The most states of a chart.
+    pub states: usize,
+    /// The most transitions drawn from one state.
+    pub out: usize,
+    /// The signals that all sets are taken from.
+    pub signals: Vec<u32>,
+    /// The chance of each signal in a guard, half needed and half barred.
+    pub guard: usize,
+    /// The chance of each signal in an action.
+    pub action: usize,
+    /// The chance of each signal in a feedback set.
+    pub feedback: usize,
+    /// The chance that a group of charts is decomposed rather than composed.
+    pub decompose: usize,
+    /// The chance that a node is hidden, and hidden again.
+    pub hide: usize,
+    /// The chance that a state has a transition for each case of a signal.
+    pub complete: usize,
+}
+
+/// A shape for files of at most so many charts: few signals or many, sparse or dense.
+pub fn shape(random: &mut Random, most_charts: usize) -> Shape {
+    let few = random.chance(80);
+    let count = if few {
+        random.between(1, 4)
+    } else {
+        random.between(5, 10)
+    };
+    let mut signals: Vec<u32> = (0..SIGNALS).collect();
+    random.shuffle(&mut signals);
+    signals.truncate(count);
+    Shape {
+        charts: random.between(1, most_charts),
+        states: random.pick(&[1, 2, 2, 3, 3, 4]),
+        out: random.pick(&[1, 1, 2, 3, 4]),
+        guard: if few {
+            random.pick(&[10, 25, 40, 60])
+        } else {
+            random.pick(&[3, 8, 15])
+        },
+        action: random.pick(&[5, 20, 40, 60]),
+        feedback: random.pick(&[0, 30, 60, 100]),
+        decompose: random.pick(&[0, 40, 70, 100]),
+        hide: random.pick(&[0, 10, 30]),
+        complete: random.pick(&[0, 40, 80, 100]),
+        signals,
+    }
+}
+
+/// A random file of a shape; it passes 1 to 11.
+pub fn model(random: &mut Random, shape: &Shape) -> Model {
+    let charts: Vec<Chart> = (0..shape.charts).map(|_| chart(random, shape)).collect();
+    let mut tree = Tree {
+        random,
+        shape,
+        states: charts.iter().map(|chart| chart.states).collect(),
+        slaves: vec![],
+        nodes: vec![],
+    };
+    tree.grow((0..shape.charts as u8).collect());
+    let (mut slaves, nodes) = (tree.slaves, tree.nodes);
+    slaves.sort_by_key(|slave| (slave.chart, slave.state));
+    let mut made = Model {
+        charts,
+        slaves,
+        nodes,
+    };
+    reorder_nodes(random, &mut made);
+    made
+}
+
+/// A random chart of a shape.
+fn chart(random: &mut Random, shape: &Shape) -> Chart {
+    let states = match random.below(3) {
+        0 => random.between(1, shape.states) as u8,
+        _ => shape.states as u8,
+    };
+    let mut transitions = Vec::new();
+    for from in 0..states {
+        let mut out = transitions_from(random, shape, from, states);
+        out.truncate(STATE_TRANSITIONS);
+        transitions.extend(out);
+    }
+    random.shuffle(&mut transitions);
+    transitions.truncate(CHART_TRANSITIONS);
+    Chart {
+        states,
+        initial: random.below(usize::from(states)) as u8,
+        feedback: random.subset(&shape.signals, shape.feedback),
+        extra: random.subset(&shape.signals, 10),
+        transitions,
+    }
+}
+
+/// The transitions from one state: some at random, and some that leave no case of a signal out.
+fn transitions_from(random: &mut Random, shape: &Shape, from: u8, states: u8) -> Vec<Transition> {
+    let mut out = Vec::new();
+    for _ in 0..random.below(shape.out + 1) {
+        out.push(transition(random, shape, from, states));
+    }
+    if random.chance(shape.complete) {
+        let signal = Set::one(random.pick(&shape.signals));
+        let mut present = transition(random, shape, from, states);
+        (present.needed, present.barred) = (signal, Set::EMPTY);
+        let mut absent = transition(random, shape, from, states);
+        (absent.needed, absent.barred) = (Set::EMPTY, signal);
+        out.extend([present, absent]);
+    }
+    out
+}
+
+/// A random transition from a state; seldom a signal is both needed and barred.
+fn transition(random: &mut Random, shape: &Shape, from: u8, states: u8) -> Transition {
+    let guard = random.subset(&shape.signals, shape.guard);
+    let split = random.subset(&shape.signals, 50);
+    let twice = if random.chance(3) { guard } else { Set::EMPTY };
+    Transition {
+        from,
+        to: random.below(usize::from(states)) as u8,
+        needed: guard.cut(split),
+        barred: guard.less(split).joined(twice),
+        action: random.subset(&shape.signals, shape.action),
+    }
+}
+
+/// The nodes and slaves of a file while they grow, parts before wholes.
+struct Tree<'a> {
+    random: &'a mut Random,
+    shape: &'a Shape,
+    states: Vec<u8>,
+    slaves: Vec<Slave>,
+    nodes: Vec<Node>,
+}
+
+impl Tree<'_> {
+    /// A node with all these charts inside; their numbers rise. It may be hidden.
+    fn grow(&mut self, charts: Vec<u8>) -> u8 {
+        let mut made = self.grow_plain(charts);
+        while self.random.chance(self.shape.hide) && self.nodes.len() < NODES - 2 * CHARTS {
+            let node = Node::Hidden {
+                part: made,
+                filtered: self.random.subset(&self.shape.signals, 25),
+                hidden: self.random.subset(&self.shape.signals, 25),
+            };
+            made = self.push(node);
+        }
+        made
+    }
+
+    /// A node with all these charts inside: a chart, decomposed or composed.
+    fn grow_plain(&mut self, charts: Vec<u8>) -> u8 {
+        if charts.len() == 1 {
+            return self.push(Node::Chart { chart: charts[0] });
+        }
+        if self.random.chance(self.shape.decompose) {
+            return self.grow_decomposed(charts[0], &charts[1..]);
+        }
+        let groups = self.split(&charts, 2);
+        let a = self.grow(groups[0].clone());
+        let b = self.grow(groups[1].clone());
+        let feedback = self.random.subset(&self.shape.signals, self.shape.feedback);
+        self.push(Node::Composed { a, b, feedback })
+    }
+
+    /// The lowest chart as master, the others in slaves of some of its states.
+    fn grow_decomposed(&mut self, master: u8, others: &[u8]) -> u8 {
+        let mut states: Vec<u8> = (0..self.states[usize::from(master)]).collect();
+        self.random.shuffle(&mut states);
+        let most = states.len().min(others.len());
+        let count = self
+            .random
+            .between(1, most)
+            .max(self.random.between(1, most));
+        for (group, &state) in self.split(others, count).into_iter().zip(&states) {
+            let node = self.grow(group);
+            let chart = master;
+            self.slaves.push(Slave { chart, state, node });
+        }
+        self.push(Node::Chart { chart: master })
+    }
+
+    /// The charts in this many groups, none of them empty, the numbers in each rising.
+    fn split(&mut self, charts: &[u8], count: usize) -> Vec<Vec<u8>> {
+        let mut order = charts.to_vec();
+        self.random.shuffle(&mut order);
+        let mut groups: Vec<Vec<u8>> = vec![vec![]; count];
+        for (place, chart) in order.into_iter().enumerate() {
+            let group = if place < count {
+                place
+            } else {
+                self.random.below(count)
+            };
+            groups[group].push(chart);
+        }
+        groups.iter_mut().for_each(|group| group.sort());
+        groups
+    }
+
+    /// The number of a node added last.
+    fn push(&mut self, node: Node) -> u8 {
+        self.nodes.push(node);
+        (self.nodes.len() - 1) as u8
+    }
+}
+
+/// The nodes that must stand before a node: those it names, and its chart's slaves.
+fn parts(model: &Model, node: &Node) -> Vec<u8> {
+    let slaves = |chart: u8| model.slaves_of(chart).map(|slave| slave.node).collect();
+    match node {
+        Node::Chart { chart } => slaves(*chart),
+        other => other.names(),
+    }
+}
+
+/// The nodes in another order that still has each part before its whole.
+fn reorder_nodes(random: &mut Random, model: &mut Model) {
+    let mut order: Vec<u8> = Vec::new();
+    while order.len() < model.nodes.len() {
+        let ready: Vec<u8> = (0..model.nodes.len() as u8)
+            .filter(|node| !order.contains(node))
+            .filter(|&node| {
+                let before = parts(model, &model.nodes[usize::from(node)]);
+                before.iter().all(|part| order.contains(part))
+            })
+            .collect();
+        order.push(random.pick(&ready));
+    }
+    let new = |old: u8| order.iter().position(|&node| node == old).unwrap() as u8;
+    let renamed = |old: &u8| match model.nodes[usize::from(*old)].clone() {
+        Node::Composed { a, b, feedback } => Node::Composed {
+            a: new(a),
+            b: new(b),
+            feedback,
+        },
+        Node::Hidden {
+            part,
+            filtered,
+            hidden,
+        } => Node::Hidden {
+            part: new(part),
+            filtered,
+            hidden,
+        },
+        chart => chart,
+    };
+    let nodes = order.iter().map(renamed).collect();
+    for slave in &mut model.slaves {
+        slave.node = new(slave.node);
+    }
+    model.nodes = nodes;
+}
+
+/// A configuration that passes 20 and 21.
+pub fn configuration(random: &mut Random, model: &Model) -> Vec<u8> {
+    let state = |chart: &Chart| random.below(usize::from(chart.states)) as u8;
+    model.charts.iter().map(state).collect()
+}
+
+/// A configuration of another length, or with a state too high.
+pub fn wrong_configuration(random: &mut Random, model: &Model) -> Vec<u8> {
+    let mut right = configuration(random, model);
+    match random.below(4) {
+        0 => right.push(0),
+        1 => right.truncate(right.len() - 1),
+        2 => right = vec![0; random.below(10)],
+        _ => {
+            let chart = random.below(right.len());
+            let states = model.charts[chart].states;
+            right[chart] = random.pick(&[states, states + 1, 255]);
+        }
+    }
+    right
+}
+
+/// An input: some of the shape's signals, seldom others too.
+pub fn input(random: &mut Random, shape: &Shape) -> Set {
+    let percent = random.pick(&[0, 20, 50, 80, 100]);
+    let noise = match random.below(8) {
+        0 => Set(random.bits()),
+        1 => Set(random.bits() & random.bits() & random.bits()),
+        _ => Set::EMPTY,
+    };
+    random.subset(&shape.signals, percent).joined(noise)
+}
+
+/// Front bytes of any content, mostly none.
+pub fn front(random: &mut Random) -> Vec<u8> {
+    let length = random.pick(&[0, 0, 0, 1, 8, 13, 32]);
+    (0..length).map(|_| random.bits() as u8).collect()
+}
+
+/// A file that was right, with something done to it; it may still be right.
+pub fn damaged(random: &mut Random, model: &Model) -> Vec<u8> {
+    let mut file = model.file();
+    let trailer = file.len() - TRAILER_BYTES;
+    match random.below(10) {
+        // a bit anywhere, or some
+        0 => (0..random.between(1, 3)).for_each(|_| flip(random, &mut file)),
+        // bytes missing in front, or behind
+        1 => {
+            let missing = random.pick(&[1, file.len() / 2, trailer, trailer + 1, file.len()]);
+            file.drain(..missing);
+        }
+        2 => {
+            let missing = random.pick(&[1, 4, 11, 12, 20]);
+            file.truncate(file.len().saturating_sub(missing));
+        }
+        // a count one off, or of any value, with bytes in front
+        3 => {
+            let place = trailer + random.between(4, 9);
+            let value = file[place];
+            file[place] = random.pick(&[
+                value.wrapping_add(1),
+                value.wrapping_sub(1),
+                random.state as u8,
+            ]);
+            file = [vec![0; 64], file].concat();
+        }
+        // the distance one off
+        4 => file[trailer] = random.pick(&[file[trailer] ^ 1, file[trailer].wrapping_add(4)]),
+        // two charts with each other's numbers
+        5 | 6 => file = renumbered(random, model),
+        // a field of a record
+        _ => {
+            let mut records = model.records();
+            damage_record(random, &mut records);
+            file = records.encode();
+        }
+    }
+    file
+}
+
+/// Flips one bit.
+fn flip(random: &mut Random, file: &mut [u8]) {
+    let place = random.below(file.len());
+    file[place] ^= 1 << random.below(8);
+}
+
+/// Sets one field of one record to a value that is often wrong.
+fn damage_record(random: &mut Random, records: &mut Records) {
+    let small = random.below(9) as u8;
+    let chart = random.below(records.charts.len());
+    let node = random.below(records.nodes.len());
+    let states = records.charts[chart].states;
+    match random.below(13) {
+        0 => records.charts[chart].states = random.pick(&[0, 1, 17, 200]),
+        1 => records.charts[chart].initial = random.pick(&[states, states.wrapping_sub(1), 16]),
+        2 => records.charts[chart].transitions = random.pick(&[small, 64, 65, 255]),
+        3 => records.charts[chart].zeros[random.below(5)] = 1,
+        4 => records.nodes[node].zero = small,
+        5 => records.nodes[node].kind = random.pick(&[0, 1, 2, 3]),
+        6 => records.nodes[node].a = small,
+        7 => records.nodes[node].b = small,
+        8 => records.nodes[node].x = Set(1),
+        9 => records.nodes[node].y = Set(1),
+        10 | 11 => damage_slave(random, records),
+        _ => damage_transition(random, records),
+    }
+}
+
+/// The file of the model with the numbers of two charts exchanged everywhere; a chart inside a slave
+/// may then be numbered below the slave's master.
+fn renumbered(random: &mut Random, model: &Model) -> Vec<u8> {
+    let mut model = model.clone();
+    let count = model.charts.len();
+    let (one, other) = (random.below(count), random.below(count));
+    let new = |chart: u8| match usize::from(chart) {
+        number if number == one => other as u8,
+        number if number == other => one as u8,
+        _ => chart,
+    };
+    model.charts.swap(one, other);
+    for slave in &mut model.slaves {
+        slave.chart = new(slave.chart);
+    }
+    model.slaves.sort_by_key(|slave| (slave.chart, slave.state));
+    for node in &mut model.nodes {
+        if let Node::Chart { chart } = node {
+            *chart = new(*chart);
+        }
+    }
+    model.file()
+}
+
+/// Sets one field of a slave, or lets two slaves change places.
+fn damage_slave(random: &mut Random, records: &mut Records) {
+    if records.slaves.is_empty() {
+        return;
+    }
+    let small = random.below(9) as u8;
+    let (one, other) = (
+        random.below(records.slaves.len()),
+        random.below(records.slaves.len()),
+    );
+    match random.below(5) {
+        0 => records.slaves[one].chart = small,
+        1 => records.slaves[one].state = small,
+        2 => records.slaves[one].node = small,
+        3 => records.slaves[one].zero = small,
+        _ => records.slaves.swap(one, other),
+    }
+}
+
+/// Sets one field of a transition.
+fn damage_transition(random: &mut Random, records: &mut Records) {
+    if records.transitions.is_empty() {
+        return;
+    }
+    let small = random.below(9) as u8;
+    let place = random.below(records.transitions.len());
+    let transition = &mut records.transitions[place];
+    match random.below(3) {
+        0 => transition.from = small,
+        1 => transition.to = small,
+        _ => transition.zeros[random.below(2)] = small,
+    }
+}
+
+/// How many choices there are at most from a configuration.
+fn most_choices(model: &Model, configuration: &[u8]) -> usize {
+    let out = |(chart, &state): (&Chart, &u8)| {
+        let from = chart.transitions.iter().filter(|t| t.from == state);
+        from.count().max(1)
+    };
+    model.charts.iter().zip(configuration).map(out).product()
+}
+
+/// The most choices of a random step, so that a recording is soon made.
+const CHOICES: usize = 20_000;
+
+/// A shape and a file of it that is not longer than asked.
+fn bounded(random: &mut Random, most_charts: usize, bytes: usize) -> (Shape, Model) {
+    loop {
+        let shape = shape(random, most_charts);
+        let made = model(random, &shape);
+        if made.file().len() <= bytes {
+            return (shape, made);
+        }
+    }
+}
+
+/// Mostly this buffer length, seldom a shorter or longer one.
+fn room(random: &mut Random, needed: usize) -> usize {
+    match random.below(40) {
+        0 => 0,
+        1 => needed.saturating_sub(1),
+        2 => random.below(needed + 1),
+        3 => needed + random.below(9),
+        _ => needed + random.below(2),
+    }
+}
+
+/// Random checks, first configurations and interfaces; most of the files are damaged.
+pub fn file_commands(seed: u64, count: usize) -> Vec<Command> {
+    let mut random = Random::new(seed);
+    let random = &mut random;
+    (0..count)
+        .map(|number| {
+            let (_, model) = bounded(random, CHARTS, 1_500);
+            let file = if random.chance(75) {
+                damaged(random, &model)
+            } else {
+                [front(random), model.file()].concat()
+            };
+            let name = format!("random-{number}");
+            match random.below(4) {
+                0 => Command::first(&name, file, random.below(model.charts.len() + 3)),
+                1 => Command::interface(&name, file),
+                _ => Command::check(&name, file),
+            }
+        })
+        .collect()
+}
+
+/// The call with every feedback set of its file emptied; the call itself if its file is refused.
+fn without_feedback(command: &Command) -> Command {
+    let Ok(mut model) = accept(&command.file) else {
+        return command.clone();
+    };
+    for chart in &mut model.charts {
+        chart.feedback = Set::EMPTY;
+    }
+    for node in &mut model.nodes {
+        if let Node::Composed { feedback, .. } = node {
+            *feedback = Set::EMPTY;
+        }
+    }
+    Command {
+        file: model.file(),
+        ..command.clone()
+    }
+}
+
+/// Random calls of one kind. All whose answer hangs on feedback are kept, of the others a part, and a
+/// small one of the steps that are refused with 23.
+fn telling(seed: u64, count: usize, draw: fn(&mut Random, &str) -> Command) -> Vec<Command> {
+    let mut random = Random::new(seed);
+    let mut commands = Vec::new();
+    while commands.len() < count {
+        let command = draw(&mut random, &format!("random-{}", commands.len()));
+        let answer = command.answer();
+        let chance = match answer.refusal {
+            refusal::NO_STEP => 5,
+            _ => 30,
+        };
+        if answer != without_feedback(&command).answer() || random.chance(chance) {
+            commands.push(command);
+        }
+    }
+    commands
+}
+
+/// Random steps.
+pub fn step_commands(seed: u64, count: usize) -> Vec<Command> {
+    telling(seed, count, step_command)
+}
+
+/// One random step.
+fn step_command(random: &mut Random, name: &str) -> Command {
+    let bytes = random.pick(&[300, 400, 600, 800, 1_000, 1_300]);
+    loop {
+        let (shape, model) = bounded(random, CHARTS, bytes);
+        let right = configuration(random, &model);
+        if most_choices(&model, &right) > CHOICES {
+            continue;
+        }
+        let file = match random.below(30) {
+            0 => damaged(random, &model),
+            _ => [front(random), model.file()].concat(),
+        };
+        let configuration = match random.below(20) {
+            0 => wrong_configuration(random, &model),
+            _ => right,
+        };
+        let room = room(random, model.charts.len());
+        return Command::step(name, file, &configuration, input(random, &shape), room);
+    }
+}
+
+/// Random runs.
+pub fn run_commands(seed: u64, count: usize) -> Vec<Command> {
+    telling(seed, count, run_command)
+}
+
+/// One random run.
+fn run_command(random: &mut Random, name: &str) -> Command {
+    loop {
+        let bytes = random.pick(&[300, 500, 700, 1_200]);
+        let (shape, model) = bounded(random, CHARTS, bytes);
+        let states: Vec<Vec<u8>> = (0..STATES as u8).map(|state| vec![state; CHARTS]).collect();
+        if states
+            .iter()
+            .any(|all| most_choices(&model, all) > CHOICES / 10)
+        {
+            continue;
+        }
+        let file = match random.below(20) {
+            0 => damaged(random, &model),
+            _ => [front(random), model.file()].concat(),
+        };
+        let at = match random.below(20) {
+            0 => wrong_configuration(random, &model),
+            _ => configuration(random, &model),
+        };
+        let count = random.pick(&[0, 1, 2, 5, 10, 20]);
+        let inputs: Vec<Set> = (0..count).map(|_| input(random, &shape)).collect();
+        let room = room(random, rows_bytes(count, model.charts.len()));
+        return Command::run(name, file, &at, &inputs, room);
+    }
+}
+
+/// Random rewritings of files with slaves.
+pub fn rewrite_commands(seed: u64, count: usize) -> Vec<Command> {
+    let mut random = Random::new(seed);
+    let random = &mut random;
+    (0..count)
+        .map(|number| rewrite_command(random, &format!("random-{number}")))
+        .collect()
+}
+
+/// One random rewriting.
+fn rewrite_command(random: &mut Random, name: &str) -> Command {
+    let bytes = random.pick(&[300, 400, 600, 900, 1_300]);
+    let (_, mut model) = loop {
+        let (shape, model) = bounded(random, CHARTS, bytes);
+        if !model.slaves.is_empty() {
+            break (shape, model);
+        }
+    };
+    crowd(random, &mut model);
+    let file = match random.below(20) {
+        0 => damaged(random, &model),
+        _ => [front(random), model.file()].concat(),
+    };
+    let room = room(random, rewritten_bytes(&model));
+    let command = Command::rewrite(name, file, room);
+    match command.answer().refusal {
+        refusal::SUCCESS => command,
+        _ => Command {
+            room: room.min(40),
+            ..command
+        },
+    }
+}
+
+/// Seldom leaves few signals free, or fills a state of a chart.
+fn crowd(random: &mut Random, model: &mut Model) {
+    let place = random.below(model.charts.len());
+    let chart = &mut model.charts[place];
+    match random.below(12) {
+        0 => chart.extra = Set(!(random.bits() & random.bits() & random.bits() & random.bits())),
+        1 => {
+            let full = transitions_of_one_state(chart);
+            chart.transitions = full;
+        }
+        _ => {}
+    }
+}
+
+/// Eight transitions from the initial state, alike but for their actions.
+fn transitions_of_one_state(chart: &Chart) -> Vec<Transition> {
+    let from = chart.initial;
+    let one = |number: u32| Transition {
+        from,
+        to: from,
+        needed: Set::EMPTY,
+        barred: Set::EMPTY,
+        action: Set::one(number),
+    };
+    (0..STATE_TRANSITIONS as u32).map(one).collect()
+}

@@ -1,0 +1,46 @@
+//! A chart engine in plain Rust, written from the words of document 01 (`01-scope.md`) and of the
+//! paper on mu-Charts that it points to (003), as naively as its sentences allow. It is made to be
+//! read beside document 01 and to be compared with other engines, not to be fast.
+//!
+//! In the order of document 01:
+//!
+//! - [`limits`]: the limits and the refusal numbers, each by name.
+//! - [`set`]: signal sets.
+//! - [`file`]: the bytes as records and back, nothing checked.
+//! - [`model`]: an accepted file as charts, slaves and nodes.
+//! - [`check`]: refusals 1 to 11.
+//! - [`first`]: the first configuration.
+//! - [`interface`]: input and output interface.
+//! - [`step`]: the meaning of a step, refusals 20 to 23.
+//! - [`run`]: a run, refusal 27.
+//! - [`rewriting`]: the rewriting, refusals 40 to 45.
+//! - [`day`]: the day program, refusals 30 and 31.
+//!
+//! What the comparison needs: [`command`] (one call as bytes, its answer as a line), [`cases`]
+//! (calls with a name and an answer written by hand), [`generate`] (random calls from fixed seeds)
+//! and [`record`] (what is recorded of each kind).
+
+pub mod cases;
+pub mod check;
+pub mod command;
+pub mod day;
+pub mod file;
+pub mod first;
+pub mod generate;
+pub mod interface;
+pub mod limits;
+pub mod model;
+pub mod record;
+pub mod rewriting;
+pub mod run;
+pub mod set;
+pub mod step;
+
+pub use check::check;
+pub use day::day;
+pub use first::first;
+pub use interface::{interface, Interface};
+pub use rewriting::{rewrite, Rewritten};
+pub use run::run;
+pub use set::Set;
+pub use step::{step, Stepped};

@@ -1,0 +1,69 @@
+//! The command line:
+//!
+//! - `reference record KIND COMMANDS LINES` writes the recorded calls of a kind (`file`, `step`,
+//!   `run` or `rewrite`) to the file COMMANDS and the lines they answer to the file LINES.
+//! - `reference show` reads recorded calls on standard input and prints the lines they answer.
+//! - `reference day` reads the day program's input on standard input and prints what it prints.
+
+use reference::command::decode_all;
+use reference::record::{commands, encode, lines, Kind};
+use std::io::{Read, Write};
+use std::process::ExitCode;
+
+fn main() -> ExitCode {
+    let words: Vec<String> = std::env::args().skip(1).collect();
+    let words: Vec<&str> = words.iter().map(String::as_str).collect();
+    let done = match words[..] {
+        ["record", kind, calls, answers] => record(kind, calls, answers),
+        ["show"] => show(),
+        ["day"] => day(),
+        _ => Err("use: reference record KIND COMMANDS LINES | show | day".to_string()),
+    };
+    match done {
+        Ok(()) => ExitCode::SUCCESS,
+        Err(what) => {
+            eprintln!("{what}");
+            ExitCode::FAILURE
+        }
+    }
+}
+
+/// Writes the calls of a kind and their lines.
+fn record(kind: &str, calls: &str, answers: &str) -> Result<(), String> {
+    let kind = Kind::of(kind).ok_or("the kinds are file, step, run, rewrite")?;
+    let commands = commands(kind);
+    write(calls, &encode(&commands))?;
+    write(answers, lines(&commands).as_bytes())?;
+    eprintln!("{} calls", commands.len());
+    Ok(())
+}
+
+/// Prints the lines of the calls on standard input.
+fn show() -> Result<(), String> {
+    let commands = decode_all(&standard_input()?)?;
+    print(lines(&commands).as_bytes())
+}
+
+/// Prints what the day program prints.
+fn day() -> Result<(), String> {
+    print(&reference::day(&standard_input()?))
+}
+
+/// All of standard input.
+fn standard_input() -> Result<Vec<u8>, String> {
+    let mut bytes = Vec::new();
+    let read = std::io::stdin().read_to_end(&mut bytes);
+    read.map_err(|what| what.to_string())?;
+    Ok(bytes)
+}
+
+/// Prints bytes.
+fn print(bytes: &[u8]) -> Result<(), String> {
+    let written = std::io::stdout().write_all(bytes);
+    written.map_err(|what| what.to_string())
+}
+
+/// Writes a file.
+fn write(path: &str, bytes: &[u8]) -> Result<(), String> {
+    std::fs::write(path, bytes).map_err(|what| format!("{path}: {what}"))
+}

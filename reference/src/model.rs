@@ -1,0 +1,264 @@
+//! A file as the document speaks of it: charts with their own transitions, slaves, and nodes of
+//! three kinds.
+
+use crate::file::*;
+use crate::limits::*;
+use crate::set::Set;
+
+/// A transition of a chart.
+#[derive(Clone, PartialEq, Eq, Debug)]
+pub struct Transition {
+    pub from: u8,
+    pub to: u8,
+    pub needed: Set,
+    pub barred: Set,
+    pub action: Set,
+}
+
+/// A chart with its own transitions, in file order.
+#[derive(Clone, PartialEq, Eq, Debug)]
+pub struct Chart {
+    pub states: u8,
+    pub initial: u8,
+    pub feedback: Set,
+    pub extra: Set,
+    pub transitions: Vec<Transition>,
+}
+
+/// A slave: the master's chart, the state it stands in, and the node that it is.
+#[derive(Clone, PartialEq, Eq, Debug)]
+pub struct Slave {
+    pub chart: u8,
+    pub state: u8,
+    pub node: u8,
+}
+
+/// A node.
+#[derive(Clone, PartialEq, Eq, Debug)]
+pub enum Node {
+    /// 01: "Kind 0: chart a; b, x, y zero."
+    Chart { chart: u8 },
+    /// 01: "Kind 1: nodes a and b composed, feedback x; y zero."
+    Composed { a: u8, b: u8, feedback: Set },
+    /// 01: "Kind 2: node a hidden, x filtered from input, y hidden from output; b zero."
+    Hidden {
+        part: u8,
+        filtered: Set,
+        hidden: Set,
+    },
+}
+
+/// All of a file.
+#[derive(Clone, PartialEq, Eq, Debug)]
+pub struct Model {
+    pub charts: Vec<Chart>,
+    pub slaves: Vec<Slave>,
+    pub nodes: Vec<Node>,
+}
+
+impl Transition {
+    fn of(record: &TransitionRecord) -> Transition {
+        Transition {
+            from: record.from,
+            to: record.to,
+            needed: record.needed,
+            barred: record.barred,
+            action: record.action,
+        }
+    }
+
+    fn record(&self) -> TransitionRecord {
+        TransitionRecord {
+            from: self.from,
+            to: self.to,
+            zeros: [0; 2],
+            needed: self.needed,
+            barred: self.barred,
+            action: self.action,
+        }
+    }
+}
+
+impl Chart {
+    fn of(record: &ChartRecord, transitions: &[TransitionRecord]) -> Chart {
+        Chart {
+            states: record.states,
+            initial: record.initial,
+            feedback: record.feedback,
+            extra: record.extra,
+            transitions: transitions.iter().map(Transition::of).collect(),
+        }
+    }
+
+    fn record(&self) -> ChartRecord {
+        ChartRecord {
+            states: self.states,
+            initial: self.initial,
+            transitions: self.transitions.len() as u8,
+            zeros: [0; 5],
+            feedback: self.feedback,
+            extra: self.extra,
+        }
+    }
+}
+
+impl Slave {
+    fn of(record: &SlaveRecord) -> Slave {
+        Slave {
+            chart: record.chart,
+            state: record.state,
+            node: record.node,
+        }
+    }
+
+    fn record(&self) -> SlaveRecord {
+        SlaveRecord {
+            chart: self.chart,
+            state: self.state,
+            node: self.node,
+            zero: 0,
+        }
+    }
+}
+
+impl Node {
+    /// The record has passed 9, so its kind is 0, 1 or 2.
+    fn of(record: &NodeRecord) -> Node {
+        match record.kind {
+            KIND_CHART => Node::Chart { chart: record.a },
+            KIND_COMPOSED => Node::Composed {
+                a: record.a,
+                b: record.b,
+                feedback: record.x,
+            },
+            _ => Node::Hidden {
+                part: record.a,
+                filtered: record.x,
+                hidden: record.y,
+            },
+        }
+    }
+
+    fn record(&self) -> NodeRecord {
+        let (kind, a, b, x, y) = match *self {
+            Node::Chart { chart } => (KIND_CHART, chart, 0, Set::EMPTY, Set::EMPTY),
+            Node::Composed { a, b, feedback } => (KIND_COMPOSED, a, b, feedback, Set::EMPTY),
+            Node::Hidden {
+                part,
+                filtered,
+                hidden,
+            } => (KIND_HIDDEN, part, 0, filtered, hidden),
+        };
+        NodeRecord {
+            kind,
+            a,
+            b,
+            zero: 0,
+            x,
+            y,
+        }
+    }
+
+    /// The nodes that this node names: a and b of kind 1, a of kind 2.
+    pub fn names(&self) -> Vec<u8> {
+        match *self {
+            Node::Chart { .. } => vec![],
+            Node::Composed { a, b, .. } => vec![a, b],
+            Node::Hidden { part, .. } => vec![part],
+        }
+    }
+}
+
+impl Model {
+    /// The model of records that have passed 1 to 9.
+    pub fn of(records: &Records) -> Model {
+        let chart = |number| Chart::of(&records.charts[number], records.transitions_of(number));
+        Model {
+            charts: (0..records.charts.len()).map(chart).collect(),
+            slaves: records.slaves.iter().map(Slave::of).collect(),
+            nodes: records.nodes.iter().map(Node::of).collect(),
+        }
+    }
+
+    /// The records of the model, zero bytes zero, with the trailer that the layout asks for.
+    pub fn records(&self) -> Records {
+        let all = self.charts.iter().flat_map(|chart| &chart.transitions);
+        let mut records = Records {
+            charts: self.charts.iter().map(Chart::record).collect(),
+            transitions: all.map(Transition::record).collect(),
+            slaves: self.slaves.iter().map(Slave::record).collect(),
+            nodes: self.nodes.iter().map(Node::record).collect(),
+            trailer: Trailer {
+                distance: 0,
+                charts: self.charts.len() as u8,
+                slaves: self.slaves.len() as u8,
+                nodes: self.nodes.len() as u8,
+                edition: EDITION,
+                transitions: 0,
+                zeros: [0; 2],
+            },
+        };
+        records.trailer.transitions = records.transitions.len() as u16;
+        records.trailer.distance = records.trailer.body_bytes() as u32;
+        records
+    }
+
+    /// The model as a file without front bytes.
+    pub fn file(&self) -> Vec<u8> {
+        self.records().encode()
+    }
+
+    /// 01: "The last node is the whole."
+    pub fn whole(&self) -> usize {
+        self.nodes.len() - 1
+    }
+
+    /// The slaves of a chart, by state. 01: "A chart with slaves is a decomposed chart and its
+    /// master."
+    pub fn slaves_of(&self, chart: u8) -> impl Iterator<Item = &Slave> {
+        self.slaves.iter().filter(move |slave| slave.chart == chart)
+    }
+
+    /// Whether a chart has slaves.
+    pub fn is_master(&self, chart: u8) -> bool {
+        self.slaves_of(chart).next().is_some()
+    }
+
+    /// The nodes that hold a chart; exactly one in an accepted file.
+    pub fn holders(&self, chart: u8) -> Vec<u8> {
+        let holds = |node: &Node| *node == Node::Chart { chart };
+        (0..self.nodes.len() as u8)
+            .filter(|&number| holds(&self.nodes[usize::from(number)]))
+            .collect()
+    }
+
+    /// The charts that a node has as parts, slaves aside.
+    pub fn charts_beside_slaves(&self, node: u8) -> Vec<u8> {
+        match &self.nodes[usize::from(node)] {
+            Node::Chart { chart } => vec![*chart],
+            other => other
+                .names()
+                .into_iter()
+                .flat_map(|part| self.charts_beside_slaves(part))
+                .collect(),
+        }
+    }
+
+    /// The charts inside a node at any depth, those in slaves of its charts too.
+    pub fn charts_inside(&self, node: u8) -> Vec<u8> {
+        let mut inside = self.charts_beside_slaves(node);
+        for chart in inside.clone() {
+            for slave in self.slaves_of(chart) {
+                inside.extend(self.charts_inside(slave.node));
+            }
+        }
+        inside
+    }
+
+    /// The place in the slave records of the nearest slave that a chart is inside of.
+    pub fn nearest_slave(&self, chart: u8) -> Option<usize> {
+        self.slaves
+            .iter()
+            .position(|slave| self.charts_beside_slaves(slave.node).contains(&chart))
+    }
+}

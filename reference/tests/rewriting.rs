@@ -1,0 +1,264 @@
+//! The rewriting: D byte for byte, and the same steps on random files.
+
+use reference::cases::charts::{d, p3};
+use reference::cases::damage::behind;
+use reference::check::accept;
+use reference::generate::{input, model, shape, Random};
+use reference::limits::*;
+use reference::model::{Model, Node};
+use reference::rewriting::{calls, rewrite_model};
+use reference::{check, rewrite, run, step, Set};
+
+/// The rewritten file, if there is one.
+fn rewritten(file: &[u8]) -> Result<Vec<u8>, u8> {
+    let mut room = vec![0xA5; 20_000];
+    let answer = rewrite(file, &mut room);
+    if answer.refusal != refusal::SUCCESS {
+        assert!(room.iter().all(|&byte| byte == 0xA5));
+        assert_eq!(answer.length, 0);
+        return Err(answer.refusal);
+    }
+    assert!(room[answer.length..].iter().all(|&byte| byte == 0xA5));
+    room.truncate(answer.length);
+    Ok(room)
+}
+
+/// D rewritten, from document 01's words: "Rewritten, the call is 5", which is bit 0x20.
+fn d_by_hand() -> Vec<u8> {
+    fn set(low: u8) -> [u8; 8] {
+        [low, 0, 0, 0, 0, 0, 0, 0]
+    }
+    let mut bytes: Vec<u8> = Vec::new();
+    let mut put = |head: &[u8], sets: &[u8]| {
+        bytes.extend(head);
+        sets.iter().for_each(|&low| bytes.extend(set(low)));
+    };
+    // chart 0: 2 states, initial 0, 3 transitions; feedback {1}, no extra set
+    put(&[2, 0, 3, 0, 0, 0, 0, 0], &[0x02, 0x00]);
+    // chart 1: 2 states, initial 0, 2 own transitions and 2 idle ones; no feedback
+    put(&[2, 0, 4, 0, 0, 0, 0, 0], &[0x00, 0x00]);
+    // 0 to 1 needs {0}, out {1} and the call, for it enters the slave's state
+    put(&[0, 1, 0, 0], &[0x01, 0x00, 0x22]);
+    // 0 to 0 bars {0}: not the slave's state, no call
+    put(&[0, 0, 0, 0], &[0x00, 0x01, 0x00]);
+    // 1 to 0 needs {3}, and the call, for it leaves the slave's state
+    put(&[1, 0, 0, 0], &[0x08, 0x00, 0x20]);
+    // slave: 0 to 1 needs {1} and the call, out {2}
+    put(&[0, 1, 0, 0], &[0x22, 0x00, 0x04]);
+    // slave: 1 to 1 needs {3} and the call, out {4}
+    put(&[1, 1, 0, 0], &[0x28, 0x00, 0x10]);
+    // idle in state 0, then in state 1: bars the call
+    put(&[0, 0, 0, 0], &[0x00, 0x20, 0x00]);
+    put(&[1, 1, 0, 0], &[0x00, 0x20, 0x00]);
+    // node 0: chart 1; node 1: the master's chart node
+    put(&[0, 1, 0, 0], &[0x00, 0x00]);
+    put(&[0, 0, 0, 0], &[0x00, 0x00]);
+    // node 2: 1 and 0 composed, feedback {1} and the call
+    put(&[1, 1, 0, 0], &[0x22, 0x00]);
+    // node 3: 2 hidden, the call filtered and hidden
+    put(&[2, 2, 0, 0], &[0x20, 0x20]);
+    // distance 2 * 24 + 7 * 28 + 4 * 20 = 324; 2 charts, 0 slaves, 4 nodes, edition 1, 7 transitions
+    put(&[0x44, 0x01, 0, 0, 2, 0, 4, 1, 7, 0, 0, 0], &[]);
+    bytes
+}
+
+#[test]
+fn d_is_rewritten_byte_for_byte() {
+    assert_eq!(rewritten(&d().file()), Ok(d_by_hand()));
+    let fronted = behind(&[7; 30], d().file());
+    assert_eq!(rewritten(&fronted), Ok(d_by_hand()));
+}
+
+#[test]
+fn the_call_of_d_is_5() {
+    assert_eq!(calls(&d()), Some(vec![Set::one(5)]));
+}
+
+#[test]
+fn a_file_without_slaves_stays_and_loses_its_front() {
+    let file = p3().file();
+    assert_eq!(rewritten(&file), Ok(file.clone()));
+    assert_eq!(rewritten(&behind(&[1; 13], file.clone())), Ok(file));
+}
+
+/// All configurations of a file.
+fn configurations(model: &Model) -> Vec<Vec<u8>> {
+    let mut all: Vec<Vec<u8>> = vec![vec![]];
+    for chart in &model.charts {
+        all = all
+            .into_iter()
+            .flat_map(|so_far| {
+                (0..chart.states).map(move |state| {
+                    let mut longer = so_far.clone();
+                    longer.push(state);
+                    longer
+                })
+            })
+            .collect();
+    }
+    all
+}
+
+/// A random file with slaves, few configurations and few transitions, and its shape's signals.
+fn small_with_slaves(random: &mut Random) -> (Model, reference::generate::Shape) {
+    loop {
+        let mut shape = shape(random, 6);
+        shape.states = shape.states.min(3);
+        let model = model(random, &shape);
+        let transitions: usize = model.charts.iter().map(|c| c.transitions.len()).sum();
+        let few = configurations(&model).len() <= 81 && transitions <= 24;
+        if !model.slaves.is_empty() && few && rewritten(&model.file()).is_ok() {
+            return (model, shape);
+        }
+    }
+}
+
+#[test]
+fn the_rewritten_file_steps_as_the_old_one() {
+    let mut random = Random::new(5);
+    let (mut given, mut refused, mut doubtful, mut nested) = (0, 0, 0, 0);
+    for _ in 0..250 {
+        let (model, shape) = small_with_slaves(&mut random);
+        let old = model.file();
+        let new = rewritten(&old).unwrap();
+        nested += usize::from(is_nested(&model));
+        for at in configurations(&model) {
+            for input in several_inputs(&mut random, &shape, &model) {
+                let mut old_next = vec![0xA5; at.len()];
+                let mut new_next = old_next.clone();
+                let old_answer = step(&old, &at, input, &mut old_next);
+                let new_answer = step(&new, &at, input, &mut new_next);
+                assert_eq!(old_answer, new_answer);
+                assert_eq!(old_next, new_next);
+                given += usize::from(old_answer.refusal == refusal::SUCCESS);
+                refused += usize::from(old_answer.refusal == refusal::NO_STEP);
+                doubtful += usize::from(old_answer.refusal == 0 && !old_answer.mark);
+            }
+        }
+    }
+    assert!(given > 2_000 && refused > 2_000 && doubtful > 300 && nested > 40);
+}
+
+/// Whether a slave has a master inside.
+fn is_nested(model: &Model) -> bool {
+    let mut masters = model.slaves.iter().map(|slave| slave.chart);
+    masters.any(|master| model.nearest_slave(master).is_some())
+}
+
+/// No signal, all signals, the calls alone, and some random inputs.
+fn several_inputs(
+    random: &mut Random,
+    shape: &reference::generate::Shape,
+    model: &Model,
+) -> Vec<Set> {
+    let calls = Set::union(calls(model).unwrap().into_iter());
+    let mut inputs = vec![Set::EMPTY, Set::FULL, calls];
+    inputs.extend((0..3).map(|_| input(random, shape)));
+    inputs
+}
+
+#[test]
+fn the_rewritten_file_runs_as_the_old_one() {
+    let mut random = Random::new(6);
+    for _ in 0..150 {
+        let (model, shape) = small_with_slaves(&mut random);
+        let old = model.file();
+        let new = rewritten(&old).unwrap();
+        let at = reference::generate::configuration(&mut random, &model);
+        let inputs: Vec<Set> = (0..10).map(|_| input(&mut random, &shape)).collect();
+        let mut old_rows = vec![0xA5; 10 * (10 + at.len()) + 1];
+        let mut new_rows = old_rows.clone();
+        assert_eq!(run(&old, &at, &inputs, &mut old_rows), refusal::SUCCESS);
+        assert_eq!(run(&new, &at, &inputs, &mut new_rows), refusal::SUCCESS);
+        assert_eq!(old_rows, new_rows);
+    }
+}
+
+#[test]
+fn the_rewritten_file_is_accepted_has_no_slaves_and_stays_when_rewritten_again() {
+    let mut random = Random::new(7);
+    let mut seen = 0;
+    for _ in 0..2_000 {
+        let shape = shape(&mut random, CHARTS);
+        let model = model(&mut random, &shape);
+        if let Ok(new) = rewritten(&model.file()) {
+            assert_eq!(check(&new), refusal::SUCCESS);
+            let read = accept(&new).unwrap();
+            assert!(read.slaves.is_empty());
+            assert_eq!(rewritten(&new), Ok(new));
+            for (old, new) in model.charts.iter().zip(&read.charts) {
+                assert_eq!((old.states, old.initial), (new.states, new.initial));
+                assert_eq!((old.feedback, old.extra), (new.feedback, new.extra));
+            }
+            seen += usize::from(!model.slaves.is_empty());
+        }
+    }
+    assert!(seen > 500);
+}
+
+#[test]
+fn idle_transitions_of_a_slave_that_is_a_master_carry_no_call() {
+    let mut random = Random::new(8);
+    let mut seen = 0;
+    for _ in 0..2_000 {
+        let shape = shape(&mut random, CHARTS);
+        let model = model(&mut random, &shape);
+        let calls = calls(&model).unwrap();
+        let new = rewrite_model(&model, &calls);
+        for (number, (old, new)) in model.charts.iter().zip(&new.charts).enumerate() {
+            let idle = &new.transitions[old.transitions.len()..];
+            match model.nearest_slave(number as u8) {
+                None => assert!(idle.is_empty()),
+                Some(place) => {
+                    assert_eq!(idle.len(), usize::from(old.states));
+                    for (state, transition) in idle.iter().enumerate() {
+                        assert_eq!(usize::from(transition.from), state);
+                        assert_eq!(usize::from(transition.to), state);
+                        assert_eq!(transition.needed, Set::EMPTY);
+                        assert_eq!(transition.barred, calls[place]);
+                        assert_eq!(transition.action, Set::EMPTY);
+                    }
+                    seen += usize::from(model.is_master(number as u8));
+                }
+            }
+        }
+    }
+    assert!(seen > 300);
+}
+
+#[test]
+fn the_nodes_of_two_masters_by_hand() {
+    use reference::cases::charts::{chart, composed, hidden, leaf, slave};
+    let model = Model {
+        charts: vec![
+            chart(2, &[0], vec![]),
+            chart(3, &[1], vec![]),
+            chart(1, &[], vec![]),
+            chart(1, &[], vec![]),
+        ],
+        slaves: vec![slave(0, 1, 2), slave(1, 0, 1), slave(1, 2, 0)],
+        nodes: vec![leaf(3), leaf(2), leaf(1), leaf(0), hidden(3, &[9], &[])],
+    };
+    assert_eq!(check(&model.file()), refusal::SUCCESS);
+    // free are 2, 3, 4: the call of chart 0's slave is 2, of chart 1's slaves 3 and 4
+    let new = accept(&rewritten(&model.file()).unwrap()).unwrap();
+    let expected: Vec<Node> = vec![
+        leaf(3),
+        leaf(2),
+        leaf(1),
+        composed(2, 1, &[1, 3, 4]),
+        composed(3, 0, &[1, 3, 4]),
+        hidden(4, &[3, 4], &[3, 4]),
+        leaf(0),
+        composed(6, 5, &[0, 2]),
+        hidden(7, &[2], &[2]),
+        hidden(8, &[9], &[]),
+    ];
+    assert_eq!(new.nodes, expected);
+}
+
+/// 01, No. 43 cannot be met: charts that pass 42 have at most 8 times 64 transitions.
+#[test]
+fn refusal_43_cannot_be_met() {
+    const { assert!(CHARTS * CHART_TRANSITIONS <= TRANSITIONS) };
+}

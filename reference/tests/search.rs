@@ -1,0 +1,59 @@
+//! The search leaves out only choices that are not permitted, and keeps the order.
+
+use reference::generate::{configuration, input, model, shape, Random};
+use reference::model::Model;
+use reference::step::{Outcome, Place, Situation};
+
+/// Every choice there is, in order: for each chart none, then each of its transitions.
+fn all_choices(model: &Model) -> Vec<Vec<Place>> {
+    let mut choices: Vec<Vec<Place>> = vec![vec![]];
+    for chart in &model.charts {
+        let mut places: Vec<Place> = vec![None];
+        places.extend((0..chart.transitions.len()).map(Some));
+        choices = choices
+            .into_iter()
+            .flat_map(|choice| {
+                places.iter().map(move |&place| {
+                    let mut longer = choice.clone();
+                    longer.push(place);
+                    longer
+                })
+            })
+            .collect();
+    }
+    choices
+}
+
+/// The permitted ones of some choices, with what they lead to.
+fn permitted(situation: &Situation, choices: &[Vec<Place>]) -> Vec<(Vec<Place>, Outcome)> {
+    choices
+        .iter()
+        .filter_map(|choice| Some((choice.clone(), situation.permitted(choice)?)))
+        .collect()
+}
+
+#[test]
+fn open_choices_hold_all_permitted_ones_in_order() {
+    let mut random = Random::new(4);
+    let (mut compared, mut with_slaves, mut several) = (0, 0, 0);
+    while compared < 400 {
+        let shape = shape(&mut random, 5);
+        let model = model(&mut random, &shape);
+        let places = model.charts.iter().map(|c| c.transitions.len() + 1);
+        if places.product::<usize>() > 5_000 {
+            continue;
+        }
+        let at = configuration(&mut random, &model);
+        let situation = Situation::new(&model, &at, input(&mut random, &shape));
+        let all = all_choices(&model);
+        assert!(all.windows(2).all(|pair| pair[0] < pair[1]), "in order");
+        let mut open = Vec::new();
+        situation.each_open_choice(&mut |choice| open.push(choice.to_vec()));
+        let expected = permitted(&situation, &all);
+        assert_eq!(permitted(&situation, &open), expected);
+        compared += 1;
+        with_slaves += usize::from(!model.slaves.is_empty());
+        several += usize::from(expected.len() > 1);
+    }
+    assert!(with_slaves > 100 && several > 50);
+}
