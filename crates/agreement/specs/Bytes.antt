@@ -13,6 +13,7 @@ use Rattle.layout.specs.declared.record.Trailer.{Trailer}
 use Rattle.layout.specs.declared.record.Head.{Head}
 use Rattle.layout.specs.declared.record.Transition.{Transition}
 use Rattle.layout.specs.declared.record.Node.{Node}
+use Rattle.meaning.specs.Numbers.{mostInChart}
 use Rattle.meaning.specs.Count.Laws.{any-never}
 use Rattle.meaning.specs.File.{File}
 use Rattle.meaning.specs.Rewriting.{chartWith, rewrittenChart, rewrite, inChart?, inTurn, headFor, transitionsBytes, bodyBytes, encode}
@@ -83,7 +84,7 @@ module _ (F : File) (rg : Regular F) (gv : Given F) where
   heads : (c : ℕ) → c < F .charts → Bytes (headBytes (headFor (R .chart c)))
   unfolding headFor rewrittenChart chartWith inChart?
   heads c l = head-bytes (headFor (R .chart c)) (let h = rg .most-states c l in omega arith) (let h = rg .most-states c l in let g = rg .initials c l in omega arith)
-      (let h = ltb-false 64 (length (R .chart c .transitions)) (any-never (F .charts) (λ c. ltb 64 (length (R .chart c .transitions))) (gv .lists) c l) in omega arith)
+      (let h = ltb-false mostInChart (length (R .chart c .transitions)) (any-never (F .charts) (λ c. ltb mostInChart (length (R .chart c .transitions))) (gv .lists) c l) in omega arith)
 
   lists : (c : ℕ) → c < F .charts → Bytes (transitionsBytes (R .chart c .transitions))
   lists c l = transitions-bytes (R .chart c .transitions) (every-imp (λ t. (t .from < F .chart c .states) × (t .to < F .chart c .states)) (λ t. (t .from < 256) × (t .to < 256))

@@ -5,6 +5,7 @@ use mathlib.Core.Bool.{Bool, true, false, cond}
 use mathlib.Core.List.{List, [], _∷_, _++_, append-assoc}
 use Prim.Native.Nat.{ℕ, zero, suc, _+_, _*_, _-_, _≤_, _<_}
 use native.Mathlib.Omega.{arith}
+use borrow.Author.Tests.{ltb-false}
 use lib.Dec.{ltb, lit<}
 use lib.ListN.{length, getD, drop}
 use Rattle.layout.specs.Le.{AllBytes}
@@ -14,6 +15,8 @@ use Rattle.meaning.specs.Count.{anyUpTo}
 use Rattle.meaning.specs.Count.Laws.{any-never, any-cong}
 use Rattle.meaning.specs.Meaning.{Set, ∅, same, refused, given}
 use Rattle.meaning.specs.File.{endOf, trailer, bodyOf, shapeOf, chartOf, fileAt, fileOf}
+use Rattle.meaning.specs.Numbers.{mostTransitions, mostNodes, wrongLength, badState, shortBuffer, shortRows}
+use Rattle.meaning.specs.Check.Laws.{firstOf-passes, Passed, passed, call-passed, counted, charted}
 use Rattle.meaning.specs.Check.{Test, firstOf, differ, notBelow, fileTests, refusalOf}
 use Rattle.meaning.specs.Calls.{made, laidOver, firstRefusal, initials, firstBytes, inputOf, outputOf, configTests, stepRefusal, stepIn, stepOf, runRefusal, rowsOf, runBytes}
 use Rattle.meaning.specs.Rewriting.{chartWith, rewrittenChart, rewriteTests, rewriteBytes, rewriteRefusal, rewrite, rewriteLength, shapeIn}
@@ -21,45 +24,40 @@ use Rattle.meaning.specs.Laws.Bools.{same-refl, same→≡}
 use Rattle.agreement.specs.Step.{Valid, Rewritten, step-is}
 use Rattle.agreement.specs.Run.{run-is}
 use Rattle.agreement.specs.Faces.{input-is, output-is}
-use Rattle.agreement.specs.Passed.{Passed, passed, first, passed-then, passes-then, passes, counted, charted, ended, smalls, body-bytes, ready, below, at-most}
+use Rattle.agreement.specs.Passed.{front, in-front, below, ended, smalls, body-bytes, ready}
 use Rattle.agreement.specs.New.{Regular}
 use Rattle.agreement.specs.Plain.{plain-same}
 use Rattle.agreement.specs.Written.{encode-again}
-use Rattle.agreement.specs.Again.{Given, fits, again, new-reads, new-slaves}
+use Rattle.agreement.specs.Again.{Given, fits, new-passes, new-reads, new-slaves}
 use Rattle.agreement.specs.Bytes.{new-bytes as bytes-new}
 use Rattle.agreement.specs.Encoded.{length-encode, end-is, trailer-is}
 
 -- ── what a call that is not refused has ──
 
 pub record Allowed (f : List ℕ) (room : ℕ) : Type 0 where
-  pub passed : Passed f
+  pub checked : refusalOf f ≡ 0
   pub given : Given (fileOf f)
   pub fits : length (rewriteBytes f) ≤ room
 
 pub allowed : (f : List ℕ) (room : ℕ) → rewriteRefusal f room ≡ 0 → Allowed f room
-unfolding rewriteRefusal rewriteTests firstOf
+unfolding rewriteRefusal rewriteTests
 allowed f room e =
-    let p = passed-then f _ (ap firstOf (sym (append-assoc (fileTests f) (rewriteTests (fileOf f)) _)) ∙ e) in
-    let q0 = first _ 40 _ (lit< tt) (p .1) in
-    let q1 = first _ 41 _ (lit< tt) (q0 .1) in
-    let q2 = first _ 42 _ (lit< tt) (q1 .1) in
-    let q3 = first _ 43 _ (lit< tt) (q2 .1) in
-    let q4 = first _ 44 _ (lit< tt) (q3 .1) in
-    let q5 = first _ 45 _ (lit< tt) (q4 .1) in
+    let p = in-front f _ (ap firstOf (sym (append-assoc (fileTests f) (rewriteTests (fileOf f)) _)) ∙ e) in
+    let q = firstOf-passes _ (lit< tt, (lit< tt, (lit< tt, (lit< tt, (lit< tt, (lit< tt, tt)))))) (p .1) in
     record {
-      passed = p .0;
-      given = record { room = q0 .0; leaving = q1 .0; lists = q2 .0; total = at-most 512 _ (q3 .0); nodes = at-most 64 _ (q4 .0) };
-      fits = at-most room _ (q5 .0);
+      checked = p .0;
+      given = record { room = q .0; leaving = q .1 .0; lists = q .1 .1 .0; total = ltb-false mostTransitions _ (q .1 .1 .1 .0); nodes = ltb-false mostNodes _ (q .1 .1 .1 .1 .0) };
+      fits = ltb-false room _ (q .1 .1 .1 .1 .1 .0);
     }
 
 pub regular : (f : List ℕ) → AllBytes f → Passed f → Regular (fileOf f)
 unfolding fileOf fileAt chartOf shapeOf
 regular f ab p = record {
   ready = ready f p ab;
-  some-chart = counted f p .some-chart;
-  charts = counted f p .charts;
-  most-states = λ c l. charted f p c l .states;
-  initials = λ c l. charted f p c l .initial;
+  some-chart = counted (trailer f) (p .counts) .some-chart;
+  charts = counted (trailer f) (p .counts) .charts;
+  most-states = λ c l. charted (shapeOf (trailer f)) (bodyOf f) (p .charts) c l .states;
+  initials = λ c l. charted (shapeOf (trailer f)) (bodyOf f) (p .charts) c l .initial;
   feedbacks = λ c l. let h = headAt-fits (shapeOf (trailer f)) (bodyOf f) (body-bytes f p ab) c in (h .feedback, h .extra);
   lists = λ c l. smalls f p ab c;
   states = λ c l. ended f p c l;
@@ -77,15 +75,11 @@ module _ (f : List ℕ) (ab : AllBytes f) (room : ℕ) (ok : rewriteRefusal f ro
   abbrev f′ : List ℕ
   f′ = rewriteBytes f
 
-  p : Passed f
-  p = allowed f room ok .passed
+  h : refusalOf f ≡ 0
+  h = allowed f room ok .checked
 
   rg : Regular (fileOf f)
-  rg = regular f ab p
-
-  p′ : Passed f′
-  unfolding rewriteBytes
-  p′ = again (fileOf f) rg (allowed f room ok .given)
+  rg = regular f ab (passed f h)
 
   r : Rewritten (fileOf f) (fileOf f′)
   unfolding rewriteBytes
@@ -93,7 +87,8 @@ module _ (f : List ℕ) (ab : AllBytes f) (room : ℕ) (ok : rewriteRefusal f ro
 
   -- "checking": it is a file
   pub same-check : refusalOf f′ ≡ 0
-  same-check = passes f′ p′
+  unfolding rewriteBytes
+  same-check = new-passes (fileOf f) rg (allowed f room ok .given)
 
   -- "No slaves remain"
   pub no-slaves : fileOf f′ .slaves ≡ 0
@@ -123,34 +118,29 @@ module _ (f : List ℕ) (ab : AllBytes f) (room : ℕ) (ok : rewriteRefusal f ro
   pub same-first : (buffer : List ℕ) → firstBytes f′ buffer ≡ firstBytes f buffer
   unfolding firstBytes firstRefusal initials rewrittenChart chartWith
   same-first buffer = ap₂ (λ n xs. cond (same n 0) (laidOver xs buffer) buffer)
-      (passes-then f′ _ p′ ∙ ap (λ n. firstOf (record { number = 22; applies = ltb (length buffer) n } ∷ [])) (r .charts) ∙ sym (passes-then f _ p))
+      (call-passed f′ _ same-check ∙ ap (λ n. firstOf (record { number = shortBuffer; applies = ltb (length buffer) n } ∷ [])) (r .charts) ∙ sym (call-passed f _ h))
       (ap (λ n. made n (λ c. fileOf f′ .chart c .initial)) (r .charts) ∙ made-same (fileOf f .charts) _ _ (λ c l. ap (λ C. C .initial) (r .chart c l)))
 
   -- the interface
   pub same-input : inputOf f′ ≡ inputOf f
   unfolding inputOf
-  same-input = ap₂ (λ n s. cond (same n 0) s ∅) (same-check ∙ sym (passes f p)) (input-is (fileOf f) (rg .ready) (fileOf f′) r)
+  same-input = ap₂ (λ n s. cond (same n 0) s ∅) (same-check ∙ sym h) (input-is (fileOf f) (rg .ready) (fileOf f′) r)
 
   pub same-output : outputOf f′ ≡ outputOf f
   unfolding outputOf
-  same-output = ap₂ (λ n s. cond (same n 0) s ∅) (same-check ∙ sym (passes f p)) (output-is (fileOf f) (rg .ready) (fileOf f′) r)
+  same-output = ap₂ (λ n s. cond (same n 0) s ∅) (same-check ∙ sym h) (output-is (fileOf f) (rg .ready) (fileOf f′) r)
 
   -- configurations: 20 and 21
   config-same : (config : List ℕ) → configTests f′ config ≡ configTests f config
   unfolding configTests
-  config-same config = ap₂ (λ n b. record { number = 20; applies = differ (length config) n } ∷ record { number = 21; applies = b } ∷ []) (r .charts)
+  config-same config = ap₂ (λ n b. record { number = wrongLength; applies = differ (length config) n } ∷ record { number = badState; applies = b } ∷ []) (r .charts)
       (ap (λ n. anyUpTo n (λ c. notBelow (getD config c 0) (fileOf f′ .chart c .states))) (r .charts)
       ∙ any-cong (fileOf f .charts) _ _ (λ c l. ap (notBelow (getD config c 0)) (states-same c l)))
 
   valid : (config : List ℕ) (us : List Test) → firstOf (configTests f config ++ us) ≡ 0 → Valid (fileOf f) config
-  unfolding configTests firstOf
-  valid config us e c l = below _ _ (any-never (fileOf f .charts) bad (inner .0) c l)
-    where
-      bad : ℕ → Bool
-      bad c = notBelow (getD config c 0) (fileOf f .chart c .states)
-
-      inner : (anyUpTo (fileOf f .charts) bad ≡ false) × (firstOf us ≡ 0)
-      inner = first (anyUpTo (fileOf f .charts) bad) 21 (firstOf us) (lit< tt) (first (differ (length config) (fileOf f .charts)) 20 (cond (anyUpTo (fileOf f .charts) bad) 21 (firstOf us)) (lit< tt) e .1)
+  unfolding configTests
+  valid config us e c l = let q = front (configTests f config) us (lit< tt, (lit< tt, tt)) e in
+      below _ _ (any-never (fileOf f .charts) (λ c. notBelow (getD config c 0) (fileOf f .chart c .states)) (q .0 .1 .0) c l)
 
   -- what a call answers whose tests are 1 to 11, 20, 21 and one more
   module _ {A : Type 0} (config : List ℕ) (u u′ : Test) (us : u′ ≡ u) (x x′ : A) (other : ℕ → A) (xs : Valid (fileOf f) config → x′ ≡ x) where
@@ -158,10 +148,10 @@ module _ (f : List ℕ) (ab : AllBytes f) (room : ℕ) (ok : rewriteRefusal f ro
     n = firstOf ((fileTests f ++ configTests f config) ++ (u ∷ []))
 
     tests : n ≡ firstOf (configTests f config ++ (u ∷ []))
-    tests = ap firstOf (append-assoc (fileTests f) (configTests f config) (u ∷ [])) ∙ passes-then f _ p
+    tests = ap firstOf (append-assoc (fileTests f) (configTests f config) (u ∷ [])) ∙ call-passed f _ h
 
     tests-same : firstOf ((fileTests f′ ++ configTests f′ config) ++ (u′ ∷ [])) ≡ n
-    tests-same = ap firstOf (append-assoc (fileTests f′) (configTests f′ config) (u′ ∷ [])) ∙ passes-then f′ _ p′
+    tests-same = ap firstOf (append-assoc (fileTests f′) (configTests f′ config) (u′ ∷ [])) ∙ call-passed f′ _ same-check
         ∙ ap₂ (λ ts u. firstOf (ts ++ (u ∷ []))) (config-same config) us ∙ sym tests
 
     answer-same : cond (same (firstOf ((fileTests f′ ++ configTests f′ config) ++ (u′ ∷ []))) 0) x′ (other (firstOf ((fileTests f′ ++ configTests f′ config) ++ (u′ ∷ [])))) ≡ cond (same n 0) x (other n)
@@ -174,13 +164,13 @@ module _ (f : List ℕ) (ab : AllBytes f) (room : ℕ) (ok : rewriteRefusal f ro
   -- the step
   pub same-step : (config : List ℕ) (i : Set) (left : ℕ) → stepOf f′ config i left ≡ stepOf f config i left
   unfolding stepOf stepRefusal
-  same-step config i left = answer-same config _ _ (ap (λ n. record { number = 22; applies = ltb left n }) (r .charts)) (stepIn (fileOf f) config i) (stepIn (fileOf f′) config i) refused
+  same-step config i left = answer-same config _ _ (ap (λ n. record { number = shortBuffer; applies = ltb left n }) (r .charts)) (stepIn (fileOf f) config i) (stepIn (fileOf f′) config i) refused
       (λ v. step-is (fileOf f) (rg .ready) (fileOf f′) r config v i)
 
   -- the run
   pub same-run : (config : List ℕ) (inputs : List Set) (rows : List ℕ) → runBytes f′ config inputs rows ≡ runBytes f config inputs rows
   unfolding runBytes runRefusal
-  same-run config inputs rows = answer-same config _ _ (ap (λ n. record { number = 27; applies = ltb (length rows) (length inputs * (10 + n)) }) (r .charts))
+  same-run config inputs rows = answer-same config _ _ (ap (λ n. record { number = shortRows; applies = ltb (length rows) (length inputs * (10 + n)) }) (r .charts))
       (laidOver (rowsOf (fileOf f) config inputs) rows) (laidOver (rowsOf (fileOf f′) config inputs) rows) (λ n. rows)
       (λ v. ap (λ z. laidOver z rows) (run-is (fileOf f) (rg .ready) (fileOf f′) r inputs config v))
 

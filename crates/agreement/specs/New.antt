@@ -14,6 +14,7 @@ use Rattle.signals.specs.Mask.Laws.{union-lt}
 use Rattle.signals.specs.All.{single-lt}
 use Rattle.layout.specs.declared.record.Transition.{Transition}
 use Rattle.layout.specs.declared.record.Node.{Node}
+use Rattle.meaning.specs.Numbers.{mostCharts, mostStates}
 use Rattle.meaning.specs.Meaning.{Set, ∅, same}
 use Rattle.meaning.specs.File.{File}
 use Rattle.meaning.specs.Rewriting.{free, call, callIn, called, idle, idles, chartWith, nearestSlave, isOf, touches, callsBy, callsOf, rewrittenChart, noFree?, count, start, newName, composed, madeBy, madeFor, laid, newNode, rewrite}
@@ -28,8 +29,8 @@ use Rattle.agreement.specs.Step.{Ready, nearest-is}
 pub record Regular (F : File) : Type 0 where
   pub ready : Ready F
   pub some-chart : 0 < F .charts
-  pub charts : F .charts ≤ 8
-  pub most-states : (c : ℕ) → c < F .charts → F .chart c .states ≤ 16
+  pub charts : F .charts ≤ mostCharts
+  pub most-states : (c : ℕ) → c < F .charts → F .chart c .states ≤ mostStates
   pub initials : (c : ℕ) → c < F .charts → F .chart c .initial < F .chart c .states
   pub feedbacks : (c : ℕ) → c < F .charts → (F .chart c .feedback < 2 ^ 64) × (F .chart c .extra < 2 ^ 64)
   pub lists : (c : ℕ) → c < F .charts → Every Small (F .chart c .transitions)

@@ -6,6 +6,7 @@ use mathlib.Core.List.{List, [], _∷_, _++_}
 use Prim.Native.Nat.{ℕ, zero, suc, _+_, _*_, _-_, _/_, _%_, _≤_, _<_}
 use native.Mathlib.Nat.{add-zero, mul-zero, mul-suc}
 use native.Mathlib.Omega.{arith}
+use borrow.Author.Tests.{ltb-false}
 use lib.Arith.{digits-mod, digits-div}
 use lib.ListN.{length, getD, take, drop, length-drop, take-append-drop}
 use lib.Seq.{take-add, drop-drop, ext-getD, getD-take, getD-drop, length-take-le, take-all}
@@ -20,9 +21,10 @@ use Rattle.meaning.specs.Numbers.{theEdition}
 use Rattle.meaning.specs.Count.{anyUpTo, tally}
 use Rattle.meaning.specs.Count.Laws.{or-left, or-right, any-never}
 use Rattle.meaning.specs.File.{File, endOf, trailer, bodyOf, shapeOf, chartOf, fileAt, fileOf}
-use Rattle.meaning.specs.Check.{differ, nonzero, zeros?, chart?, charts?, distance?}
+use Rattle.meaning.specs.Check.{differ, nonzero, zeros?, distance?}
 use Rattle.meaning.specs.Rewriting.{inTurn, headFor, transitionsBytes, transitionsIn, shapeIn, bodyBytes, encode}
-use Rattle.agreement.specs.Passed.{Passed, alike, at-most, body-bytes}
+use Rattle.meaning.specs.Check.Laws.{Passed, summed}
+use Rattle.agreement.specs.Passed.{alike, body-bytes}
 
 -- ── numbers ──
 
@@ -132,10 +134,10 @@ module _ (f : List ℕ) (p : Passed f) (ab : AllBytes f) where
 
   distance-most : trailer f .distance ≤ endOf f
   unfolding distance?
-  distance-most = at-most (endOf f) (trailer f .distance) (or-right (differ (trailer f .distance) (sizeOf n)) _ (p .distance))
+  distance-most = ltb-false (endOf f) (trailer f .distance) (or-right (differ (trailer f .distance) (sizeOf n)) _ (p .distance))
 
   long : 12 ≤ length f
-  long = at-most (length f) 12 (p .long)
+  long = p .long
 
   length-b : length b ≡ sizeOf n
   unfolding bodyOf
@@ -151,8 +153,7 @@ module _ (f : List ℕ) (p : Passed f) (ab : AllBytes f) where
   list-length c = length-from (transitionAt n b) (startOf n b c) (headAt n b c .transitions)
 
   total : startOf n b (n .charts) ≡ n .transitions
-  unfolding charts?
-  total = alike _ _ (or-right (anyUpTo (n .charts) (chart? n b)) _ (p .charts))
+  total = summed n b (p .charts)
 
   count-is : (k : ℕ) → tally k (λ c. length (transitionsOf n b c)) ≡ startOf n b k
   unfolding tally startOf
