@@ -115,10 +115,13 @@ module _ (f : List ℕ) (ab : AllBytes f) (room : ℕ) (ok : rewriteRefusal f ro
   states-same c l = ap (λ C. C .states) (r .chart c l)
 
   -- the first configuration
+  pub same-first-refusal : (left : ℕ) → firstRefusal f′ left ≡ firstRefusal f left
+  unfolding firstRefusal
+  same-first-refusal left = call-passed f′ _ same-check ∙ ap (λ n. firstOf (record { number = shortBuffer; applies = ltb left n } ∷ [])) (r .charts) ∙ sym (call-passed f _ h)
+
   pub same-first : (buffer : List ℕ) → firstBytes f′ buffer ≡ firstBytes f buffer
-  unfolding firstBytes firstRefusal initials rewrittenChart chartWith
-  same-first buffer = ap₂ (λ n xs. cond (same n 0) (laidOver xs buffer) buffer)
-      (call-passed f′ _ same-check ∙ ap (λ n. firstOf (record { number = shortBuffer; applies = ltb (length buffer) n } ∷ [])) (r .charts) ∙ sym (call-passed f _ h))
+  unfolding firstBytes initials rewrittenChart chartWith
+  same-first buffer = ap₂ (λ n xs. cond (same n 0) (laidOver xs buffer) buffer) (same-first-refusal (length buffer))
       (ap (λ n. made n (λ c. fileOf f′ .chart c .initial)) (r .charts) ∙ made-same (fileOf f .charts) _ _ (λ c l. ap (λ C. C .initial) (r .chart c l)))
 
   -- the interface
@@ -142,20 +145,23 @@ module _ (f : List ℕ) (ab : AllBytes f) (room : ℕ) (ok : rewriteRefusal f ro
   valid config us e c l = let q = front (configTests f config) us (lit< tt, (lit< tt, tt)) e in
       below _ _ (any-never (fileOf f .charts) (λ c. notBelow (getD config c 0) (fileOf f .chart c .states)) (q .0 .1 .0) c l)
 
-  -- what a call answers whose tests are 1 to 11, 20, 21 and one more
-  module _ {A : Type 0} (config : List ℕ) (u u′ : Test) (us : u′ ≡ u) (x x′ : A) (other : ℕ → A) (xs : Valid (fileOf f) config → x′ ≡ x) where
+  -- a call whose tests are 1 to 11, 20, 21 and one more: its refusal, and what it answers
+  module _ (config : List ℕ) (u u′ : Test) (us : u′ ≡ u) where
     abbrev n : ℕ
     n = firstOf ((fileTests f ++ configTests f config) ++ (u ∷ []))
+
+    abbrev n′ : ℕ
+    n′ = firstOf ((fileTests f′ ++ configTests f′ config) ++ (u′ ∷ []))
 
     tests : n ≡ firstOf (configTests f config ++ (u ∷ []))
     tests = ap firstOf (append-assoc (fileTests f) (configTests f config) (u ∷ [])) ∙ call-passed f _ h
 
-    tests-same : firstOf ((fileTests f′ ++ configTests f′ config) ++ (u′ ∷ [])) ≡ n
+    tests-same : n′ ≡ n
     tests-same = ap firstOf (append-assoc (fileTests f′) (configTests f′ config) (u′ ∷ [])) ∙ call-passed f′ _ same-check
         ∙ ap₂ (λ ts u. firstOf (ts ++ (u ∷ []))) (config-same config) us ∙ sym tests
 
-    answer-same : cond (same (firstOf ((fileTests f′ ++ configTests f′ config) ++ (u′ ∷ []))) 0) x′ (other (firstOf ((fileTests f′ ++ configTests f′ config) ++ (u′ ∷ [])))) ≡ cond (same n 0) x (other n)
-    answer-same = ap (λ k. cond (same k 0) x′ (other k)) tests-same ∙ go (same n 0) refl
+    answer-same : {A : Type 0} (x x′ : A) (other : ℕ → A) → (Valid (fileOf f) config → x′ ≡ x) → cond (same n′ 0) x′ (other n′) ≡ cond (same n 0) x (other n)
+    answer-same {A} x x′ other xs = ap (λ k. cond (same k 0) x′ (other k)) tests-same ∙ go (same n 0) refl
       where
         go : (b : Bool) → same n 0 ≡ b → cond b x′ (other n) ≡ cond b x (other n)
         go true e = xs (valid config (u ∷ []) (sym tests ∙ same→≡ n 0 e))
@@ -168,9 +174,16 @@ module _ (f : List ℕ) (ab : AllBytes f) (room : ℕ) (ok : rewriteRefusal f ro
       (λ v. step-is (fileOf f) (rg .ready) (fileOf f′) r config v i)
 
   -- the run
+  rowsTest : ℕ → ℕ → ℕ → Test
+  rowsTest inputs left n = record { number = shortRows; applies = ltb left (inputs * (10 + n)) }
+
+  pub same-refusal : (config : List ℕ) (inputs left : ℕ) → runRefusal f′ config inputs left ≡ runRefusal f config inputs left
+  unfolding runRefusal rowsTest
+  same-refusal config inputs left = tests-same config _ _ (ap (rowsTest inputs left) (r .charts))
+
   pub same-run : (config : List ℕ) (inputs : List Set) (rows : List ℕ) → runBytes f′ config inputs rows ≡ runBytes f config inputs rows
-  unfolding runBytes runRefusal
-  same-run config inputs rows = answer-same config _ _ (ap (λ n. record { number = shortRows; applies = ltb (length rows) (length inputs * (10 + n)) }) (r .charts))
+  unfolding runBytes runRefusal rowsTest
+  same-run config inputs rows = answer-same config _ _ (ap (rowsTest (length inputs) (length rows)) (r .charts))
       (laidOver (rowsOf (fileOf f) config inputs) rows) (laidOver (rowsOf (fileOf f′) config inputs) rows) (λ n. rows)
       (λ v. ap (λ z. laidOver z rows) (run-is (fileOf f) (rg .ready) (fileOf f′) r inputs config v))
 
