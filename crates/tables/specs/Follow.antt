@@ -42,7 +42,7 @@ getD-made (suc n) f i l = go (same i n) refl (getD-made n f i)
     go false e r = let z : i ≢ n = λ w. false≢true (sym e ∙ rw w (same-refl n)) in let h = length-made n f in
         List·getD-append (made n f) (f n ∷ []) 0 i (omega arith) ∙ r (omega arith)
 
-length-nexts : (cfg : ℕ → ℕ) (M : ℕ → Move) (c n : ℕ) → length (nexts cfg M c n) ≡ n
+pub length-nexts : (cfg : ℕ → ℕ) (M : ℕ → Move) (c n : ℕ) → length (nexts cfg M c n) ≡ n
 unfolding nexts
 length-nexts cfg M c zero = refl
 length-nexts cfg M c (suc n) = ap suc (length-nexts cfg M (suc c) n)

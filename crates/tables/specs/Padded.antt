@@ -78,13 +78,15 @@ orElse-none (some a) b e = absurd (let z : _≡_ {A = ℕ} 0 1 = cc in omega ari
 
 among-left : (cs as′ bs : List Outcome) → Among cs as′ → Among cs (as′ ++ bs)
 among-left cs as′ bs i = record {
-      head = λ e. i .head (orElse-none (first as′) (first bs) (sym (first-append as′ bs) ∙ e) .0);
-      all = λ o e. i .all o (and-l (agree o as′) (agree o bs) (sym (agree-append o as′ bs) ∙ e)); }
+  head = λ e. i .head (orElse-none (first as′) (first bs) (sym (first-append as′ bs) ∙ e) .0);
+  all = λ o e. i .all o (and-l (agree o as′) (agree o bs) (sym (agree-append o as′ bs) ∙ e));
+}
 
 among-right : (as′ bs : List Outcome) → Among bs (as′ ++ bs)
 among-right as′ bs = record {
-      head = λ e. orElse-none (first as′) (first bs) (sym (first-append as′ bs) ∙ e) .1;
-      all = λ o e. and-r (agree o as′) (agree o bs) (sym (agree-append o as′ bs) ∙ e); }
+  head = λ e. orElse-none (first as′) (first bs) (sym (first-append as′ bs) ∙ e) .1;
+  all = λ o e. and-r (agree o as′) (agree o bs) (sym (agree-append o as′ bs) ∙ e);
+}
 
 pub among-each : (n : ℕ) (f : ℕ → List Outcome) (v : ℕ) → v < n → Among (f v) (each n f)
 unfolding each
@@ -143,8 +145,11 @@ module _ (N : ℕ) where
 
   pub padded-one : (a b : Outcome) → Pads a b → Padded (a ∷ []) (b ∷ [])
   unfolding first agree
-  padded-one a b p = record { heads = p; agrees = λ o o′ q. ap (λ r. r && true) (ap₂ _&&_ (ap₂ same (q .output) (p .output))
-      (ap₂ eqList (q .next) (p .next) ∙ eqList-behind (o′ .next) (b .next) (replicate (8 - N) 0) (q .size ∙ sym (p .size)))) }
+  padded-one a b p = record {
+    heads = p;
+    agrees = λ o o′ q. ap (λ r. r && true) (ap₂ _&&_ (ap₂ same (q .output) (p .output))
+        (ap₂ eqList (q .next) (p .next) ∙ eqList-behind (o′ .next) (b .next) (replicate (8 - N) 0) (q .size ∙ sym (p .size))));
+  }
 
   -- ++
 
