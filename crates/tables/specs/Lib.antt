@@ -4,3 +4,4 @@ pub mod Filled
 pub mod Padded
 pub mod Follow
 pub mod Whole
+pub mod Fill

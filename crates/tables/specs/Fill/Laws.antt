@@ -1,0 +1,168 @@
+-- Laws of filling. In order: a transition that is put down (put), one more transition (considered, listing), one more chart (until-next), the rows
+-- ahead (ahead-row, ahead-from), and that what is chosen by the tables is what a file's candidates are (candidates).
+use mathlib.Core.Path.{_≡_, refl, sym, _∙_, ap, ap₂, subst}
+use mathlib.Core.Bool.{Bool, true, false, _&&_, _||_, cond, true≢false, false≢true}
+use mathlib.Core.Option.{Option, none, some}
+use mathlib.Core.List.{List, [], _∷_}
+use mathlib.Core.Logic.{_≢_}
+use Prim.Native.Nat.{ℕ, zero, suc, _+_, _*_, _-_, _≤_, _<_}
+use native.Mathlib.Omega.{arith}
+use native.Mathlib.Numerals.{add-one}
+use lib.ListN.{length, getD, set, length-set}
+use lib.Seq.{getD-set-same, getD-set-other}
+use Rattle.signals.specs.Mask.{_∪_, _∩_, _∖_}
+use Rattle.signals.specs.Decide.{sets, A, B, C, D, ∅ₑ, _∪ₑ_, _∩ₑ_, _≐_}
+use Rattle.layout.specs.declared.record.Transition.{Transition}
+use Rattle.meaning.specs.Count.{anyUpTo, tally, one}
+use Rattle.meaning.specs.Meaning.{Set, same, Chart, Tree, Move, nth, pick, actionOf}
+use Rattle.meaning.specs.Laws.Bools.{same-refl, same→≡, same-≢, and-l, and-r}
+use Rattle.wiring.specs.Wire.{join, down, back, offered}
+use Rattle.wiring.specs.Dropped.{ahead, test, join-cong}
+use Rattle.wiring.specs.Hunt.{mayOf}
+use Rattle.wiring.specs.Filter.{lasts}
+use Rattle.search.specs.Table.{neededAt, barredAt, actionAt, backAt, aheadAt, toAt, countAt, stateAt}
+use Rattle.tables.specs.Filled.{Is, Listed, start, other, fails, again, fresh, mayAt, Rows, Candidates}
+use Rattle.tables.specs.Fill.{lastsBy, othersAt, Filling, isAt, isAgain, putMasks, putSmall, put, pickFilling, considered, listing, keepAt, Until, Chosen, AheadRow, AheadFrom}
+
+-- ── candidates that stay ──
+
+-- candidate v of chart d is in the tables m and s what it was in m₀ and s₀
+pub record Stays (m₀ s₀ m s : List ℕ) (d v : ℕ) : Type 0 where
+  needed : neededAt m d v ≡ neededAt m₀ d v
+  barred : barredAt m d v ≡ barredAt m₀ d v
+  action : actionAt m d v ≡ actionAt m₀ d v
+  to : toAt s d v ≡ toAt s₀ d v
+
+is-stays : (m₀ s₀ m s : List ℕ) (d v : ℕ) (t : Transition) → Stays m₀ s₀ m s d v → Is m₀ s₀ d v t → Is m s d v t
+is-stays m₀ s₀ m s d v t h i = record { needed = h .needed ∙ i .needed; barred = h .barred ∙ i .barred; action = h .action ∙ i .action; to = h .to ∙ i .to }
+
+listed-stays : (m₀ s₀ m s : List ℕ) (d : ℕ) (ts : List Transition) (q : ℕ) (keep : ℕ → Bool) {p n : ℕ} → Listed m₀ s₀ d ts q keep p n → ((v : ℕ) → v < n → Stays m₀ s₀ m s d v)
+    → Listed m s d ts q keep p n
+listed-stays m₀ s₀ m s d ts q keep start h = start
+listed-stays m₀ s₀ m s d ts q keep (other r t e f) h = other (listed-stays m₀ s₀ m s d ts q keep r h) t e f
+listed-stays m₀ s₀ m s d ts q keep (fails r e) h = fails (listed-stays m₀ s₀ m s d ts q keep r h) e
+listed-stays m₀ s₀ m s d ts q keep (again r t e v l i) h = again (listed-stays m₀ s₀ m s d ts q keep r h) t e v l (is-stays m₀ s₀ m s d v t (h v l) i)
+listed-stays m₀ s₀ m s d ts q keep (fresh {n = n} r t e f k i) h =
+    fresh (listed-stays m₀ s₀ m s d ts q keep r (λ v l. h v (omega arith))) t e f k (is-stays m₀ s₀ m s d n t (h n (omega arith)) i)
+
+-- ── put ──
+
+-- at other places of the masks nothing changes
+put-masks-off : (m : List ℕ) (c v : ℕ) (t : Transition) (i : ℕ) → i ≢ 8 * c + v → i ≢ 64 + (8 * c + v) → i ≢ 128 + (8 * c + v) → getD (putMasks m c v t) i 0 ≡ getD m i 0
+unfolding putMasks
+put-masks-off m c v t i a b d = getD-set-other (set (set m (8 * c + v) (t .needed)) (64 + (8 * c + v)) (t .barred)) (128 + (8 * c + v)) i (t .action) 0 d
+    ∙ getD-set-other (set m (8 * c + v) (t .needed)) (64 + (8 * c + v)) i (t .barred) 0 b ∙ getD-set-other m (8 * c + v) i (t .needed) 0 a
+
+put-small-off : (s : List ℕ) (c v : ℕ) (t : Transition) (i : ℕ) → i ≢ 8 * c + v → getD (putSmall s c v t) i 0 ≡ getD s i 0
+unfolding putSmall
+put-small-off s c v t i a = getD-set-other s (8 * c + v) i (t .to) 0 a
+
+pub length-put-masks : (m : List ℕ) (c v : ℕ) (t : Transition) → length (putMasks m c v t) ≡ length m
+unfolding putMasks
+length-put-masks m c v t = simp length-set
+
+pub length-put-small : (s : List ℕ) (c v : ℕ) (t : Transition) → length (putSmall s c v t) ≡ length s
+unfolding putSmall
+length-put-small s c v t = length-set s (8 * c + v) (t .to)
+
+module _ (m s : List ℕ) (c v : ℕ) (t : Transition) (lc : c < 8) (lv : v < 8) where
+  put-stays : (d u : ℕ) → d < 8 → u < 8 → (d ≢ c) → Stays m s (putMasks m c v t) (putSmall s c v t) d u
+  put-stays d u ld lu n =
+      record {
+        needed = put-masks-off m c v t (8 * d + u) (λ e. n (omega arith)) (λ e. omega arith) (λ e. omega arith);
+        barred = put-masks-off m c v t (64 + (8 * d + u)) (λ e. omega arith) (λ e. n (omega arith)) (λ e. omega arith);
+        action = put-masks-off m c v t (128 + (8 * d + u)) (λ e. omega arith) (λ e. omega arith) (λ e. n (omega arith));
+        to = put-small-off s c v t (8 * d + u) (λ e. n (omega arith));
+      }
+
+  put-earlier : (u : ℕ) → u < v → Stays m s (putMasks m c v t) (putSmall s c v t) c u
+  put-earlier u l =
+      record {
+        needed = put-masks-off m c v t (8 * c + u) (λ e. omega arith) (λ e. omega arith) (λ e. omega arith);
+        barred = put-masks-off m c v t (64 + (8 * c + u)) (λ e. omega arith) (λ e. omega arith) (λ e. omega arith);
+        action = put-masks-off m c v t (128 + (8 * c + u)) (λ e. omega arith) (λ e. omega arith) (λ e. omega arith);
+        to = put-small-off s c v t (8 * c + u) (λ e. omega arith);
+      }
+
+  put-is : length m ≡ 336 → length s ≡ 96 → Is (putMasks m c v t) (putSmall s c v t) c v t
+  unfolding putMasks putSmall
+  put-is lm ls =
+      record {
+        needed = getD-set-other (set (set m (8 * c + v) (t .needed)) (64 + (8 * c + v)) (t .barred)) (128 + (8 * c + v)) (8 * c + v) (t .action) 0 (λ e. omega arith)
+            ∙ getD-set-other (set m (8 * c + v) (t .needed)) (64 + (8 * c + v)) (8 * c + v) (t .barred) 0 (λ e. omega arith) ∙ getD-set-same m (8 * c + v) (t .needed) 0 (omega arith);
+        barred = getD-set-other (set (set m (8 * c + v) (t .needed)) (64 + (8 * c + v)) (t .barred)) (128 + (8 * c + v)) (64 + (8 * c + v)) (t .action) 0 (λ e. omega arith)
+            ∙ getD-set-same (set m (8 * c + v) (t .needed)) (64 + (8 * c + v)) (t .barred) 0 (simp length-set (omega arith));
+        action = getD-set-same (set (set m (8 * c + v) (t .needed)) (64 + (8 * c + v)) (t .barred)) (128 + (8 * c + v)) (t .action) 0 (simp length-set (omega arith));
+        to = getD-set-same s (8 * c + v) (t .to) 0 (omega arith);
+      }
+
+-- ── the same transition again ──
+
+at-is : (m s : List ℕ) (c v : ℕ) (t : Transition) → isAt m s c v t ≡ true → Is m s c v t
+unfolding isAt
+at-is m s c v t h =
+    let r = and-r (same (neededAt m c v) (t .needed)) _ h in
+    let r′ = and-r (same (barredAt m c v) (t .barred)) _ r in
+    record {
+      needed = same→≡ (neededAt m c v) (t .needed) (and-l _ _ h);
+      barred = same→≡ (barredAt m c v) (t .barred) (and-l _ _ r);
+      action = same→≡ (actionAt m c v) (t .action) (and-l _ _ r′);
+      to = same→≡ (toAt s c v) (t .to) (and-r (same (actionAt m c v) (t .action)) _ r′);
+    }
+
+any-one : (n : ℕ) (p : ℕ → Bool) → anyUpTo n p ≡ true → (v : ℕ) × (v < n) × (p v ≡ true)
+unfolding anyUpTo
+any-one zero p h = absurd (false≢true h)
+any-one (suc n) p h = go (anyUpTo n p) refl h (any-one n p)
+  where
+    go : (b : Bool) → anyUpTo n p ≡ b → (b || p n) ≡ true → (anyUpTo n p ≡ true → (v : ℕ) × (v < n) × (p v ≡ true)) → (v : ℕ) × (v < suc n) × (p v ≡ true)
+    go true e h r = let u = r e in (u .0, (let l = u .1 in omega arith), u .2)
+    go false e h r = (n, omega arith, h)
+
+-- ── one transition more ──
+
+module _ (c q : ℕ) (low own others : Set) where
+  abbrev step : Transition → Filling → Filling
+  step t f = considered c q low own others t f
+
+  -- whatever holds of a filling and of one with a candidate more holds after a transition was considered
+  by-cases : (P : Filling → Type 0) (t : Transition) (f : Filling) → (same (t .from) q ≡ false → P f) → (same (t .from) q ≡ true → lastsBy low own others (some t) ≡ false → P f)
+      → (isAgain (f .masks) (f .small) c (f .count) t ≡ true → P f) → (same (t .from) q ≡ true → lastsBy low own others (some t) ≡ true → P (put c t f)) → P (step t f)
+  unfolding considered
+  by-cases P t f a b d e = go₁ (same (t .from) q) refl
+    where
+      go₃ : same (t .from) q ≡ true → lastsBy low own others (some t) ≡ true → (x : Bool) → isAgain (f .masks) (f .small) c (f .count) t ≡ x → P (pickFilling x f (put c t f))
+      go₃ h k true g = d g
+      go₃ h k false g = e h k
+
+      go₂ : same (t .from) q ≡ true → (x : Bool) → lastsBy low own others (some t) ≡ x → P (pickFilling x (pickFilling (isAgain (f .masks) (f .small) c (f .count) t) f (put c t f)) f)
+      go₂ h true k = go₃ h k (isAgain (f .masks) (f .small) c (f .count) t) refl
+      go₂ h false k = b h k
+
+      go₁ : (x : Bool) → same (t .from) q ≡ x
+          → P (pickFilling x (pickFilling (lastsBy low own others (some t)) (pickFilling (isAgain (f .masks) (f .small) c (f .count) t) f (put c t f)) f) f)
+      go₁ true h = go₂ h (lastsBy low own others (some t)) refl
+      go₁ false h = a h
+
+  pub length-masks : (g : ℕ → Transition) (p : ℕ) (f : Filling) → length (listing c q low own others g p f .masks) ≡ length (f .masks)
+  unfolding listing
+  length-masks g zero f = refl
+  length-masks g (suc p) f = let l = listing c q low own others g p f in
+      by-cases (λ h. length (h .masks) ≡ length (l .masks)) (g p) l (λ e. refl) (λ e k. refl) (λ e. refl) (λ e k. length-put-masks (l .masks) c (l .count) (g p)) ∙ length-masks g p f
+
+  pub length-small : (g : ℕ → Transition) (p : ℕ) (f : Filling) → length (listing c q low own others g p f .small) ≡ length (f .small)
+  unfolding listing
+  length-small g zero f = refl
+  length-small g (suc p) f = let l = listing c q low own others g p f in
+      by-cases (λ h. length (h .small) ≡ length (l .small)) (g p) l (λ e. refl) (λ e k. refl) (λ e. refl) (λ e k. length-put-small (l .small) c (l .count) (g p)) ∙ length-small g p f
+
+  -- a chart has no more candidates than transitions from its state
+  abbrev pub leave : (ℕ → Transition) → ℕ → ℕ
+  leave g p = tally p (λ u. one (same (g u .from) q))
+
+  pub count-leave : (g : ℕ → Transition) (p : ℕ) (f : Filling) → listing c q low own others g p f .count ≤ f .count + leave g p
+  unfolding listing tally
+  count-leave g zero f = omega arith
+  count-leave g (suc p) f = let l = listing c q low own others g p f in let r = count-leave g p f in
+      by-cases (λ h. h .count ≤ f .count + (one (same (g p .from) q) + leave g p)) (g p) l (λ e. omega arith) (λ e k. omega arith) (λ e. omega arith)
+      (λ e k. rw e (omega arith))
