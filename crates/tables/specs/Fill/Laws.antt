@@ -45,6 +45,12 @@ listed-stays m₀ s₀ m s d ts q keep (again r t e v l i) h = again (listed-sta
 listed-stays m₀ s₀ m s d ts q keep (fresh {n = n} r t e f k i) h =
     fresh (listed-stays m₀ s₀ m s d ts q keep r (λ v l. h v (omega arith))) t e f k (is-stays m₀ s₀ m s d n t (h n (omega arith)) i)
 
+stays-refl : (m s : List ℕ) (d v : ℕ) → Stays m s m s d v
+stays-refl m s d v = record { needed = refl; barred = refl; action = refl; to = refl }
+
+stays-trans : (m₀ s₀ m₁ s₁ m s : List ℕ) (d v : ℕ) → Stays m₀ s₀ m₁ s₁ d v → Stays m₁ s₁ m s d v → Stays m₀ s₀ m s d v
+stays-trans m₀ s₀ m₁ s₁ m s d v a b = record { needed = b .needed ∙ a .needed; barred = b .barred ∙ a .barred; action = b .action ∙ a .action; to = b .to ∙ a .to }
+
 -- ── put ──
 
 -- at other places of the masks nothing changes
@@ -119,6 +125,15 @@ any-one (suc n) p h = go (anyUpTo n p) refl h (any-one n p)
     go true e h r = let u = r e in (u .0, (let l = u .1 in omega arith), u .2)
     go false e h r = (n, omega arith, h)
 
+tally-plus : (k : ℕ) (w : ℕ → ℕ) (p : ℕ) → p < k → w p + tally p w ≤ tally k w
+unfolding tally
+tally-plus zero w p l = absurd (omega arith)
+tally-plus (suc k) w p l = go (same p k) refl (tally-plus k w p)
+  where
+    go : (b : Bool) → same p k ≡ b → (p < k → w p + tally p w ≤ tally k w) → w p + tally p w ≤ w k + tally k w
+    go true e r = rw (same→≡ p k e) (omega arith)
+    go false e r = let z : p ≢ k = λ x. false≢true (sym e ∙ rw x (same-refl k)) in let h = r (omega arith) in omega arith
+
 -- ── one transition more ──
 
 module _ (c q : ℕ) (low own others : Set) where
@@ -166,3 +181,47 @@ module _ (c q : ℕ) (low own others : Set) where
   count-leave g (suc p) f = let l = listing c q low own others g p f in let r = count-leave g p f in
       by-cases (λ h. h .count ≤ f .count + (one (same (g p .from) q) + leave g p)) (g p) l (λ e. omega arith) (λ e k. omega arith) (λ e. omega arith)
       (λ e k. rw e (omega arith))
+
+  -- there is room for one more
+  pub leave-room : (g : ℕ → Transition) (p k : ℕ) (f : Filling) → f .count ≡ 0 → p < k → leave g k ≤ 8 → g p .from ≡ q → listing c q low own others g p f .count < 8
+  leave-room g p k f z l few e = let r = count-leave g p f in let x : one (same (g p .from) q) ≡ 1 = rw (e, same-refl q) in
+      let h = tally-plus k (λ u. one (same (g u .from) q)) p l in omega arith
+
+  module _ (lc : c < 8) (ts : List Transition) (keep : ℕ → Bool) (f₀ : Filling) where
+    -- the filling f after p transitions
+    pub record Lists (p : ℕ) (f : Filling) : Type 0 where
+      pub listed : Listed (f .masks) (f .small) c ts q keep p (f .count)
+      pub stays : (d u : ℕ) → d < 8 → u < 8 → d ≢ c → Stays (f₀ .masks) (f₀ .small) (f .masks) (f .small) d u
+      pub wires : (i : ℕ) → 192 ≤ i → getD (f .masks) i 0 ≡ getD (f₀ .masks) i 0
+      pub rest : (i : ℕ) → 64 ≤ i → getD (f .small) i 0 ≡ getD (f₀ .small) i 0
+
+    lists-next : (p : ℕ) (t : Transition) (f : Filling) → nth ts p ≡ some t → keep (suc p) ≡ lastsBy low own others (some t) → length (f .masks) ≡ 336 → length (f .small) ≡ 96
+        → (t .from ≡ q → f .count < 8) → Lists p f → Lists (suc p) (step t f)
+    lists-next p t f e k lm ls room l = by-cases (λ h. Lists (suc p) h) t f
+        (λ a. same-but (other (l .listed) t e (λ w. false≢true (sym a ∙ rw w (same-refl q)))))
+        (λ a b. same-but (fails (l .listed) (k ∙ b)))
+        (λ a. let u = again-one a in same-but (again (l .listed) t e (u .0) (u .1) (at-is (f .masks) (f .small) c (u .0) t (u .2))))
+        (λ a b. fresh-one (same→≡ (t .from) q a) (k ∙ b))
+      where
+        same-but : Listed (f .masks) (f .small) c ts q keep (suc p) (f .count) → Lists (suc p) f
+        same-but h = record { listed = h; stays = l .stays; wires = l .wires; rest = l .rest }
+
+        again-one : isAgain (f .masks) (f .small) c (f .count) t ≡ true → (v : ℕ) × (v < f .count) × (isAt (f .masks) (f .small) c v t ≡ true)
+        again-one a = any-one (f .count) (λ v. isAt (f .masks) (f .small) c v t) (unfold isAgain in a)
+
+        fresh-one : t .from ≡ q → keep (suc p) ≡ true → Lists (suc p) (put c t f)
+        fresh-one h b = let lv = room h in
+            record {
+              listed = rw (add-one (f .count)) (fresh (listed-stays (f .masks) (f .small) (putMasks (f .masks) c (f .count) t) (putSmall (f .small) c (f .count) t) c ts q keep (l .listed)
+                  (λ v r. put-earlier (f .masks) (f .small) c (f .count) t lc lv v r)) t e h b (put-is (f .masks) (f .small) c (f .count) t lc lv lm ls));
+              stays = λ d u ld lu n. stays-trans (f₀ .masks) (f₀ .small) (f .masks) (f .small) _ _ d u (l .stays d u ld lu n) (put-stays (f .masks) (f .small) c (f .count) t lc lv d u ld lu n);
+              wires = λ i r. put-masks-off (f .masks) c (f .count) t i (λ x. omega arith) (λ x. omega arith) (λ x. omega arith) ∙ l .wires i r;
+              rest = λ i r. put-small-off (f .small) c (f .count) t i (λ x. omega arith) ∙ l .rest i r;
+            }
+
+    pub listing-lists : (g : ℕ → Transition) (k p : ℕ) → p ≤ k → leave g k ≤ 8 → ((u : ℕ) → u < k → nth ts u ≡ some (g u)) → ((u : ℕ) → u < k → keep (suc u) ≡ lastsBy low own others (some (g u)))
+        → length (f₀ .masks) ≡ 336 → length (f₀ .small) ≡ 96 → f₀ .count ≡ 0 → Lists p (listing c q low own others g p f₀)
+    unfolding listing
+    listing-lists g k zero l few at kp lm ls z = record { listed = rw z start; stays = λ d u ld lu n. stays-refl (f₀ .masks) (f₀ .small) d u; wires = λ i r. refl; rest = λ i r. refl }
+    listing-lists g k (suc p) l few at kp lm ls z = lists-next p (g p) (listing c q low own others g p f₀) (at p l) (kp p l) (length-masks g p f₀ ∙ lm) (length-small g p f₀ ∙ ls)
+        (λ e. leave-room g p k f₀ z l few e) (listing-lists g k p (omega arith) few at kp lm ls z)
