@@ -93,12 +93,16 @@ module _ (ts : ℕ → List Transition) (cfg : ℕ → ℕ) (N : ℕ) (lows : Li
 
 -- ── what later charts may put out ──
 
--- row k of the first n charts, from row k + 1: chart k's candidates put out u
-pub record AheadRow (k : ℕ) (u : Set) (n : ℕ) (m₀ m : List ℕ) : Type 0 where
-  pub row : (c : ℕ) → c < n → aheadAt m k c ≡ u ∩ backAt m₀ c k ∪ aheadAt m₀ (suc k) c
+-- row k of the first n charts is w, the rest as it was
+pub record AheadRow (k : ℕ) (w : ℕ → Set) (n : ℕ) (m₀ m : List ℕ) : Type 0 where
+  pub row : (c : ℕ) → c < n → aheadAt m k c ≡ w c
   pub below : (i : ℕ) → i < 256 + 8 * k → getD m i 0 ≡ getD m₀ i 0
   pub above : (i : ℕ) → 256 + (8 * k + n) ≤ i → getD m i 0 ≡ getD m₀ i 0
   pub masks : length m ≡ length m₀
+
+-- row k from row k + 1: chart k's candidates put out u
+unfoldable pub aheadBy : List ℕ → ℕ → Set → ℕ → Set
+aheadBy m k u c = u ∩ backAt m c k ∪ aheadAt m (suc k) c
 
 -- the rows from k on
 pub record AheadFrom (N : ℕ) (s : List ℕ) (k : ℕ) (m₀ m : List ℕ) : Type 0 where

@@ -22,7 +22,7 @@ use Rattle.wiring.specs.Hunt.{mayOf}
 use Rattle.wiring.specs.Filter.{lasts}
 use Rattle.search.specs.Table.{neededAt, barredAt, actionAt, backAt, aheadAt, toAt, countAt, stateAt}
 use Rattle.tables.specs.Filled.{Is, Listed, start, other, fails, again, fresh, mayAt, Rows, Candidates}
-use Rattle.tables.specs.Fill.{lastsBy, othersAt, Filling, isAt, isAgain, putMasks, putSmall, put, pickFilling, considered, listing, keepAt, Until, Chosen, AheadRow, AheadFrom}
+use Rattle.tables.specs.Fill.{lastsBy, othersAt, Filling, isAt, isAgain, putMasks, putSmall, put, pickFilling, considered, listing, keepAt, Until, Chosen, AheadRow, aheadBy, AheadFrom}
 
 -- ── candidates that stay ──
 
@@ -225,3 +225,134 @@ module _ (c q : ℕ) (low own others : Set) where
     listing-lists g k zero l few at kp lm ls z = record { listed = rw z start; stays = λ d u ld lu n. stays-refl (f₀ .masks) (f₀ .small) d u; wires = λ i r. refl; rest = λ i r. refl }
     listing-lists g k (suc p) l few at kp lm ls z = lists-next p (g p) (listing c q low own others g p f₀) (at p l) (kp p l) (length-masks g p f₀ ∙ lm) (length-small g p f₀ ∙ ls)
         (λ e. leave-room g p k f₀ z l few e) (listing-lists g k p (omega arith) few at kp lm ls z)
+
+-- ── one chart more ──
+
+module _ (ts : ℕ → List Transition) (cfg : ℕ → ℕ) (N : ℕ) (lows m₀ s₀ : List ℕ) (few : N ≤ 8) where
+  -- the wiring of chart c is the same in tables that agree on it
+  others-same : (m m₁ : List ℕ) (may : ℕ → Set) (c : ℕ) → c < N → ((i : ℕ) → 192 ≤ i → i < 256 → getD m i 0 ≡ getD m₁ i 0) → othersAt m N may c ≡ othersAt m₁ N may c
+  unfolding othersAt
+  others-same m m₁ may c l h = join-cong N _ _ (λ e r. ap (λ z. cond (same e c) 0 (may e) ∩ z) (h (192 + (8 * c + e)) (omega arith) (omega arith)))
+
+  keep-same : (m m₁ : List ℕ) (c v : ℕ) → c < N → ((i : ℕ) → 192 ≤ i → i < 256 → getD m i 0 ≡ getD m₁ i 0) → keepAt ts cfg N lows m c v ≡ keepAt ts cfg N lows m₁ c v
+  unfolding keepAt
+  keep-same m m₁ c v l h = ap₂ (λ a b. lastsBy (getD lows c 0) a b (pick (ts c) v)) (h (192 + (8 * c + c)) (omega arith) (omega arith)) (others-same m m₁ _ c l h)
+
+  keep-by : (m : List ℕ) (c : ℕ) (low own others : Set) (u : ℕ) (t : Transition) → low ≡ getD lows c 0 → own ≡ backAt m c c → others ≡ othersAt m N (λ e. mayOf (ts e) (cfg e)) c
+      → nth (ts c) u ≡ some t → keepAt ts cfg N lows m c (suc u) ≡ lastsBy low own others (some t)
+  unfolding keepAt pick
+  keep-by m c low own others u t el eo es e = rw (el, eo, es, e)
+
+  pub until-none : length m₀ ≡ 336 → length s₀ ≡ 96 → Until ts cfg N lows m₀ s₀ 0 m₀ s₀
+  until-none lm ls = record { listed = λ c l. absurd (omega arith); counts = λ c l. absurd (omega arith); wires = λ i l. refl; rest = λ i l. refl; masks = lm; small = ls }
+
+  module _ (k : ℕ) (lk : k < N) (m s : List ℕ) (low own others : Set) (g : ℕ → Transition) where
+    abbrev done : Filling
+    done = listing k (cfg k) low own others g (length (ts k)) (record { masks = m; small = s; count = 0 })
+
+    abbrev counted : List ℕ
+    counted = set (done .small) (64 + k) (done .count)
+
+    -- chart k gets its candidates
+    pub until-next : Until ts cfg N lows m₀ s₀ k m s → ((u : ℕ) → u < length (ts k) → nth (ts k) u ≡ some (g u)) → tally (length (ts k)) (λ u. one (same (g u .from) (cfg k))) ≤ 8
+        → low ≡ getD lows k 0 → own ≡ backAt m k k → others ≡ othersAt m N (λ e. mayOf (ts e) (cfg e)) k → Until ts cfg N lows m₀ s₀ (suc k) (done .masks) counted
+    until-next un at room el eo es =
+        record {
+          listed = λ c l. go c l (same c k) refl;
+          counts = λ c l. go′ c l (same c k) refl;
+          wires = λ i l. li .wires i l ∙ un .wires i l;
+          rest = λ i l. getD-set-other (done .small) (64 + k) i (done .count) 0 (λ e. omega arith) ∙ li .rest i (omega arith) ∙ un .rest i (omega arith);
+          masks = length-masks k (cfg k) low own others g (length (ts k)) f₀ ∙ un .masks;
+          small = length-set (done .small) (64 + k) (done .count) ∙ ls;
+        }
+      where
+        f₀ : Filling
+        f₀ = record { masks = m; small = s; count = 0 }
+
+        ls : length (done .small) ≡ 96
+        ls = length-small k (cfg k) low own others g (length (ts k)) f₀ ∙ un .small
+
+        kept : (u : ℕ) → u < length (ts k) → keepAt ts cfg N lows m₀ k (suc u) ≡ lastsBy low own others (some (g u))
+        kept u l = keep-same m₀ m k (suc u) lk (λ i r _. sym (un .wires i r)) ∙ keep-by m k low own others u (g u) el eo es (at u l)
+
+        li : Lists k (cfg k) low own others (let h = few in omega arith) (ts k) (keepAt ts cfg N lows m₀ k) f₀ (length (ts k)) done
+        li = listing-lists k (cfg k) low own others (let h = few in omega arith) (ts k) (keepAt ts cfg N lows m₀ k) f₀ g (length (ts k)) (length (ts k)) (omega arith) room at kept (un .masks) (un .small) refl
+
+        full : done .count ≤ 8
+        full = let h = count-leave k (cfg k) low own others g (length (ts k)) f₀ in omega arith
+
+        to-stays : (c v : ℕ) → c < 8 → v < 8 → Stays (done .masks) (done .small) (done .masks) counted c v
+        to-stays c v l r = record { needed = refl; barred = refl; action = refl; to = getD-set-other (done .small) (64 + k) (8 * c + v) (done .count) 0 (λ e. omega arith) }
+
+        count-at : countAt counted k ≡ done .count
+        count-at = getD-set-same (done .small) (64 + k) (done .count) 0 (let h = ls in omega arith)
+
+        count-off : (c : ℕ) → c ≢ k → countAt counted c ≡ countAt s c
+        count-off c n = getD-set-other (done .small) (64 + k) (64 + c) (done .count) 0 (λ e. n (omega arith)) ∙ li .rest (64 + c) (omega arith)
+
+        apart? : (c : ℕ) → same c k ≡ false → c ≢ k
+        apart? c e w = false≢true (sym e ∙ rw w (same-refl k))
+
+        go : (c : ℕ) → c < suc k → (b : Bool) → same c k ≡ b → Listed (done .masks) counted c (ts c) (cfg c) (keepAt ts cfg N lows m₀ c) (length (ts c)) (countAt counted c)
+        go c l true e = rw (same→≡ c k e, count-at) (listed-stays (done .masks) (done .small) (done .masks) counted k (ts k) (cfg k) (keepAt ts cfg N lows m₀ k) (li .listed)
+            (λ v r. to-stays k v (omega arith) (let h = full in omega arith)))
+        go c l false e = let n = apart? c e in let h = un .counts c (omega arith) in rw (count-off c n)
+            (listed-stays m s (done .masks) counted c (ts c) (cfg c) (keepAt ts cfg N lows m₀ c) (un .listed c (omega arith))
+            (λ v r. stays-trans m s (done .masks) (done .small) (done .masks) counted c v (li .stays c v (omega arith) (omega arith) n) (to-stays c v (omega arith) (omega arith))))
+
+        go′ : (c : ℕ) → c < suc k → (b : Bool) → same c k ≡ b → countAt counted c ≤ 8
+        go′ c l true e = rw (same→≡ c k e, count-at) full
+        go′ c l false e = rw (count-off c (apart? c e)) (un .counts c (let n = apart? c e in omega arith))
+
+-- ── the rows ahead ──
+
+pub row-none : (k : ℕ) (w : ℕ → Set) (m : List ℕ) → AheadRow k w 0 m m
+row-none k w m = record { row = λ c l. absurd (omega arith); below = λ i l. refl; above = λ i l. refl; masks = refl }
+
+pub row-next : (k : ℕ) (w : ℕ → Set) (n : ℕ) (m₀ m : List ℕ) (v : Set) → AheadRow k w n m₀ m → 256 + (8 * k + n) < length m₀ → v ≡ w n → AheadRow k w (n + 1) m₀ (set m (256 + (8 * k + n)) v)
+row-next k w n m₀ m v a l e =
+    record {
+      row = λ c r. go c r (same c n) refl;
+      below = λ i r. getD-set-other m (256 + (8 * k + n)) i v 0 (λ x. omega arith) ∙ a .below i r;
+      above = λ i r. getD-set-other m (256 + (8 * k + n)) i v 0 (λ x. omega arith) ∙ a .above i (omega arith);
+      masks = length-set m (256 + (8 * k + n)) v ∙ a .masks;
+    }
+  where
+    go : (c : ℕ) → c < n + 1 → (b : Bool) → same c n ≡ b → getD (set m (256 + (8 * k + n)) v) (256 + (8 * k + c)) 0 ≡ w c
+    go c r true x = rw (same→≡ c n x) (getD-set-same m (256 + (8 * k + n)) v 0 (let h = a .masks in omega arith) ∙ e)
+    go c r false x = let z : c ≢ n = λ y. false≢true (sym x ∙ rw y (same-refl n)) in
+        getD-set-other m (256 + (8 * k + n)) (256 + (8 * k + c)) v 0 (λ y. omega arith) ∙ a .row c (omega arith)
+
+module _ (N : ℕ) (few : N ≤ 8) (s m₀ : List ℕ) where
+  -- nothing is left after the last chart
+  pub from-last : (m : List ℕ) → AheadRow N (λ c. 0) N m₀ m → AheadFrom N s N m₀ m
+  unfolding ahead
+  from-last m a =
+      record {
+        rows = λ j c p q l. let e : j ≡ N = omega arith in let z : N - N ≡ 0 = omega arith in rw (e, z) (a .row c l);
+        below = λ i l. a .below i (omega arith);
+        above = λ i l. a .above i (omega arith);
+        masks = a .masks;
+      }
+
+  may-same : (m : List ℕ) (c : ℕ) → c < N → countAt s c ≤ 8 → ((i : ℕ) → i < 256 → getD m i 0 ≡ getD m₀ i 0) → mayAt m s c ≡ mayAt m₀ s c
+  unfolding mayAt
+  may-same m c l f h = join-cong (countAt s c) _ _ (λ v r. h (128 + (8 * c + v)) (omega arith))
+
+  pub from-next : (k : ℕ) (m m′ : List ℕ) (u : Set) → suc k ≤ N → countAt s k ≤ 8 → u ≡ mayAt m s k → AheadFrom N s (suc k) m₀ m → AheadRow k (aheadBy m k u) N m m′ → AheadFrom N s k m₀ m′
+  unfolding ahead aheadBy
+  from-next k m m′ u l f e a r =
+      record {
+        rows = λ j c p q x. go j c p q x (same j k) refl;
+        below = λ i p. r .below i (omega arith) ∙ a .below i p;
+        above = λ i p. r .above i (omega arith) ∙ a .above i p;
+        masks = r .masks ∙ a .masks;
+      }
+    where
+      part : ℕ → ℕ → Set
+      part c e = mayAt m₀ s e ∩ backAt m₀ c e
+
+      go : (j c : ℕ) → k ≤ j → j ≤ N → c < N → (b : Bool) → same j k ≡ b → aheadAt m′ j c ≡ ahead (N - j) j (part c)
+      go j c p q x true y = rw (same→≡ j k y) (r .row c x ∙ ap₂ _∪_ (ap₂ _∩_ (e ∙ may-same m k (omega arith) f (a .below)) (a .below (192 + (8 * c + k)) (omega arith))) (a .rows (suc k) c (omega arith) (omega arith) x)
+          ∙ sym (ap (λ n. ahead n k (part c)) (let h : N - k ≡ suc (N - suc k) = omega arith in h)))
+      go j c p q x false y = let z : j ≢ k = λ o. false≢true (sym y ∙ rw o (same-refl k)) in r .above (256 + (8 * j + c)) (omega arith) ∙ a .rows j c (omega arith) q x
