@@ -1,6 +1,6 @@
 -- Laws of filling. In order: a transition that is put down (put), one more transition (considered, listing), one more chart (until-next), the rows
 -- ahead (ahead-row, ahead-from), and that what is chosen by the tables is what a file's candidates are (candidates).
-use mathlib.Core.Path.{_≡_, refl, sym, _∙_, ap, ap₂, subst}
+use mathlib.Core.Path.{_≡_, refl, sym, _∙_, ap, ap₂, subst, fun-ext}
 use mathlib.Core.Bool.{Bool, true, false, _&&_, _||_, cond, true≢false, false≢true}
 use mathlib.Core.Option.{Option, none, some}
 use mathlib.Core.List.{List, [], _∷_}
@@ -11,7 +11,7 @@ use native.Mathlib.Numerals.{add-one}
 use lib.ListN.{length, getD, set, length-set}
 use lib.Seq.{getD-set-same, getD-set-other}
 use Rattle.signals.specs.Mask.{_∪_, _∩_, _∖_}
-use Rattle.signals.specs.Decide.{sets, A, B, C, D, ∅ₑ, _∪ₑ_, _∩ₑ_, _≐_}
+use Rattle.signals.specs.Decide.{sets, A, B, C, D, E as Eₑ, F as Fₑ, ∅ₑ, _∪ₑ_, _∩ₑ_, _≐_}
 use Rattle.layout.specs.declared.record.Transition.{Transition}
 use Rattle.meaning.specs.Count.{anyUpTo, tally, one}
 use Rattle.meaning.specs.Meaning.{Set, same, Chart, Tree, Move, nth, pick, actionOf}
@@ -356,3 +356,88 @@ module _ (N : ℕ) (few : N ≤ 8) (s m₀ : List ℕ) where
       go j c p q x true y = rw (same→≡ j k y) (r .row c x ∙ ap₂ _∪_ (ap₂ _∩_ (e ∙ may-same m k (omega arith) f (a .below)) (a .below (192 + (8 * c + k)) (omega arith))) (a .rows (suc k) c (omega arith) (omega arith) x)
           ∙ sym (ap (λ n. ahead n k (part c)) (let h : N - k ≡ suc (N - suc k) = omega arith in h)))
       go j c p q x false y = let z : j ≢ k = λ o. false≢true (sym y ∙ rw o (same-refl k)) in r .above (256 + (8 * j + c)) (omega arith) ∙ a .rows j c (omega arith) q x
+
+-- ── all of it ──
+
+ahead-cong : (n k : ℕ) (f g : ℕ → Set) → ((e : ℕ) → e < n + k → f e ≡ g e) → ahead n k f ≡ ahead n k g
+unfolding ahead
+ahead-cong zero k f g h = refl
+ahead-cong (suc n) k f g h = ap₂ _∪_ (h k (omega arith)) (ahead-cong n (suc k) f g (λ e l. h e (omega arith)))
+
+listed-kept : (m s : List ℕ) (c : ℕ) (ts : List Transition) (q : ℕ) (keep keep′ : ℕ → Bool) → ((v : ℕ) → keep v ≡ keep′ v) → {p n : ℕ} → Listed m s c ts q keep p n → Listed m s c ts q keep′ p n
+listed-kept m s c ts q keep keep′ h {p} {n} l = subst (λ f. Listed m s c ts q f p n) (fun-ext h) l
+
+module _ (ts : ℕ → List Transition) (cfg : ℕ → ℕ) (N : ℕ) (lows m₀ s₀ : List ℕ) (few : N ≤ 8) where
+  pub chosen : (m m′ s : List ℕ) → Until ts cfg N lows m₀ s₀ N m s → AheadFrom N s 0 m m′ → ((c : ℕ) → c < N → stateAt s₀ c ≡ cfg c) → Chosen ts cfg N lows m′ s
+  chosen m m′ s un a st =
+      record {
+        listed = λ c l. listed-kept m′ s c (ts c) (cfg c) (keepAt ts cfg N lows m₀ c) (keepAt ts cfg N lows m′ c)
+            (λ v. keep-same ts cfg N lows m₀ s₀ few m₀ m′ c v l (λ i p q. sym (a .below i q ∙ un .wires i p)))
+            (listed-stays m s m′ s c (ts c) (cfg c) (keepAt ts cfg N lows m₀ c) (un .listed c l) (λ v r. let h = un .counts c l in
+            record { needed = a .below (8 * c + v) (omega arith); barred = a .below (64 + (8 * c + v)) (omega arith); action = a .below (128 + (8 * c + v)) (omega arith); to = refl }));
+        counts = un .counts;
+        ahead-at = λ k c p q. a .rows k c (omega arith) p q ∙ ahead-cong (N - k) k _ _ (λ e x. ap₂ _∩_ (sym (may-same N few s m m′ e (omega arith) (un .counts e (omega arith)) (a .below)))
+            (sym (a .below (192 + (8 * c + e)) (omega arith))));
+        state-at = λ c l. un .rest (88 + c) (omega arith) ∙ st c l;
+      }
+
+-- ── what is chosen by the tables is what the file's candidates are ──
+
+-- chart c's own part of what it is offered, apart
+join-apart : (N c : ℕ) (a : Set) (f b : ℕ → Set) → c < N → join N (λ e. cond (same e c) a (f e) ∩ b e) ≡ a ∩ b c ∪ join N (λ e. cond (same e c) 0 (f e) ∩ b e)
+unfolding join
+join-apart zero c a f b l = absurd (omega arith)
+join-apart (suc N) c a f b l = go (same c N) refl (join-apart N c a f b)
+  where
+    with-own : Set → ℕ → Set
+    with-own z e = cond (same e c) z (f e) ∩ b e
+
+    elsewhere : (z z′ : Set) (e : ℕ) → e ≢ c → with-own z e ≡ with-own z′ e
+    elsewhere z z′ e n = rw (same-≢ e c n)
+
+    here : (z : Set) → with-own z c ≡ z ∩ b c
+    here z = rw (same-refl c)
+
+    go : (x : Bool) → same c N ≡ x → (c < N → join N (with-own a) ≡ a ∩ b c ∪ join N (with-own 0)) → join N (with-own a) ∪ with-own a N ≡ a ∩ b c ∪ (join N (with-own 0) ∪ with-own 0 N)
+    go true x r = let e = same→≡ c N x in
+        sets (join N (with-own a) ∷ join N (with-own 0) ∷ with-own a N ∷ with-own 0 N ∷ (a ∩ b c) ∷ b c ∷ []) (A ≐ B ∷ C ≐ Eₑ ∷ D ≐ ∅ₑ ∩ₑ Fₑ ∷ []) (A ∪ₑ C ≐ Eₑ ∪ₑ (B ∪ₑ D)) tt
+        (join-cong N (with-own a) (with-own 0) (λ i l. elsewhere a 0 i (λ y. omega arith))) (ap (with-own a) (sym e) ∙ here a) (ap (with-own 0) (sym e) ∙ here 0)
+    go false x r = let z : c ≢ N = λ o. false≢true (sym x ∙ rw o (same-refl N)) in
+        sets (join N (with-own a) ∷ (a ∩ b c) ∷ join N (with-own 0) ∷ with-own a N ∷ with-own 0 N ∷ []) (A ≐ B ∪ₑ C ∷ D ≐ Eₑ ∷ []) (A ∪ₑ D ≐ B ∪ₑ (C ∪ₑ Eₑ)) tt (r (omega arith))
+        (elsewhere a 0 N (λ y. z (sym y)))
+
+join-off : (N c : ℕ) (b : ℕ → Set) → join N (λ e. cond (same e c) 0 0 ∩ b e) ≡ 0
+unfolding join
+join-off zero c b = refl
+join-off (suc N) c b = sets (join N (λ e. cond (same e c) 0 0 ∩ b e) ∷ cond (same N c) 0 0 ∷ b N ∷ []) (A ≐ ∅ₑ ∷ B ≐ ∅ₑ ∷ []) (A ∪ₑ B ∩ₑ C ≐ ∅ₑ) tt (join-off N c b) (either (same N c))
+  where
+    either : (x : Bool) → cond {A = Set} x 0 0 ≡ 0
+    either true = refl
+    either false = refl
+
+module _ (E : ℕ → Chart) (state : ℕ → ℕ) (cfg : ℕ → ℕ) (N : ℕ) (enc : ℕ → Option ℕ) (sc : ℕ → ℕ) (t : Tree) (inp : Set) (m s lows : List ℕ)
+    (ro : Rows E state cfg N enc sc t m s) (lw : (c : ℕ) → c < N → getD lows c 0 ≡ inp ∩ down t c) where
+  abbrev may₀ : ℕ → Set
+  may₀ c = mayOf (E c .transitions) (cfg c)
+
+  -- what chart c is offered, its own action a and the others' f
+  offered-apart : (c : ℕ) (a : Set) (f : ℕ → Set) → c < N → offered N (λ e. cond (same e c) a (f e)) inp (down t c) (back E t c)
+      ≡ getD lows c 0 ∪ a ∩ backAt m c c ∪ join N (λ e. cond (same e c) 0 (f e) ∩ backAt m c e)
+  unfolding offered
+  offered-apart c a f l = sets ((inp ∩ down t c) ∷ join N (λ e. cond (same e c) a (f e) ∩ back E t c e) ∷ getD lows c 0 ∷ (a ∩ backAt m c c) ∷ join N (λ e. cond (same e c) 0 (f e) ∩ backAt m c e) ∷ [])
+      (C ≐ A ∷ B ≐ D ∪ₑ Eₑ ∷ []) (A ∪ₑ B ≐ C ∪ₑ D ∪ₑ Eₑ) tt (lw c l)
+      (join-cong N _ _ (λ e r. ap (λ z. cond (same e c) a (f e) ∩ z) (sym (ro .back-at c e l r))) ∙ join-apart N c a f (backAt m c) l)
+
+  keep-lasts : (c v : ℕ) → c < N → keepAt (λ e. E e .transitions) cfg N lows m c v ≡ lasts E state cfg N t inp may₀ c v
+  unfolding keepAt lastsBy lasts othersAt
+  keep-lasts c v l = ap₂ (test (pick (E c .transitions) v))
+      (sym (offered-apart c (actionOf (pick (E c .transitions) v)) (λ e. 0) l
+      ∙ sets ((getD lows c 0 ∪ actionOf (pick (E c .transitions) v) ∩ backAt m c c) ∷ join N (λ e. cond (same e c) 0 0 ∩ backAt m c e) ∷ []) (B ≐ ∅ₑ ∷ []) (A ∪ₑ B ≐ A) tt (join-off N c (backAt m c))))
+      (sym (offered-apart c (actionOf (pick (E c .transitions) v)) may₀ l))
+
+  pub candidates : Chosen (λ e. E e .transitions) cfg N lows m s → Candidates E cfg N t (lasts E state cfg N t inp may₀) m s
+  candidates ch =
+      record {
+        listed = λ c l. listed-kept m s c (E c .transitions) (cfg c) (keepAt (λ e. E e .transitions) cfg N lows m c) (lasts E state cfg N t inp may₀ c) (λ v. keep-lasts c v l) (ch .listed c l);
+        ahead-at = λ k c p q. ch .ahead-at k c p q ∙ ahead-cong (N - k) k _ _ (λ e x. ap (λ z. mayAt m s e ∩ z) (ro .back-at c e q (omega arith)));
+      }
