@@ -9,3 +9,4 @@ pub mod Faces
 pub mod Wire
 pub mod Nearest
 pub mod Wired
+pub mod Candidates

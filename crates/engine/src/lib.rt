@@ -1,5 +1,6 @@
 // The public calls of the chart engine over files in bytes. None has a `requires`: what is wrong is refused by number.
 pub mod body;
+pub mod candidates;
 pub mod charts;
 pub mod file;
 pub mod interface;

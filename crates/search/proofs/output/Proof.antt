@@ -32,12 +32,20 @@ loop-holds c = (omega arith, refl)
 
 loop-again : tie.Need-loop-again Inv-loop μ-loop
 loop-again c =
-    let l = c .before .before .loop in
+    let l = c .before .before .before .before .loop in
     (omega arith, rw (join-more, l .inv .1, c .shown .ensures))
 
 returns : tie.Need-returns Inv-loop μ-loop
 unfolding outputAt
 returns c s = let e : c .before .loop .d ≡ 8 = omega arith in rw e at (c .before .loop .inv .1)
 
+shown-requires : tie.Need-shown-requires Inv-loop μ-loop
+shown-requires c κs =
+    let b = c .before .before .before .before .before in
+    (b .pre .0, omega arith, b .pre .1 (c .before .before .before .loop .d))
+
 pub output-spec : {M : Type 1} → statement M
-output-spec = tie.close (tie.spec Inv-loop μ-loop loop-holds (λ c κs. search needs) (λ c. omega arith) (λ c. omega arith) loop-again returns)
+output-spec =
+    tie.close
+    (tie.spec Inv-loop μ-loop loop-holds (λ c. omega arith) (λ c. omega arith) shown-requires (λ c. omega arith) (λ c. omega arith) loop-again
+    returns)
