@@ -9,10 +9,10 @@ ghost use Rattle.meaning.specs.File.{fileAt, wholeOf};
 ghost use Rattle.meaning.specs.Check.{refusalOf};
 ghost use Rattle.meaning.specs.Calls.{inputOf, outputOf};
 ghost use Rattle.meaning.specs.Check.Nodes.{Treed};
-ghost use Rattle.engine.specs.Known.{Sized, Summed};
+ghost use Rattle.checks.specs.Known.{Sized, Summed};
 ghost use Rattle.engine.specs.Faces.{OwnOf};
-use crate::limits;
-use crate::limits::MOST_CHARTS;
+use checks::limits;
+use checks::limits::MOST_CHARTS;
 use layout::body::Shape;
 
 pub struct Faces {
@@ -84,8 +84,8 @@ fn of_body(n: Shape, body: &[u8]) -> Faces
     let own = charts(n, body);
     let input = own.input;
     let output = own.output;
-    let inputs = crate::parts::table(n, body, &input, crate::parts::Off::Input);
-    let outputs = crate::parts::table(n, body, &output, crate::parts::Off::Output);
+    let inputs = checks::parts::table(n, body, &input, checks::parts::Off::Input);
+    let outputs = checks::parts::table(n, body, &output, checks::parts::Off::Output);
     let last = n.nodes - 1;
     Faces {
         refusal: limits::ACCEPTED,
@@ -97,7 +97,7 @@ fn of_body(n: Shape, body: &[u8]) -> Faces
 pub fn interface(file: &[u8]) -> Faces
     ensures { λ r. ⌜ r ≡ record { refusal = refusalOf (now (file .entry)); input = inputOf (now (file .entry)); output = outputOf (now (file .entry)) } ⌝ }
 {
-    let o = crate::file::opened(file);
+    let o = checks::opening::opened(file);
     let r = o.refusal;
     if r != limits::ACCEPTED {
         return Faces {

@@ -7,8 +7,8 @@ use native.Mathlib.Omega.{arith}
 use borrow.Author.Tests.{ltb-true, not-false}
 use lib.Dec.{ltb}
 use Rattle.meaning.specs.Count.{anyUpTo}
-use Rattle.meaning.specs.Count.Laws.{or-left, or-right, or-three, or-four, any-never, one-most}
-use Rattle.meaning.specs.Meaning.{same, Tree, Slaves, nil, snoc}
+use Rattle.meaning.specs.Count.Laws.{or-left, or-three, or-four, any-never}
+use Rattle.meaning.specs.Meaning.{same, Slaves, nil, snoc}
 use Rattle.meaning.specs.File.{File, treeOf, gather, whole, Has, HasS}
 use Rattle.meaning.specs.Check.{notBelow, differ, inOrder, slave?, slaves?, nodeOfKind?, nodes?, holds, named, held, naming?, inside?}
 use Rattle.meaning.specs.Laws.Bools.{same-refl, same→≡, same-≢, and-i}

@@ -14,9 +14,9 @@ use Rattle.meaning.specs.Numbers.{mostCharts}
 use Rattle.meaning.specs.Meaning.{guards, actions, inFaceChart}
 use Rattle.meaning.specs.File.{fileAt, chartOf}
 use Rattle.meaning.specs.Check.Laws.{start-none, start-more, start-in}
-use Rattle.engine.specs.Known.{Summed}
+use Rattle.checks.specs.Known.{Summed}
 use Rattle.engine.specs.Faces.{OwnOf}
-use Rattle.engine.specs.Parts.Laws.{fill-more}
+use Rattle.checks.specs.Parts.Laws.{fill-more}
 use Rattle.engine.proofs.interface.charts.Statement.{statement}
 use Rattle.engine.proofs.interface.charts.Tie as tie
 
