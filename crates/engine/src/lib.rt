@@ -1,2 +1,3 @@
 // The public calls of the chart engine over files in bytes. None has a `requires`: what is wrong is refused by number.
+mod candidates;
 pub mod limits;

@@ -1,10 +1,11 @@
 -- How candidates get into the tables of a search: each transition from a chart's present state, unless it fails alone or is there already; then
 -- what later charts may put out. Laws are in Fill/Laws.antt.
 use mathlib.Core.Path.{_≡_}
-use mathlib.Core.Bool.{Bool, true, false, _&&_, cond}
+use mathlib.Core.Bool.{Bool, true, false, _&&_, not, cond}
 use mathlib.Core.Option.{some}
 use mathlib.Core.List.{List}
 use Prim.Native.Nat.{ℕ, zero, suc, _+_, _*_, _-_, _≤_, _<_}
+use lib.Dec.{ltb}
 use lib.ListN.{length, getD, set}
 use Rattle.signals.specs.Mask.{_∪_, _∩_}
 use Rattle.layout.specs.declared.record.Transition.{Transition}
@@ -13,7 +14,7 @@ use Rattle.meaning.specs.Meaning.{Set, same, Move, pick, actionOf}
 use Rattle.wiring.specs.Wire.{join}
 use Rattle.wiring.specs.Dropped.{ahead, test}
 use Rattle.wiring.specs.Hunt.{mayOf}
-use Rattle.search.specs.Table.{neededAt, barredAt, actionAt, backAt, aheadAt, toAt, countAt, stateAt}
+use Rattle.search.specs.Table.{neededAt, barredAt, actionAt, backAt, aheadAt, toAt, countAt, masterAt, stateAt}
 use Rattle.tables.specs.Filled.{Listed, mayAt}
 pub mod Laws
 
@@ -110,3 +111,9 @@ pub record AheadFrom (N : ℕ) (s : List ℕ) (k : ℕ) (m₀ m : List ℕ) : Ty
   pub below : (i : ℕ) → i < 256 → getD m i 0 ≡ getD m₀ i 0
   pub above : (i : ℕ) → 328 ≤ i → getD m i 0 ≡ getD m₀ i 0
   pub masks : length m ≡ length m₀
+
+-- ── no search is needed ──
+
+-- a chart that stands in no slave has no candidate
+unfoldable pub stuck : List ℕ → ℕ → Bool
+stuck s N = anyUpTo N (λ c. same (countAt s c) 0 && not (ltb (masterAt s c) 8))

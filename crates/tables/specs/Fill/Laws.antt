@@ -1,28 +1,33 @@
 -- Laws of filling. In order: a transition that is put down (put), one more transition (considered, listing), one more chart (until-next), the rows
 -- ahead (ahead-row, ahead-from), and that what is chosen by the tables is what a file's candidates are (candidates).
 use mathlib.Core.Path.{_≡_, refl, sym, _∙_, ap, ap₂, subst, fun-ext}
-use mathlib.Core.Bool.{Bool, true, false, _&&_, _||_, cond, true≢false, false≢true}
+use mathlib.Core.Bool.{Bool, true, false, _&&_, _||_, not, cond, true≢false, false≢true}
 use mathlib.Core.Option.{Option, none, some}
 use mathlib.Core.List.{List, [], _∷_}
 use mathlib.Core.Logic.{_≢_}
 use Prim.Native.Nat.{ℕ, zero, suc, _+_, _*_, _-_, _≤_, _<_}
 use native.Mathlib.Omega.{arith}
 use native.Mathlib.Numerals.{add-one}
+use lib.Dec.{ltb}
 use lib.ListN.{length, getD, set, length-set}
 use lib.Seq.{getD-set-same, getD-set-other}
+use borrow.Author.Tests.{le-ltb, ltb-false}
+use borrow.Author.Tests.{not-true as tests-not-true}
 use Rattle.signals.specs.Mask.{_∪_, _∩_, _∖_}
 use Rattle.signals.specs.Decide.{sets, A, B, C, D, E as Eₑ, F as Fₑ, ∅ₑ, _∪ₑ_, _∩ₑ_, _≐_}
 use Rattle.layout.specs.declared.record.Transition.{Transition}
 use Rattle.meaning.specs.Count.{anyUpTo, tally, one}
-use Rattle.meaning.specs.Meaning.{Set, same, Chart, Tree, Move, nth, pick, actionOf}
+use Rattle.meaning.specs.Meaning.{Set, same, Chart, Tree, Move, nth, pick, actionOf, Outcome}
 use Rattle.meaning.specs.Laws.Bools.{same-refl, same→≡, same-≢, and-l, and-r}
 use Rattle.wiring.specs.Wire.{join, down, back, offered}
 use Rattle.wiring.specs.Dropped.{ahead, test, join-cong}
 use Rattle.wiring.specs.Hunt.{mayOf}
 use Rattle.wiring.specs.Filter.{lasts}
-use Rattle.search.specs.Table.{neededAt, barredAt, actionAt, backAt, aheadAt, toAt, countAt, stateAt}
+use Rattle.search.specs.Table.{neededAt, barredAt, actionAt, backAt, aheadAt, toAt, countAt, masterAt, stateAt}
+use Rattle.search.specs.Hunt.{each, wakes, taken, rested, fineAt, hunts}
+use Rattle.search.specs.declared.Trail.{Trail}
 use Rattle.tables.specs.Filled.{Is, Listed, start, other, fails, again, fresh, mayAt, Rows, Candidates}
-use Rattle.tables.specs.Fill.{lastsBy, othersAt, Filling, isAt, isAgain, putMasks, putSmall, put, pickFilling, considered, listing, keepAt, Until, Chosen, AheadRow, aheadBy, AheadFrom}
+use Rattle.tables.specs.Fill.{lastsBy, othersAt, Filling, isAt, isAgain, putMasks, putSmall, put, pickFilling, considered, listing, keepAt, Until, Chosen, AheadRow, aheadBy, AheadFrom, stuck}
 
 -- ── candidates that stay ──
 
@@ -441,3 +446,40 @@ module _ (E : ℕ → Chart) (state : ℕ → ℕ) (cfg : ℕ → ℕ) (N : ℕ)
         listed = λ c l. listed-kept m s c (E c .transitions) (cfg c) (keepAt (λ e. E e .transitions) cfg N lows m c) (lasts E state cfg N t inp may₀ c) (λ v. keep-lasts c v l) (ch .listed c l);
         ahead-at = λ k c p q. ch .ahead-at k c p q ∙ ahead-cong (N - k) k _ _ (λ e x. ap (λ z. mayAt m s e ∩ z) (ro .back-at c e q (omega arith)));
       }
+
+-- ── no search is needed ──
+
+each-none : (n : ℕ) (f : ℕ → List Outcome) → ((v : ℕ) → v < n → f v ≡ []) → each n f ≡ []
+unfolding each
+each-none zero f h = refl
+each-none (suc n) f h = rw (each-none n f (λ v l. h v (omega arith)), h n (omega arith))
+
+module _ (m s : List ℕ) (c : ℕ) (z : countAt s c ≡ 0) (o : 8 ≤ masterAt s c) where
+  -- a chart that is surely active and has no candidate: nothing is found
+  hunts-none : (n k : ℕ) (t : Trail) → k ≤ c → c < n + k → hunts m s n k t ≡ []
+  unfolding hunts each wakes
+  hunts-none zero k t p q = absurd (omega arith)
+  hunts-none (suc n) k t p q = go (same k c) refl (hunts-none n (suc k))
+    where
+      block : Trail → List Outcome
+      block t′ = cond (fineAt m s t′ k) (hunts m s n (suc k) t′) []
+
+      both : (b : Bool) (x : List Outcome) → x ≡ [] → cond b x [] ≡ []
+      both true x e = e
+      both false x e = refl
+
+      either : (b : Bool) (x y : List Outcome) → x ≡ [] → y ≡ [] → cond b x y ≡ []
+      either true x y e f = e
+      either false x y e f = f
+
+      go : (b : Bool) → same k c ≡ b → ((t′ : Trail) → suc k ≤ c → c < n + suc k → hunts m s n (suc k) t′ ≡ [])
+          → cond (wakes m s t k) (each (countAt s k) (λ v. block (taken m s t k v))) (block (rested m s t k)) ≡ []
+      go true e ih = rw (same→≡ k c e, le-ltb (masterAt s c) 8 o, z)
+      go false e ih = let w : k ≢ c = λ x. false≢true (sym e ∙ rw x (same-refl c)) in
+          let end : (t′ : Trail) → block t′ ≡ [] = λ t′. both (fineAt m s t′ k) (hunts m s n (suc k) t′) (ih t′ (omega arith) (omega arith)) in
+          either (wakes m s t k) _ _ (each-none (countAt s k) _ (λ v l. end (taken m s t k v))) (end (rested m s t k))
+
+pub hunts-stuck : (m s : List ℕ) (N : ℕ) (t : Trail) → stuck s N ≡ true → hunts m s N 0 t ≡ []
+unfolding stuck
+hunts-stuck m s N t h = let u = any-one N (λ c. same (countAt s c) 0 && not (ltb (masterAt s c) 8)) h in let l = u .1 in
+    hunts-none m s (u .0) (same→≡ (countAt s (u .0)) 0 (and-l _ _ (u .2))) (ltb-false (masterAt s (u .0)) 8 (tests-not-true (ltb (masterAt s (u .0)) 8) (and-r (same (countAt s (u .0)) 0) _ (u .2)))) N 0 t (omega arith) (omega arith)
