@@ -1,13 +1,15 @@
 -- Laws for choosing candidates. In order: where a chart's transitions stand (start-fits), what they might put out (may-none, may-more, may-done),
--- what the other charts might (others-done), and a filling by one transition more (left-none, left-next).
+-- what the other charts might (join-more, others-done), one transition (left-other to left-put), a filling by one transition more (left-none to
+-- left-room), one chart more (mays-next, chart-next), the present states (stated-none, stated-next), and all of it (chooses).
 use mathlib.Core.Path.{_≡_, refl, sym, _∙_, ap, ap₂, subst}
 use mathlib.Core.Bool.{Bool, true, false, cond, false≢true}
+use mathlib.Core.Option.{some}
 use mathlib.Core.List.{List, [], _∷_}
 use mathlib.Core.Logic.{_≢_}
 use Prim.Native.Nat.{ℕ, zero, suc, _+_, _*_, _-_, _≤_, _<_}
 use native.Mathlib.Omega.{arith}
 use native.Mathlib.Numerals.{add-one}
-use lib.ListN.{length, getD, set, drop}
+use lib.ListN.{length, getD, set, drop, length-set}
 use lib.Seq.{getD-set-same, getD-set-other, getD-drop}
 use Rattle.signals.specs.Mask.{_∪_, _∩_, _∖_}
 use Rattle.signals.specs.Decide.{sets, A, B, C, D, E as Eₑ, ∅ₑ, _∪ₑ_, _≐_}
@@ -16,15 +18,19 @@ use Rattle.layout.specs.Body.{transitionsFrom, headAt, transitionAt, startOf, t
 use Rattle.layout.specs.Body.{from as fromOn}
 use Rattle.layout.specs.declared.body.Shape.{Shape}
 use Rattle.layout.specs.declared.record.Transition.{Transition}
-use Rattle.meaning.specs.Meaning.{Set, same}
+use Rattle.layout.specs.declared.record.Head.{Head}
+use Rattle.meaning.specs.Count.{tally, one}
+use Rattle.meaning.specs.Check.{leaving}
+use Rattle.meaning.specs.Meaning.{Set, same, nth}
 use Rattle.meaning.specs.Laws.Bools.{same-refl, same→≡, same-≢}
 use Rattle.wiring.specs.Wire.{join}
 use Rattle.wiring.specs.Dropped.{join-cong}
 use Rattle.wiring.specs.Hunt.{mayOf}
 use Rattle.search.specs.Table.{backAt}
-use Rattle.tables.specs.Fill.{Filling, listing, othersAt}
+use Rattle.tables.specs.Fill.{Filling, considered, listing, lastsBy, isAgain, putMasks, putSmall, put, pickFilling, othersAt, Until, AheadFrom}
+use Rattle.tables.specs.Fill.Laws.{length-masks, length-small, leave-room, count-few, until-next, chosen}
 use Rattle.engine.specs.declared.candidates.Around.{Around}
-use Rattle.engine.specs.Candidates.{Left, filling, consideredBy, listingBy}
+use Rattle.engine.specs.Candidates.{Ready, Tabled, Left, filling, consideredBy, listingBy, fromStart, Mays, UntilChart, NextChart, Stated, Chooses}
 
 -- ── where transitions stand ──
 
@@ -86,6 +92,41 @@ others-done m may N c l = join-cong N _ _ (λ e r. ap (λ z. z ∩ backAt m c e)
     go e true y = rw (same→≡ e c y) (getD-set-same may c 0 0 l)
     go e false y = getD-set-other may c e 0 0 (λ w. false≢true (sym y ∙ rw w (same-refl c)))
 
+-- ── one transition, by the way it goes ──
+
+module _ (a : Around) (t : Transition) (m s : List ℕ) (k x : ℕ) (ex : x ≡ t .from) where
+  -- the filling by what the three tests say
+  ways : Bool → Bool → Bool → Filling
+  ways u y z = pickFilling u (pickFilling y (pickFilling z (filling m s k) (put (a .chart) t (filling m s k))) (filling m s k)) (filling m s k)
+
+  by-ways : (u y z : Bool) → same (t .from) (a .state) ≡ u → lastsBy (a .low) (a .own) (a .others) (some t) ≡ y → isAgain m s (a .chart) k t ≡ z → ways u y z ≡ consideredBy a t (filling m s k)
+  unfolding ways considered
+  by-ways u y z p q r = sym (λ i. ways (p i) (q i) (r i))
+
+  pub left-other : (x ≡ a .state → ⊥) → Left (consideredBy a t (filling m s k)) m s k
+  unfolding ways
+  left-other h = subst (λ g. Left g m s k) (by-ways false _ _ (rw (← ex) (same-≢ x (a .state) h)) refl refl) (record { masks = refl; small = refl; count = refl })
+
+  module _ (h : x ≡ a .state) (r : Transition) (er : r ≡ t) (y : Bool) (ey : y ≡ lastsBy (a .low) (a .own) (a .others) (some r)) where
+    from-here : same (t .from) (a .state) ≡ true
+    from-here = rw (← ex, h) (same-refl (a .state))
+
+    pub left-fails : y ≡ false → Left (consideredBy a t (filling m s k)) m s k
+    unfolding ways
+    left-fails f = subst (λ g. Left g m s k) (by-ways true false _ from-here (subst (λ q. lastsBy (a .low) (a .own) (a .others) (some q) ≡ false) er (sym ey ∙ f)) refl) (record { masks = refl; small = refl; count = refl })
+
+    module _ (f : y ≡ true) (z : Bool) (ez : z ≡ isAgain m s (a .chart) k r) where
+      way : (b : Bool) → z ≡ b → ways true true b ≡ consideredBy a t (filling m s k)
+      way b g = by-ways true true b from-here (subst (λ q. lastsBy (a .low) (a .own) (a .others) (some q) ≡ true) er (sym ey ∙ f)) (subst (λ q. isAgain m s (a .chart) k q ≡ b) er (sym ez ∙ g))
+
+      pub left-again : z ≡ true → Left (consideredBy a t (filling m s k)) m s k
+      unfolding ways
+      left-again g = subst (λ g. Left g m s k) (way true g) (record { masks = refl; small = refl; count = refl })
+
+      pub left-put : z ≡ false → (m′ s′ : List ℕ) → (m′ ≡ putMasks m (a .chart) k r) × (s′ ≡ putSmall s (a .chart) k r) → Left (consideredBy a t (filling m s k)) m′ s′ (k + 1)
+      unfolding ways
+      left-put g m′ s′ p = subst (λ g. Left g m′ s′ (k + 1)) (way false g) (record { masks = p .0 ∙ ap (putMasks m (a .chart) k) er; small = p .1 ∙ ap (putSmall s (a .chart) k) er; count = refl })
+
 -- ── a filling by one transition more ──
 
 module _ (a : Around) (g : ℕ → Transition) (f : Filling) where
@@ -96,3 +137,87 @@ module _ (a : Around) (g : ℕ → Transition) (f : Filling) where
   pub left-next : (p : ℕ) (m s : List ℕ) (k : ℕ) (m′ s′ : List ℕ) (k′ : ℕ) → Left (listingBy a g p f) m s k → Left (consideredBy a (g p) (filling m s k)) m′ s′ k′ → Left (listingBy a g (p + 1) f) m′ s′ k′
   unfolding listing
   left-next p m s k m′ s′ k′ h l = rw (add-one p) (subst (λ z. Left (consideredBy a (g p) z) m′ s′ k′) (λ i. record { masks = h .masks i; small = h .small i; count = h .count i }) l)
+
+  pub left-tabled : (p : ℕ) (m s : List ℕ) (k : ℕ) → Left (listingBy a g p f) m s k → Tabled (f .masks) (f .small) → Tabled m s
+  left-tabled p m s k h t =
+      record {
+        masks = ap length (h .masks) ∙ length-masks (a .chart) (a .state) (a .low) (a .own) (a .others) g p f ∙ t .masks;
+        small = ap length (h .small) ∙ length-small (a .chart) (a .state) (a .low) (a .own) (a .others) g p f ∙ t .small;
+      }
+
+  module _ (z : f .count ≡ 0) (count : ℕ) (few : tally count (λ u. one (same (g u .from) (a .state))) ≤ 8) where
+    pub left-few : (p : ℕ) (m s : List ℕ) (k : ℕ) → Left (listingBy a g p f) m s k → p ≤ count → k ≤ 8
+    left-few p m s k h l = rw (h .count) (count-few (a .chart) (a .state) (a .low) (a .own) (a .others) g p count f z l few)
+
+    pub left-room : (p : ℕ) (m s : List ℕ) (k : ℕ) → Left (listingBy a g p f) m s k → p < count → g p .from ≡ a .state → k < 8
+    left-room p m s k h l e = rw (h .count) (leave-room (a .chart) (a .state) (a .low) (a .own) (a .others) g p count f z l few e)
+
+-- ── the charts' transitions ──
+
+length-from : (f : ℕ → Transition) (k n : ℕ) → length (fromOn f k n) ≡ n
+unfolding fromOn
+length-from f k zero = refl
+length-from f k (suc n) = ap suc (length-from f (suc k) n)
+
+nth-from : (f : ℕ → Transition) (k n u : ℕ) → u < n → nth (fromOn f k n) u ≡ some (f (k + u))
+unfolding fromOn nth
+nth-from f k zero u l = absurd (omega arith)
+nth-from f k (suc n) zero l = ap (λ z. some (f z)) (let h : k ≡ k + 0 = omega arith in h)
+nth-from f k (suc n) (suc u) l = nth-from f (suc k) n u (omega arith) ∙ ap (λ z. some (f z)) (let h : suc k + u ≡ k + suc u = omega arith in h)
+
+module _ (n : Shape) (b config : List ℕ) where
+  pub mays-next : (c : ℕ) (may : List ℕ) (v start : ℕ) (head : Head) → Mays n b config c may → c < length may → start ≡ startOf n b c → head ≡ headAt n b c
+      → v ≡ mayOf (fromOn (transitionAt n b) start (head .transitions)) (getD config c 0) → Mays n b config (c + 1) (set may c v)
+  unfolding transitionsOf
+  mays-next c may v start head h l es eh ev d r = go (same d c) refl
+    where
+      go : (x : Bool) → same d c ≡ x → getD (set may c v) d 0 ≡ mayOf (fromOn (transitionAt n b) (startOf n b d) (headAt n b d .transitions)) (getD config d 0)
+      go true e = rw (same→≡ d c e) (getD-set-same may c v 0 l ∙ ev ∙ ap₂ (λ x y. mayOf (fromOn (transitionAt n b) x (y .transitions)) (getD config c 0)) es eh)
+      go false e = let z : d ≢ c = λ w. false≢true (sym e ∙ rw w (same-refl c)) in getD-set-other may c d v 0 z ∙ h d (omega arith)
+
+  -- the table of chart c's candidates is made by its transitions
+  pub chart-next : Ready n b config → (lows may : List ℕ) → Mays n b config (n .charts) may → (m s : List ℕ) (c start : ℕ) (head : Head) (own others : Set) (m′ s′ : List ℕ) (k : ℕ)
+      → c < n .charts → start ≡ startOf n b c → head ≡ headAt n b c → own ≡ backAt m c c → others ≡ othersAt m (n .charts) (λ e. getD may e 0) c
+      → Left (listing c (getD config c 0) (getD lows c 0) own others (fromStart n b start) (head .transitions) (filling m s 0)) m′ s′ k → NextChart n b config lows c m s m′ (set s′ (64 + c) k)
+  unfolding transitionsOf leaving othersAt
+  chart-next r lows may my m s c start head own others m′ s′ k l es eh eo et h m₀ s₀ un =
+      subst (λ z. UntilChart n b config lows m₀ s₀ z m′ (set s′ (64 + c) k)) (sym (add-one c))
+      (rw (h .masks, h .small, h .count, es, eh) (subst (λ z. Until (transitionsOf n b) (λ d. getD config d 0) (n .charts) lows m₀ s₀ (suc c) (made z .masks) (set (made z .small) (64 + c) (made z .count)))
+      (length-from (transitionAt n b) (startOf n b c) (headAt n b c .transitions))
+      (until-next (transitionsOf n b) (λ d. getD config d 0) (n .charts) lows m₀ s₀ (r .sized .charts) c l m s (getD lows c 0) own others (fromStart n b (startOf n b c)) un
+      (λ u q. nth-from (transitionAt n b) (startOf n b c) (headAt n b c .transitions) u (subst (λ z. u < z) (length-from (transitionAt n b) (startOf n b c) (headAt n b c .transitions)) q))
+      (subst (λ z. tally z (λ u. one (same (fromStart n b (startOf n b c) u .from) (getD config c 0))) ≤ 8) (sym (length-from (transitionAt n b) (startOf n b c) (headAt n b c .transitions))) (r .room c l))
+      refl eo (et ∙ join-cong (n .charts) _ _ (λ e q. ap (λ z. cond (same e c) 0 z ∩ backAt m c e) (my e q))))))
+    where
+      made : ℕ → Filling
+      made p = listing c (getD config c 0) (getD lows c 0) own others (fromStart n b (startOf n b c)) p (filling m s 0)
+
+-- ── states ──
+
+pub stated-none : (config s : List ℕ) → Stated config 0 s s
+stated-none config s = record { states = λ c l. absurd (omega arith); below = λ i l. refl; small = refl }
+
+pub stated-next : (config : List ℕ) (c : ℕ) (s₀ s : List ℕ) → Stated config c s₀ s → 88 + c < length s₀ → Stated config (c + 1) s₀ (set s (88 + c) (getD config c 0))
+stated-next config c s₀ s h l =
+    record {
+      states = λ d r. go d r (same d c) refl;
+      below = λ i r. getD-set-other s (88 + c) i (getD config c 0) 0 (λ e. omega arith) ∙ h .below i r;
+      small = length-set s (88 + c) (getD config c 0) ∙ h .small;
+    }
+  where
+    go : (d : ℕ) → d < c + 1 → (x : Bool) → same d c ≡ x → getD (set s (88 + c) (getD config c 0)) (88 + d) 0 ≡ getD config d 0
+    go d r true e = rw (same→≡ d c e) (getD-set-same s (88 + c) (getD config c 0) 0 (let k = h .small in omega arith))
+    go d r false e = let z : d ≢ c = λ w. false≢true (sym e ∙ rw w (same-refl c)) in getD-set-other s (88 + c) (88 + d) (getD config c 0) 0 (λ w. omega arith) ∙ h .states d (omega arith)
+
+-- ── all of it ──
+
+pub chooses : (n : Shape) (b config lows m₀ s₀ s₁ m s m′ : List ℕ) → Ready n b config → Tabled m₀ s₀ → Stated config (n .charts) s₀ s₁ → UntilChart n b config lows m₀ s₁ (n .charts) m s → AheadFrom (n .charts) s 0 m m′
+    → Chooses n b config lows m₀ s₀ m′ s
+chooses n b config lows m₀ s₀ s₁ m s m′ r tb st un ah = let few = r .sized .charts in
+    record {
+      chosen = chosen (transitionsOf n b) (λ c. getD config c 0) (n .charts) lows m₀ s₁ few m m′ s un ah (st .states);
+      wires = λ i p q. ah .below i q ∙ un .wires i p;
+      ups = λ i p. ah .above i p ∙ un .wires i (omega arith);
+      masters = λ i p q. un .rest i (omega arith) ∙ st .below i q;
+      tabled = record { masks = ah .masks ∙ un .masks; small = un .small };
+    }

@@ -139,6 +139,13 @@ tally-plus (suc k) w p l = go (same p k) refl (tally-plus k w p)
     go true e r = rw (same→≡ p k e) (omega arith)
     go false e r = let z : p ≢ k = λ x. false≢true (sym e ∙ rw x (same-refl k)) in let h = r (omega arith) in omega arith
 
+tally-mono : (k : ℕ) (w : ℕ → ℕ) (p : ℕ) → p ≤ k → tally p w ≤ tally k w
+tally-mono k w p l = go (same p k) refl
+  where
+    go : (b : Bool) → same p k ≡ b → tally p w ≤ tally k w
+    go true e = rw (same→≡ p k e) (omega arith)
+    go false e = let z : p ≢ k = λ x. false≢true (sym e ∙ rw x (same-refl k)) in let h = tally-plus k w p (omega arith) in omega arith
+
 -- ── one transition more ──
 
 module _ (c q : ℕ) (low own others : Set) where
@@ -191,6 +198,9 @@ module _ (c q : ℕ) (low own others : Set) where
   pub leave-room : (g : ℕ → Transition) (p k : ℕ) (f : Filling) → f .count ≡ 0 → p < k → leave g k ≤ 8 → g p .from ≡ q → listing c q low own others g p f .count < 8
   leave-room g p k f z l few e = let r = count-leave g p f in let x : one (same (g p .from) q) ≡ 1 = rw (e, same-refl q) in
       let h = tally-plus k (λ u. one (same (g u .from) q)) p l in omega arith
+
+  pub count-few : (g : ℕ → Transition) (p k : ℕ) (f : Filling) → f .count ≡ 0 → p ≤ k → leave g k ≤ 8 → listing c q low own others g p f .count ≤ 8
+  count-few g p k f z l few = let r = count-leave g p f in let h = tally-mono k (λ u. one (same (g u .from) q)) p l in omega arith
 
   module _ (lc : c < 8) (ts : List Transition) (keep : ℕ → Bool) (f₀ : Filling) where
     -- the filling f after p transitions
@@ -327,6 +337,11 @@ row-next k w n m₀ m v a l e =
     go c r true x = rw (same→≡ c n x) (getD-set-same m (256 + (8 * k + n)) v 0 (let h = a .masks in omega arith) ∙ e)
     go c r false x = let z : c ≢ n = λ y. false≢true (sym x ∙ rw y (same-refl n)) in
         getD-set-other m (256 + (8 * k + n)) (256 + (8 * k + c)) v 0 (λ y. omega arith) ∙ a .row c (omega arith)
+
+-- what stands before and after row k is still there to make it
+pub row-value : (k : ℕ) (w : ℕ → Set) (c : ℕ) (m₀ m : List ℕ) (u : Set) → AheadRow k w c m₀ m → c < 8 → k < 8 → u ∩ backAt m c k ∪ aheadAt m (k + 1) c ≡ aheadBy m₀ k u c
+unfolding aheadBy
+row-value k w c m₀ m u a l r = ap₂ (λ x y. u ∩ x ∪ y) (a .below (192 + (8 * c + k)) (omega arith)) (ap (λ z. aheadAt m z c) (add-one k) ∙ a .above (256 + (8 * suc k + c)) (omega arith))
 
 module _ (N : ℕ) (few : N ≤ 8) (s m₀ : List ℕ) where
   -- nothing is left after the last chart

@@ -3,6 +3,8 @@ use mathlib.Core.Path.{_≡_, sym, _∙_}
 use mathlib.Core.Bool.{cond}
 use Prim.Native.Nat.{ℕ}
 use borrow.Author.Needs.{needs}
+use denote.Ref.{now}
+use Rattle.layout.specs.Body.{transitionAt}
 use Rattle.layout.specs.declared.record.Transition.{Transition}
 use Rattle.meaning.specs.Meaning.{same}
 use Rattle.meaning.specs.Laws.Bools.{same-refl, same-≢}
@@ -20,7 +22,7 @@ returns : tie.Need-returns
 returns c = from-here _ _ _ (c .before .before .from-at .ensures) (c .before .if1 .taken) _ (c .transition-at .ensures)
 
 returns-2 : tie.Need-returns-2
-returns-2 c = from-elsewhere _ _ _ (c .before .from-at .ensures) (c .if1 .left)
+returns-2 c = let a = c .before .before .before .args in from-elsewhere (transitionAt (a .n) (now (a .body)) (a .t)) (a .state) _ (c .before .from-at .ensures) (c .if1 .left)
 
 pub put-out-spec : {M : Type 1} → statement M
 put-out-spec = tie.close (tie.spec (λ c κs. search needs) (λ c κs. search needs) returns returns-2)
