@@ -107,7 +107,8 @@ fn is_at(masks: &[u64], small: &[u8], c: usize, v: usize, t: Transition) -> bool
     ensures { λ r. ⌜ r ≡ isAt (now (masks .entry)) (now (small .entry)) c v t ⌝ }
 {
     let at = 8 * c + v;
-    (masks[at] == t.needed) & ((masks[64 + at] == t.barred) & ((masks[128 + at] == t.action) & (small[at] == t.to)))
+    (masks[at] == t.needed)
+        & ((masks[64 + at] == t.barred) & ((masks[128 + at] == t.action) & (small[at] == t.to)))
 }
 
 // Whether one of chart c's first n candidates is the transition.
@@ -137,7 +138,15 @@ fn put(masks: &mut [u64], small: &mut [u8], c: usize, v: usize, t: Transition)
 }
 
 // One transition more: a candidate if it is from the chart's state, lasts, and is none yet.
-fn consider(n: Shape, body: &[u8], t: usize, masks: &mut [u64], small: &mut [u8], a: Around, have: usize) -> usize
+fn consider(
+    n: Shape,
+    body: &[u8],
+    t: usize,
+    masks: &mut [u64],
+    small: &mut [u8],
+    a: Around,
+    have: usize,
+) -> usize
     requires { ⌜ Holds n (now body) × (t < n .transitions) × Tabled (now masks) (now small) × (a .chart < 8) × (have ≤ 8) × (transitionAt n (now body) t .from ≡ a .state → have < 8) ⌝ }
     ensures { λ r. ⌜ Left (consideredBy a (transitionAt n (now (body .entry)) t) (filling (now (masks .entry)) (now (small .entry)) have)) (now (masks .exit)) (now (small .exit)) r ⌝ }
 {
@@ -156,7 +165,15 @@ fn consider(n: Shape, body: &[u8], t: usize, masks: &mut [u64], small: &mut [u8]
 }
 
 // Chart a.chart's candidates, from its `count` transitions from `start` on; how many there are.
-fn list(n: Shape, body: &[u8], start: usize, count: usize, masks: &mut [u64], small: &mut [u8], a: Around) -> usize
+fn list(
+    n: Shape,
+    body: &[u8],
+    start: usize,
+    count: usize,
+    masks: &mut [u64],
+    small: &mut [u8],
+    a: Around,
+) -> usize
     requires { ⌜ Holds n (now body) × (start + count ≤ n .transitions) × Tabled (now masks) (now small) × (a .chart < 8) × (tally count (λ u. one (same (fromStart n (now body) start u .from) (a .state))) ≤ 8) ⌝ }
     ensures { λ r. ⌜ Left (listingBy a (fromStart n (now (body .entry)) start) count (filling (now (masks .entry)) (now (small .entry)) 0)) (now (masks .exit)) (now (small .exit)) r × (r ≤ 8) ⌝ }
 {
@@ -170,7 +187,17 @@ fn list(n: Shape, body: &[u8], start: usize, count: usize, masks: &mut [u64], sm
 }
 
 // Chart c's candidates and their number. Its transitions begin at `start`; returns where the next chart's do.
-fn list_chart(n: Shape, body: &[u8], config: &[u8], lows: [u64; 8], may: [u64; 8], masks: &mut [u64], small: &mut [u8], c: usize, start: usize) -> usize
+fn list_chart(
+    n: Shape,
+    body: &[u8],
+    config: &[u8],
+    lows: [u64; 8],
+    may: [u64; 8],
+    masks: &mut [u64],
+    small: &mut [u8],
+    c: usize,
+    start: usize,
+) -> usize
     requires { ⌜ Ready n (now body) (now config) × Mays n (now body) (now config) (n .charts) may × Tabled (now masks) (now small) × (c < n .charts) × (start ≡ startOf n (now body) c) ⌝ }
     ensures { λ r. ⌜ (r ≡ startOf n (now (body .entry)) (c + 1)) × Tabled (now (masks .exit)) (now (small .exit)) × NextChart n (now (body .entry)) (now (config .entry)) lows c (now (masks .entry)) (now (small .entry)) (now (masks .exit)) (now (small .exit)) ⌝ }
 {
@@ -190,7 +217,15 @@ fn list_chart(n: Shape, body: &[u8], config: &[u8], lows: [u64; 8], may: [u64; 8
     start + count
 }
 
-fn list_all(n: Shape, body: &[u8], config: &[u8], lows: [u64; 8], may: [u64; 8], masks: &mut [u64], small: &mut [u8])
+fn list_all(
+    n: Shape,
+    body: &[u8],
+    config: &[u8],
+    lows: [u64; 8],
+    may: [u64; 8],
+    masks: &mut [u64],
+    small: &mut [u8],
+)
     requires { ⌜ Ready n (now body) (now config) × Mays n (now body) (now config) (n .charts) may × Tabled (now masks) (now small) ⌝ }
     ensures { λ _. ⌜ UntilChart n (now (body .entry)) (now (config .entry)) lows (now (masks .entry)) (now (small .entry)) (n .charts) (now (masks .exit)) (now (small .exit)) ⌝ }
 {
@@ -267,7 +302,14 @@ fn put_states(small: &mut [u8], config: &[u8], charts: usize)
 }
 
 // Fills in all that a search needs of a configuration and of what each chart is surely offered. The wiring and the masters are there.
-pub fn choose(n: Shape, body: &[u8], config: &[u8], lows: [u64; 8], masks: &mut [u64], small: &mut [u8])
+pub fn choose(
+    n: Shape,
+    body: &[u8],
+    config: &[u8],
+    lows: [u64; 8],
+    masks: &mut [u64],
+    small: &mut [u8],
+)
     requires { ⌜ Ready n (now body) (now config) × Tabled (now masks) (now small) ⌝ }
     ensures { λ _. ⌜ Chooses n (now (body .entry)) (now (config .entry)) lows (now (masks .entry)) (now (small .entry)) (now (masks .exit)) (now (small .exit)) ⌝ }
 {

@@ -60,13 +60,17 @@ module _ (f : ℕ → Transition) (start count q : ℕ) where
     pub all : u ∪ mayOf (fromOn f (start + p) (count - p)) q ≡ mayOf (fromOn f start count) q
 
   pub may-none : MayLeft 0 0
-  may-none = record { all = sets (mayOf (fromOn f (start + 0) (count - 0)) q ∷ mayOf (fromOn f start count) q ∷ []) (A ≐ B ∷ []) (∅ₑ ∪ₑ A ≐ B) tt
-      (ap₂ (λ k n. mayOf (fromOn f k n) q) (let h : start + 0 ≡ start = omega arith in h) (let h : count - 0 ≡ count = omega arith in h)) }
+  may-none = record {
+    all = sets (mayOf (fromOn f (start + 0) (count - 0)) q ∷ mayOf (fromOn f start count) q ∷ []) (A ≐ B ∷ []) (∅ₑ ∪ₑ A ≐ B) tt
+        (ap₂ (λ k n. mayOf (fromOn f k n) q) (let h : start + 0 ≡ start = omega arith in h) (let h : count - 0 ≡ count = omega arith in h));
+  }
 
   pub may-more : (p : ℕ) (u v : Set) → MayLeft p u → p < count → v ≡ cond (same (f (start + p) .from) q) (f (start + p) .action) 0 → MayLeft (p + 1) (u ∪ v)
   unfolding mayOf fromOn
-  may-more p u v h l e = record { all = ap₂ (λ k n. u ∪ v ∪ mayOf (fromOn f k n) q) (let x : start + (p + 1) ≡ suc (start + p) = omega arith in x) (let x : count - (p + 1) ≡ count - suc p = omega arith in x) ∙ sets (u ∷ v ∷ rest ∷ one ∷ mayOf (fromOn f start count) q ∷ []) (B ≐ D ∷ A ∪ₑ (C ∪ₑ D) ≐ Eₑ ∷ []) (A ∪ₑ B ∪ₑ C ≐ Eₑ) tt e
-      (ap (λ n. u ∪ mayOf (fromOn f (start + p) n) q) (let x : suc (count - suc p) ≡ count - p = omega arith in x) ∙ h .all) }
+  may-more p u v h l e = record {
+    all = ap₂ (λ k n. u ∪ v ∪ mayOf (fromOn f k n) q) (let x : start + (p + 1) ≡ suc (start + p) = omega arith in x) (let x : count - (p + 1) ≡ count - suc p = omega arith in x) ∙ sets (u ∷ v ∷ rest ∷ one ∷ mayOf (fromOn f start count) q ∷ []) (B ≐ D ∷ A ∪ₑ (C ∪ₑ D) ≐ Eₑ ∷ []) (A ∪ₑ B ∪ₑ C ≐ Eₑ) tt e
+        (ap (λ n. u ∪ mayOf (fromOn f (start + p) n) q) (let x : suc (count - suc p) ≡ count - p = omega arith in x) ∙ h .all);
+  }
     where
       one : Set
       one = cond (same (f (start + p) .from) q) (f (start + p) .action) 0
@@ -175,6 +179,14 @@ module _ (n : Shape) (b config : List ℕ) where
       go true e = rw (same→≡ d c e) (getD-set-same may c v 0 l ∙ ev ∙ ap₂ (λ x y. mayOf (fromOn (transitionAt n b) x (y .transitions)) (getD config c 0)) es eh)
       go false e = let z : d ≢ c = λ w. false≢true (sym e ∙ rw w (same-refl c)) in getD-set-other may c d v 0 z ∙ h d (omega arith)
 
+  module _ (r : Ready n b config) (c start : ℕ) (head : Head) (l : c < n .charts) (es : start ≡ startOf n b c) (eh : head ≡ headAt n b c) where
+    pub chart-fits : start + head .transitions ≤ n .transitions
+    chart-fits = rw (es, eh) (let h = start-fits n b c (n .charts) l in let s = r .summed in omega arith)
+
+    pub chart-room : tally (head .transitions) (λ u. one (same (fromStart n b start u .from) (getD config c 0))) ≤ 8
+    unfolding leaving
+    chart-room = rw (es, eh) (r .room c l)
+
   -- the table of chart c's candidates is made by its transitions
   pub chart-next : Ready n b config → (lows may : List ℕ) → Mays n b config (n .charts) may → (m s : List ℕ) (c start : ℕ) (head : Head) (own others : Set) (m′ s′ : List ℕ) (k : ℕ)
       → c < n .charts → start ≡ startOf n b c → head ≡ headAt n b c → own ≡ backAt m c c → others ≡ othersAt m (n .charts) (λ e. getD may e 0) c
@@ -191,6 +203,13 @@ module _ (n : Shape) (b config : List ℕ) where
     where
       made : ℕ → Filling
       made p = listing c (getD config c 0) (getD lows c 0) own others (fromStart n b (startOf n b c)) p (filling m s 0)
+
+pub chart-tabled : (c q : ℕ) (low own others : Set) (g : ℕ → Transition) (p : ℕ) (m s m′ s′ : List ℕ) (k d : ℕ) → Left (listing c q low own others g p (filling m s 0)) m′ s′ k → Tabled m s → Tabled m′ (set s′ d k)
+chart-tabled c q low own others g p m s m′ s′ k d h t =
+    record {
+      masks = ap length (h .masks) ∙ length-masks c q low own others g p (filling m s 0) ∙ t .masks;
+      small = length-set s′ d k ∙ ap length (h .small) ∙ length-small c q low own others g p (filling m s 0) ∙ t .small;
+    }
 
 -- ── states ──
 

@@ -22,10 +22,14 @@ consider-requires : tie.Need-consider-requires Inv-loop μ-loop
 consider-requires c κs =
     let a = c .before .before .before .before .before .before .before .args in
     let r = c .before .before .before .before .before .before .before .pre in
-    let l = c .before .before .before .loop in
-    (r .0, omega arith, left-tabled (a .a) (fromStart (a .n) (a .body .now) (a .start)) (filling (a .masks .now) (a .small .now) 0) (l .p) (l .masks) (l .small) (l .have) (l .inv .1) (r .2), r .3,
-    left-few (a .a) (fromStart (a .n) (a .body .now) (a .start)) (filling (a .masks .now) (a .small .now) 0) refl (a .count) (r .4) (l .p) (l .masks) (l .small) (l .have) (l .inv .1) (l .inv .0),
-    left-room (a .a) (fromStart (a .n) (a .body .now) (a .start)) (filling (a .masks .now) (a .small .now) 0) refl (a .count) (r .4) (l .p) (l .masks) (l .small) (l .have) (l .inv .1) (c .before .before .loop-test .taken))
+    let l = c .before .before .before .loop in (
+      r .0,
+      omega arith,
+      left-tabled (a .a) (fromStart (a .n) (a .body .now) (a .start)) (filling (a .masks .now) (a .small .now) 0) (l .p) (l .masks) (l .small) (l .have) (l .inv .1) (r .2),
+      r .3,
+      left-few (a .a) (fromStart (a .n) (a .body .now) (a .start)) (filling (a .masks .now) (a .small .now) 0) refl (a .count) (r .4) (l .p) (l .masks) (l .small) (l .have) (l .inv .1) (l .inv .0),
+      left-room (a .a) (fromStart (a .n) (a .body .now) (a .start)) (filling (a .masks .now) (a .small .now) 0) refl (a .count) (r .4) (l .p) (l .masks) (l .small) (l .have) (l .inv .1) (c .before .before .loop-test .taken),
+    )
 
 loop-again : tie.Need-loop-again Inv-loop μ-loop
 loop-again c =
@@ -39,7 +43,7 @@ returns c =
     let r = c .before .before .before .before .before .pre in
     let l = c .before .loop in
     let e : l .p ≡ a .count = omega arith in
-    (subst (λ p. Left (listingBy (a .a) (fromStart (a .n) (a .body .now) (a .start))  p (filling (a .masks .now) (a .small .now) 0)) (l .masks) (l .small) (l .have)) e (l .inv .1), left-few (a .a) (fromStart (a .n) (a .body .now) (a .start)) (filling (a .masks .now) (a .small .now) 0) refl (a .count) (r .4) (l .p) (l .masks) (l .small) (l .have) (l .inv .1) (l .inv .0))
+    (subst (λ p. Left (listingBy (a .a) (fromStart (a .n) (a .body .now) (a .start)) p (filling (a .masks .now) (a .small .now) 0)) (l .masks) (l .small) (l .have)) e (l .inv .1), left-few (a .a) (fromStart (a .n) (a .body .now) (a .start)) (filling (a .masks .now) (a .small .now) 0) refl (a .count) (r .4) (l .p) (l .masks) (l .small) (l .have) (l .inv .1) (l .inv .0))
 
 -- the tables keep their lengths
 sized : (c : tie.After-loop Inv-loop μ-loop) → Tabled (c .before .loop .masks) (c .before .loop .small)

@@ -4,10 +4,9 @@ use Prim.Native.Nat.{ℕ, _+_, _*_, _-_, _≤_, _<_}
 use native.Mathlib.Omega.{arith}
 use borrow.Author.Needs.{needs}
 use lib.ListN.{length, length-set}
-use Rattle.layout.specs.Body.{headAt, startOf}
-use Rattle.layout.specs.declared.record.Head.{Head}
+use Rattle.layout.specs.Body.{startOf}
 use Rattle.engine.specs.Candidates.{Mays}
-use Rattle.engine.specs.Candidates.Laws.{start-next, start-fits, mays-next}
+use Rattle.engine.specs.Candidates.Laws.{start-next, chart-fits, mays-next}
 use Rattle.engine.proofs.candidates.may_all.Statement.{statement}
 use Rattle.engine.proofs.candidates.may_all.Tie as tie
 
@@ -21,21 +20,12 @@ loop-holds : tie.Need-loop-holds Inv-loop μ-loop
 unfolding startOf
 loop-holds c = (search needs, refl, refl, λ d l. absurd (omega arith))
 
--- chart c's transitions are within all
-fits : (c : tie.Then1 Inv-loop μ-loop) (head : Head) → head ≡ headAt (c .before .before .before .before .before .args .n) (c .before .before .before .before .before .args .body .now) (c .before .before .loop .c)
-    → c .before .before .loop .start + head .transitions ≤ c .before .before .before .before .before .args .n .transitions
-fits c head e =
-    let a = c .before .before .before .before .before .args in
-    let r = c .before .before .before .before .before .pre in
-    let l = c .before .before .loop in
-    let h : head .transitions ≡ headAt (a .n) (a .body .now) (l .c) .transitions = ap (λ x. x .transitions) e in
-    let i = l .inv .1 in
-    let s = r .summed in
-    let f = start-fits (a .n) (a .body .now) (l .c) (a .n .charts) (c .if1 .taken) in
-    omega arith
-
 may-of-requires : tie.Need-may-of-requires Inv-loop μ-loop
-may-of-requires c κs = (c .before .before .before .before .before .before .before .before .pre .sized .holds, fits (c .before .before .before) _ (c .before .before .head-at .ensures))
+may-of-requires c κs = (
+  c .before .before .before .before .before .before .before .before .pre .sized .holds,
+  let a = c .before .before .before .before .before .before .before .before .args in let l = c .before .before .before .before .before .loop in
+      chart-fits (a .n) (a .body .now) (a .config .now) (c .before .before .before .before .before .before .before .before .pre) (l .c) (l .start) _ (c .before .before .before .if1 .taken) (l .inv .1) (c .before .before .head-at .ensures),
+)
 
 loop-again : tie.Need-loop-again Inv-loop μ-loop
 loop-again c =
@@ -43,9 +33,12 @@ loop-again c =
     let r = c .before .before .before .before .before .before .before .before .before .pre in
     let l = c .before .before .before .before .before .before .loop in
     let h = c .before .before .before .head-at .ensures in
-    let few = r .sized .charts in
-    (omega arith, ap (λ x. l .start + x .transitions) h ∙ start-next (a .n) (a .body .now) (l .c) (l .start) (l .inv .1), length-set (l .may) (l .c) (c .may-of .result) ∙ l .inv .2,
-    mays-next (a .n) (a .body .now) (a .config .now) (l .c) (l .may) (c .may-of .result) (l .start) _ (l .inv .3) (let k = l .inv .2 in omega arith) (l .inv .1) h (c .may-of .ensures))
+    let few = r .sized .charts in (
+      omega arith,
+      ap (λ x. l .start + x .transitions) h ∙ start-next (a .n) (a .body .now) (l .c) (l .start) (l .inv .1),
+      length-set (l .may) (l .c) (c .may-of .result) ∙ l .inv .2,
+      mays-next (a .n) (a .body .now) (a .config .now) (l .c) (l .may) (c .may-of .result) (l .start) _ (l .inv .3) (let k = l .inv .2 in omega arith) (l .inv .1) h (c .may-of .ensures),
+    )
 
 returns : tie.Need-returns Inv-loop μ-loop
 returns c = λ d x. c .before .before .loop .inv .3 d (omega arith)
@@ -63,7 +56,11 @@ may-all-spec =
     may-of-requires
     (λ c. search needs)
     (λ c. omega (arith, c .before .before .before .before .before .before .loop .inv .2, c .before .before .before .before .before .before .before .before .before .pre .sized .charts))
-    (λ c. omega (arith, fits (c .before .before .before .before ) _ (c .before .before .before .head-at .ensures), c .before .before .before .before .before .before .before .before .before .pre .sized .transitions))
+    (λ c. let a = c .before .before .before .before .before .before .before .before .before .args in let l = c .before .before .before .before .before .before .loop in omega (
+      arith,
+      c .before .before .before .before .before .before .before .before .before .pre .sized .transitions,
+      chart-fits (a .n) (a .body .now) (a .config .now) (c .before .before .before .before .before .before .before .before .before .pre) (l .c) (l .start) _ (c .before .before .before .before .if1 .taken) (l .inv .1) (c .before .before .before .head-at .ensures),
+    ))
     (λ c. omega (arith, c .before .before .before .before .before .before .before .before .before .pre .sized .charts))
     (λ c. search needs)
     loop-again
