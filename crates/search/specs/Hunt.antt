@@ -6,13 +6,14 @@ use Prim.Native.Nat.{ℕ, zero, suc, _+_}
 use lib.Dec.{ltb}
 use lib.ListN.{getD, set, replicate}
 use Rattle.signals.specs.Mask.{_∪_, _∩_, within, apart}
-use Rattle.meaning.specs.Meaning.{same, Outcome, eqList}
+use Rattle.meaning.specs.Meaning.{same, Outcome, eqList, Answer, refused, given}
 use Rattle.meaning.specs.Calls.{made}
 use Rattle.meaning.specs.Laws.Bools.{every}
 use Rattle.wiring.specs.Wire.{join}
 use Rattle.search.specs.Table.{neededAt, barredAt, actionAt, backAt, aheadAt, upAt, toAt, countAt, masterAt, slaveStateAt, stateAt}
 use Rattle.search.specs.declared.Trail.{Trail}
 use Rattle.search.specs.declared.Found.{Found}
+pub mod Laws
 
 module _ {A : Type 0} where
   -- f 0 ++ f 1 ++ .. ++ f (n - 1)
@@ -98,3 +99,7 @@ over (o ∷ os) f = over os (settleOf o f)
 -- nothing found yet
 abbrev pub nothing : Found
 nothing = record { has = false; agree = false; output = 0; next = replicate 8 0 }
+
+-- what was found, as the step's answer (23: no permitted step)
+abbrev pub answerIn : Found → Answer
+answerIn f = cond (f .has) (given (f .output) (f .next) (f .agree)) (refused 23)
