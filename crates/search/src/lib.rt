@@ -214,7 +214,7 @@ pub fn search(
     t: Trail,
     acc: Found,
 ) -> Found
-    requires { ⌜ Tables (now masks) (now small) × (charts ≤ 8) × (left ≤ charts) × ((c : ℕ) → getD (t .choice) c 0 < 8) ⌝ }
+    requires { ⌜ Tables charts (now masks) (now small) × (charts ≤ 8) × (left ≤ charts) × ((c : ℕ) → getD (t .choice) c 0 < 8) ⌝ }
     ensures { λ r. ⌜ r ≡ over (hunts (now (masks .entry)) (now (small .entry)) left (charts - left) t) acc ⌝ }
 {
     if left == 0 {

@@ -255,7 +255,7 @@ alike-twice xs ys = rw (← append-assoc) (alike-drop (xs ++ ys) xs (among-left 
 -- ── blocks of `each` that may be left out ──
 
 module _ (f : ℕ → List Outcome) where
-  among-each : (n u : ℕ) → u < n → Among (f u) (each n f)
+  pub among-each : (n u : ℕ) → u < n → Among (f u) (each n f)
   unfolding each
   among-each zero u l = absurd (omega arith)
   among-each (suc n) u l =
