@@ -8,12 +8,11 @@ use Prim.Native.Nat.{ℕ, zero, suc, _-_, _≤_, _<_}
 use lib.ListN.{length, take, replicate}
 use Rattle.signals.specs.Mask.{_∩_}
 use Rattle.layout.specs.declared.record.Transition.{Transition}
-use Rattle.meaning.specs.Numbers.{noStep}
 use Rattle.meaning.specs.Meaning.{Set, Chart, Tree, nth, Answer, refused, given}
-use Rattle.meaning.specs.Calls.{made}
-use Rattle.wiring.specs.Wire.{join, down, up, back}
+use Rattle.wiring.specs.Wire.{join, up, back}
 use Rattle.wiring.specs.Dropped.{ahead}
 use Rattle.search.specs.Table.{neededAt, barredAt, actionAt, backAt, aheadAt, upAt, toAt, countAt, masterAt, slaveStateAt, stateAt}
+use Rattle.search.specs.Hunt.{answerIn}
 use Rattle.search.specs.declared.Trail.{Trail}
 use Rattle.search.specs.declared.Found.{Found}
 
@@ -59,10 +58,11 @@ module _ (E : ℕ → Chart) (cfg : ℕ → ℕ) (N : ℕ) (t : Tree) where
 unfoldable pub beginning : List ℕ → Trail
 beginning low = record { low = low; choice = replicate 8 0; next = replicate 8 0; awake = replicate 8 0 }
 
+-- the answer with the states of N charts
+unfoldable pub trimmed : ℕ → Answer → Answer
+trimmed N (refused r) = refused r
+trimmed N (given o n m) = given o (take N n) m
+
 -- what was found, as the answer of a step of N charts
-unfoldable pub answerOf : ℕ → Found → Answer
-answerOf N f = pickAnswer (f .has)
-  where
-    pickAnswer : Bool → Answer
-    pickAnswer true = given (f .output) (take N (f .next)) (f .agree)
-    pickAnswer false = refused noStep
+abbrev pub answerOf : ℕ → Found → Answer
+answerOf N f = trimmed N (answerIn f)

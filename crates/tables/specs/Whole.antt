@@ -11,7 +11,7 @@ use lib.ListN.{length, getD, replicate, length-replicate, getD-replicate}
 use Rattle.signals.specs.Mask.{_∪_, _∩_, _∖_, Within}
 use Rattle.signals.specs.Decide.{sets, A, B, C, ∅ₑ, _∪ₑ_, _≐_, _⊑_}
 use Rattle.layout.specs.declared.record.Transition.{Transition}
-use Rattle.meaning.specs.Meaning.{Set, ∅, same, Chart, Tree, Move, nth, pick, actionOf, permitted, upd, moves, nexts, out, upto, Outcome, outcomes, answer}
+use Rattle.meaning.specs.Meaning.{Set, ∅, same, Chart, Tree, Move, nth, pick, actionOf, permitted, upd, moves, nexts, out, upto, Outcome, outcome, search, outcomes, answer}
 use Rattle.meaning.specs.Laws.Bools.{same-refl, same→≡, same-≢, every, every-elim, and-l, not-true}
 use Rattle.meaning.specs.File.{File, wholeOf}
 use Rattle.meaning.specs.Laws.Trees.{Ordered, Rule11}
@@ -25,9 +25,10 @@ use Rattle.wiring.specs.Filter.{lasts, kept}
 use Rattle.wiring.specs.Stand.{stands}
 use Rattle.search.specs.Table.{actionAt, countAt}
 use Rattle.search.specs.Hunt.{each, wakes, taken, rested, fineAt, hunts, over, nothing}
+use Rattle.search.specs.Hunt.Laws.{among-each}
 use Rattle.search.specs.declared.Trail.{Trail}
 use Rattle.tables.specs.Filled.{Is, Listed, start, other, fails, again, fresh, mayAt, Rows, Candidates, beginning, answerOf}
-use Rattle.tables.specs.Padded.{Padded, padded-none, padded-one, padded-append, padded-nothing, padded-again, among-each, found}
+use Rattle.tables.specs.Padded.{Padded, padded-none, padded-one, padded-append, padded-nothing, padded-again, Sizes, found}
 use Rattle.tables.specs.Follow.{length-nexts, Follows, moves-on, wakes-is, taken-follows, rested-follows, fine-is, output-is, next-is}
 
 taking : (q : ℕ) (ts : List Transition) (p : ℕ) → p < length ts → open? false q (nth ts p) ≡ false
@@ -162,7 +163,7 @@ module _ (E : ℕ → Chart) (state : ℕ → ℕ) (cfg : ℕ → ℕ) (N : ℕ)
               → Padded N (each c (λ v. at-trail n k (taken m s t k v))) (upto p (at-place n k ch) ++ at-place n k ch (suc p))
           go x false y b z = padded-nothing N _ _ _ x (unkept n k ch (suc p) y)
           go x true y false z = padded-nothing N _ _ _ x (shut n k ch (suc p) (opened (suc p) false (from-here p tr q false z)))
-          go x true y true z = padded-again N _ _ (at-trail n k (taken m s t k v)) (at-place n k ch (suc p)) x (of v p tr q i (same→≡ (tr .from) (cfg k) z) y) (among-each c (λ v. at-trail n k (taken m s t k v)) v l)
+          go x true y true z = padded-again N _ _ (at-trail n k (taken m s t k v)) (at-place n k ch (suc p)) x (of v p tr q i (same→≡ (tr .from) (cfg k) z) y) (among-each (λ v. at-trail n k (taken m s t k v)) c v l)
       walk (fresh {p = p} {n = c} r tr q h kp i) = padded-append N _ _ (at-trail n k (taken m s t k c)) (at-place n k ch (suc p)) (walk r) (of c p tr q i h kp)
 
     -- an inactive chart takes none
@@ -182,11 +183,7 @@ module _ (E : ℕ → Chart) (state : ℕ → ℕ) (cfg : ℕ → ℕ) (N : ℕ)
   simulate : (n k : ℕ) (t : Trail) (ch : ℕ → ℕ) → n + k ≡ N → Follow t k ch → Padded N (hunts m s n k t) (huntOf n k ch)
   unfolding hunts hunt
   simulate zero k t ch e f = let q : k ≡ N = omega arith in let g : Follow t N ch = subst (λ z. Follow t z ch) q f in
-      padded-one N _ _ (record {
-        output = output-is E state cfg N enc sc tree inp m s st ro t ch g (sa ch);
-        next = next-is E state cfg N enc sc tree inp m s st ro t ch g;
-        size = length-nexts cfg (moves E ch) zero N;
-      })
+      padded-one N _ _ (output-is E state cfg N enc sc tree inp m s st ro t ch g (sa ch)) (next-is E state cfg N enc sc tree inp m s st ro t ch g)
   simulate (suc n) k t ch e f = go (wakes m s t k) refl (simulate n (suc k))
     where
       e′ : n + suc k ≡ N
@@ -229,11 +226,29 @@ module _ (E : ℕ → Chart) (state : ℕ → ℕ) (cfg : ℕ → ℕ) (N : ℕ)
             near (yes r) = listed-in m s e (E e .transitions) (cfg e) (keep e) (awake enc sc state cfg (moves E ch) e) u o kp (ca .listed e l) r
             near (no r) = rw (nth-far (E e .transitions) u (omega arith)) (sets (all ∷ []) [] (∅ₑ ⊑ A) tt)
 
+    sizes-append : (xs ys : List Outcome) → Sizes N xs → Sizes N ys → Sizes N (xs ++ ys)
+    sizes-append [] ys p q = q
+    sizes-append (x ∷ xs) ys p q = (p .0, sizes-append xs ys (p .1) q)
+
+    sizes-upto : (k : ℕ) (f : ℕ → List Outcome) → ((v : ℕ) → Sizes N (f v)) → Sizes N (upto k f)
+    unfolding upto
+    sizes-upto zero f h = h zero
+    sizes-upto (suc k) f h = sizes-append (upto k f) (f (suc k)) (sizes-upto k f h) (h (suc k))
+
+    sizes : (n c : ℕ) (ch : ℕ → ℕ) → Sizes N (search E state cfg tree inp N n c ch)
+    unfolding search outcome
+    sizes zero c ch = go (permitted E state cfg (moves E ch) tree inp)
+      where
+        go : (b : Bool) → Sizes N (cond b (record { output = out (moves E ch) tree; next = nexts cfg (moves E ch) zero N } ∷ []) [])
+        go true = (length-nexts cfg (moves E ch) zero N, tt)
+        go false = tt
+    sizes (suc n) c ch = sizes-upto (length (E c .transitions)) _ (λ v. sizes n (suc c) (upd ch c v))
+
     pub found-all : (lows : List ℕ) → ((c : ℕ) → c < N → getD lows c 0 ≡ inp ∩ down tree c)
         → answerOf N (over (hunts m s N zero (beginning lows)) nothing) ≡ answer (outcomes E state cfg tree inp N)
     unfolding outcomes
-    found-all lows h = found N _ _ (simulate N zero (beginning lows) (λ c. zero) (omega arith) (begins lows h))
-        ∙ ap answer (hunted-all E state cfg N enc sc tree inp (mayAt m s) keep st bounds si sa kept)
+    found-all lows h = found N _ _ (subst (Padded N (hunts m s N zero (beginning lows))) (hunted-all E state cfg N enc sc tree inp (mayAt m s) keep st bounds si sa kept)
+        (simulate N zero (beginning lows) (λ c. zero) (omega arith) (begins lows h))) (sizes N zero (λ c. zero))
 
 -- ── for a file that rules 9 to 11 allow ──
 

@@ -1,18 +1,23 @@
 -- Laws for choosing candidates. In order: where a chart's transitions stand (start-fits), what they might put out (may-none, may-more, may-done),
 -- what the other charts might (join-more, others-done), one transition (left-other to left-put), a filling by one transition more (left-none to
--- left-room), one chart more (mays-next, chart-next), the present states (stated-none, stated-next), and all of it (chooses).
+-- left-room), one chart more (mays-next to chart-tabled), the present states (stated-none, stated-next), all of it (chooses), and that actions have no signal
+-- from 64 on (actions-small).
 use mathlib.Core.Path.{_≡_, refl, sym, _∙_, ap, ap₂, subst}
 use mathlib.Core.Bool.{Bool, true, false, cond, false≢true}
 use mathlib.Core.Option.{some}
 use mathlib.Core.List.{List, [], _∷_}
 use mathlib.Core.Logic.{_≢_}
-use Prim.Native.Nat.{ℕ, zero, suc, _+_, _*_, _-_, _≤_, _<_}
+use Prim.Native.Nat.{ℕ, zero, suc, _+_, _*_, _-_, _^_, _≤_, _<_}
 use native.Mathlib.Omega.{arith}
+use native.Mathlib.Nat.{pow-suc, one-le-pow, mod-eq-of-lt}
 use native.Mathlib.Numerals.{add-one}
+use lib.Bits.{and-mask}
+use lib.Dec.{lit<}
 use lib.ListN.{length, getD, set, drop, length-set}
 use lib.Seq.{getD-set-same, getD-set-other, getD-drop}
 use Rattle.signals.specs.Mask.{_∪_, _∩_, _∖_}
-use Rattle.signals.specs.Decide.{sets, A, B, C, D, E as Eₑ, ∅ₑ, _∪ₑ_, _≐_}
+use Rattle.signals.specs.Decide.{sets, A, B, C, D, E as Eₑ, ∅ₑ, _∪ₑ_, _∩ₑ_, _≐_}
+use Rattle.layout.specs.Le.{le}
 use Rattle.layout.specs.Record.{transitionOf}
 use Rattle.layout.specs.Body.{transitionsFrom, headAt, transitionAt, startOf, transitionsOf}
 use Rattle.layout.specs.Body.{from as fromOn}
@@ -21,9 +26,10 @@ use Rattle.layout.specs.declared.record.Transition.{Transition}
 use Rattle.layout.specs.declared.record.Head.{Head}
 use Rattle.meaning.specs.Count.{tally, one}
 use Rattle.meaning.specs.Check.{leaving}
-use Rattle.meaning.specs.Meaning.{Set, same, nth}
+use Rattle.meaning.specs.Meaning.{Set, same, nth, pick, actionOf, moves}
+use Rattle.meaning.specs.File.{chartOf, fileAt}
 use Rattle.meaning.specs.Laws.Bools.{same-refl, same→≡, same-≢}
-use Rattle.wiring.specs.Wire.{join}
+use Rattle.wiring.specs.Wire.{join, Small, full}
 use Rattle.wiring.specs.Dropped.{join-cong}
 use Rattle.wiring.specs.Hunt.{mayOf}
 use Rattle.search.specs.Table.{backAt}
@@ -240,3 +246,34 @@ chooses n b config lows m₀ s₀ s₁ m s m′ r tb st un ah = let few = r .siz
       masters = λ i p q. un .rest i (omega arith) ∙ st .below i q;
       tabled = record { masks = ah .masks ∙ un .masks; small = un .small };
     }
+
+-- ── actions of a file in bytes ──
+
+le-small : (n : ℕ) (s : List ℕ) → ((i : ℕ) → getD s i 0 < 256) → le n s < 256 ^ n
+unfolding le
+le-small zero s h = omega arith
+le-small (suc n) [] h = one-le-pow (suc n) 256 (lit< tt)
+le-small (suc n) (b ∷ s) h = let r = le-small n s (λ i. h (suc i)) in let q = h 0 in rw (pow-suc 256 n) (omega arith)
+
+small-below : (x : Set) → x < 2 ^ 64 → Small x
+unfolding full
+small-below x l = and-mask x 64 ∙ mod-eq-of-lt l
+
+action-small : (n : Shape) (b : List ℕ) → ((i : ℕ) → getD b i 0 < 256) → (t : ℕ) → Small (transitionAt n b t .action)
+unfolding transitionAt transitionOf
+action-small n b h t = small-below _ (le-small 8 (drop 20 (drop (transitionsFrom n + 28 * t) b)) (λ i. rw (getD-drop 20 (drop (transitionsFrom n + 28 * t) b) i 0, getD-drop (transitionsFrom n + 28 * t) b (20 + i) 0) (h _)))
+
+nth-small : (f : ℕ → Transition) → ((t : ℕ) → Small (f t .action)) → (k n u : ℕ) → Small (actionOf (nth (fromOn f k n) u))
+unfolding fromOn nth actionOf
+nth-small f g k zero u = sets (full ∷ []) [] (∅ₑ ∩ₑ A ≐ ∅ₑ) tt
+nth-small f g k (suc n) zero = g k
+nth-small f g k (suc n) (suc u) = nth-small f g (suc k) n u
+
+-- no action has a signal from 64 on
+pub actions-small : (n : Shape) (b : List ℕ) → ((i : ℕ) → getD b i 0 < 256) → (ch : ℕ → ℕ) (e : ℕ) → Small (actionOf (moves (fileAt n b .chart) ch e))
+unfolding moves fileAt chartOf transitionsOf
+actions-small n b h ch e = go (ch e)
+  where
+    go : (v : ℕ) → Small (actionOf (pick (fromOn (transitionAt n b) (startOf n b e) (headAt n b e .transitions)) v))
+    go zero = unfold pick actionOf in sets (full ∷ []) [] (∅ₑ ∩ₑ A ≐ ∅ₑ) tt
+    go (suc u) = unfold pick in nth-small (transitionAt n b) (action-small n b h) (startOf n b e) (headAt n b e .transitions) u

@@ -171,7 +171,7 @@ alike-append {xs} {ys} {zs} {ws} p q =
       agrees = λ a. agree-append a xs zs ∙ ap₂ _&&_ (p .agrees a) (q .agrees a) ∙ sym (agree-append a ys ws);
     }
 
-eqList-refl : (cs : List ℕ) → eqList cs cs ≡ true
+pub eqList-refl : (cs : List ℕ) → eqList cs cs ≡ true
 unfolding eqList
 eqList-refl [] = refl
 eqList-refl (c ∷ cs) = rw (same-refl c) (eqList-refl cs)
