@@ -116,17 +116,17 @@ fn passes(masks: &[u64], awake: u8, v: u8, low: u64, k: usize, d: usize) -> bool
     signals::apart(masks[64 + at], low)
 }
 
-// Whether every chart up to k, the last that was settled, can still be met.
+// Whether every chart up to k, the last that was settled, can still be met. The last is tested first: it fails most often.
 fn fine(masks: &[u64], t: Trail, k: usize) -> bool
     requires { ⌜ (length (now masks) ≡ 336) × (k < 8) × ((c : ℕ) → getD (t .choice) c 0 < 8) ⌝ }
     ensures { λ r. ⌜ ((s : List ℕ) → r ≡ fineAt (now (masks .entry)) s t k) ⌝ }
 {
-    let mut d: usize = 0;
-    while d <= k {
+    let mut d = k + 1;
+    while d > 0 {
+        d -= 1;
         if !passes(masks, t.awake[d], t.choice[d], t.low[d], k + 1, d) {
             return false;
         }
-        d += 1;
     }
     true
 }
