@@ -1,14 +1,14 @@
 -- `search::same_states` meets its contract: what is left from i on decides, since all before is equal.
 use mathlib.Core.Path.{_≡_, refl, sym, _∙_}
-use mathlib.Core.Bool.{true, false, _&&_}
-use mathlib.Core.List.{List, [], _∷_}
-use Prim.Native.Nat.{ℕ, suc, _+_, _-_, _<_, _≤_}
+use mathlib.Core.Bool.{true, false}
+use mathlib.Core.List.{List}
+use Prim.Native.Nat.{ℕ, _+_, _-_, _<_, _≤_}
 use native.Mathlib.Numerals.{add-one}
 use native.Mathlib.Omega.{arith}
 use borrow.Author.Needs.{needs}
 use lib.ListN.{length, getD, drop, drop-of-length-le}
 use lib.Seq.{drop-cons}
-use Rattle.meaning.specs.Meaning.{same, eqList}
+use Rattle.meaning.specs.Meaning.{eqList}
 use Rattle.meaning.specs.Laws.Bools.{same-refl, same-≢}
 use Rattle.search.proofs.same_states.Statement.{statement}
 use Rattle.search.proofs.same_states.Tie as tie
