@@ -2,7 +2,7 @@
 ghost use mathlib.Core.Path.{_≡_};
 ghost use mathlib.Core.Bool.{true, _&&_, not, cond};
 ghost use mathlib.Core.List.{List};
-ghost use Prim.Native.Nat.{ℕ, suc, _+_, _-_, _*_, _≤_, _<_};
+ghost use Prim.Native.Nat.{ℕ, _+_, _-_, _*_, _≤_, _<_};
 ghost use lib.ListN.{length, getD};
 ghost use Rattle.signals.specs.Mask.{_∪_, _∩_, within, apart};
 ghost use Rattle.meaning.specs.Meaning.{same, eqList};
@@ -104,7 +104,9 @@ fn rested(small: &[u8], t: Trail, k: usize) -> Trail
 // Whether chart d, settled by its candidate v and surely offered low, can still be met, charts from k on being left (`passesAt`).
 fn passes(masks: &[u64], awake: u8, v: u8, low: u64, k: usize, d: usize) -> bool
     requires { ⌜ (length (now masks) ≡ 336) × (k ≤ 8) × (d < 8) × (v < 8) ⌝ }
-    ensures { λ r. ⌜ r ≡ cond (same awake 1) (within (neededAt (now (masks .entry)) d v) (low ∪ aheadAt (now (masks .entry)) k d) && apart (barredAt (now (masks .entry)) d v) low) true ⌝ }
+    ensures { λ r. ⌜ r ≡ cond (same awake 1)
+        (within (neededAt (now (masks .entry)) d v) (low ∪ aheadAt (now (masks .entry)) k d) && apart (barredAt (now (masks .entry)) d v) low)
+        true ⌝ }
 {
     if awake != 1 {
         return true;
@@ -116,17 +118,17 @@ fn passes(masks: &[u64], awake: u8, v: u8, low: u64, k: usize, d: usize) -> bool
     signals::apart(masks[64 + at], low)
 }
 
-// Whether every chart up to k, the last that was settled, can still be met.
+// Whether every chart up to k, the last that was settled, can still be met. The last is tested first: it fails most often.
 fn fine(masks: &[u64], t: Trail, k: usize) -> bool
     requires { ⌜ (length (now masks) ≡ 336) × (k < 8) × ((c : ℕ) → getD (t .choice) c 0 < 8) ⌝ }
     ensures { λ r. ⌜ ((s : List ℕ) → r ≡ fineAt (now (masks .entry)) s t k) ⌝ }
 {
-    let mut d: usize = 0;
-    while d <= k {
+    let mut d = k + 1;
+    while d > 0 {
+        d -= 1;
         if !passes(masks, t.awake[d], t.choice[d], t.low[d], k + 1, d) {
             return false;
         }
-        d += 1;
     }
     true
 }
@@ -156,6 +158,7 @@ fn output(masks: &[u64], t: Trail) -> u64
     all
 }
 
+// Whether two configurations are equal.
 fn same_states(a: [u8; 8], b: [u8; 8]) -> bool
     ensures { λ r. ⌜ r ≡ eqList a b ⌝ }
 {

@@ -1,10 +1,10 @@
 -- `search::output` meets its contract: the union of what the charts below d show.
-use mathlib.Core.Path.{_≡_, refl, sym, _∙_}
+use mathlib.Core.Path.{_≡_, refl}
 use mathlib.Core.Bool.{cond}
 use mathlib.Core.List.{List}
 use Prim.Native.Nat.{ℕ, _+_, _-_, _≤_}
+use native.Mathlib.Numerals.{add-one}
 use native.Mathlib.Omega.{arith}
-use borrow.Author.Needs.{needs}
 use lib.ListN.{getD}
 use Rattle.signals.specs.Mask.{_∪_, _∩_}
 use Rattle.meaning.specs.Meaning.{same}
@@ -12,9 +12,12 @@ use Rattle.wiring.specs.Wire.{join}
 use Rattle.search.specs.declared.Trail.{Trail}
 use Rattle.search.specs.Table.{actionAt, upAt}
 use Rattle.search.specs.Hunt.{outputAt}
-use Rattle.search.proofs.Laws.{join-more}
 use Rattle.search.proofs.output.Statement.{statement}
 use Rattle.search.proofs.output.Tie as tie
+
+join-more : (n : ℕ) (f : ℕ → ℕ) → join (n + 1) f ≡ join n f ∪ f n
+unfolding join
+join-more n f = rw add-one
 
 -- what comes out of the whole of chart d's action
 abbrev shown : List ℕ → Trail → ℕ → ℕ

@@ -1,5 +1,4 @@
 -- `search::shown` meets its contract: an inactive chart shows nothing.
-use mathlib.Core.Path.{_≡_, refl}
 use borrow.Author.Needs.{needs}
 use borrow.Author.Tests.{eq-eqb, ne-eqb}
 use Rattle.meaning.specs.Meaning.{same}
