@@ -49,7 +49,9 @@ returns-2 : tie.Need-returns-2
 returns-2 c =
     let d = c .before .before in
     let e = d .before .before .before .before in
-    let w = stands e in by-body _ (accepted e) _ (w .shape) _ (w .body) _ _ _ _ _ (d .of-body .ensures)
+    let w = stands e in
+    let a = e .before .before .before .before .before .args in
+    by-body _ (accepted e) _ (w .shape) _ (w .body) (a .config .now) (a .input) (a .next .now) _ _ (d .of-body .ensures)
 
 pub step-spec : {M : Type 1} → statement M
 step-spec =
