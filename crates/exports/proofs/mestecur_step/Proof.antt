@@ -1,0 +1,18 @@
+-- `exports::mestecur_step` hands on what `step` answers, the mark as a number. Assumes nothing.
+use mathlib.Core.Path.{ap, _∙_}
+use borrow.Author.Needs.{needs}
+use Rattle.meaning.specs.Count.{one}
+use Rattle.engine.specs.declared.step.Stepped.{Stepped}
+use Rattle.exports.proofs.mestecur_step.Statement.{statement}
+use Rattle.exports.proofs.mestecur_step.Tie as tie
+
+returns : tie.Need-returns
+returns c =
+    let e = c .before .before .before .step .ensures in
+    (
+      ap (λ (s : Stepped). s .refusal) (e .0),
+      (e .1, (ap (λ (s : Stepped). s .output) (e .0), c .number .ensures ∙ ap (λ (s : Stepped). one (s .mark)) (e .0))),
+    )
+
+pub mestecur-step-spec : {M : Type 1} → statement M
+mestecur-step-spec = tie.close (tie.spec (λ c κs. search needs) (λ c κs. search needs) (λ c. search needs) returns)

@@ -1,0 +1,53 @@
+// The engine for programs in C and Rust (include/mestecur.h). A slice passes as a pointer and a length. Each function returns 0 or the refusal;
+// a single number behind a pointer is an answer, and is 0 where the call is refused.
+ghost use mathlib.Core.Path.{_≡_};
+ghost use lib.ListN.{length};
+ghost use Rattle.meaning.specs.Count.{one};
+ghost use Rattle.meaning.specs.Check.{refusalOf};
+ghost use Rattle.meaning.specs.Calls.{firstRefusal, firstBytes, inputOf, outputOf, stepOf, refusalIn, outputIn, markIn, nextIn, runRefusal, runBytes};
+
+#[no_mangle]
+pub extern "C" fn mestecur_check(file: &[u8]) -> u8
+    ensures { λ r. ⌜ r ≡ refusalOf (now (file .entry)) ⌝ }
+{
+    engine::file::check(file)
+}
+
+#[no_mangle]
+pub extern "C" fn mestecur_first(file: &[u8], config: &mut [u8]) -> u8
+    ensures { λ r. ⌜ r ≡ firstRefusal (now (file .entry)) (length (now (config .entry))) ⌝ }
+    ensures { λ r. ⌜ now (config .exit) ≡ firstBytes (now (file .entry)) (now (config .entry)) ⌝ }
+{
+    engine::file::first(file, config)
+}
+
+#[no_mangle]
+pub extern "C" fn mestecur_interface(file: &[u8], input: &mut u64, output: &mut u64) -> u8
+    ensures { λ r. ⌜ r ≡ refusalOf (now (file .entry)) ⌝ }
+    ensures { λ r. ⌜ (now (input .exit) ≡ inputOf (now (file .entry))) × (now (output .exit) ≡ outputOf (now (file .entry))) ⌝ }
+{
+    let faces = engine::interface::interface(file);
+    *input = faces.input;
+    *output = faces.output;
+    faces.refusal
+}
+
+#[no_mangle]
+pub extern "C" fn mestecur_step(file: &[u8], config: &[u8], input: u64, next: &mut [u8], output: &mut u64, mark: &mut u8) -> u8
+    ensures { λ r. ⌜ r ≡ refusalIn (stepOf (now (file .entry)) (now (config .entry)) input (length (now (next .entry)))) ⌝ }
+    ensures { λ r. ⌜ now (next .exit) ≡ nextIn (stepOf (now (file .entry)) (now (config .entry)) input (length (now (next .entry)))) (now (next .entry)) ⌝ }
+    ensures { λ r. ⌜ now (output .exit) ≡ outputIn (stepOf (now (file .entry)) (now (config .entry)) input (length (now (next .entry)))) ⌝ }
+    ensures { λ r. ⌜ now (mark .exit) ≡ one (markIn (stepOf (now (file .entry)) (now (config .entry)) input (length (now (next .entry))))) ⌝ }
+{
+    let s = engine::step::step(file, config, input, next);
+    *output = s.output;
+    *mark = number(s.mark);
+    s.refusal
+}
+
+// 1 for yes.
+fn number(mark: bool) -> u8
+    ensures { λ r. ⌜ r ≡ one mark ⌝ }
+{
+    if mark { 1 } else { 0 }
+}
