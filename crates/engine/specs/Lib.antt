@@ -1,3 +1,5 @@
--- What the contracts of engine cite beyond the crate meaning: the charts' own interfaces (Faces), and what a step's functions ask and leave (Step).
+-- What the contracts of engine cite beyond the crate meaning: the charts' own interfaces (Faces), what a step's functions ask and leave (Step);
+-- and that each public contract determines its result (Determined).
 pub mod Faces
 pub mod Step
+pub mod Determined

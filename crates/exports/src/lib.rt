@@ -33,7 +33,14 @@ pub extern "C" fn mestecur_interface(file: &[u8], input: &mut u64, output: &mut 
 }
 
 #[no_mangle]
-pub extern "C" fn mestecur_step(file: &[u8], config: &[u8], input: u64, next: &mut [u8], output: &mut u64, mark: &mut u8) -> u8
+pub extern "C" fn mestecur_step(
+    file: &[u8],
+    config: &[u8],
+    input: u64,
+    next: &mut [u8],
+    output: &mut u64,
+    mark: &mut u8,
+) -> u8
     ensures { λ r. ⌜ r ≡ refusalIn (stepOf (now (file .entry)) (now (config .entry)) input (length (now (next .entry)))) ⌝ }
     ensures { λ r. ⌜ now (next .exit) ≡ nextIn (stepOf (now (file .entry)) (now (config .entry)) input (length (now (next .entry)))) (now (next .entry)) ⌝ }
     ensures { λ r. ⌜ now (output .exit) ≡ outputIn (stepOf (now (file .entry)) (now (config .entry)) input (length (now (next .entry)))) ⌝ }

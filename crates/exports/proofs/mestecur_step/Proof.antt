@@ -8,8 +8,7 @@ use Rattle.exports.proofs.mestecur_step.Tie as tie
 
 returns : tie.Need-returns
 returns c =
-    let e = c .before .before .before .step .ensures in
-    (
+    let e = c .before .before .before .step .ensures in (
       ap (λ (s : Stepped). s .refusal) (e .0),
       (e .1, (ap (λ (s : Stepped). s .output) (e .0), c .number .ensures ∙ ap (λ (s : Stepped). one (s .mark)) (e .0))),
     )
