@@ -1,3 +1,5 @@
--- What the contracts of engine cite beyond the crate meaning: the charts' own interfaces (Faces), and what a step's functions ask and leave (Step).
+-- What the contracts of engine cite beyond the crate meaning: the charts' own interfaces (Faces), and what the functions of a step (Step) and of a run (Run)
+-- ask and leave.
 pub mod Faces
 pub mod Step
+pub mod Run
