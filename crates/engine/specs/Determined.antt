@@ -6,7 +6,7 @@ use Prim.Native.Nat.{ℕ}
 use lib.ListN.{length}
 use Rattle.meaning.specs.Meaning.{Set}
 use Rattle.meaning.specs.Check.{refusalOf}
-use Rattle.meaning.specs.Calls.{firstRefusal, firstBytes, inputOf, outputOf, stepOf, nextIn}
+use Rattle.meaning.specs.Calls.{firstRefusal, firstBytes, inputOf, outputOf, stepOf, nextIn, runRefusal, runBytes}
 use Rattle.engine.specs.Step.{steppedOf}
 use Rattle.engine.specs.declared.interface.Faces.{Faces}
 use Rattle.engine.specs.declared.step.Stepped.{Stepped}
@@ -37,3 +37,8 @@ module _ (f : List ℕ) where
       → (r ≡ steppedOf (stepOf f config i (length b))) × (c ≡ nextIn (stepOf f config i (length b)) b)
       → (r′ ≡ steppedOf (stepOf f config i (length b))) × (c′ ≡ nextIn (stepOf f config i (length b)) b) → (r ≡ r′) × (c ≡ c′)
   step-determined config i b = both
+
+  pub run-determined : (config : List ℕ) (inputs : List Set) (b : List ℕ) (r r′ : ℕ) (c c′ : List ℕ)
+      → (r ≡ runRefusal f config (length inputs) (length b)) × (c ≡ runBytes f config inputs b)
+      → (r′ ≡ runRefusal f config (length inputs) (length b)) × (c′ ≡ runBytes f config inputs b) → (r ≡ r′) × (c ≡ c′)
+  run-determined config inputs b = both

@@ -1,5 +1,5 @@
 -- Theorems on the meaning of chart files: tests (Bools), charts inside a tree (Above), the tree of a file by node kind (Trees), values of its nodes (Folds), the sets of a chart (Faces), and what rule 10
--- gives, that each node has one place in the whole (Names).
+-- gives, that each node has one place in the whole (Names). Then the demands: the step in words (Demand2), the rows of a run (Runs), the table (Thirteen).
 pub mod Bools
 pub mod Above
 pub mod Trees
@@ -7,4 +7,5 @@ pub mod Folds
 pub mod Faces
 pub mod Names
 pub mod Demand2
+pub mod Runs
 pub mod Thirteen

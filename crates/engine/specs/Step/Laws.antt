@@ -70,7 +70,7 @@ step-passed f config i room h = rw (behind-passed f config _ h)
 -- ── 20 to 22 ──
 
 module _ (F : File) (config : List ℕ) where
-  config-passes : firstOf (configTestsIn F config) ≡ 0 → Passes (configTestsIn F config)
+  pub config-passes : firstOf (configTestsIn F config) ≡ 0 → Passes (configTestsIn F config)
   unfolding configTestsIn
   config-passes h = firstOf-passes _ (lit< tt, (lit< tt, tt)) h
 

@@ -1,0 +1,155 @@
+-- `run::put_rows` meets its contract: before each input the rows written, then those of the inputs that are left from the present configuration, are
+-- all rows. Assumes nothing.
+use mathlib.Core.Path.{_≡_, refl, sym, ap, _∙_}
+use mathlib.Core.List.{List, _++_}
+use Prim.Native.Nat.{ℕ, _+_, _*_, _-_, _^_, _≤_, _<_}
+use native.Mathlib.Omega.{arith}
+use borrow.Author.Needs.{needs}
+use lib.ListN.{length, getD, take, drop, length-take, length-drop}
+use lib.Seq.{drop-drop}
+use Rattle.layout.specs.declared.body.Shape.{Shape}
+use Rattle.meaning.specs.Meaning.{Answer}
+use Rattle.meaning.specs.File.{chartOf, fileAt}
+use Rattle.meaning.specs.Calls.{stepIn, afterStep, rowOf, rowsOf, laidOver}
+use Rattle.meaning.specs.Laws.Runs.{Valid, valid-after, length-next, rows-all}
+use Rattle.engine.specs.Step.{Checked, Prepared}
+use Rattle.engine.specs.Step.Laws.{ready}
+use Rattle.engine.specs.Run.Laws.{leads, laid, laid-before, laid-after, laid-length, run-step, run-done, next-row, next-at}
+use Rattle.engine.proofs.run.put_rows.Statement.{statement}
+use Rattle.engine.proofs.run.put_rows.Tie as tie
+use Rattle.engine.proofs.run.put_rows.Reads as reads
+use Rattle.engine.proofs.run.put_rows.Lts as lts
+use Rattle.engine.proofs.run.after.Reads as after-reads
+use Rattle.engine.proofs.run.put_row.Reads as put-row-reads
+use Rattle.engine.proofs.step.found.Reads as found-reads
+
+module _ (n : Shape) (b inputs start rows₀ : List ℕ) where
+  -- i inputs were taken: their rows stand before `at`, and they led to this configuration
+  pub record So-far (rows config : List ℕ) (at i : ℕ) : Type 0 where
+    pub counted : i ≤ length inputs
+    pub place : at ≡ i * (10 + n .charts)
+    pub long : length rows ≡ length rows₀
+    pub valid : Valid (fileAt n b) config
+    pub before : take at rows ++ rowsOf (fileAt n b) config (drop i inputs) ≡ rowsOf (fileAt n b) start inputs
+    pub behind : drop at rows ≡ drop at rows₀
+
+  module _ (k : Checked n b) (rows config : List ℕ) (at i : ℕ) (s : So-far rows config at i) where
+    module _ (l : i < length inputs) (room : at + (10 + n .charts) ≤ length rows) (row d : List ℕ) (r : Answer) (e : r ≡ stepIn (fileAt n b) config (getD inputs i 0))
+        (p : row ≡ rowOf r config) (q : d ≡ afterStep r config) where
+      wide : length row ≡ at + (10 + n .charts) - at
+      unfolding fileAt
+      wide = rw (p, e, length-next (fileAt n b) (leads n b k) config (getD inputs i 0) (s .valid)) (omega arith)
+
+      -- one input more
+      pub turn : So-far (laid rows row at (at + (10 + n .charts))) d (at + (10 + n .charts)) (i + 1)
+      turn =
+          let w = 10 + n .charts in
+          record {
+            counted = omega arith;
+            place = omega (arith, next-at i w, s .place);
+            long = laid-length rows row at (at + w) (omega arith) room wide ∙ s .long;
+            valid = rw (q, e) (valid-after (fileAt n b) (leads n b k) config (getD inputs i 0) (s .valid));
+            before = laid-before rows row at (at + w) (omega arith) room wide _ _
+                (ap (λ (x : List ℕ). take at rows ++ x) (run-step (fileAt n b) inputs config d row r i l e p q) ∙ s .before);
+            behind = laid-after rows row at (at + w) (omega arith) room wide ∙ sym (drop-drop w at rows) ∙ ap (drop w) (s .behind) ∙ drop-drop w at rows₀;
+          }
+
+    pub all : Valid (fileAt n b) start → length inputs ≤ i → rows ≡ laidOver (rowsOf (fileAt n b) start inputs) rows₀
+    unfolding fileAt
+    all v l =
+        let e : i ≡ length inputs = omega (arith, s .counted) in
+        run-done (fileAt n b) inputs start config rows rows₀ i at e (rows-all (fileAt n b) (leads n b k) start inputs v ∙ rw (← e) (sym (s .place))) (s .before) (s .behind)
+
+abbrev Inv-loop : tie.InvT-loop
+Inv-loop n body inputs down masks₀ small₀ rows₀ charts w states₀ at₀ i₀ masks small rows states at i =
+    So-far n body inputs (take (n .charts) states₀) rows₀ rows (take (n .charts) states) at i × Prepared n body down masks small
+
+abbrev μ-loop : tie.MeasureT-loop
+μ-loop n body inputs down masks₀ small₀ rows₀ charts w states₀ at₀ i₀ masks small rows states at i = length inputs - i
+
+-- the next row lies within the rows
+fits : (c : tie.In-loop Inv-loop μ-loop) → c .before .loop .at + (10 + c .before .before .before .before .before .before .before .args .n .charts) ≤ length (c .before .loop .rows)
+fits c =
+    let l = c .before .loop in
+    let s = c .before .before .before .before .before .before .before in
+    omega (arith, l .inv .0 .place, l .inv .0 .long, next-row (l .i) (length (s .args .inputs .now)) (10 + s .args .n .charts) (length (s .args .rows .now)) (c .loop-test .taken) (s .pre .3))
+
+-- what is lent is memory, so that its length is a number of the machine
+lent : (c : tie.After-slice-known3 Inv-loop μ-loop) → let a = c .before .before .before .before .before .args in (length (a .rows .now) < 2 ^ 64) × (length (a .inputs .now) < 2 ^ 64)
+lent c = (omega arith, omega arith)
+
+-- the present configuration has a state for each chart
+configured : (c : tie.In-loop Inv-loop μ-loop) → length (take (c .before .before .before .before .before .before .before .args .n .charts) (c .before .loop .states)) ≡ c .before .before .before .before .before .before .before .args .n .charts
+unfolding fileAt
+configured c = c .before .loop .inv .0 .valid .long
+
+loop-holds : tie.Need-loop-holds Inv-loop μ-loop
+loop-holds c =
+    let s = c .before .before .before .before .before in
+    (record { counted = omega arith; place = omega arith; long = refl; valid = s .pre .1; before = refl; behind = refl }, s .pre .2)
+
+array-share-prefix-states : tie.Need-array-share-prefix-states Inv-loop μ-loop
+array-share-prefix-states c = omega (arith, rw length-take at (configured c))
+
+found-requires : tie.Need-found-requires Inv-loop μ-loop
+unfolding fileAt chartOf
+found-requires c κs =
+    let i = c .before .before .before .before in
+    let s = i .before .before .before .before .before .before .before in
+    let g = i .before .loop .inv in
+    (s .pre .0, ready _ _ (s .pre .0) _ (omega (arith, configured i)) (g .0 .valid .states), g .1)
+
+put-row-requires : tie.Need-put-row-requires Inv-loop μ-loop
+put-row-requires c κs =
+    let i = c .before .before .before .before .before .before .before .before .before .before in
+    let h = fits i in
+    (i .before .before .before .before .before .before .before .pre .0 .sized .charts, simp (length-take, length-drop) (omega arith))
+
+loop-again : tie.Need-loop-again Inv-loop μ-loop
+loop-again c =
+    let p = c .before .before .before in
+    let f = p .before .before .before .before .before .before in
+    let i = f .before .before .before .before .before in
+    let s = i .before .before .before .before .before .before .before in
+    let l = i .before .loop in (
+      turn (s .args .n) (s .args .body .now) (s .args .inputs .now) _ _ (s .pre .0) (l .rows) _ (l .at) (l .i) (l .inv .0) (i .loop-test .taken) (fits i)
+          (p .put-row .last .0) _ _ (f .found .ensures .0) (p .put-row .ensures) (c .after .ensures (s .args .n .charts)),
+      f .found .ensures .1,
+    )
+
+returns : tie.Need-returns Inv-loop μ-loop
+returns c =
+    let s = c .before .before .before .before .before .before .before in
+    let l = c .before .loop in
+    all (s .args .n) (s .args .body .now) (s .args .inputs .now) _ (s .args .rows .now) (s .pre .0) (l .rows) _ (l .at) (l .i) (l .inv .0) (s .pre .1) (c .loop-test .left)
+
+pub put-rows-spec : {M : Type 1} → statement M
+put-rows-spec =
+    tie.close
+    (tie.spec
+    Inv-loop
+    μ-loop
+    (λ c. search needs)
+    loop-holds
+    array-share-prefix-states
+    (λ c. sym (configured (c .before)))
+    (λ c. search needs)
+    (λ c. search needs)
+    found-requires
+    (λ c.
+    let i = c .before .before .before .before .before .before .before .before .before in
+    omega (arith, fits i, i .before .loop .inv .0 .long, lent (i .before .before) .0))
+    (λ c. search needs)
+    (λ c. search needs)
+    (λ c. fits (c .before .before .before .before .before .before .before .before .before))
+    put-row-requires
+    (λ c κs. search needs)
+    (λ c.
+    let i = c .before .before .before .before .before .before .before .before .before .before .before .before .before .before in
+    omega (arith, i .loop-test .taken, lent (i .before .before) .1))
+    (λ c. omega (arith, c .before .before .before .before .before .before .before .before .before .before .before .before .before .before .loop-test .taken))
+    loop-again
+    (λ c. c .before .loop .inv .1 .tabled .masks ∙ sym (c .before .before .before .before .before .before .before .pre .2 .tabled .masks))
+    (λ c. c .before .loop .inv .1 .tabled .small ∙ sym (c .before .before .before .before .before .before .before .pre .2 .tabled .small))
+    (λ c. c .before .loop .inv .0 .long)
+    returns)

@@ -1,0 +1,71 @@
+-- `run::run` meets its contract: the file's refusal, or the run of its body. Assumes nothing.
+use mathlib.Core.Path.{_≡_, sym, _∙_}
+use mathlib.Core.List.{List}
+use Prim.Native.Nat.{ℕ}
+use native.Mathlib.Omega.{arith}
+use borrow.Author.Needs.{needs}
+use lib.ListN.{length}
+use Rattle.layout.specs.declared.body.Shape.{Shape}
+use Rattle.meaning.specs.File.{trailer, shapeOf, bodyOf, fileAt}
+use Rattle.meaning.specs.Check.{refusalOf}
+use Rattle.meaning.specs.Calls.{runRefusal, runBytes}
+use Rattle.checks.specs.Open.{Stands}
+use Rattle.engine.specs.Step.{Checked}
+use Rattle.engine.specs.Step.Laws.{checked, file-is}
+use Rattle.engine.specs.Run.{runRefusalAfter, runAfter}
+use Rattle.engine.specs.Run.Laws.{run-refused, bytes-refused, run-passed, bytes-passed}
+use Rattle.engine.proofs.run.run.Statement.{statement}
+use Rattle.engine.proofs.run.run.Tie as tie
+
+-- the call's answer, and what it leaves in the rows
+abbrev Runs : List ℕ → List ℕ → List ℕ → List ℕ → List ℕ → ℕ → Type 0
+Runs f config inputs rows rows′ r = (r ≡ runRefusal f config (length inputs) (length rows)) × (rows′ ≡ runBytes f config inputs rows)
+
+module _ (f config inputs rows : List ℕ) where
+  by-file : (r : ℕ) → r ≡ refusalOf f → (r ≡ 0 → ⊥) → Runs f config inputs rows rows r
+  by-file r e h =
+      let z : refusalOf f ≡ 0 → ⊥ = λ q. h (e ∙ q) in
+      (e ∙ sym (run-refused f config inputs rows z), sym (bytes-refused f config inputs rows z))
+
+  -- the run of the body that the file is opened to is the file's
+  by-body : refusalOf f ≡ 0 → (n : Shape) → n ≡ shapeOf (trailer f) → (b : List ℕ) → b ≡ bodyOf f → (rows′ : List ℕ) (r : ℕ)
+      → (r ≡ runRefusalAfter (fileAt n b) config (length inputs) (length rows)) × (rows′ ≡ runAfter (fileAt n b) config inputs rows)
+      → Runs f config inputs rows rows′ r
+  by-body h n en b eb rows′ r q = rw (run-passed f config inputs rows h, bytes-passed f config inputs rows h, file-is f n b en eb) q
+
+-- a file that is not refused, and its body
+accepted : (c : tie.Else1) → refusalOf (c .before .before .before .before .before .before .args .file .now) ≡ 0
+accepted c = sym (c .before .opened .ensures .refusal) ∙ c .if1 .left
+
+stands : (c : tie.Else1) → Stands (c .before .before .before .before .before .before .args .file .now) (c .before .opened .result)
+stands c = c .before .opened .ensures .stands (c .if1 .left)
+
+returns : tie.Need-returns
+returns c = by-file _ _ _ _ _ (c .before .opened .ensures .refusal) (c .if1 .taken)
+
+of-body-requires : tie.Need-of-body-requires
+of-body-requires c κs =
+    let e = c .before .before .before in
+    let w = stands e in
+    checked _ _ _ (accepted e) (w .shape) (w .body) (rw (w .body) (w .sized)) (rw (w .body) (w .summed))
+
+returns-2 : tie.Need-returns-2
+returns-2 c =
+    let d = c .before .before in
+    let e = d .before .before .before .before in
+    let w = stands e in
+    let a = e .before .before .before .before .before .before .args in
+    by-body _ (a .config .now) (a .inputs .now) (a .rows .now) (accepted e) _ (w .shape) _ (w .body) _ _ (d .of-body .ensures)
+
+pub run-spec : {M : Type 1} → statement M
+run-spec =
+    tie.close
+    (tie.spec
+    (λ c κs. search needs)
+    returns
+    (λ c. stands (c .before) .order)
+    (λ c. stands (c .before) .order)
+    (λ c. let e = stands (c .before) .end in omega arith)
+    of-body-requires
+    (λ c. search needs)
+    returns-2)

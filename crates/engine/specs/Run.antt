@@ -1,0 +1,21 @@
+-- A run of a body that passed 1 to 11 is what document 01's list goes on with: 20, 21, 27, then the rows.
+use mathlib.Core.Bool.{cond}
+use mathlib.Core.List.{List, [], _∷_, _++_}
+use Prim.Native.Nat.{ℕ, _+_, _*_}
+use lib.Dec.{ltb}
+use lib.ListN.{length}
+use Rattle.meaning.specs.Numbers.{shortRows}
+use Rattle.meaning.specs.Meaning.{Set, same}
+use Rattle.meaning.specs.File.{File}
+use Rattle.meaning.specs.Check.{firstOf}
+use Rattle.meaning.specs.Calls.{laidOver, rowsOf}
+use Rattle.engine.specs.Step.{configTestsIn}
+pub mod Laws
+
+unfoldable pub runRefusalAfter : File → List ℕ → ℕ → ℕ → ℕ
+runRefusalAfter F config inputs room =
+    firstOf (configTestsIn F config ++ (record { number = shortRows; applies = ltb room (inputs * (10 + F .charts)) } ∷ []))
+
+unfoldable pub runAfter : File → List ℕ → List Set → List ℕ → List ℕ
+runAfter F config inputs rows =
+    cond (same (runRefusalAfter F config (length inputs) (length rows)) 0) (laidOver (rowsOf F config inputs) rows) rows

@@ -1,0 +1,165 @@
+-- Laws of the run, in this order: the call's list behind 1 to 11; 20, 21 and 27; a checked body's transitions lead to states of their charts; a row laid
+-- over a part of a lent buffer; one row more, and the last.
+use mathlib.Core.Path.{_≡_, refl, sym, ap, ap₂, _∙_}
+use mathlib.Core.Bool.{Bool, true, false, cond}
+use mathlib.Core.List.{List, [], _∷_, _++_, append-assoc, append-nil, List·Memᴰ, List·Memᴰ·cases-cons, List·Memᴰ·not-nil}
+use mathlib.Core.Logic.{_⊎_, inl, inr, ⊎-elim}
+use Prim.Native.Nat.{ℕ, zero, suc, _+_, _*_, _-_, _/_, _≤_, _<_}
+use native.Mathlib.Nat.{le-trans, suc-mul, mul-le-mul-right, le-div-iff-mul-le, div-lt-iff-lt-mul}
+use native.Mathlib.Numerals.{add-one}
+use native.Mathlib.Omega.{arith}
+use borrow.Author.Tests.{ne-eqb, lt-ltb, le-ltb, ltb-true, not-false}
+use lib.Dec.{ltb, lit<}
+use lib.ListN.{length, getD, take, drop, length-append, length-drop, take-append-drop}
+use lib.Seq.{drop-length, take-at, drop-at, length-take-le, drop-drop}
+use Rattle.layout.specs.Body.{headAt, transitionAt, startOf, from, transitionsOf}
+use Rattle.layout.specs.declared.body.Shape.{Shape}
+use Rattle.layout.specs.declared.record.Transition.{Transition}
+use Rattle.meaning.specs.Numbers.{shortRows}
+use Rattle.meaning.specs.Count.{anyUpTo}
+use Rattle.meaning.specs.Count.Laws.{or-left, or-right, any-never}
+use Rattle.meaning.specs.Meaning.{Set, same, Answer}
+use Rattle.meaning.specs.File.{File, chartOf, fileAt, fileOf}
+use Rattle.meaning.specs.Check.{Test, firstOf, refusalOf, notBelow, ends?, transitions?}
+use Rattle.meaning.specs.Check.Laws.{firstOf-++, firstOf-before, firstOf-here, firstOf-next, firstOf-[]}
+use Rattle.meaning.specs.Calls.{laidOver, stepIn, afterStep, rowOf, rowsOf, runRefusal, runBytes}
+use Rattle.meaning.specs.Laws.Runs.{Leads, Valid, rows-next}
+use Rattle.engine.specs.Step.{configTestsIn, Checked}
+use Rattle.engine.specs.Step.Laws.{behind-refused, behind-passed, config-passes, config-long, config-valid}
+use Rattle.engine.specs.Run.{runRefusalAfter, runAfter}
+
+-- ── behind 1 to 11 ──
+
+module _ (f config : List ℕ) (inputs : List Set) (rows : List ℕ) where
+  pub run-refused : (refusalOf f ≡ 0 → ⊥) → runRefusal f config (length inputs) (length rows) ≡ refusalOf f
+  unfolding runRefusal
+  run-refused h = behind-refused f config _ h
+
+  pub bytes-refused : (refusalOf f ≡ 0 → ⊥) → runBytes f config inputs rows ≡ rows
+  unfolding runBytes same
+  bytes-refused h = rw (run-refused h, ne-eqb (refusalOf f) 0 h)
+
+  pub run-passed : refusalOf f ≡ 0 → runRefusal f config (length inputs) (length rows) ≡ runRefusalAfter (fileOf f) config (length inputs) (length rows)
+  unfolding runRefusal runRefusalAfter
+  run-passed h = behind-passed f config _ h
+
+  pub bytes-passed : refusalOf f ≡ 0 → runBytes f config inputs rows ≡ runAfter (fileOf f) config inputs rows
+  unfolding runBytes runAfter
+  bytes-passed h = rw (run-passed h)
+
+-- ── 20, 21 and 27 ──
+
+module _ (F : File) (config : List ℕ) (inputs : List Set) (rows : List ℕ) where
+  -- 27
+  abbrev rows-test : Test
+  rows-test = record { number = shortRows; applies = ltb (length rows) (length inputs * (10 + F .charts)) }
+
+  -- the refusal is r, and the rows are left
+  abbrev pub Refuses : ℕ → Type 0
+  Refuses r = (r ≡ runRefusalAfter F config (length inputs) (length rows)) × (rows ≡ runAfter F config inputs rows)
+
+  refuses : (r : ℕ) → (r ≡ 0 → ⊥) → runRefusalAfter F config (length inputs) (length rows) ≡ r → Refuses r
+  unfolding runAfter same
+  refuses r h e = (sym e, rw (e, ne-eqb r 0 h))
+
+  pub after-config : (firstOf (configTestsIn F config) ≡ 0 → ⊥) → Refuses (firstOf (configTestsIn F config))
+  unfolding runRefusalAfter
+  after-config h = refuses _ h (firstOf-before (configTestsIn F config) _ h)
+
+  -- the configuration is accepted
+  module _ (h : firstOf (configTestsIn F config) ≡ 0) where
+    pub after-room : length rows < length inputs * (10 + F .charts) → Refuses shortRows
+    unfolding runRefusalAfter
+    after-room l =
+        refuses shortRows (λ e. omega arith)
+        (firstOf-++ (configTestsIn F config) (rows-test ∷ []) (config-passes F config h) ∙ firstOf-here rows-test [] (lt-ltb (length rows) _ l))
+
+    module _ (l : length inputs * (10 + F .charts) ≤ length rows) where
+      after-none : runRefusalAfter F config (length inputs) (length rows) ≡ 0
+      unfolding runRefusalAfter
+      after-none =
+          firstOf-++ (configTestsIn F config) (rows-test ∷ []) (config-passes F config h) ∙ firstOf-next rows-test [] (le-ltb (length rows) _ l)
+          ∙ firstOf-[]
+
+      pub after-rows : (rows′ : List ℕ) → rows′ ≡ laidOver (rowsOf F config inputs) rows
+          → (0 ≡ runRefusalAfter F config (length inputs) (length rows)) × (rows′ ≡ runAfter F config inputs rows)
+      unfolding runAfter same
+      after-rows rows′ e = (sym after-none, rw (after-none, e))
+
+pub config-is : (F : File) (config : List ℕ) → firstOf (configTestsIn F config) ≡ 0 → Valid F config
+config-is F config h = record { long = config-long F config h; states = config-valid F config h }
+
+-- ── transitions lead to states of their chart ──
+
+-- what holds of f at each place holds of each element
+from-each : {A : Type 0} (f : ℕ → A) (P : A → Type 0) (k n : ℕ) → ((i : ℕ) → i < n → P (f (k + i))) → (u : A) → List·Memᴰ u (from f k n) → P u
+unfolding from
+from-each f P k zero h u m = absurd (List·Memᴰ·not-nil m)
+from-each f P k (suc n) h u m =
+    ⊎-elim (λ (e : u ≡ f k). rw e (here (h 0 (omega arith)))) (λ w. from-each f P (suc k) n (λ i l. next i (h (suc i) (omega arith))) u w) (List·Memᴰ·cases-cons m)
+  where
+    here : P (f (k + 0)) → P (f k)
+    here p = let e : k + 0 ≡ k = omega arith in rw e at p
+
+    next : (i : ℕ) → P (f (k + suc i)) → P (f (suc k + i))
+    next i p = let e : k + suc i ≡ suc k + i = omega arith in rw e at p
+
+pub leads : (n : Shape) (b : List ℕ) → Checked n b → Leads (fileAt n b)
+unfolding fileAt chartOf transitionsOf transitions? ends?
+leads n b k c l =
+    from-each (transitionAt n b) (λ u. u .to < headAt n b c .states) (startOf n b c) (headAt n b c .transitions)
+    (λ i m.
+    let h = or-left (anyUpTo (headAt n b c .transitions) (ends? n b c)) _ (any-never (n .charts) _ (k .transitions) c l) in
+    let e = any-never (headAt n b c .transitions) (ends? n b c) h i m in
+    ltb-true _ _ (not-false _ (or-right (notBelow (transitionAt n b (startOf n b c + i) .from) (headAt n b c .states)) _ e)))
+
+-- ── a row laid over the bytes from `at` up to e: what stands before e, and after it ──
+
+abbrev pub laid : List ℕ → List ℕ → ℕ → ℕ → List ℕ
+laid l row at e = take at l ++ (row ++ drop (e - at) (drop at l))
+
+module _ (l row : List ℕ) (at e : ℕ) (from-at : at ≤ e) (to : e ≤ length l) (wide : length row ≡ e - at) where
+  front : length (take at l ++ row) ≡ e
+  front = rw (length-append, length-take-le at l (omega arith), wide) (omega arith)
+
+  pub laid-after : drop e (laid l row at e) ≡ drop e l
+  laid-after =
+      let q : at + (e - at) ≡ e = omega arith in
+      rw (← append-assoc) (drop-at (take at l ++ row) (drop (e - at) (drop at l)) e front ∙ rw (drop-drop, q))
+
+  pub laid-length : length (laid l row at e) ≡ length l
+  laid-length = simp (length-append, length-take-le at l (omega arith), wide, length-drop) (omega arith)
+
+  pub laid-before : (rest out : List ℕ) → take at l ++ (row ++ rest) ≡ out → take e (laid l row at e) ++ rest ≡ out
+  laid-before rest out h =
+      let q : take e (laid l row at e) ≡ take at l ++ row = rw (← append-assoc) (take-at (take at l ++ row) (drop (e - at) (drop at l)) e front) in
+      rw (q, append-assoc) h
+
+-- ── one row more, and the last ──
+
+module _ (F : File) (inputs : List Set) where
+  -- input i gives row r and leaves the configuration d
+  pub run-step : (config d row : List ℕ) (r : Answer) (i : ℕ) → i < length inputs → r ≡ stepIn F config (getD inputs i 0) → row ≡ rowOf r config
+      → d ≡ afterStep r config → row ++ rowsOf F d (drop (i + 1) inputs) ≡ rowsOf F config (drop i inputs)
+  run-step config d row r i l s p q = rw (p, q, s, add-one) (sym (rows-next F config inputs i l))
+
+  pub run-done : (start config rows rows₀ : List ℕ) (i at : ℕ) → i ≡ length inputs → length (rowsOf F start inputs) ≡ at
+      → take at rows ++ rowsOf F config (drop i inputs) ≡ rowsOf F start inputs → drop at rows ≡ drop at rows₀
+      → rows ≡ laidOver (rowsOf F start inputs) rows₀
+  unfolding rowsOf
+  run-done start config rows rows₀ i at e w h g =
+      let k : take at rows ≡ rowsOf F start inputs = sym (append-nil (take at rows)) ∙ rw (e, drop-length inputs) at h in
+      rw (w, ← k, ← g) (sym (take-append-drop at rows))
+
+-- one more row fits
+pub next-row : (i n w l : ℕ) → i < n → n * w ≤ l → i * w + w ≤ l
+next-row i n w l h k = le-trans (rw suc-mul at (mul-le-mul-right w h)) k
+
+pub next-at : (i w : ℕ) → (i + 1) * w ≡ i * w + w
+next-at i w = rw add-one (suc-mul i w)
+
+pub room : (n w l : ℕ) → 0 < w → n ≤ l / w → n * w ≤ l
+room n w l p h = le-div-iff-mul-le p .0 h
+
+pub no-room : (n w l : ℕ) → 0 < w → l / w < n → l < n * w
+no-room n w l p h = div-lt-iff-lt-mul p .0 h
