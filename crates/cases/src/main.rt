@@ -11,6 +11,8 @@ const MOST_COMMANDS: u32 = 1000000;
 
 const MOST_BYTES: usize = 65536;
 
+const MOST_INPUTS: usize = 4096;
+
 const FILL: u8 = 0xA5;
 
 // A command's header: which call, and how many bytes of each kind follow it.
@@ -112,21 +114,44 @@ fn print_step(file: &[u8], config: &[u8], input: u64, next: &mut [u8]) {
     end_line();
 }
 
-// The call that a command asks for, on its file, its configuration, its input and a lent buffer.
-fn print_call(op: u8, file: &[u8], config: &[u8], input: u64, lent: &mut [u8]) {
+fn print_run(file: &[u8], config: &[u8], inputs: &[u64], rows: &mut [u8]) {
+    print_refusal(b" run ", engine::run::run(file, config, inputs, rows));
+    print_buffer(rows);
+    end_line();
+}
+
+// A step's input; none is the empty set.
+fn first_of(inputs: &[u64]) -> u64 {
+    if inputs.len() == 0 {
+        return 0;
+    }
+    inputs[0]
+}
+
+// The call that a command asks for, on its file, its configuration, its inputs and a lent buffer.
+fn print_call(op: u8, file: &[u8], config: &[u8], inputs: &[u64], lent: &mut [u8]) {
     match op {
         0 => print_check(file),
         1 => print_first(file, lent),
         2 => print_interface(file),
-        _ => print_step(file, config, input, lent),
+        3 => print_step(file, config, first_of(inputs), lent),
+        _ => print_run(file, config, inputs, lent),
     }
 }
 
-// Makes the call on the first `room` bytes of the lent buffer.
-fn print_within(op: u8, file: &[u8], config: &[u8], input: u64, lent: &mut [u8], room: usize)
-    requires { ⌜ room ≤ length (now lent) ⌝ }
+// Makes the call with the first n inputs, on the first `room` bytes of the lent buffer.
+fn print_within(
+    op: u8,
+    file: &[u8],
+    config: &[u8],
+    inputs: &[u64],
+    n: usize,
+    lent: &mut [u8],
+    room: usize,
+)
+    requires { ⌜ (n ≤ length (now inputs)) × (room ≤ length (now lent)) ⌝ }
 {
-    print_call(op, file, config, input, &mut lent[..room]);
+    print_call(op, file, config, &inputs[..n], &mut lent[..room]);
 }
 
 // Reads n bytes to the front of a buffer, or as many as there are; none if they do not fit.
@@ -145,15 +170,15 @@ fn read_input() -> u64 {
     layout::number::le64(&word, 0)
 }
 
-// Reads n inputs, and gives the last; no input is the empty set.
-fn read_inputs(n: usize) -> u64 {
-    let mut last: u64 = 0;
+// Reads n inputs.
+fn read_inputs(inputs: &mut [u64], n: usize)
+    requires { ⌜ n ≤ length (now inputs) ⌝ }
+{
     let mut i: usize = 0;
     while i < n {
-        last = read_input();
+        inputs[i] = read_input();
         i += 1;
     }
-    last
 }
 
 // Reads a command's name and prints it.
@@ -168,6 +193,7 @@ fn answer(c: Command) -> bool {
     let size = c.file;
     let room = c.room;
     let states = c.config;
+    let n = c.inputs;
     if size > MOST_BYTES {
         return false;
     }
@@ -177,14 +203,26 @@ fn answer(c: Command) -> bool {
     if states > MOST_BYTES {
         return false;
     }
+    if n > MOST_INPUTS {
+        return false;
+    }
     pass_name(c.name);
     let mut file = [0u8; MOST_BYTES];
     let mut config = [0u8; MOST_BYTES];
     let mut lent = [FILL; MOST_BYTES];
     let got = read_part(&mut file, size);
     let had = read_part(&mut config, states);
-    let input = read_inputs(c.inputs);
-    print_within(c.op, &file[..got], &config[..had], input, &mut lent, room);
+    let mut inputs = [0u64; MOST_INPUTS];
+    read_inputs(&mut inputs, n);
+    print_within(
+        c.op,
+        &file[..got],
+        &config[..had],
+        &inputs,
+        n,
+        &mut lent,
+        room,
+    );
     true
 }
 

@@ -1,4 +1,4 @@
--- `cases::print_within` is safe: the part that it lends is in the buffer. Assumes nothing.
+-- `cases::print_within` is safe: the parts that it lends are in what it was lent. Assumes nothing.
 use mathlib.Core.Path.{sym}
 use borrow.Author.Needs.{needs}
 use lib.Seq.{length-take-le}
@@ -9,6 +9,7 @@ pub print-within-spec : {M : Type 1} → statement M
 print-within-spec =
     tie.close
     (tie.spec
+    (λ c. sym (length-take-le _ _ (search needs)))
     (λ c. search needs)
     (λ c. sym (length-take-le _ _ (search needs)))
     (λ c κs. search needs)
