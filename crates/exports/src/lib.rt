@@ -58,3 +58,11 @@ fn number(mark: bool) -> u8
 {
     if mark { 1 } else { 0 }
 }
+
+#[no_mangle]
+pub extern "C" fn mestecur_run(file: &[u8], config: &[u8], inputs: &[u64], rows: &mut [u8]) -> u8
+    ensures { λ r. ⌜ r ≡ runRefusal (now (file .entry)) (now (config .entry)) (length (now (inputs .entry))) (length (now (rows .entry))) ⌝ }
+    ensures { λ r. ⌜ now (rows .exit) ≡ runBytes (now (file .entry)) (now (config .entry)) (now (inputs .entry)) (now (rows .entry)) ⌝ }
+{
+    engine::run::run(file, config, inputs, rows)
+}
