@@ -493,7 +493,7 @@ fn damage_transition(random: &mut Random, records: &mut Records) {
 }
 
 /// How many choices there are at most from a configuration.
-fn most_choices(model: &Model, configuration: &[u8]) -> usize {
+pub fn most_choices(model: &Model, configuration: &[u8]) -> usize {
     let out = |(chart, &state): (&Chart, &u8)| {
         let from = chart.transitions.iter().filter(|t| t.from == state);
         from.count().max(1)
@@ -505,7 +505,7 @@ fn most_choices(model: &Model, configuration: &[u8]) -> usize {
 const CHOICES: usize = 20_000;
 
 /// A shape and a file of it that is not longer than asked.
-fn bounded(random: &mut Random, most_charts: usize, bytes: usize) -> (Shape, Model) {
+pub fn bounded(random: &mut Random, most_charts: usize, bytes: usize) -> (Shape, Model) {
     loop {
         let shape = shape(random, most_charts);
         let made = model(random, &shape);
@@ -516,7 +516,7 @@ fn bounded(random: &mut Random, most_charts: usize, bytes: usize) -> (Shape, Mod
 }
 
 /// Mostly this buffer length, seldom a shorter or longer one.
-fn room(random: &mut Random, needed: usize) -> usize {
+pub fn room(random: &mut Random, needed: usize) -> usize {
     match random.below(40) {
         0 => 0,
         1 => needed.saturating_sub(1),
@@ -526,26 +526,27 @@ fn room(random: &mut Random, needed: usize) -> usize {
     }
 }
 
-/// Random checks, first configurations and interfaces; most of the files are damaged.
+/// Random checks, first configurations and interfaces.
 pub fn file_commands(seed: u64, count: usize) -> Vec<Command> {
     let mut random = Random::new(seed);
-    let random = &mut random;
     (0..count)
-        .map(|number| {
-            let (_, model) = bounded(random, CHARTS, 1_500);
-            let file = if random.chance(75) {
-                damaged(random, &model)
-            } else {
-                [front(random), model.file()].concat()
-            };
-            let name = format!("random-{number}");
-            match random.below(4) {
-                0 => Command::first(&name, file, random.below(model.charts.len() + 3)),
-                1 => Command::interface(&name, file),
-                _ => Command::check(&name, file),
-            }
-        })
+        .map(|number| file_command(&mut random, &format!("random-{number}")))
         .collect()
+}
+
+/// One random check, first configuration or interface; most of the files are damaged.
+pub fn file_command(random: &mut Random, name: &str) -> Command {
+    let (_, model) = bounded(random, CHARTS, 1_500);
+    let file = if random.chance(75) {
+        damaged(random, &model)
+    } else {
+        [front(random), model.file()].concat()
+    };
+    match random.below(4) {
+        0 => Command::first(name, file, random.below(model.charts.len() + 3)),
+        1 => Command::interface(name, file),
+        _ => Command::check(name, file),
+    }
 }
 
 /// The call with every feedback set of its file emptied; the call itself if its file is refused.
@@ -592,7 +593,7 @@ pub fn step_commands(seed: u64, count: usize) -> Vec<Command> {
 }
 
 /// One random step.
-fn step_command(random: &mut Random, name: &str) -> Command {
+pub fn step_command(random: &mut Random, name: &str) -> Command {
     let bytes = random.pick(&[300, 400, 600, 800, 1_000, 1_300]);
     loop {
         let (shape, model) = bounded(random, CHARTS, bytes);
@@ -619,7 +620,7 @@ pub fn run_commands(seed: u64, count: usize) -> Vec<Command> {
 }
 
 /// One random run.
-fn run_command(random: &mut Random, name: &str) -> Command {
+pub fn run_command(random: &mut Random, name: &str) -> Command {
     loop {
         let bytes = random.pick(&[300, 500, 700, 1_200]);
         let (shape, model) = bounded(random, CHARTS, bytes);
@@ -655,7 +656,7 @@ pub fn rewrite_commands(seed: u64, count: usize) -> Vec<Command> {
 }
 
 /// One random rewriting.
-fn rewrite_command(random: &mut Random, name: &str) -> Command {
+pub fn rewrite_command(random: &mut Random, name: &str) -> Command {
     let bytes = random.pick(&[300, 400, 600, 900, 1_300]);
     let (_, mut model) = loop {
         let (shape, model) = bounded(random, CHARTS, bytes);

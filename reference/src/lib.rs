@@ -17,15 +17,19 @@
 //! - [`day`]: the day program, refusals 30 and 31.
 //!
 //! What the comparison needs: [`command`] (one call as bytes, its answer as a line), [`cases`]
-//! (calls with a name and an answer written by hand), [`generate`] (random calls from fixed seeds)
-//! and [`record`] (what is recorded of each kind).
+//! (calls with a name and an answer written by hand), [`generate`] (random calls from fixed seeds),
+//! [`record`] (what is recorded of each kind) and [`draw`] (random calls of every kind). With the
+//! feature `engine` also `fuzz`, which holds the proved engine against this one.
 
 pub mod cases;
 pub mod check;
 pub mod command;
 pub mod day;
+pub mod draw;
 pub mod file;
 pub mod first;
+#[cfg(feature = "engine")]
+pub mod fuzz;
 pub mod generate;
 pub mod interface;
 pub mod limits;

@@ -4,11 +4,16 @@
 //!   `run` or `rewrite`) to the file COMMANDS and the lines they answer to the file LINES.
 //! - `reference show` reads recorded calls on standard input and prints the lines they answer.
 //! - `reference day` reads the day program's input on standard input and prints what it prints.
+//! - `reference fuzz SEED COUNT`, with the feature `engine`, makes so many random calls here and in
+//!   the proved engine and compares; the first difference is printed with the call.
 
 use reference::command::decode_all;
 use reference::record::{commands, encode, lines, Kind};
 use std::io::{Read, Write};
 use std::process::ExitCode;
+
+/// What can be said on the command line.
+const USE: &str = "use: reference record KIND COMMANDS LINES | show | day | fuzz SEED COUNT";
 
 fn main() -> ExitCode {
     let words: Vec<String> = std::env::args().skip(1).collect();
@@ -17,7 +22,8 @@ fn main() -> ExitCode {
         ["record", kind, calls, answers] => record(kind, calls, answers),
         ["show"] => show(),
         ["day"] => day(),
-        _ => Err("use: reference record KIND COMMANDS LINES | show | day".to_string()),
+        ["fuzz", seed, count] => fuzz(seed, count),
+        _ => Err(USE.to_string()),
     };
     match done {
         Ok(()) => ExitCode::SUCCESS,
@@ -47,6 +53,21 @@ fn show() -> Result<(), String> {
 /// Prints what the day program prints.
 fn day() -> Result<(), String> {
     print(&reference::day(&standard_input()?))
+}
+
+/// Compares so many random calls with the proved engine.
+#[cfg(feature = "engine")]
+fn fuzz(seed: &str, count: &str) -> Result<(), String> {
+    let seed: u64 = seed.parse().map_err(|_| USE)?;
+    let count: usize = count.parse().map_err(|_| USE)?;
+    reference::fuzz::agree(seed, count)?;
+    print(format!("fuzz: {count} commands agree (seed {seed})\n").as_bytes())
+}
+
+/// Without the engine there is nothing to compare with.
+#[cfg(not(feature = "engine"))]
+fn fuzz(_: &str, _: &str) -> Result<(), String> {
+    Err("fuzz: not built with the feature `engine`".to_string())
 }
 
 /// All of standard input.

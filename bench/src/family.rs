@@ -1,0 +1,216 @@
+//! The files that are measured, the same each time.
+
+use reference::cases::charts::{chart, go, row_of_charts, wrapped};
+use reference::draw::choices;
+use reference::generate::{configuration, model, Random, Shape};
+use reference::limits::{CHARTS, STATE_TRANSITIONS};
+use reference::model::{Chart, Model, Node, Transition};
+use reference::Set;
+
+/// A file, a configuration of it and an input to step with.
+pub struct Subject {
+    pub model: Model,
+    pub file: Vec<u8>,
+    pub config: Vec<u8>,
+    pub input: u64,
+}
+
+impl Subject {
+    /// A model at a configuration with an input.
+    fn new(model: Model, config: Vec<u8>, input: Set) -> Subject {
+        Subject {
+            file: model.file(),
+            model,
+            config,
+            input: input.0,
+        }
+    }
+
+    /// How many choices plain enumeration tries in a step.
+    pub fn choices(&self) -> usize {
+        let command = reference::command::Command::step(
+            "",
+            self.file.clone(),
+            &self.config,
+            Set(self.input),
+            self.config.len(),
+        );
+        choices(&command)
+    }
+
+    /// Whether its step is permitted; by plain enumeration, so only for few choices.
+    fn is_permitted(&self) -> bool {
+        let mut next = vec![0; self.config.len()];
+        let stepped = reference::step(&self.file, &self.config, Set(self.input), &mut next);
+        stepped.refusal == 0
+    }
+}
+
+/// The files of everyday use: 1 to 4 charts, a few states, most of them total; each step is permitted.
+pub fn everyday() -> Vec<Subject> {
+    (0..24)
+        .map(|number| everyday_of(number, 1 + number as usize % 4, 40))
+        .collect()
+}
+
+/// The files of everyday use that have slaves, and can be rewritten.
+pub fn everyday_with_slaves() -> Vec<Subject> {
+    (0..24)
+        .map(|number| everyday_of(1_000 + number, 2 + number as usize % 3, 100))
+        .collect()
+}
+
+/// One of them: so many charts, with this chance of slaves.
+fn everyday_of(seed: u64, charts: usize, decompose: usize) -> Subject {
+    let mut random = Random::new(seed);
+    let shape = Shape {
+        charts,
+        states: 3,
+        out: 2,
+        signals: (0..6).collect(),
+        guard: 25,
+        action: 20,
+        feedback: 30,
+        decompose,
+        hide: 10,
+        complete: 100,
+    };
+    loop {
+        let model = model(&mut random, &shape);
+        let config = configuration(&mut random, &model);
+        let subject = Subject::new(model, config, random.subset(&shape.signals, 50));
+        let can_be_rewritten = rewrites(&subject.file);
+        if subject.is_permitted() && can_be_rewritten {
+            return subject;
+        }
+    }
+}
+
+/// Whether a file can be rewritten.
+fn rewrites(file: &[u8]) -> bool {
+    reference::rewrite(file, &mut vec![0; 65_536]).refusal == 0
+}
+
+/// Inputs for a run: so many random sets of the few signals.
+pub fn inputs(seed: u64, count: usize) -> Vec<u64> {
+    let mut random = Random::new(seed);
+    (0..count).map(|_| random.bits() & 0x3f).collect()
+}
+
+/// The hard family: 8 charts, 8 transitions from each state, few signals, feedback everywhere.
+pub fn hard() -> Vec<Subject> {
+    (0..9)
+        .map(|seed| random_row(seed, CHARTS, STATE_TRANSITIONS))
+        .collect()
+}
+
+/// So many charts in a row, so many transitions from each state, full feedback.
+pub fn random_row(seed: u64, charts: usize, out: usize) -> Subject {
+    let mut random = Random::new(0x6861_7264 + seed);
+    let signals: Vec<u32> = (0..4 + seed as u32 % 5).collect();
+    let charts = (0..charts)
+        .map(|_| random_chart(&mut random, &signals, out))
+        .collect();
+    let mut model = row_of_charts(charts);
+    feed_back(&mut model, Set::of(&signals));
+    let config = configuration(&mut random, &model);
+    let input = random.subset(&signals, 25);
+    Subject::new(model, config, input)
+}
+
+/// A chart of 2 states with so many transitions from each.
+fn random_chart(random: &mut Random, signals: &[u32], out: usize) -> Chart {
+    let from = (0..2).flat_map(|state| vec![state; out]);
+    let transitions = from
+        .map(|from| random_transition(random, signals, from))
+        .collect();
+    chart(2, signals, transitions)
+}
+
+/// A transition with about two signals in its guard and one in its action.
+fn random_transition(random: &mut Random, signals: &[u32], from: u8) -> Transition {
+    let count = signals.len();
+    let guard = random.subset(signals, 200 / count);
+    let split = random.subset(signals, 50);
+    Transition {
+        from,
+        to: random.below(2) as u8,
+        needed: guard.cut(split),
+        barred: guard.less(split),
+        action: random.subset(signals, 100 / count),
+    }
+}
+
+/// Lets every composed node feed a set back.
+fn feed_back(model: &mut Model, set: Set) {
+    for node in &mut model.nodes {
+        if let Node::Composed { feedback, .. } = node {
+            *feedback = set;
+        }
+    }
+}
+
+/// The special ones, each with 8 to the power 8 choices.
+pub fn special() -> Vec<(&'static str, Subject)> {
+    vec![
+        ("the last needs what none puts out", last_needs()),
+        ("all wait for the last", all_wait()),
+        ("all 8^8 permitted, all agree", all_agree()),
+        ("the last bars what all put out", last_bars()),
+    ]
+}
+
+/// Eight charts of one state and 8 transitions; the sets of a transition by its chart and its place.
+fn eight(sets: impl Fn(u32, u32) -> [Vec<u32>; 3]) -> Subject {
+    let all: Vec<u32> = (0..64).collect();
+    let one = |number: u32| {
+        let moves = (0..8).map(|place| {
+            let [needed, barred, action] = sets(number, place);
+            go(0, 0, &needed, &barred, &action)
+        });
+        chart(1, &all, moves.collect())
+    };
+    let mut model = row_of_charts((0..8).map(one).collect());
+    feed_back(&mut model, Set::FULL);
+    Subject::new(model, vec![0; 8], Set::EMPTY)
+}
+
+/// The last chart needs a signal that no chart puts out; the others may do anything.
+fn last_needs() -> Subject {
+    eight(|number, place| match number {
+        7 => [vec![60], vec![], vec![place]],
+        _ => [vec![], vec![], vec![place]],
+    })
+}
+
+/// Seven charts need a signal that only the last transition of the last chart puts out.
+fn all_wait() -> Subject {
+    eight(|number, place| match (number, place) {
+        (7, 7) => [vec![], vec![], vec![60]],
+        (7, _) => [vec![], vec![], vec![place]],
+        _ => [vec![60], vec![], vec![place]],
+    })
+}
+
+/// Every choice is permitted and does the same.
+fn all_agree() -> Subject {
+    eight(|_, _| [vec![], vec![], vec![1]])
+}
+
+/// Whatever is chosen, the last chart finds a signal that it bars.
+fn last_bars() -> Subject {
+    eight(|number, place| match number {
+        7 => [vec![], vec![60], vec![place]],
+        _ => [vec![], vec![], vec![place, 60]],
+    })
+}
+
+/// Four charts in a row, hidden again and again until there are so many nodes.
+pub fn nodes(seed: u64, count: usize) -> Subject {
+    let subject = random_row(seed, 4, 2);
+    let mut model = subject.model;
+    while model.nodes.len() < count {
+        model = wrapped(model, &[], &[]);
+    }
+    Subject::new(model, subject.config, Set(subject.input))
+}

@@ -1,0 +1,194 @@
+//! Refusals 1 to 11.
+
+use super::layout::*;
+
+/// The number of no slave.
+pub const NONE: u8 = 255;
+
+/// The body of a file that passes 1 to 11, or the refusal.
+pub fn opened(file: &[u8]) -> Result<Body<'_>, u8> {
+    let body = found(file)?;
+    let trailer = &file[file.len() - TRAILER..];
+    refuse(nonzero(&body, trailer), 5)?;
+    refuse(bad_charts(&body), 6)?;
+    refuse(bad_transitions(&body), 7)?;
+    refuse(bad_slaves(&body), 8)?;
+    refuse(bad_nodes(&body), 9)?;
+    let holder = holders(&body).ok_or(10)?;
+    refuse(bad_names(&body, &holder), 10)?;
+    refuse(bad_inside(&body), 11)?;
+    Ok(body)
+}
+
+/// The refusal, if it applies.
+fn refuse(applies: bool, number: u8) -> Result<(), u8> {
+    if applies {
+        Err(number)
+    } else {
+        Ok(())
+    }
+}
+
+/// 1 to 4: the body that the trailer points to.
+fn found(file: &[u8]) -> Result<Body<'_>, u8> {
+    let start = file.len().checked_sub(TRAILER).ok_or(1)?;
+    let trailer = &file[start..];
+    refuse(trailer[7] != 1, 2)?;
+    let mut body = Body {
+        bytes: &[],
+        charts: usize::from(trailer[4]),
+        transitions: usize::from(u16::from_le_bytes([trailer[8], trailer[9]])),
+        slaves: usize::from(trailer[5]),
+        nodes: usize::from(trailer[6]),
+    };
+    let counted = (1..=8).contains(&body.charts)
+        && body.slaves <= 7
+        && (1..=64).contains(&body.nodes)
+        && body.transitions <= 512;
+    refuse(!counted, 3)?;
+    let distance = u32::from_le_bytes(trailer[..4].try_into().unwrap()) as usize;
+    refuse(distance != body.size() || distance > start, 4)?;
+    body.bytes = &file[start - distance..start];
+    Ok(body)
+}
+
+/// 5: a zero byte that is none.
+fn nonzero(body: &Body, trailer: &[u8]) -> bool {
+    let any = |at: usize, count: usize| body.bytes[at..at + count].iter().any(|&byte| byte != 0);
+    (0..body.charts).any(|c| any(CHART * c + 3, 5))
+        || (0..body.transitions).any(|t| any(body.transition_at(t) + 2, 2))
+        || (0..body.slaves).any(|i| any(body.slave_at(i) + 3, 1))
+        || (0..body.nodes).any(|j| any(body.node_at(j) + 3, 1))
+        || trailer[10..] != [0, 0]
+}
+
+/// 6: a bad chart, or other numbers than the trailer's in all.
+fn bad_charts(body: &Body) -> bool {
+    let mut sum = 0;
+    for chart in (0..body.charts).map(|c| body.chart(c)) {
+        sum += usize::from(chart.transitions);
+        let states = (1..=16).contains(&chart.states) && chart.initial < chart.states;
+        if !states || chart.transitions > 64 {
+            return true;
+        }
+    }
+    sum != body.transitions
+}
+
+/// 7: a bad transition, or over 8 from a state.
+fn bad_transitions(body: &Body) -> bool {
+    let mut next = 0;
+    for chart in (0..body.charts).map(|c| body.chart(c)) {
+        let first = next;
+        next += usize::from(chart.transitions);
+        let mut out = [0; 16];
+        for number in first..next {
+            let at = body.transition_at(number);
+            let (from, to) = (body.bytes[at], body.bytes[at + 1]);
+            if from >= chart.states || to >= chart.states || out[usize::from(from)] == 8 {
+                return true;
+            }
+            out[usize::from(from)] += 1;
+        }
+    }
+    false
+}
+
+/// 8: a slave out of range, or out of order.
+fn bad_slaves(body: &Body) -> bool {
+    let mut before = None;
+    body.all_slaves().any(|slave| {
+        let place = Some((slave.chart, slave.state));
+        let rises = before < place;
+        before = place;
+        usize::from(slave.chart) >= body.charts
+            || slave.state >= body.chart(usize::from(slave.chart)).states
+            || usize::from(slave.node) >= body.nodes
+            || !rises
+    })
+}
+
+/// 9: a bad node.
+fn bad_nodes(body: &Body) -> bool {
+    (0..body.nodes).any(|own| {
+        let node = body.node(own);
+        let lower = |name: u8| usize::from(name) < own;
+        match node.kind {
+            0 => usize::from(node.a) >= body.charts || node.b != 0 || node.x | node.y != 0,
+            1 => !lower(node.a) || !lower(node.b) || node.y != 0,
+            2 => !lower(node.a) || node.b != 0,
+            _ => true,
+        }
+    })
+}
+
+/// 10, first part: the node that holds each chart, if it is exactly one.
+fn holders(body: &Body) -> Option<[u8; 8]> {
+    let mut holder = [NONE; 8];
+    for number in 0..body.nodes {
+        let node = body.node(number);
+        if node.kind == 0 {
+            let held = &mut holder[usize::from(node.a)];
+            if *held != NONE {
+                return None;
+            }
+            *held = number as u8;
+        }
+    }
+    let all = holder[..body.charts].iter().all(|&node| node != NONE);
+    all.then_some(holder)
+}
+
+/// 10, the rest: a node named too often or not at all, or a slave's node not below its master's.
+fn bad_names(body: &Body, holder: &[u8; 8]) -> bool {
+    let mut named = [0_u8; 64];
+    for number in 0..body.nodes {
+        let node = body.node(number);
+        if node.kind > 0 {
+            named[usize::from(node.a)] += 1;
+        }
+        if node.kind == 1 {
+            named[usize::from(node.b)] += 1;
+        }
+    }
+    for slave in body.all_slaves() {
+        named[usize::from(slave.node)] += 1;
+    }
+    let last = body.nodes - 1;
+    named[..last].iter().any(|&times| times != 1)
+        || named[last] != 0
+        || body
+            .all_slaves()
+            .any(|slave| slave.node >= holder[usize::from(slave.chart)])
+}
+
+/// 11: a chart inside a slave that is not numbered above its master.
+fn bad_inside(body: &Body) -> bool {
+    let near = nearest(body);
+    (0..body.charts).any(|c| {
+        let slave = usize::from(near[c]);
+        slave < body.slaves && c <= usize::from(body.slave(slave).chart)
+    })
+}
+
+/// The number of each chart's nearest enclosing slave, from the last node down.
+pub fn nearest(body: &Body) -> [u8; 8] {
+    let mut of_node = [NONE; 64];
+    let mut of_chart = [NONE; 8];
+    for (number, slave) in body.all_slaves().enumerate() {
+        of_node[usize::from(slave.node)] = number as u8;
+    }
+    for number in (0..body.nodes).rev() {
+        let node = body.node(number);
+        let slave = of_node[number];
+        if node.kind == 0 {
+            of_chart[usize::from(node.a)] = slave;
+            continue;
+        }
+        of_node[usize::from(node.a)] = slave;
+        if node.kind == 1 {
+            of_node[usize::from(node.b)] = slave;
+        }
+    }
+    of_chart
+}

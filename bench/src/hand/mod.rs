@@ -1,0 +1,81 @@
+//! The engine's own algorithm, written by hand in plain Rust, to know what the proved one costs: check,
+//! fold the tree into masks, filter the candidates and skip equal ones, settle charts in order with what
+//! each is surely offered and what it could be, stop where two permitted choices disagree.
+
+mod check;
+mod layout;
+mod rewriting;
+mod search;
+mod wire;
+
+pub use rewriting::rewrite;
+
+use check::opened;
+use layout::Body;
+use search::{found, Found};
+use wire::wired;
+
+/// The refusal of a file, or 0.
+pub fn check(file: &[u8]) -> u8 {
+    opened(file).err().unwrap_or(0)
+}
+
+/// One step; the refusal, the output and the mark.
+pub fn step(file: &[u8], config: &[u8], input: u64, next: &mut [u8]) -> (u8, u64, bool) {
+    match stepped(file, config, input, next) {
+        Ok(found) => (0, found.output, found.agree),
+        Err(number) => (number, 0, false),
+    }
+}
+
+/// What a step found, its states written, or the refusal.
+fn stepped(file: &[u8], config: &[u8], input: u64, next: &mut [u8]) -> Result<Found, u8> {
+    let body = opened(file)?;
+    fitting(&body, config)?;
+    let next = next.get_mut(..body.charts).ok_or(22)?;
+    let found = found(&body, &wired(&body), config, input).ok_or(23)?;
+    next.copy_from_slice(&found.next[..body.charts]);
+    Ok(found)
+}
+
+/// 20 and 21.
+fn fitting(body: &Body, config: &[u8]) -> Result<(), u8> {
+    if config.len() != body.charts {
+        return Err(20);
+    }
+    let mut states = config.iter().enumerate();
+    match states.any(|(c, &state)| state >= body.chart(c).states) {
+        true => Err(21),
+        false => Ok(()),
+    }
+}
+
+/// A row for each input; the refusal or 0.
+pub fn run(file: &[u8], config: &[u8], inputs: &[u64], rows: &mut [u8]) -> u8 {
+    ran(file, config, inputs, rows).err().unwrap_or(0)
+}
+
+/// The rows written, or the refusal.
+fn ran(file: &[u8], config: &[u8], inputs: &[u64], rows: &mut [u8]) -> Result<(), u8> {
+    let body = opened(file)?;
+    fitting(&body, config)?;
+    let long = 10 + body.charts;
+    let rows = rows.get_mut(..inputs.len() * long).ok_or(27)?;
+    let wiring = wired(&body);
+    let mut present = [0; 8];
+    present[..body.charts].copy_from_slice(config);
+    for (row, &input) in rows.chunks_exact_mut(long).zip(inputs) {
+        let found = found(&body, &wiring, &present[..body.charts], input);
+        present = found.map_or(present, |found| found.next);
+        put_row(row, found, &present[..body.charts]);
+    }
+    Ok(())
+}
+
+/// A row's bytes.
+fn put_row(row: &mut [u8], found: Option<Found>, present: &[u8]) {
+    row[..8].copy_from_slice(&found.map_or(0, |found| found.output).to_le_bytes());
+    row[8] = found.map_or(0, |found| u8::from(found.agree));
+    row[9] = if found.is_some() { 0 } else { 23 };
+    row[10..].copy_from_slice(present);
+}

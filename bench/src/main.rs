@@ -1,0 +1,61 @@
+//! `bench [PART] [--picture FILE]`: measures and prints a table of each part, `check`, `step`, `run`,
+//! `rewriting` or `growth`, ratios first; all of them if none is named. The picture has the ratios of
+//! the parts measured as bars on a log scale.
+
+use bench::parts::{self, Part};
+use bench::picture::{picture, Bar};
+use std::process::ExitCode;
+
+/// What can be said on the command line.
+const USE: &str = "use: bench [check | step | run | rewriting | growth] [--picture FILE]";
+
+/// All parts, in the order of the table.
+const NAMES: [&str; 5] = ["check", "step", "run", "rewriting", "growth"];
+
+fn main() -> ExitCode {
+    let words: Vec<String> = std::env::args().skip(1).collect();
+    let words: Vec<&str> = words.iter().map(String::as_str).collect();
+    let done = match words[..] {
+        [] => measure(&NAMES, None),
+        ["--picture", path] => measure(&NAMES, Some(path)),
+        [name] if NAMES.contains(&name) => measure(&[name], None),
+        [name, "--picture", path] if NAMES.contains(&name) => measure(&[name], Some(path)),
+        _ => Err(USE.to_string()),
+    };
+    match done {
+        Ok(()) => ExitCode::SUCCESS,
+        Err(what) => {
+            eprintln!("{what}");
+            ExitCode::FAILURE
+        }
+    }
+}
+
+/// Measures some parts, prints each as soon as it is measured, and draws the picture.
+fn measure(names: &[&str], path: Option<&str>) -> Result<(), String> {
+    let mut bars: Vec<Bar> = vec![];
+    for name in names {
+        for part in measured(name) {
+            println!("{}", part.table);
+            bars.extend(part.bars);
+        }
+    }
+    match path {
+        None => Ok(()),
+        Some(_) if bars.is_empty() => Err("these parts have no ratios to draw".to_string()),
+        Some(path) => {
+            std::fs::write(path, picture(&bars)).map_err(|what| format!("{path}: {what}"))
+        }
+    }
+}
+
+/// A part by its name.
+fn measured(name: &str) -> Vec<Part> {
+    match name {
+        "check" => vec![parts::check()],
+        "step" => vec![parts::step()],
+        "run" => parts::run(),
+        "rewriting" => vec![parts::rewriting()],
+        _ => parts::growth(),
+    }
+}

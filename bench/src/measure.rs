@@ -1,0 +1,67 @@
+//! Times. The machine may be busy with other things, so that of several samples the least counts, and
+//! what is compared is sampled in turns. A long call, such as plain enumeration of 8^8 choices, has no
+//! other samples: its time is right only on an idle machine.
+
+use std::time::Instant;
+
+/// How long a sample should take, in seconds.
+const SAMPLE: f64 = 0.001;
+/// How many samples are taken of a call.
+const SAMPLES: usize = 9;
+/// How long all samples of a call may take: a long call is made once or a few times.
+const BUDGET: f64 = 0.05;
+
+/// A call that is measured.
+pub type Call<'a> = Box<dyn FnMut() + 'a>;
+
+/// A call, and what is known of its time.
+struct Measured<'a> {
+    call: Call<'a>,
+    repeats: usize,
+    least: f64,
+    spent: f64,
+}
+
+impl<'a> Measured<'a> {
+    /// Makes the call once, to know how often a sample makes it.
+    fn new(mut call: Call<'a>) -> Measured<'a> {
+        let once = seconds(&mut call, 1);
+        Measured {
+            call,
+            repeats: ((SAMPLE / once) as usize).clamp(1, 100_000),
+            least: once,
+            spent: once,
+        }
+    }
+
+    /// Takes a sample, unless enough time was spent.
+    fn sample(&mut self) {
+        if self.spent < BUDGET {
+            let took = seconds(&mut self.call, self.repeats);
+            self.least = self.least.min(took / self.repeats as f64);
+            self.spent += took;
+        }
+    }
+}
+
+/// How long so many calls take, in seconds.
+fn seconds(call: &mut Call, repeats: usize) -> f64 {
+    let start = Instant::now();
+    (0..repeats).for_each(|_| call());
+    start.elapsed().as_secs_f64()
+}
+
+/// The least time of each call, in seconds.
+pub fn least(calls: Vec<Call>) -> Vec<f64> {
+    let mut all: Vec<Measured> = calls.into_iter().map(Measured::new).collect();
+    for _ in 0..SAMPLES {
+        all.iter_mut().for_each(Measured::sample);
+    }
+    all.iter().map(|measured| measured.least).collect()
+}
+
+/// The middle one of some numbers.
+pub fn median(mut numbers: Vec<f64>) -> f64 {
+    numbers.sort_by(f64::total_cmp);
+    numbers[numbers.len() / 2]
+}

@@ -1,0 +1,60 @@
+//! The engine written by hand answers as the reference does, so that its times can be compared.
+
+use bench::hand;
+use reference::command::{Command, Op};
+use reference::draw::Draw;
+
+/// What a call tells: refusal, numbers, and the lent buffer.
+type Told = (u8, [u64; 2], Vec<u8>);
+
+/// The call in the reference.
+fn expected(command: &Command) -> Told {
+    let mut lent = vec![0xA5; command.room];
+    let (file, at) = (&command.file, &command.configuration);
+    let (refusal, numbers) = match command.op {
+        Op::Step => {
+            let stepped = reference::step(file, at, command.inputs[0], &mut lent);
+            let mark = u64::from(stepped.mark);
+            (stepped.refusal, [stepped.output.0, mark])
+        }
+        Op::Run => {
+            let refusal = reference::run(file, at, &command.inputs, &mut lent);
+            (refusal, [0; 2])
+        }
+        Op::Rewrite => {
+            let rewritten = reference::rewrite(file, &mut lent);
+            (rewritten.refusal, [rewritten.length as u64, 0])
+        }
+        _ => (reference::check(file), [0; 2]),
+    };
+    (refusal, numbers, lent)
+}
+
+/// The call by hand.
+fn by_hand(command: &Command) -> Told {
+    let mut lent = vec![0xA5; command.room];
+    let (file, at) = (&command.file, &command.configuration);
+    let inputs: Vec<u64> = command.inputs.iter().map(|set| set.0).collect();
+    let (refusal, numbers) = match command.op {
+        Op::Step => {
+            let (refusal, output, mark) = hand::step(file, at, inputs[0], &mut lent);
+            (refusal, [output, u64::from(mark)])
+        }
+        Op::Run => (hand::run(file, at, &inputs, &mut lent), [0; 2]),
+        Op::Rewrite => {
+            let (refusal, length) = hand::rewrite(file, &mut lent);
+            (refusal, [length as u64, 0])
+        }
+        _ => (hand::check(file), [0; 2]),
+    };
+    (refusal, numbers, lent)
+}
+
+#[test]
+fn the_engine_by_hand_agrees_with_the_reference() {
+    let mut draw = Draw::new(7);
+    for place in 0..20_000 {
+        let command = draw.command(&place.to_string());
+        assert_eq!(by_hand(&command), expected(&command), "{command:?}");
+    }
+}

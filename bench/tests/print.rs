@@ -1,0 +1,55 @@
+//! How numbers are printed and drawn.
+
+use bench::picture::{picture, Bar, Other};
+use bench::table::{ratio, time, Row, Table};
+
+#[test]
+fn ratios_have_about_three_digits() {
+    let printed: Vec<String> = [0.5, 9.876, 10.0, 99.94, 123.4, 1_850_432.0]
+        .into_iter()
+        .map(ratio)
+        .collect();
+    assert_eq!(
+        printed,
+        ["0.50", "9.88", "10.0", "99.9", "123", "1,850,000"]
+    );
+}
+
+#[test]
+fn times_have_their_unit() {
+    let printed: Vec<String> = [4.65e-7, 8.88e-6, 0.0123, 2.5]
+        .into_iter()
+        .map(time)
+        .collect();
+    assert_eq!(printed, ["465 ns", "8.88 µs", "12.3 ms", "2.50 s"]);
+}
+
+#[test]
+fn a_table_has_its_columns_under_each_other() {
+    let table = Table {
+        title: "step".to_string(),
+        columns: vec!["a", "long"],
+        rows: vec![Row {
+            label: "x".to_string(),
+            cells: vec!["1.00".to_string(), "2".to_string()],
+        }],
+    };
+    assert_eq!(table.to_string(), "step     a  long\nx     1.00     2\n");
+}
+
+#[test]
+fn a_picture_has_a_bar_for_each_ratio() {
+    let bar = |label: &str, other, ratio| Bar {
+        label: label.to_string(),
+        other,
+        ratio,
+    };
+    let svg = picture(&[
+        bar("one < two", Other::Reference, 1_000.0),
+        bar("one < two", Other::Hand, 0.5),
+    ]);
+    assert!(svg.starts_with("<svg ") && svg.ends_with("</svg>\n"));
+    assert_eq!(svg.matches("<rect").count(), 1 + 2 + 2);
+    assert_eq!(svg.matches("one &lt; two").count(), 1);
+    assert!(svg.contains(">1,000<") && svg.contains(">0.50<"));
+}

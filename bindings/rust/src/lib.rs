@@ -1,0 +1,132 @@
+//! The proved chart engine for Rust. What a chart file is and what a step means stands in document
+//! 01; what is proved of each call stands in docs/PROMISES.md.
+//!
+//! Every call takes slices and gives a result: what document 01 says, or the [`Refusal`]. A refused
+//! call leaves every lent buffer as it was; after a success the bytes behind what was written have
+//! the values that they had.
+//!
+//! ```no_run
+//! # fn main() -> Result<(), Box<dyn std::error::Error>> {
+//! use mestecur::{first, step, Set};
+//! let file = std::fs::read("door.chart")?;
+//! let (mut now, mut next) = ([0; 2], [0; 2]);
+//! first(&file, &mut now)?;
+//! let done = step(&file, &now, Set::from([0, 3]), &mut next)?;
+//! println!("puts out {} and goes to {next:?}", done.output);
+//! # Ok(())
+//! # }
+//! ```
+
+pub mod raw;
+mod refusal;
+mod row;
+mod set;
+
+pub use refusal::Refusal;
+pub use row::{rows, rows_bytes, Row};
+pub use set::{Set, Signals};
+
+/// The signals that a file's whole looks at, and those that it can put out.
+#[derive(Clone, Copy, PartialEq, Eq, Debug)]
+pub struct Interface {
+    pub input: Set,
+    pub output: Set,
+}
+
+/// What a step gives beside the next configuration: what the whole puts out, and whether every
+/// permitted choice leads to the same output and the same next configuration.
+#[derive(Clone, Copy, PartialEq, Eq, Debug)]
+pub struct Step {
+    pub output: Set,
+    pub mark: bool,
+}
+
+/// Whether a file holds a chart. Refusals 1 to 11.
+pub fn check(file: &[u8]) -> Result<(), Refusal> {
+    // SAFETY: the pointer is that of a slice with this length.
+    Refusal::unless_zero(unsafe { raw::mestecur_check(file.as_ptr(), file.len()) })
+}
+
+/// Writes the first configuration, every chart's initial state, to the front of the buffer. Refusals
+/// 1 to 11, 22.
+pub fn first(file: &[u8], config: &mut [u8]) -> Result<(), Refusal> {
+    // SAFETY: the pointers are those of slices with these lengths; the one written is lent alone.
+    Refusal::unless_zero(unsafe {
+        raw::mestecur_first(file.as_ptr(), file.len(), config.as_mut_ptr(), config.len())
+    })
+}
+
+/// The interface of a file's whole. Refusals 1 to 11.
+pub fn interface(file: &[u8]) -> Result<Interface, Refusal> {
+    let (mut input, mut output) = (0, 0);
+    // SAFETY: the pointers are those of a slice with this length and of two numbers of our own.
+    Refusal::unless_zero(unsafe {
+        raw::mestecur_interface(file.as_ptr(), file.len(), &mut input, &mut output)
+    })?;
+    Ok(Interface {
+        input: Set(input),
+        output: Set(output),
+    })
+}
+
+/// One step from a configuration under an input; writes the next configuration to the front of the
+/// buffer. Refusals 1 to 11, 20 to 23.
+pub fn step(file: &[u8], config: &[u8], input: Set, next: &mut [u8]) -> Result<Step, Refusal> {
+    let (mut output, mut mark) = (0, 0);
+    // SAFETY: the pointers are those of slices with these lengths and of two numbers of our own; the
+    // slice written is lent alone.
+    Refusal::unless_zero(unsafe {
+        raw::mestecur_step(
+            file.as_ptr(),
+            file.len(),
+            config.as_ptr(),
+            config.len(),
+            input.0,
+            next.as_mut_ptr(),
+            next.len(),
+            &mut output,
+            &mut mark,
+        )
+    })?;
+    Ok(Step {
+        output: Set(output),
+        mark: mark == 1,
+    })
+}
+
+/// A step for each input in turn, from a configuration on; writes a row for each to the front of the
+/// buffer, which [`rows`] reads. Refusals 1 to 11, 20, 21, 27.
+pub fn run(file: &[u8], config: &[u8], inputs: &[Set], buffer: &mut [u8]) -> Result<(), Refusal> {
+    // SAFETY: the pointers are those of slices with these lengths, and a set is laid out as its number;
+    // the slice written is lent alone.
+    Refusal::unless_zero(unsafe {
+        raw::mestecur_run(
+            file.as_ptr(),
+            file.len(),
+            config.as_ptr(),
+            config.len(),
+            inputs.as_ptr().cast(),
+            inputs.len(),
+            buffer.as_mut_ptr(),
+            buffer.len(),
+        )
+    })
+}
+
+/// Writes a file without slaves that makes the same steps to the front of the buffer, and gives its
+/// length. Refusals 1 to 11, 40 to 45.
+pub fn rewrite(file: &[u8], buffer: &mut [u8]) -> Result<usize, Refusal> {
+    let mut length = 0;
+    // SAFETY: the pointers are those of slices with these lengths and of a number of our own; the slice
+    // written is lent alone.
+    Refusal::unless_zero(unsafe {
+        raw::mestecur_rewrite(
+            file.as_ptr(),
+            file.len(),
+            buffer.as_mut_ptr(),
+            buffer.len(),
+            &mut length,
+        )
+    })?;
+    Ok(length)
+}

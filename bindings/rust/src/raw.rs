@@ -1,0 +1,56 @@
+//! The engine's own functions, as include/mestecur.h declares and explains them.
+
+extern "C" {
+    /// Tests whether a file holds a chart.
+    pub fn mestecur_check(file: *const u8, file_len: usize) -> u8;
+
+    /// Writes the first configuration.
+    pub fn mestecur_first(
+        file: *const u8,
+        file_len: usize,
+        config: *mut u8,
+        config_len: usize,
+    ) -> u8;
+
+    /// Gives the input and the output interface.
+    pub fn mestecur_interface(
+        file: *const u8,
+        file_len: usize,
+        input: *mut u64,
+        output: *mut u64,
+    ) -> u8;
+
+    /// Makes one step.
+    pub fn mestecur_step(
+        file: *const u8,
+        file_len: usize,
+        config: *const u8,
+        config_len: usize,
+        input: u64,
+        next: *mut u8,
+        next_len: usize,
+        output: *mut u64,
+        mark: *mut u8,
+    ) -> u8;
+
+    /// Makes a step for each input in turn.
+    pub fn mestecur_run(
+        file: *const u8,
+        file_len: usize,
+        config: *const u8,
+        config_len: usize,
+        inputs: *const u64,
+        inputs_len: usize,
+        rows: *mut u8,
+        rows_len: usize,
+    ) -> u8;
+
+    /// Writes the rewritten file.
+    pub fn mestecur_rewrite(
+        file: *const u8,
+        file_len: usize,
+        out: *mut u8,
+        out_len: usize,
+        length: *mut usize,
+    ) -> u8;
+}

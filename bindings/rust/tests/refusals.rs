@@ -1,0 +1,111 @@
+//! A refusal says what is wrong, and leaves the buffers as they were.
+
+mod charts;
+
+use charts::{d, whole_case};
+use mestecur::{check, first, interface, rewrite, run, step, Refusal, Set};
+
+/// The number of a refused call.
+fn number<T: std::fmt::Debug>(answer: Result<T, Refusal>) -> u8 {
+    answer.unwrap_err().number()
+}
+
+/// Holds that every call refuses a bad file with this number, and touches nothing.
+fn every_call_refuses(file: &[u8], refusal: u8) {
+    let mut buffer = [0xA5; 300];
+    assert_eq!(number(check(file)), refusal);
+    assert_eq!(number(first(file, &mut buffer)), refusal);
+    assert_eq!(number(interface(file)), refusal);
+    assert_eq!(number(step(file, &[0], Set(1), &mut buffer)), refusal);
+    assert_eq!(number(run(file, &[0], &[Set(1)], &mut buffer)), refusal);
+    assert_eq!(number(rewrite(file, &mut buffer)), refusal);
+    assert_eq!(buffer, [0xA5; 300]);
+}
+
+/// The whole case with one byte changed.
+fn with(place: usize, value: u8) -> Vec<u8> {
+    let mut file = whole_case();
+    file[place] = value;
+    file
+}
+
+#[test]
+fn bad_files() {
+    every_call_refuses(&[], 1);
+    every_call_refuses(&whole_case()[101..], 1);
+    every_call_refuses(&with(107, 2), 2);
+    every_call_refuses(&with(104, 0), 3);
+    every_call_refuses(&with(100, 0x65), 4);
+    every_call_refuses(&whole_case()[1..], 4);
+    every_call_refuses(&with(83, 1), 5);
+    every_call_refuses(&with(1, 2), 6);
+    every_call_refuses(&with(25, 2), 7);
+    every_call_refuses(&with(80, 3), 9);
+    let slave = d().len() - 12 - 2 * 20 - 4;
+    let changed = |place: usize, value: u8| {
+        let mut file = d();
+        file[slave + place] = value;
+        file
+    };
+    every_call_refuses(&changed(1, 2), 8);
+    every_call_refuses(&changed(2, 1), 10);
+    every_call_refuses(&swapped(), 11);
+}
+
+/// D with the numbers of its charts exchanged: the slave's chart stands below its master.
+fn swapped() -> Vec<u8> {
+    let mut file = d();
+    let nodes = file.len() - 12 - 2 * 20;
+    file[nodes - 4] = 1;
+    file[nodes + 1] = 0;
+    file[nodes + 21] = 1;
+    file
+}
+
+#[test]
+fn steps() {
+    let file = whole_case();
+    let mut next = [0xA5; 4];
+    assert_eq!(number(step(&file, &[], Set(1), &mut next)), 20);
+    assert_eq!(number(step(&file, &[0, 0], Set(1), &mut next)), 20);
+    assert_eq!(number(step(&file, &[2], Set(1), &mut next)), 21);
+    assert_eq!(number(step(&file, &[0], Set(1), &mut [])), 22);
+    assert_eq!(number(step(&file, &[0], Set(2), &mut next)), 23);
+    assert_eq!(next, [0xA5; 4]);
+}
+
+#[test]
+fn runs() {
+    let file = whole_case();
+    let mut rows = [0xA5; 21];
+    assert_eq!(number(run(&file, &[], &[Set(1)], &mut rows)), 20);
+    assert_eq!(number(run(&file, &[2], &[Set(1)], &mut rows)), 21);
+    assert_eq!(number(run(&file, &[0], &[Set(1); 2], &mut rows)), 27);
+    assert_eq!(rows, [0xA5; 21]);
+}
+
+#[test]
+fn first_and_rewriting() {
+    let file = whole_case();
+    let mut short = [0xA5; 111];
+    assert_eq!(number(first(&file, &mut [])), 22);
+    assert_eq!(number(rewrite(&file, &mut short)), 45);
+    assert_eq!(short, [0xA5; 111]);
+    let mut full = d();
+    full[16..24].copy_from_slice(&[0xFF; 8]);
+    assert_eq!(number(rewrite(&full, &mut short)), 40);
+    assert_eq!(short, [0xA5; 111]);
+}
+
+#[test]
+fn a_refusal_prints_its_number_and_the_documents_words() {
+    let refusal = check(&[]).unwrap_err();
+    assert_eq!(refusal.to_string(), "refused 1: fewer than 12 bytes");
+    let refusal: Box<dyn std::error::Error> = Box::new(Refusal::of(23).unwrap());
+    assert_eq!(refusal.to_string(), "refused 23: no permitted step");
+    assert_eq!(Refusal::of(0), None);
+    for known in (1..=11).chain(20..=23).chain([27]).chain(40..=45) {
+        let words = Refusal::of(known).unwrap().words();
+        assert_ne!(words, Refusal::of(99).unwrap().words(), "{known}");
+    }
+}

@@ -1,0 +1,218 @@
+//! Random calls of every kind for a long comparison, the same for the same seed: random files, right
+//! and damaged, the named cases with something altered, and some steps with many choices. Each is
+//! cheap enough for this engine, which tries every choice.
+
+use crate::check::accept;
+use crate::command::{Command, Op, OPS};
+use crate::generate::*;
+use crate::limits::*;
+use crate::model::Model;
+use crate::record::{named, KINDS};
+use crate::set::Set;
+
+/// The most choices of one call, those of all inputs of a run together.
+const CHOICES: usize = 5_000;
+/// The choices of a step that is called hard, from and to.
+const HARD_CHOICES: (usize, usize) = (2_000, 60_000);
+
+/// A source of random calls.
+pub struct Draw {
+    random: Random,
+    named: Vec<Command>,
+}
+
+impl Draw {
+    /// The source of a seed.
+    pub fn new(seed: u64) -> Draw {
+        let named = KINDS.into_iter().flat_map(named);
+        Draw {
+            random: Random::new(seed),
+            named: named.map(|case| case.command).collect(),
+        }
+    }
+
+    /// The next call, under a name.
+    pub fn command(&mut self, name: &str) -> Command {
+        let random = &mut self.random;
+        match random.below(100) {
+            0 => hard_step(random, name),
+            1..=39 => altered(random, &self.named, name),
+            _ => fresh(random, name),
+        }
+    }
+}
+
+/// A call with a random file.
+fn fresh(random: &mut Random, name: &str) -> Command {
+    let kind = random.below(12);
+    affordable(random, |random| match kind {
+        0..=3 => file_command(random, name),
+        4..=7 => step_command(random, name),
+        8 | 9 => run_command(random, name),
+        _ => rewrite_command(random, name),
+    })
+}
+
+/// The first call drawn that has few enough choices.
+fn affordable(random: &mut Random, mut draw: impl FnMut(&mut Random) -> Command) -> Command {
+    loop {
+        let command = draw(random);
+        if choices(&command) <= CHOICES {
+            return command;
+        }
+    }
+}
+
+/// How many choices a call has at most; 0 if it makes no step.
+pub fn choices(command: &Command) -> usize {
+    let steps = match command.op {
+        Op::Step | Op::Run => command.inputs.len(),
+        _ => 0,
+    };
+    match accept(&command.file) {
+        Ok(model) if command.op == Op::Run => steps * from_any_state(&model),
+        Ok(model) => steps * most_choices(&model, &command.configuration),
+        Err(_) => 0,
+    }
+}
+
+/// How many choices there are at most, each chart being in the state with the most transitions.
+fn from_any_state(model: &Model) -> usize {
+    let charts = model.charts.iter();
+    let most = charts.map(|chart| {
+        let out = |state| chart.transitions.iter().filter(|t| t.from == state).count();
+        (0..chart.states).map(out).max().unwrap_or(0).max(1)
+    });
+    most.product()
+}
+
+/// A step with many choices: many charts, many transitions, few signals.
+fn hard_step(random: &mut Random, name: &str) -> Command {
+    loop {
+        let mut shape = shape(random, CHARTS);
+        shape.charts = random.between(4, CHARTS);
+        shape.out = random.between(4, STATE_TRANSITIONS);
+        shape.states = random.between(1, 2);
+        let model = model(random, &shape);
+        let at = configuration(random, &model);
+        let command = Command::step(
+            name,
+            model.file(),
+            &at,
+            input(random, &shape),
+            model.charts.len(),
+        );
+        if (HARD_CHOICES.0..=HARD_CHOICES.1).contains(&choices(&command)) {
+            return command;
+        }
+    }
+}
+
+/// A named call with something altered, once or more.
+fn altered(random: &mut Random, named: &[Command], name: &str) -> Command {
+    affordable(random, |random| {
+        let mut command = random.pick(named);
+        command.name = name.to_string();
+        for _ in 0..random.pick(&[1, 1, 1, 2, 4]) {
+            alter(random, &mut command);
+        }
+        command
+    })
+}
+
+/// Alters one thing of a call.
+fn alter(random: &mut Random, command: &mut Command) {
+    match random.below(9) {
+        0 => other_call(random, command),
+        1 => command.room = room(random, command.room).min(command.room + 1),
+        2 => alter_inputs(random, command),
+        3 => alter_bytes(random, &mut command.configuration),
+        4 => command.file = [front(random), std::mem::take(&mut command.file)].concat(),
+        5 => {
+            let missing = random.below(30).min(command.file.len());
+            command.file.drain(..missing);
+        }
+        6 => rebuild(random, command),
+        _ => alter_bytes(random, &mut command.file),
+    }
+}
+
+/// Another call with the same file, and what it needs.
+fn other_call(random: &mut Random, command: &mut Command) {
+    command.op = random.pick(&OPS);
+    let Ok(model) = accept(&command.file) else {
+        return fit_inputs(command);
+    };
+    command.configuration = configuration(random, &model);
+    fit_inputs(command);
+    let charts = model.charts.len();
+    command.room = match command.op {
+        Op::Check | Op::Interface => 0,
+        Op::First | Op::Step => room(random, charts),
+        Op::Run => room(random, command.inputs.len() * (ROW_HEAD_BYTES + charts)),
+        Op::Rewrite => room(random, 2 * command.file.len() + NODES * NODE_BYTES),
+    };
+}
+
+/// A step has exactly one input.
+fn fit_inputs(command: &mut Command) {
+    if command.op == Op::Step {
+        command.inputs.resize(1, Set::EMPTY);
+    }
+}
+
+/// Changes one input, or their number.
+fn alter_inputs(random: &mut Random, command: &mut Command) {
+    let any = Set(random.bits() & random.bits());
+    if command.op == Op::Run && random.chance(50) {
+        command.inputs.resize(random.below(8), any);
+    }
+    if let Some(last) = command.inputs.last_mut() {
+        *last = match random.below(3) {
+            0 => any,
+            1 => Set(last.0 ^ Set::one(random.below(8) as u32).0),
+            _ => Set(any.0 & 0xff),
+        };
+    }
+}
+
+/// Changes one byte: a bit of it, or to a value that is often just right or just wrong.
+fn alter_bytes(random: &mut Random, bytes: &mut [u8]) {
+    if bytes.is_empty() {
+        return;
+    }
+    let place = random.below(bytes.len());
+    let value = bytes[place];
+    bytes[place] = match random.below(4) {
+        0 => value.wrapping_add(1),
+        1 => value.wrapping_sub(1),
+        2 => random.below(20) as u8,
+        _ => value ^ (1 << random.below(8)),
+    };
+}
+
+/// A right file with other sets, states or order, and right again unless it can't be.
+fn rebuild(random: &mut Random, command: &mut Command) {
+    let Ok(mut model) = accept(&command.file) else {
+        return;
+    };
+    let chart = random.below(model.charts.len());
+    let chart = &mut model.charts[chart];
+    let states = usize::from(chart.states);
+    let signal = Set::one(random.below(8) as u32);
+    match random.below(3) {
+        0 => chart.feedback = Set(chart.feedback.0 ^ signal.0),
+        1 => chart.initial = random.below(states) as u8,
+        _ => {
+            let mut moves = chart.transitions.clone();
+            random.shuffle(&mut moves);
+            if let Some(first) = moves.first_mut() {
+                first.needed = Set(first.needed.0 ^ signal.0);
+                first.action = Set(first.action.0 ^ Set::one(random.below(8) as u32).0);
+                first.to = random.below(states) as u8;
+            }
+            chart.transitions = moves;
+        }
+    }
+    command.file = model.file();
+}

@@ -1,0 +1,121 @@
+//! The proved engine held against this one: random calls are made in both, and what each tells is
+//! compared, refusal, answers and every lent byte.
+
+mod engine;
+
+use crate::command::{Command, Op};
+use crate::draw::Draw;
+use crate::{check, first, interface, rewrite, run, step};
+
+/// The bytes of a lent buffer's surroundings, in front and behind; the engine may not touch them.
+const MARGIN: usize = 21;
+
+/// What a call tells: its refusal, the single numbers that it answers, and all bytes of the lent
+/// buffer and around it.
+#[derive(Clone, PartialEq, Eq, Debug)]
+pub struct Told {
+    pub refusal: u8,
+    pub numbers: [u64; 2],
+    pub bytes: Vec<u8>,
+}
+
+/// Makes so many random calls in both engines; the first one that differs, in words.
+pub fn agree(seed: u64, count: usize) -> Result<(), String> {
+    let mut draw = Draw::new(seed);
+    for place in 0..count {
+        let command = draw.command(&format!("fuzz-{seed}-{place}"));
+        compare(&command)?;
+    }
+    Ok(())
+}
+
+/// Makes one call here, in the engine and through its binding for Rust.
+fn compare(command: &Command) -> Result<(), String> {
+    let expected = tell(command, here);
+    let lent = command.clone();
+    for (who, call) in [
+        ("engine", engine::raw as Call),
+        ("binding", engine::binding as Call),
+    ] {
+        let told = tell(command, call);
+        if told != expected || lent != *command {
+            return Err(difference(command, &expected, who, &told));
+        }
+    }
+    Ok(())
+}
+
+/// How a call is made: with a lent buffer, giving the refusal and the numbers.
+type Call = fn(&Command, &mut [u8]) -> (u8, [u64; 2]);
+
+/// Makes a call with a buffer that has a pattern in it and around it.
+fn tell(command: &Command, call: Call) -> Told {
+    let mut bytes: Vec<u8> = (0..command.room + 2 * MARGIN).map(pattern).collect();
+    let lent = &mut bytes[MARGIN..MARGIN + command.room];
+    let (refusal, numbers) = call(command, lent);
+    Told {
+        refusal,
+        numbers,
+        bytes,
+    }
+}
+
+/// What a byte is before a call: seldom the same as its neighbours, seldom small.
+fn pattern(place: usize) -> u8 {
+    (place as u8).wrapping_mul(37) ^ 0xA5
+}
+
+/// The call made here.
+fn here(command: &Command, lent: &mut [u8]) -> (u8, [u64; 2]) {
+    let file = &command.file;
+    match command.op {
+        Op::Check => (check(file), [0; 2]),
+        Op::First => (first(file, lent), [0; 2]),
+        Op::Interface => {
+            let found = interface(file);
+            (found.refusal, [found.input.0, found.output.0])
+        }
+        Op::Step => {
+            let stepped = step(file, &command.configuration, command.inputs[0], lent);
+            let mark = u64::from(stepped.mark);
+            (stepped.refusal, [stepped.output.0, mark])
+        }
+        Op::Run => {
+            let refusal = run(file, &command.configuration, &command.inputs, lent);
+            (refusal, [0; 2])
+        }
+        Op::Rewrite => {
+            let rewritten = rewrite(file, lent);
+            (rewritten.refusal, [rewritten.length as u64, 0])
+        }
+    }
+}
+
+/// A difference in words, with the call in its recorded form; `xxd -r -p` makes bytes of that, which
+/// `reference show` reads and `tests/recorded` can record.
+fn difference(command: &Command, expected: &Told, who: &str, told: &Told) -> String {
+    let lines = [
+        format!("fuzz: {} {:?} differs", command.name, command.op),
+        format!("reference: {}", words(expected)),
+        format!("{who}: {}", words(told)),
+        format!(
+            "room {}, configuration {:?}",
+            command.room, command.configuration
+        ),
+        format!("inputs {:x?}", command.inputs),
+        format!("recorded form: {}", hex(&command.encode())),
+    ];
+    lines.join("\n")
+}
+
+/// What was told, on a line.
+fn words(told: &Told) -> String {
+    let [one, other] = told.numbers;
+    let (refusal, bytes) = (told.refusal, hex(&told.bytes));
+    format!("refusal {refusal}, numbers {one:x} {other:x}, lent {bytes}")
+}
+
+/// Bytes in hex.
+fn hex(bytes: &[u8]) -> String {
+    bytes.iter().map(|byte| format!("{byte:02x}")).collect()
+}

@@ -1,0 +1,59 @@
+//! The calls of the long comparison: what they reach, and that they are the same each time.
+
+use reference::command::{Command, Op, OPS};
+use reference::draw::{choices, Draw};
+use reference::limits::refusal;
+use std::collections::BTreeSet;
+
+/// So many calls of a seed.
+fn drawn(seed: u64, count: usize) -> Vec<Command> {
+    let mut draw = Draw::new(seed);
+    (0..count)
+        .map(|place| draw.command(&place.to_string()))
+        .collect()
+}
+
+/// The refusals that document 01 names at a call beside 1 to 11; 43 cannot be met.
+fn own_refusals(op: Op) -> &'static [u8] {
+    match op {
+        Op::Check | Op::Interface => &[],
+        Op::First => &[22],
+        Op::Step => &[20, 21, 22, 23],
+        Op::Run => &[20, 21, 27],
+        Op::Rewrite => &[40, 41, 42, 44, 45],
+    }
+}
+
+#[test]
+fn every_call_meets_each_of_its_refusals() {
+    let commands = drawn(1, 25_000);
+    for op in OPS {
+        let calls = commands.iter().filter(|command| command.op == op);
+        let found: BTreeSet<u8> = calls.map(|command| command.answer().refusal).collect();
+        let mut expected = BTreeSet::from([refusal::SUCCESS]);
+        expected.extend(refusal::TOO_SHORT..=refusal::NUMBERING);
+        expected.extend(own_refusals(op));
+        assert_eq!(found, expected, "{op:?}");
+    }
+}
+
+#[test]
+fn some_steps_are_hard_and_few_are() {
+    let commands = drawn(2, 5_000);
+    let hard = commands.iter().filter(|c| choices(c) >= 2_000).count();
+    assert!((20..=500).contains(&hard), "{hard}");
+}
+
+#[test]
+fn calls_are_the_same_for_the_same_seed() {
+    assert_eq!(drawn(3, 300), drawn(3, 300));
+    assert_ne!(drawn(3, 300), drawn(4, 300));
+}
+
+#[test]
+fn calls_can_be_recorded() {
+    for command in drawn(5, 3_000) {
+        let read = reference::command::decode_all(&command.encode());
+        assert_eq!(read, Ok(vec![command]));
+    }
+}

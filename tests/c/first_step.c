@@ -1,0 +1,67 @@
+/* Document 01's whole case: checks the file, takes its first configuration, asks for its interface, makes its three steps one by one and then as
+ * one run, rewrites it, and prints what it got. */
+#include <stdio.h>
+#include "mestecur.h"
+
+enum { CHARTS = 1, INPUTS = 3, ROW = 10 + CHARTS };
+
+/* One chart of 2 states; 0 to 1 needs {0} and puts out {1}; 1 to 0 needs {1}. */
+static const uint8_t file[] = {
+    /* chart: 2 states, initial state 0, 2 transitions, zeros; feedback; extra set */
+    2, 0, 2, 0, 0, 0, 0, 0, 0, 0, 0, 0, 0, 0, 0, 0, 0, 0, 0, 0, 0, 0, 0, 0,
+    /* transition: from 0 to 1, zeros; needed {0}; barred {}; action {1} */
+    0, 1, 0, 0, 1, 0, 0, 0, 0, 0, 0, 0, 0, 0, 0, 0, 0, 0, 0, 0, 2, 0, 0, 0, 0, 0, 0, 0,
+    /* transition: from 1 to 0, zeros; needed {1}; barred {}; action {} */
+    1, 0, 0, 0, 2, 0, 0, 0, 0, 0, 0, 0, 0, 0, 0, 0, 0, 0, 0, 0, 0, 0, 0, 0, 0, 0, 0, 0,
+    /* node: kind 0, chart 0 */
+    0, 0, 0, 0, 0, 0, 0, 0, 0, 0, 0, 0, 0, 0, 0, 0, 0, 0, 0, 0,
+    /* trailer: the body's 100 bytes; 1 chart, 0 slaves, 1 node, edition 1; 2 transitions; zeros */
+    0x64, 0, 0, 0, 1, 0, 1, 1, 2, 0, 0, 0};
+
+static const uint64_t inputs[INPUTS] = {1, 0, 2};
+
+/* A set, as 16 hex digits, with words in front of it. */
+static void print_set(const char *words, uint64_t set) {
+    printf("%s%016llx", words, (unsigned long long)set);
+}
+
+/* One step from `state`; the state after it. */
+static uint8_t step(uint8_t state, uint64_t input) {
+    uint8_t next = state, mark = 9;
+    uint64_t output = 9;
+    uint8_t refusal = mestecur_step(file, sizeof file, &state, CHARTS, input, &next, CHARTS, &output, &mark);
+    printf("step %d: %d", (int)input, refusal);
+    print_set(", output ", output);
+    printf(", state %d, mark %d\n", next, mark);
+    return next;
+}
+
+/* All three inputs as one run, into a buffer that is longer than needed. */
+static void run(uint8_t state) {
+    uint8_t rows[INPUTS * ROW + 2];
+    for (size_t i = 0; i < sizeof rows; i++) rows[i] = 0xa5;
+    printf("run: %d\n", mestecur_run(file, sizeof file, &state, CHARTS, inputs, INPUTS, rows, sizeof rows));
+    for (size_t i = 0; i < sizeof rows; i++) printf("%02x%s", rows[i], (i + 1) % ROW == 0 ? "\n" : "");
+    printf("\n");
+}
+
+int main(void) {
+    uint8_t state = 9, out[sizeof file];
+    uint64_t input = 9, output = 9;
+    size_t length = 9;
+    printf("check: %d\n", mestecur_check(file, sizeof file));
+    printf("check without the last byte: %d\n", mestecur_check(file, sizeof file - 1));
+    printf("first: %d", mestecur_first(file, sizeof file, &state, CHARTS));
+    printf(", state %d\n", state);
+    printf("interface: %d", mestecur_interface(file, sizeof file, &input, &output));
+    print_set(", input ", input);
+    print_set(", output ", output);
+    printf("\n");
+    for (size_t i = 0, s = state; i < INPUTS; i++) s = step((uint8_t)s, inputs[i]);
+    run(state);
+    printf("rewrite: %d", mestecur_rewrite(file, sizeof file, out, sizeof out, &length));
+    printf(", %zu bytes\n", length);
+    printf("rewrite without room: %d", mestecur_rewrite(file, sizeof file, out, sizeof out - 1, &length));
+    printf(", %zu bytes\n", length);
+    return 0;
+}

@@ -1,0 +1,5 @@
+/* What first_step.c needs of <stdio.h>, for the kit's clang on x86-64, which comes without headers. */
+#ifndef KIT_STDIO_H
+#define KIT_STDIO_H
+int printf(const char *format, ...);
+#endif
