@@ -1,0 +1,41 @@
+-- What the rewriting knows of a body that passed the file check, and what its tables hold.
+use mathlib.Core.Path.{_≡_}
+use mathlib.Core.Bool.{Bool, true, not}
+use mathlib.Core.List.{List}
+use Prim.Native.Nat.{ℕ, _+_, _≤_, _<_}
+use lib.Dec.{ltb}
+use lib.ListN.{length, getD}
+use Rattle.signals.specs.Mask.{single}
+use Rattle.layout.specs.Body.{Holds, startOf}
+use Rattle.layout.specs.declared.body.Shape.{Shape}
+use Rattle.meaning.specs.Numbers.{mostSignals, mostCharts, mostSlaves, mostNodes, mostTransitions}
+use Rattle.meaning.specs.File.{File, fileAt}
+use Rattle.meaning.specs.Check.Nodes.{Treed}
+use Rattle.meaning.specs.Rewriting.{lacking, call, callIn, nearestSlave, newName}
+use Rattle.rewrite.specs.declared.calls.Calls.{Calls}
+
+pub record Checked (n : Shape) (b : List ℕ) : Type 0 where
+  pub holds : Holds n b
+  pub charts : n .charts ≤ mostCharts
+  pub transitions : n .transitions ≤ mostTransitions
+  pub slaves : n .slaves ≤ mostSlaves
+  pub nodes : n .nodes ≤ mostNodes
+  pub summed : startOf n b (n .charts) ≡ n .transitions
+  pub treed : Treed (fileAt n b)
+
+-- slaves get the numbers that `used` lacks, one after another
+pub record Calling (used slaves : ℕ) (r : Calls) : Type 0 where
+  pub enough : r .enough ≡ not (ltb (length (lacking used mostSignals)) slaves)
+  pub sets : r .enough ≡ true → (i : ℕ) → i < slaves → getD (r .sets) i 0 ≡ single (getD (lacking used mostSignals) i (mostSignals + i))
+
+-- of each slave the set of its call alone
+abbrev pub CallsIn : File → List ℕ → Type 0
+CallsIn F l = (i : ℕ) → i < F .slaves → getD l i 0 ≡ single (call F i)
+
+-- of each chart the call that it takes; outside all slaves the empty set
+abbrev pub InnerIn : File → List ℕ → Type 0
+InnerIn F l = (c : ℕ) → c < F .charts → getD l c 0 ≡ callIn (call F) (nearestSlave F c)
+
+-- of each node the name that it gets
+abbrev pub NamesIn : File → List ℕ → Type 0
+NamesIn F l = (j : ℕ) → j < F .nodes → getD l j 0 ≡ newName F j
