@@ -2,12 +2,13 @@
 -- made for a node begin. Assumes nothing.
 use mathlib.Core.Path.{_≡_, refl, sym, ap, ap₂, _∙_}
 use mathlib.Core.Bool.{true, false}
-use mathlib.Core.List.{List}
+use mathlib.Core.List.{List, [], _∷_}
 use Prim.Native.Nat.{ℕ, _+_, _≤_, _<_}
 use native.Mathlib.Numerals.{add-one}
 use native.Mathlib.Omega.{arith}
 use lib.ListN.{length}
 use Rattle.signals.specs.Mask.{_∪_}
+use Rattle.signals.specs.Decide.{sets, A, ∅ₑ, _∪ₑ_, _≐_}
 use Rattle.layout.specs.Body.{headAt, slaveAt, transitionAt, startOf, from, transitionsOf}
 use Rattle.layout.specs.Body.Laws.{length-from, startOf-next, startOf-mono}
 use Rattle.layout.specs.declared.body.Shape.{Shape}
@@ -33,6 +34,12 @@ union-none f = refl
 pub union-more : (k : ℕ) (f : ℕ → Set) → unionUpTo k f ∪ f k ≡ unionUpTo (k + 1) f
 unfolding unionUpTo
 union-more k f = rw add-one
+
+pub union-taken : (k : ℕ) (f : ℕ → Set) {all v : Set} → all ≡ unionUpTo k f → v ≡ f k → all ∪ v ≡ unionUpTo (k + 1) f
+union-taken k f h e = ap₂ _∪_ h e ∙ union-more k f
+
+pub union-left : (k : ℕ) (f : ℕ → Set) {all : Set} → all ≡ unionUpTo k f → f k ≡ ∅ → all ≡ unionUpTo (k + 1) f
+union-left k f {all} h e = sets (all ∷ []) [] (A ≐ A ∪ₑ ∅ₑ) tt ∙ union-taken k f h (sym e)
 
 -- ── a chart's transitions ──
 

@@ -2,16 +2,18 @@
 use mathlib.Core.Path.{_≡_}
 use mathlib.Core.Bool.{Bool, true, not}
 use mathlib.Core.List.{List}
-use Prim.Native.Nat.{ℕ, _+_, _≤_, _<_}
+use Prim.Native.Nat.{ℕ, zero, _+_, _≤_, _<_}
 use lib.Dec.{ltb}
 use lib.ListN.{length, getD}
 use Rattle.signals.specs.Mask.{single}
-use Rattle.layout.specs.Body.{Holds, startOf}
+use Rattle.layout.specs.Body.{Holds, headAt, startOf}
 use Rattle.layout.specs.declared.body.Shape.{Shape}
-use Rattle.meaning.specs.Numbers.{mostSignals, mostCharts, mostSlaves, mostNodes, mostTransitions}
+use Rattle.layout.specs.declared.record.Head.{Head}
+use Rattle.meaning.specs.Numbers.{mostSignals, mostCharts, mostSlaves, mostNodes, mostInChart, mostTransitions}
+use Rattle.meaning.specs.Meaning.{Set}
 use Rattle.meaning.specs.File.{File, fileAt}
 use Rattle.meaning.specs.Check.Nodes.{Treed}
-use Rattle.meaning.specs.Rewriting.{lacking, call, callIn, nearestSlave, newName}
+use Rattle.meaning.specs.Rewriting.{lacking, call, callIn, nearestSlave, rewrittenChart, count, start, newName, rewrite, transitionsIn}
 use Rattle.rewrite.specs.declared.calls.Calls.{Calls}
 
 pub record Checked (n : Shape) (b : List ℕ) : Type 0 where
@@ -32,10 +34,33 @@ pub record Calling (used slaves : ℕ) (r : Calls) : Type 0 where
 abbrev pub CallsIn : File → List ℕ → Type 0
 CallsIn F l = (i : ℕ) → i < F .slaves → getD l i 0 ≡ single (call F i)
 
+-- chart c takes the call κ
+abbrev pub Takes : File → ℕ → Set → Type 0
+Takes F c κ = κ ≡ callIn (call F) (nearestSlave F c)
+
 -- of each chart the call that it takes; outside all slaves the empty set
 abbrev pub InnerIn : File → List ℕ → Type 0
-InnerIn F l = (c : ℕ) → c < F .charts → getD l c 0 ≡ callIn (call F) (nearestSlave F c)
+InnerIn F l = (c : ℕ) → c < F .charts → Takes F c (getD l c 0)
+
+-- h is the head of chart c, whose transitions begin at s
+pub record Stands (n : Shape) (b : List ℕ) (c : ℕ) (h : Head) (s : ℕ) : Type 0 where
+  pub there : c < n .charts
+  pub head : h ≡ headAt n b c
+  pub start : s ≡ startOf n b c
+
+-- chart c has so many slaves, at least one, and its own node gets the name `first`
+pub record Master (F : File) (c slaves first : ℕ) : Type 0 where
+  pub there : c < F .charts
+  pub some : 0 < slaves
+  pub number : slaves ≡ count F c (F .slaves)
+  pub named : first + slaves ≤ mostNodes
 
 -- of each node the name that it gets
 abbrev pub NamesIn : File → List ℕ → Type 0
 NamesIn F l = (j : ℕ) → j < F .nodes → getD l j 0 ≡ newName F j
+
+-- the rewritten file is within the limits, as far as the bytes of its records ask it
+pub record Fits (F : File) : Type 0 where
+  pub lists : (c : ℕ) → c < F .charts → length (rewrittenChart F c .transitions) ≤ mostInChart
+  pub total : transitionsIn (rewrite F) ≤ mostTransitions
+  pub nodes : start F (F .nodes) ≤ mostNodes

@@ -1,32 +1,20 @@
--- The records of the rewritten file as code makes them, from sets that tables hold. In this order: idle transitions; a chart's head; its
+-- The records of the rewritten file as code makes them, from sets that tables hold. In this order: idle transitions; a chart's
 -- transitions; nodes. That these are the records of the rewriting is in Records/Laws.antt.
 use mathlib.Core.Bool.{Bool, cond}
 use mathlib.Core.List.{List, [], _∷_, _++_}
 use Prim.Native.Nat.{ℕ, _+_}
 use Rattle.signals.specs.Mask.{_∪_}
 use Rattle.layout.specs.Record.{nodeBytes}
-use Rattle.layout.specs.declared.record.Head.{Head}
 use Rattle.layout.specs.declared.record.Transition.{Transition}
 use Rattle.layout.specs.declared.record.Node.{Node}
 use Rattle.meaning.specs.Meaning.{Set, ∅, same}
 use Rattle.meaning.specs.File.{File}
-use Rattle.meaning.specs.Rewriting.{isOf, count, callsOf, newName}
+use Rattle.meaning.specs.Rewriting.{isOf, count, callsOf, newName, inTurn}
 pub mod Laws
 
 -- one for each of `states` in a slave, where the chart takes the call κ; outside all slaves, where κ is empty, none
 unfoldable pub idleCount : Set → ℕ → ℕ
 idleCount κ states = cond (same κ 0) 0 states
-
--- a chart's head, by its old one
-unfoldable pub headWith : Set → Head → Head
-headWith κ h =
-    record {
-      states = h .states;
-      initial = h .initial;
-      transitions = h .transitions + idleCount κ (h .states);
-      feedback = h .feedback;
-      extra = h .extra;
-    }
 
 -- an own transition, with the calls that it adds
 unfoldable pub calledWith : Set → Set → Transition → Transition
@@ -53,3 +41,9 @@ nodesBytes (d ∷ ds) = nodeBytes d ++ nodesBytes ds
 -- the bytes for slave i where chart c's slaves are composed, after node `at`
 unfoldable pub partBytes : File → ℕ → ℕ → Set → ℕ → List ℕ
 partBytes F c at x i = cond (isOf F c i) (nodeBytes (composing (at + count F c i) (newName F (F .node i)) x)) []
+
+-- the bytes of the nodes of chart c with so many slaves, of which the first gets the name `at`
+unfoldable pub masterBytes : File → ℕ → ℕ → ℕ → List ℕ
+masterBytes F c at slaves =
+    nodeBytes (holding c)
+    ++ (inTurn (F .slaves) (partBytes F c at (F .chart c .feedback ∪ callsOf F c)) ++ nodeBytes (hiding (at + slaves) (callsOf F c) (callsOf F c)))

@@ -13,7 +13,7 @@ use layout::body::Shape;
 use layout::record::Head;
 
 // How many idle transitions there are for `states` of a chart that takes the call `inner`.
-fn idle_count(inner: u64, states: usize) -> usize
+pub fn idle_count(inner: u64, states: usize) -> usize
     ensures { λ r. ⌜ r ≡ idleCount inner states ⌝ }
 {
     if inner == 0 { 0 } else { states }

@@ -1,5 +1,5 @@
--- What code makes are the records of the rewriting. In this order: idle transitions, counted; a chart's transitions, counted; its head; its
--- transitions in bytes; nodes in bytes.
+-- What code makes are the records of the rewriting. In this order: idle transitions, counted; a chart's transitions, counted, and in
+-- bytes; nodes in bytes.
 use mathlib.Core.Path.{_≡_, refl, sym, ap, ap₂, _∙_}
 use mathlib.Core.Bool.{Bool, true, false, cond}
 use mathlib.Core.Option.{Option, none, some}
@@ -14,7 +14,6 @@ use lib.ListN.{length, getD, length-append}
 use Rattle.signals.specs.Mask.{_∪_, single}
 use Rattle.layout.specs.Record.{transitionBytes, nodeBytes}
 use Rattle.layout.specs.Body.{from}
-use Rattle.layout.specs.declared.record.Head.{Head}
 use Rattle.layout.specs.declared.record.Transition.{Transition}
 use Rattle.layout.specs.declared.record.Node.{Node}
 use Rattle.meaning.specs.Count.{one}
@@ -22,11 +21,11 @@ use Rattle.meaning.specs.Meaning.{Set, ∅, same, Chart}
 use Rattle.meaning.specs.File.{File}
 use Rattle.meaning.specs.Check.Laws.{eq-or-not}
 use Rattle.meaning.specs.Laws.Bools.{same-refl, same-≢}
-use Rattle.meaning.specs.Rewriting.{call, callIn, called, idle, idles, chartWith, nearestSlave, callsBy, rewrittenChart, isOf, count, start, newName, callsOf, composed, madeBy, madeFor, laid, newNode, rewrite, leavingIn, inTurn, headFor, transitionsBytes}
+use Rattle.meaning.specs.Rewriting.{call, callIn, called, idle, idles, chartWith, nearestSlave, callsBy, rewrittenChart, isOf, count, start, newName, callsOf, composed, madeBy, madeFor, laid, newNode, rewrite, leavingIn, inTurn, transitionsBytes}
 use Rattle.agreement.specs.Charts.{places, places-none}
 use Rattle.agreement.specs.Laid.{noNode, laid-length}
 use Rattle.rewrite.specs.Put.Laws.{turn-front, turn-cong}
-use Rattle.rewrite.specs.Records.{idleCount, headWith, calledWith, idleWith, holding, composing, hiding, nodesBytes, partBytes}
+use Rattle.rewrite.specs.Records.{idleCount, calledWith, idleWith, holding, composing, hiding, nodesBytes, partBytes}
 
 -- ── idle transitions, counted ──
 
@@ -94,20 +93,6 @@ module _ (F : File) (c : ℕ) (κ : Set) (is : κ ≡ callIn (call F) (nearestSl
   pub length-is : length (rewrittenChart F c .transitions) ≡ length (F .chart c .transitions) + idleCount κ (F .chart c .states)
   unfolding rewrittenChart
   length-is = length-with (call F) (nearestSlave F c) (callsBy F c) (F .chart c) ∙ ap (λ (k : Set). length (F .chart c .transitions) + idleCount k (F .chart c .states)) (sym is)
-
-  -- ── its head ──
-
-  pub head-is : headFor (rewrittenChart F c) ≡ headWith κ (headFor (F .chart c))
-  unfolding headFor headWith rewrittenChart chartWith
-  head-is =
-      λ i.
-      record {
-        states = F .chart c .states;
-        initial = F .chart c .initial;
-        transitions = length-is i;
-        feedback = F .chart c .feedback;
-        extra = F .chart c .extra;
-      }
 
 -- ── its transitions in bytes ──
 
