@@ -19,7 +19,7 @@ use Rattle.meaning.specs.Count.Laws.{tally-more}
 use Rattle.meaning.specs.Meaning.{Set, ∅, same}
 use Rattle.meaning.specs.File.{File, fileAt, chartOf}
 use Rattle.meaning.specs.Laws.Bools.{same-refl, same-≢}
-use Rattle.meaning.specs.Rewriting.{unionUpTo, call, callIn, nearestSlave, rewrittenChart, isOf, count, beforeLast, start}
+use Rattle.meaning.specs.Rewriting.{unionUpTo, call, callIn, nearestSlave, rewrittenChart, isOf, count, beforeLast, start, newName}
 use Rattle.agreement.specs.Laid.{start-suc}
 use Rattle.rewrite.specs.Known.{Checked}
 use Rattle.rewrite.specs.Records.{idleCount}
@@ -91,3 +91,8 @@ nodes-none F = refl
 
 pub nodes-more : (F : File) (j : ℕ) {s : ℕ} → s ≡ start F j → s + (beforeLast F j + 1) ≡ start F (j + 1)
 nodes-more F j {s} e = ap₂ _+_ e (add-one (beforeLast F j)) ∙ sym (start-suc F j) ∙ ap (start F) (sym (add-one j))
+
+-- behind the last, by which it is named
+pub name-next : (F : File) (j : ℕ) → newName F j + 1 ≡ start F (j + 1)
+unfolding newName
+name-next F j = let e : start F j + beforeLast F j + 1 ≡ start F j + (beforeLast F j + 1) = omega arith in e ∙ nodes-more F j refl

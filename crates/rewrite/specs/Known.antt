@@ -55,6 +55,21 @@ pub record Master (F : File) (c slaves first : ℕ) : Type 0 where
   pub number : slaves ≡ count F c (F .slaves)
   pub named : first + slaves ≤ mostNodes
 
+-- chart c is there, and the first node that is made for the node that holds it gets the name `first`
+pub record Holder (F : File) (c first : ℕ) : Type 0 where
+  pub there : c < F .charts
+  pub named : first + count F c (F .slaves) ≤ mostNodes
+
+-- node j is there, and the first node that is made for it gets the name `first`
+pub record Begins (F : File) (j first : ℕ) : Type 0 where
+  pub there : j < F .nodes
+  pub is : first ≡ start F j
+  pub named : start F (F .nodes) ≤ mostNodes
+
+-- the counts of a shape fit their bytes
+abbrev pub Small : Shape → Type 0
+Small m = (m .charts < 256) × (m .transitions < 65536) × (m .slaves < 256) × (m .nodes < 256)
+
 -- of each node the name that it gets
 abbrev pub NamesIn : File → List ℕ → Type 0
 NamesIn F l = (j : ℕ) → j < F .nodes → getD l j 0 ≡ newName F j

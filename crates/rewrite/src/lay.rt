@@ -3,17 +3,20 @@ ghost use mathlib.Core.Path.{_≡_};
 ghost use Prim.Native.Nat.{_+_, _≤_, _<_};
 ghost use lib.ListN.{length};
 ghost use Rattle.signals.specs.Mask.{_∪_};
-ghost use Rattle.layout.specs.Record.{headBytes, transitionBytes, nodeBytes};
-ghost use Rattle.meaning.specs.Numbers.{mostNodes};
+ghost use Rattle.layout.specs.Record.{headBytes, transitionBytes, nodeBytes, trailerBytes};
+ghost use Rattle.meaning.specs.Numbers.{theEdition, mostNodes};
+ghost use Rattle.meaning.specs.Calls.{laidOver};
+ghost use lib.Seq.{sets};
 ghost use Rattle.layout.specs.Body.{Holds, transitionAt};
 ghost use Rattle.meaning.specs.File.{fileAt};
-ghost use Rattle.meaning.specs.Rewriting.{callsBy, callsOf, start, rewrite, rewrittenChart, headFor, inTurn, transitionsBytes};
-ghost use Rattle.rewrite.specs.Known.{Checked, CallsIn, InnerIn, NamesIn, Fits, Takes, Stands, Master};
+ghost use Rattle.meaning.specs.Rewriting.{callsBy, callsOf, count, madeFor, rewrite, rewrittenChart, headFor, inTurn, transitionsBytes, shapeIn, encode};
+ghost use Rattle.rewrite.specs.Known.{Checked, CallsIn, InnerIn, NamesIn, Fits, Takes, Stands, Master, Holder, Begins, Small};
 ghost use Rattle.rewrite.specs.Put.{Room, Puts};
-ghost use Rattle.rewrite.specs.Records.{calledWith, idleWith, partBytes, masterBytes};
+ghost use Rattle.rewrite.specs.Records.{calledWith, idleWith, partBytes, masterBytes, heldBytes, nodesBytes, trailerWith};
 use layout::body::Shape;
 use layout::record::Head;
 use layout::record::Node;
+use layout::record::Trailer;
 use layout::record::Transition;
 
 const HEAD: usize = 24;
@@ -296,4 +299,133 @@ fn master(
         y: hidden,
     };
     put_node(out, q, whole)
+}
+
+// The nodes that are made for a node that holds chart c; the first gets the name `first`.
+fn holder(
+    n: Shape,
+    body: &[u8],
+    calls: &[u64; 8],
+    names: &[u8; 64],
+    c: usize,
+    first: usize,
+    out: &mut [u8],
+    at: usize,
+) -> usize
+    requires { ⌜ Checked n (now body) × CallsIn (fileAt n (now body)) (now calls) × NamesIn (fileAt n (now body)) (now names) × Holder (fileAt n (now body)) c first × Room (heldBytes (fileAt n (now body)) c first (count (fileAt n (now body)) c (n .slaves))) at (now out) ⌝ }
+    ensures { λ r. ⌜ Puts (heldBytes (fileAt n (now (body .entry))) c first (count (fileAt n (now (body .entry))) c (n .slaves))) at (now (out .entry)) (now (out .exit)) r ⌝ }
+{
+    let slaves = crate::room::slaves_of(n, body, c);
+    if slaves == 0 {
+        let held = Node {
+            kind: 0,
+            a: c as u8,
+            b: 0,
+            x: 0,
+            y: 0,
+        };
+        return put_node(out, at, held);
+    }
+    master(n, body, calls, names, c, slaves, first, out, at)
+}
+
+// The nodes that are made for node j; the first gets the name `first`.
+fn node(
+    n: Shape,
+    body: &[u8],
+    calls: &[u64; 8],
+    names: &[u8; 64],
+    j: usize,
+    first: usize,
+    out: &mut [u8],
+    at: usize,
+) -> usize
+    requires { ⌜ Checked n (now body) × CallsIn (fileAt n (now body)) (now calls) × NamesIn (fileAt n (now body)) (now names) × Begins (fileAt n (now body)) j first × Room (nodesBytes (madeFor (fileAt n (now body)) j)) at (now out) ⌝ }
+    ensures { λ r. ⌜ Puts (nodesBytes (madeFor (fileAt n (now (body .entry))) j)) at (now (out .entry)) (now (out .exit)) r ⌝ }
+{
+    let r = layout::body::node_at(n, body, j);
+    let kind = r.kind;
+    let a = r.a as usize;
+    let b = r.b as usize;
+    if kind == 0 {
+        return holder(n, body, calls, names, a, first, out, at);
+    }
+    if kind == 1 {
+        let both = Node {
+            kind: 1,
+            a: names[a],
+            b: names[b],
+            x: r.x,
+            y: 0,
+        };
+        return put_node(out, at, both);
+    }
+    let hidden = Node {
+        kind: 2,
+        a: names[a],
+        b: 0,
+        x: r.x,
+        y: r.y,
+    };
+    put_node(out, at, hidden)
+}
+
+// The nodes that are made for all nodes, in the old order.
+fn nodes(
+    n: Shape,
+    body: &[u8],
+    calls: &[u64; 8],
+    names: &[u8; 64],
+    out: &mut [u8],
+    at: usize,
+) -> usize
+    requires { ⌜ Checked n (now body) × CallsIn (fileAt n (now body)) (now calls) × NamesIn (fileAt n (now body)) (now names) × Fits (fileAt n (now body)) × Room (inTurn (n .nodes) (λ j. nodesBytes (madeFor (fileAt n (now body)) j))) at (now out) ⌝ }
+    ensures { λ r. ⌜ Puts (inTurn (n .nodes) (λ j. nodesBytes (madeFor (fileAt n (now (body .entry))) j))) at (now (out .entry)) (now (out .exit)) r ⌝ }
+{
+    let nodes = n.nodes;
+    let mut p = at;
+    let mut first: usize = 0;
+    let mut j: usize = 0;
+    while j < nodes {
+        p = node(n, body, calls, names, j, first, out, p);
+        first = names[j] as usize + 1;
+        j += 1;
+    }
+    p
+}
+
+// The trailer of a body of the shape m, right behind it.
+fn trailer(m: Shape, edition: u8, out: &mut [u8], at: usize)
+    requires { ⌜ Small m × (at + 12 ≤ length (now out)) ⌝ }
+    ensures { λ _. ⌜ now (out .exit) ≡ sets (now (out .entry)) at (trailerBytes (trailerWith m edition)) ⌝ }
+{
+    let t = Trailer {
+        distance: layout::body::size(m) as u32,
+        charts: m.charts as u8,
+        slaves: m.slaves as u8,
+        nodes: m.nodes as u8,
+        edition: edition,
+        transitions: m.transitions as u16,
+    };
+    layout::record::write_trailer(out, at, t);
+}
+
+// The rewritten file, which has the shape m, over the front of `out`.
+pub fn lay(
+    n: Shape,
+    body: &[u8],
+    calls: &[u64; 8],
+    inner: &[u64; 8],
+    m: Shape,
+    edition: u8,
+    out: &mut [u8],
+)
+    requires { ⌜ Checked n (now body) × CallsIn (fileAt n (now body)) (now calls) × InnerIn (fileAt n (now body)) (now inner) × Fits (fileAt n (now body)) × (m ≡ shapeIn (rewrite (fileAt n (now body)))) × (edition ≡ theEdition) × (length (encode (rewrite (fileAt n (now body)))) ≤ length (now out)) ⌝ }
+    ensures { λ _. ⌜ now (out .exit) ≡ laidOver (encode (rewrite (fileAt n (now (body .entry))))) (now (out .entry)) ⌝ }
+{
+    let names = names(n, body);
+    let behind_heads = heads(n, body, inner, out, 0);
+    let behind_transitions = transitions(n, body, calls, inner, out, behind_heads);
+    let end = nodes(n, body, calls, &names, out, behind_transitions);
+    trailer(m, edition, out, end);
 }

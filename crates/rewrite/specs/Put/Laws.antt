@@ -47,6 +47,9 @@ room-first xs ys at l r = omega (arith, length-append xs ys)
 pub room-one : (xs ys : List ℕ) (w : ℕ) → length xs ≡ w → (at : ℕ) (l : List ℕ) → Room (xs ++ ys) at l → at + w ≤ length l
 room-one xs ys w e at l r = rw e at (room-first xs ys at l r)
 
+pub room-all : (xs ys : List ℕ) (w : ℕ) → xs ≡ ys → length ys ≡ w → (at : ℕ) (l : List ℕ) → Room xs at l → at + w ≤ length l
+room-all xs ys w q e at l r = rw (q, e) at r
+
 pub room-last : {xs : List ℕ} (ys : List ℕ) (w : ℕ) → length ys ≡ w → {at p : ℕ} {l m : List ℕ} → Puts xs at l m p → Room (xs ++ ys) at l → p + w ≤ length m
 room-last {xs} ys w e {at} {p} {l} {m} h r = rw e at (room-more ys h r)
 

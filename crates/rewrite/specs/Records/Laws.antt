@@ -1,5 +1,6 @@
 -- What code makes are the records of the rewriting. In this order: idle transitions, counted; a chart's transitions, counted, and in
--- bytes; nodes in bytes.
+-- bytes; nodes in
+-- bytes; those for one node, by its kind; the file.
 use mathlib.Core.Path.{_≡_, refl, sym, ap, ap₂, _∙_}
 use mathlib.Core.Bool.{Bool, true, false, cond}
 use mathlib.Core.Option.{Option, none, some}
@@ -12,20 +13,21 @@ use borrow.Author.Tests.{ne-eqb}
 use lib.Dec.{lit<}
 use lib.ListN.{length, getD, length-append}
 use Rattle.signals.specs.Mask.{_∪_, single}
-use Rattle.layout.specs.Record.{transitionBytes, nodeBytes}
+use Rattle.layout.specs.Record.{trailerBytes, headBytes, transitionBytes, nodeBytes}
 use Rattle.layout.specs.Body.{from}
 use Rattle.layout.specs.declared.record.Transition.{Transition}
 use Rattle.layout.specs.declared.record.Node.{Node}
+use Rattle.meaning.specs.Numbers.{theEdition}
 use Rattle.meaning.specs.Count.{one}
 use Rattle.meaning.specs.Meaning.{Set, ∅, same, Chart}
 use Rattle.meaning.specs.File.{File}
 use Rattle.meaning.specs.Check.Laws.{eq-or-not}
 use Rattle.meaning.specs.Laws.Bools.{same-refl, same-≢}
-use Rattle.meaning.specs.Rewriting.{call, callIn, called, idle, idles, chartWith, nearestSlave, callsBy, rewrittenChart, isOf, count, start, newName, callsOf, composed, madeBy, madeFor, laid, newNode, rewrite, leavingIn, inTurn, transitionsBytes}
+use Rattle.meaning.specs.Rewriting.{call, callIn, called, idle, idles, chartWith, nearestSlave, callsBy, rewrittenChart, isOf, count, start, newName, callsOf, composed, madeBy, madeFor, laid, newNode, rewrite, leavingIn, inTurn, headFor, transitionsBytes, shapeIn, bodyBytes, encode}
 use Rattle.agreement.specs.Charts.{places, places-none}
 use Rattle.agreement.specs.Laid.{noNode, laid-length}
 use Rattle.rewrite.specs.Put.Laws.{turn-front, turn-cong}
-use Rattle.rewrite.specs.Records.{idleCount, calledWith, idleWith, holding, composing, hiding, nodesBytes, partBytes}
+use Rattle.rewrite.specs.Records.{idleCount, calledWith, idleWith, holding, composing, hiding, nodesBytes, partBytes, masterBytes, heldBytes, trailerWith}
 
 -- ── idle transitions, counted ──
 
@@ -176,3 +178,62 @@ module _ (F : File) where
       go : (b : Bool) → nodesBytes (composed F c at i) ≡ before → nodesBytes (cond b (composed F c at i ++ (nd ∷ [])) (composed F c at i)) ≡ before ++ cond b (nodeBytes nd) []
       go true h = nodes-append (composed F c at i) (nd ∷ []) ∙ ap₂ _++_ h (nodes-one nd)
       go false h = h ∙ sym (append-nil before)
+
+  -- ── those for one node, by its kind ──
+
+  pub held-none : (c at s : ℕ) → s ≡ 0 → heldBytes F c at s ≡ nodeBytes (holding c)
+  unfolding heldBytes
+  held-none c at zero e = refl
+  held-none c at (suc s) e = absurd (omega arith)
+
+  pub held-some : (c at s : ℕ) → (s ≡ 0 → ⊥) → heldBytes F c at s ≡ masterBytes F c at s
+  unfolding heldBytes
+  held-some c at zero e = absurd (e refl)
+  held-some c at (suc s) e = refl
+
+  held-by : (j s : ℕ) → nodesBytes (madeBy F 0 s j) ≡ heldBytes F (F .a j) (start F j) s
+  unfolding heldBytes masterBytes nodesBytes
+  held-by j zero = append-nil (nodeBytes (holding (F .a j)))
+  held-by j (suc s) =
+      ap (λ (l : List ℕ). nodeBytes (holding (F .a j)) ++ l)
+      (nodes-append (composed F (F .a j) (start F j) (F .slaves)) (hiding (start F j + suc s) (callsOf F (F .a j)) (callsOf F (F .a j)) ∷ [])
+      ∙ ap₂ _++_ (parts-are (F .a j) (start F j) (F .slaves)) (nodes-one (hiding (start F j + suc s) (callsOf F (F .a j)) (callsOf F (F .a j)))))
+
+  pub held-are : (j : ℕ) → F .kind j ≡ 0 → nodesBytes (madeFor F j) ≡ heldBytes F (F .a j) (start F j) (count F (F .a j) (F .slaves))
+  unfolding madeFor
+  held-are j e = ap (λ (k : ℕ). nodesBytes (madeBy F k (count F (F .a j) (F .slaves)) j)) e ∙ held-by j (count F (F .a j) (F .slaves))
+
+  pub comp-are : (j : ℕ) → F .kind j ≡ 1 → nodesBytes (madeFor F j) ≡ nodeBytes (composing (newName F (F .a j)) (newName F (F .b j)) (F .x j))
+  unfolding madeFor
+  comp-are j e =
+      ap (λ (k : ℕ). nodesBytes (madeBy F k (count F (F .a j) (F .slaves)) j)) e ∙ nodes-one (composing (newName F (F .a j)) (newName F (F .b j)) (F .x j))
+
+  pub hide-are : (j : ℕ) → F .kind j ≡ 2 → nodesBytes (madeFor F j) ≡ nodeBytes (hiding (newName F (F .a j)) (F .x j) (F .y j))
+  unfolding madeFor
+  hide-are j e = ap (λ (k : ℕ). nodesBytes (madeBy F k (count F (F .a j) (F .slaves)) j)) e ∙ nodes-one (hiding (newName F (F .a j)) (F .x j) (F .y j))
+
+  -- ── the file ──
+
+  -- all bytes of the rewritten file, in the order in which they are written
+  pub encode-is : encode (rewrite F)
+      ≡ inTurn (F .charts) (λ c. headBytes (headFor (rewrittenChart F c)))
+      ++ (inTurn (F .charts) (λ c. transitionsBytes (rewrittenChart F c .transitions))
+      ++ (inTurn (F .nodes) (λ j. nodesBytes (madeFor F j)) ++ trailerBytes (trailerWith (shapeIn (rewrite F)) theEdition)))
+  unfolding encode bodyBytes inTurn shapeIn trailerWith
+  encode-is =
+      append-assoc ((hs ++ ts) ++ []) ns t
+      ∙ ap (λ (l : List ℕ). l ++ (ns ++ t)) (append-nil (hs ++ ts))
+      ∙ append-assoc hs ts (ns ++ t)
+      ∙ ap (λ (l : List ℕ). hs ++ (ts ++ (l ++ t))) nodes-are
+    where
+      hs : List ℕ
+      hs = inTurn (F .charts) (λ c. headBytes (headFor (rewrittenChart F c)))
+
+      ts : List ℕ
+      ts = inTurn (F .charts) (λ c. transitionsBytes (rewrittenChart F c .transitions))
+
+      ns : List ℕ
+      ns = inTurn (start F (F .nodes)) (λ p. nodeBytes (newNode F p))
+
+      t : List ℕ
+      t = trailerBytes (trailerWith (shapeIn (rewrite F)) theEdition)
