@@ -1,13 +1,11 @@
 -- Which charts are active, and that it is settled by the masters, which have lower numbers.
-use mathlib.Core.Path.{_≡_, refl, sym, _∙_, ap, ap₂, subst, fun-ext}
-use mathlib.Core.Bool.{Bool, true, false, _&&_, _||_, not, cond, true≢false, false≢true}
-use mathlib.Core.Option.{Option, none, some}
-use Prim.Native.Nat.{ℕ, zero, suc, _+_, _≤_, _<_}
-use native.Mathlib.Omega.{arith}
-use Rattle.meaning.specs.Meaning.{Set, ∅, same, Chart, Tree, Slaves, leaf, comp, hide, dec, nil, snoc, Move, actionOf, after, inFaceChart, inFace, inFaces, out, outs, okChart, meets, ok, oks, permitted}
+use mathlib.Core.Path.{_≡_, refl}
+use mathlib.Core.Bool.{Bool, true, false, _&&_, _||_, cond, false≢true}
+use mathlib.Core.Option.{none, some}
+use Prim.Native.Nat.{ℕ, _<_}
+use Rattle.meaning.specs.Meaning.{Set, same, Chart, Tree, Slaves, leaf, comp, hide, dec, nil, snoc, Move, actionOf, inFaceChart, inFace, out, outs, okChart, meets, ok, oks}
 use Rattle.signals.specs.Mask.{_∪_, _∩_, _∖_}
-use Rattle.meaning.specs.Laws.Bools.{same-refl, same→≡, same-≢, and-l, and-r, and-i, not-true}
-use Rattle.layout.specs.declared.record.Transition.{Transition}
+use Rattle.meaning.specs.Laws.Bools.{same→≡, and-l, and-r}
 use Rattle.meaning.specs.File.{Has, HasS}
 use Rattle.meaning.specs.Laws.Above.{Above, AboveS, live-either}
 use Rattle.agreement.specs.Tree.{tree, nest, calls}

@@ -2,37 +2,40 @@
 use mathlib.Core.Path.{_≡_, refl, sym, _∙_, ap, ap₂, subst}
 use mathlib.Core.Bool.{Bool, true, false, _&&_, _||_, not, cond, true≢false, false≢true}
 use mathlib.Core.List.{List, [], _∷_, _++_, append-nil}
-use Prim.Native.Nat.{ℕ, zero, suc, _+_, _*_, _-_, _^_, _≤_, _<_}
+use Prim.Native.Nat.{ℕ, zero, suc, _+_, _*_, _-_, _≤_, _<_}
 use native.Mathlib.Omega.{arith}
-use borrow.Author.Tests.{lt-ltb, le-ltb, ltb-false}
-use lib.Dec.{ltb, lit<}
-use lib.ListN.{length, getD, take, drop, List·getD-append}
+use borrow.Author.Tests.{lt-ltb, le-ltb}
+use lib.Dec.{ltb}
+use lib.ListN.{length, getD, drop, List·getD-append}
 use lib.Seq.{getD-drop}
 use Rattle.layout.specs.Le.{bytes}
 use Rattle.layout.specs.Record.{trailerBytes, headBytes, transitionBytes, nodeBytes}
 use Rattle.layout.specs.Record.Laws.{length-trailer, length-head, length-transition, length-node}
-use Rattle.layout.specs.Body.{transitionsFrom, slavesFrom, nodesFrom, sizeOf, headAt, transitionAt, nodeAt, startOf, transitionsOf}
+use Rattle.layout.specs.Body.{transitionsFrom, nodesFrom, sizeOf, headAt, transitionAt, nodeAt, startOf}
 use Rattle.layout.specs.declared.body.Shape.{Shape}
 use Rattle.layout.specs.declared.record.Trailer.{Trailer}
 use Rattle.layout.specs.declared.record.Head.{Head}
 use Rattle.layout.specs.declared.record.Transition.{Transition}
 use Rattle.layout.specs.declared.record.Node.{Node}
+use Rattle.meaning.specs.Numbers.{theEdition, mostCharts, mostSlaves, mostNodes, mostTransitions, mostStates, mostInChart, mostFromState}
 use Rattle.meaning.specs.Count.{anyUpTo, tally, one}
 use Rattle.meaning.specs.Count.Laws.{any-all, any-never}
-use Rattle.meaning.specs.Meaning.{Set, ∅, same, Chart}
-use Rattle.meaning.specs.File.{File, endOf, trailer, bodyOf, shapeOf, chartOf, fileAt, fileOf, treeOf, wholeOf}
+use Rattle.meaning.specs.Meaning.{same}
+use Rattle.meaning.specs.File.{File, endOf, trailer, bodyOf, shapeOf, fileAt, fileOf}
 use Rattle.meaning.specs.Check.{differ, notBelow, counts?, distance?, nonzero, zeros?, chart?, charts?, ends?, leaving, transitions?, slaves?, nodeOfKind?, nodes?, names, named, held, naming?, inside?, refusalOf}
-use Rattle.meaning.specs.Rewriting.{chartWith, rewrittenChart, newNode, rewrite, start, leavingIn, transitionsIn, noFree?, fromState?, inChart?, headFor, shapeIn, bodyBytes, encode}
+use Rattle.meaning.specs.Rewriting.{chartWith, rewrittenChart, rewrite, leavingIn, transitionsIn, noFree?, fromState?, inChart?, headFor, shapeIn, bodyBytes, encode}
 use Rattle.meaning.specs.Laws.Bools.{same-refl, same→≡, same-≢}
 use Rattle.meaning.specs.Laws.Trees.{Ordered}
 use Rattle.meaning.specs.Laws.Names.{Rule10}
-use Rattle.agreement.specs.Every.{Every, every-at}
+use Rattle.agreement.specs.Every.{every-at}
 use Rattle.agreement.specs.Laid.{orderedR, start-mono, start-suc}
-use Rattle.agreement.specs.Recheck.{tally-cong, tally-front, rule10R}
-use Rattle.agreement.specs.Step.{Ready, Rewritten}
+use Rattle.agreement.specs.Recheck.{rule10R}
+use Rattle.agreement.specs.Sums.{tally-cong, tally-front}
+use Rattle.agreement.specs.Step.{Rewritten}
 use Rattle.agreement.specs.Encoded.{noTransition, Fits, nodeIn, head-there, some-transition-there, node-there, head-is, start-is, transition-is, node-is, chart-back, trailerFor, length-encode, end-is, trailer-there, trailer-is, body-is, shape-is, file-is}
 use Rattle.agreement.specs.Reads.{reads-back, tree-same}
-use Rattle.agreement.specs.Passed.{Passed, passes}
+use Rattle.meaning.specs.Check.Laws.{Passed}
+use Rattle.agreement.specs.Passed.{passes}
 use Rattle.agreement.specs.New.{Regular, Formed, new-smalls, new-states, formed}
 
 -- 40 to 44 do not apply
@@ -40,8 +43,8 @@ pub record Given (F : File) : Type 0 where
   pub room : noFree? F ≡ false
   pub leaving : fromState? (rewrite F) ≡ false
   pub lists : inChart? (rewrite F) ≡ false
-  pub total : transitionsIn (rewrite F) ≤ 512
-  pub nodes : rewrite F .nodes ≤ 64
+  pub total : transitionsIn (rewrite F) ≤ mostTransitions
+  pub nodes : rewrite F .nodes ≤ mostNodes
 
 -- ── a test that is false ──
 
@@ -126,7 +129,7 @@ module _ (F : File) (rg : Regular F) (gv : Given F) where
   r10 : Rule10 R
   r10 = rule10R F (rg .ready .sound .ordered) (rg .ready .sound .rule10) (rg .ready .sound .node-there)
 
-  some-node : 0 < R .nodes
+  pub some-node : 0 < R .nodes
   some-node = let a = start-mono F (F .nodes) 1 (rg .ready .some-node) in let z = start-suc F 0 in omega arith
 
   -- ── 1 to 5 ──
@@ -134,8 +137,8 @@ module _ (F : File) (rg : Regular F) (gv : Given F) where
   counts : counts? (trailer (encode R)) ≡ false
   unfolding counts?
   counts = ap counts? (trailer-is R fits)
-      ∙ neither _ _ (neither _ _ (neither _ _ (neither _ _ (there (F .charts) (rg .some-chart)) (le-ltb 8 (F .charts) (rg .charts))) (le-ltb 7 0 (omega arith)))
-      (neither _ _ (there (R .nodes) some-node) (le-ltb 64 (R .nodes) (gv .nodes)))) (le-ltb 512 (transitionsIn R) (gv .total))
+      ∙ neither _ _ (neither _ _ (neither _ _ (neither _ _ (there (F .charts) (rg .some-chart)) (le-ltb mostCharts (F .charts) (rg .charts))) (le-ltb mostSlaves 0 (omega arith)))
+      (neither _ _ (there (R .nodes) some-node) (le-ltb mostNodes (R .nodes) (gv .nodes)))) (le-ltb mostTransitions (transitionsIn R) (gv .total))
 
   distance : distance? (encode R) ≡ false
   unfolding distance?
@@ -161,12 +164,12 @@ module _ (F : File) (rg : Regular F) (gv : Given F) where
   charts : charts? n b ≡ false
   unfolding charts? chart? shapeIn headFor rewrittenChart chartWith transitionsIn inChart?
   charts = neither _ _ (any-all (R .charts) (chart? n b) (λ c l. ap form (head-is R fits c l)
-      ∙ neither _ _ (neither _ _ (neither _ _ (there (F .chart c .states) (rg .ready .some-state c l)) (le-ltb 16 (F .chart c .states) (rg .most-states c l)))
-      (lower (F .chart c .initial) (F .chart c .states) (rg .initials c l))) (any-never (R .charts) (λ c. ltb 64 (length (R .chart c .transitions))) (gv .lists) c l)))
+      ∙ neither _ _ (neither _ _ (neither _ _ (there (F .chart c .states) (rg .ready .some-state c l)) (le-ltb mostStates (F .chart c .states) (rg .most-states c l)))
+      (lower (F .chart c .initial) (F .chart c .states) (rg .initials c l))) (any-never (R .charts) (λ c. ltb mostInChart (length (R .chart c .transitions))) (gv .lists) c l)))
       (equal _ _ (start-is R fits (R .charts) (omega arith)))
     where
       form : Head → Bool
-      form h = (same (h .states) 0 || ltb 16 (h .states)) || notBelow (h .initial) (h .states) || ltb 64 (h .transitions)
+      form h = (same (h .states) 0 || ltb mostStates (h .states)) || notBelow (h .initial) (h .states) || ltb mostInChart (h .transitions)
 
   states-stay : (c : ℕ) → R .chart c .states ≡ F .chart c .states
   unfolding rewrittenChart chartWith
@@ -179,8 +182,8 @@ module _ (F : File) (rg : Regular F) (gv : Given F) where
       ap₂ (λ t s. notBelow (t .from) s || notBelow (t .to) s) (transition-is R fits c k l m′) (states c l)
       ∙ (let h = every-at (λ t. (t .from < F .chart c .states) × (t .to < F .chart c .states)) (R .chart c .transitions) k noTransition m′ (new-states F rg (gv .room) c l) in
       neither _ _ (lower _ _ (h .0)) (lower _ _ (h .1)))))
-      (any-all (headAt n b c .states) _ (λ s m. ap (ltb 8) (leaves c l s)
-      ∙ any-never (R .chart c .states) (λ s. ltb 8 (leavingIn (R .chart c .transitions) s)) (any-never (R .charts) _ (gv .leaving) c l) s (subst (λ z. s < z) (ap (λ h. h .states) (head-is R fits c l)) m))))
+      (any-all (headAt n b c .states) _ (λ s m. ap (ltb mostFromState) (leaves c l s)
+      ∙ any-never (R .chart c .states) (λ s. ltb mostFromState (leavingIn (R .chart c .transitions) s)) (any-never (R .charts) _ (gv .leaving) c l) s (subst (λ z. s < z) (ap (λ h. h .states) (head-is R fits c l)) m))))
     where
       count : (c : ℕ) → c < R .charts → headAt n b c .transitions ≡ length (R .chart c .transitions)
       count c l = ap (λ h. h .transitions) (head-is R fits c l)
@@ -203,10 +206,10 @@ module _ (F : File) (rg : Regular F) (gv : Given F) where
   slaves = refl
 
   -- what is known of a new node
-  abbrev Known : ℕ → Node → Type 0
+  abbrev pub Known : ℕ → Node → Type 0
   Known j d = Formed F rg (gv .room) d × (d .kind ≡ 1 → (d .a < j) × (d .b < j)) × (d .kind ≡ 2 → d .a < j)
 
-  known : (j : ℕ) → j < R .nodes → Known j (nodeAt n b j)
+  pub known : (j : ℕ) → j < R .nodes → Known j (nodeAt n b j)
   known j l = subst (Known j) (sym (node-is R fits j l)) (formed F rg (gv .room) j l, w .lower₁ j l, w .lower₂ j l)
 
   nodes : nodes? G ≡ false
@@ -244,17 +247,17 @@ module _ (F : File) (rg : Regular F) (gv : Given F) where
 
   pub again : Passed (encode R)
   again = record {
-    long = le-ltb (length (encode R)) 12 (let e = length-encode R fits in omega arith);
-    edition = equal _ 1 (ap (λ t. t .edition) (trailer-is R fits));
+    long = let e = length-encode R fits in omega arith;
+    edition = equal _ theEdition (ap (λ t. t .edition) (trailer-is R fits));
     counts = counts;
     distance = distance;
     zeros = zeros;
     charts = ap₂ charts? (shape-is R fits) (body-is R fits) ∙ charts;
     transitions = ap₂ transitions? (shape-is R fits) (body-is R fits) ∙ transitions;
-    slaves = ap₂ (λ n b. slaves? (fileAt n b)) (shape-is R fits) (body-is R fits) ∙ slaves;
-    nodes = ap₂ (λ n b. nodes? (fileAt n b)) (shape-is R fits) (body-is R fits) ∙ nodes;
-    naming = ap₂ (λ n b. naming? (fileAt n b)) (shape-is R fits) (body-is R fits) ∙ naming;
-    inside = ap₂ (λ n b. inside? (fileAt n b)) (shape-is R fits) (body-is R fits) ∙ inside;
+    slaves = ap slaves? (file-is R fits) ∙ slaves;
+    nodes = ap nodes? (file-is R fits) ∙ nodes;
+    naming = ap naming? (file-is R fits) ∙ naming;
+    inside = ap inside? (file-is R fits) ∙ inside;
   }
 
   pub new-passes : refusalOf (encode R) ≡ 0

@@ -1,61 +1,63 @@
 -- What the rewriting promises (demand 3), over the calls: where it is not refused, its bytes are a file that passes 1 to 11, has no slaves, and is
 -- answered like the file by every other call, for every configuration, input and buffer.
-use mathlib.Core.Path.{_≡_, refl, sym, _∙_, ap, ap₂, subst}
-use mathlib.Core.Bool.{Bool, true, false, _&&_, _||_, not, cond, true≢false, false≢true}
+use mathlib.Core.Path.{_≡_, refl, sym, _∙_, ap, ap₂}
+use mathlib.Core.Bool.{Bool, true, false, cond}
 use mathlib.Core.List.{List, [], _∷_, _++_, append-assoc}
-use Prim.Native.Nat.{ℕ, zero, suc, _+_, _*_, _-_, _^_, _≤_, _<_}
+use Prim.Native.Nat.{ℕ, zero, suc, _+_, _*_, _-_, _≤_, _<_}
 use native.Mathlib.Omega.{arith}
 use borrow.Author.Tests.{ltb-false}
 use lib.Dec.{ltb, lit<}
-use lib.ListN.{length, getD}
+use lib.ListN.{length, getD, drop}
 use Rattle.layout.specs.Le.{AllBytes}
+use Rattle.layout.specs.Body.{sizeOf}
 use Rattle.layout.specs.Body.Laws.{headAt-fits, nodeAt-fits}
 use Rattle.meaning.specs.Count.{anyUpTo}
 use Rattle.meaning.specs.Count.Laws.{any-never, any-cong}
-use Rattle.meaning.specs.Meaning.{Set, ∅, same, Chart, Answer, refused, given, inFace, outFace}
-use Rattle.meaning.specs.File.{File, trailer, bodyOf, shapeOf, chartOf, fileAt, fileOf, wholeOf}
+use Rattle.meaning.specs.Meaning.{Set, ∅, same, refused, given}
+use Rattle.meaning.specs.File.{endOf, trailer, bodyOf, shapeOf, chartOf, fileAt, fileOf}
+use Rattle.meaning.specs.Numbers.{mostTransitions, mostNodes, wrongLength, badState, shortBuffer, shortRows}
+use Rattle.meaning.specs.Check.Laws.{firstOf-passes, Passed, passed, call-passed, counted, charted}
 use Rattle.meaning.specs.Check.{Test, firstOf, differ, notBelow, fileTests, refusalOf}
 use Rattle.meaning.specs.Calls.{made, laidOver, firstRefusal, initials, firstBytes, inputOf, outputOf, configTests, stepRefusal, stepIn, stepOf, runRefusal, rowsOf, runBytes}
-use Rattle.meaning.specs.Rewriting.{chartWith, rewrittenChart, rewrite, rewriteTests, noFree?, fromState?, inChart?, transitionsIn, rewriteBytes, rewriteRefusal}
+use Rattle.meaning.specs.Rewriting.{chartWith, rewrittenChart, rewriteTests, rewriteBytes, rewriteRefusal, rewrite, rewriteLength, shapeIn}
 use Rattle.meaning.specs.Laws.Bools.{same-refl, same→≡}
-use Rattle.agreement.specs.Step.{Ready, Valid, Rewritten, step-is}
+use Rattle.agreement.specs.Step.{Valid, Rewritten, step-is}
 use Rattle.agreement.specs.Run.{run-is}
 use Rattle.agreement.specs.Faces.{input-is, output-is}
-use Rattle.agreement.specs.Passed.{Passed, first, passed-then, passes-then, passes, counted, charted, ended, smalls, body-bytes, ready, below, at-most}
+use Rattle.agreement.specs.Passed.{front, in-front, below, ended, smalls, body-bytes, ready}
 use Rattle.agreement.specs.New.{Regular}
-use Rattle.agreement.specs.Again.{Given, again, new-reads, new-slaves}
+use Rattle.agreement.specs.Plain.{plain-same}
+use Rattle.agreement.specs.Written.{encode-again}
+use Rattle.agreement.specs.Again.{Given, fits, new-passes, new-reads, new-slaves}
+use Rattle.agreement.specs.Bytes.{new-bytes as bytes-new}
+use Rattle.agreement.specs.Encoded.{length-encode, end-is, trailer-is}
 
 -- ── what a call that is not refused has ──
 
 pub record Allowed (f : List ℕ) (room : ℕ) : Type 0 where
-  pub passed : Passed f
+  pub checked : refusalOf f ≡ 0
   pub given : Given (fileOf f)
   pub fits : length (rewriteBytes f) ≤ room
 
 pub allowed : (f : List ℕ) (room : ℕ) → rewriteRefusal f room ≡ 0 → Allowed f room
-unfolding rewriteRefusal rewriteTests firstOf
+unfolding rewriteRefusal rewriteTests
 allowed f room e =
-    let p = passed-then f _ (ap firstOf (sym (append-assoc (fileTests f) (rewriteTests (fileOf f)) _)) ∙ e) in
-    let q0 = first _ 40 _ (lit< tt) (p .1) in
-    let q1 = first _ 41 _ (lit< tt) (q0 .1) in
-    let q2 = first _ 42 _ (lit< tt) (q1 .1) in
-    let q3 = first _ 43 _ (lit< tt) (q2 .1) in
-    let q4 = first _ 44 _ (lit< tt) (q3 .1) in
-    let q5 = first _ 45 _ (lit< tt) (q4 .1) in
+    let p = in-front f _ (ap firstOf (sym (append-assoc (fileTests f) (rewriteTests (fileOf f)) _)) ∙ e) in
+    let q = firstOf-passes _ (lit< tt, (lit< tt, (lit< tt, (lit< tt, (lit< tt, (lit< tt, tt)))))) (p .1) in
     record {
-      passed = p .0;
-      given = record { room = q0 .0; leaving = q1 .0; lists = q2 .0; total = at-most 512 _ (q3 .0); nodes = at-most 64 _ (q4 .0) };
-      fits = at-most room _ (q5 .0);
+      checked = p .0;
+      given = record { room = q .0; leaving = q .1 .0; lists = q .1 .1 .0; total = ltb-false mostTransitions _ (q .1 .1 .1 .0); nodes = ltb-false mostNodes _ (q .1 .1 .1 .1 .0) };
+      fits = ltb-false room _ (q .1 .1 .1 .1 .1 .0);
     }
 
 pub regular : (f : List ℕ) → AllBytes f → Passed f → Regular (fileOf f)
 unfolding fileOf fileAt chartOf shapeOf
 regular f ab p = record {
   ready = ready f p ab;
-  some-chart = counted f p .some-chart;
-  charts = counted f p .charts;
-  most-states = λ c l. charted f p c l .states;
-  initials = λ c l. charted f p c l .initial;
+  some-chart = counted (trailer f) (p .counts) .some-chart;
+  charts = counted (trailer f) (p .counts) .charts;
+  most-states = λ c l. charted (shapeOf (trailer f)) (bodyOf f) (p .charts) c l .states;
+  initials = λ c l. charted (shapeOf (trailer f)) (bodyOf f) (p .charts) c l .initial;
   feedbacks = λ c l. let h = headAt-fits (shapeOf (trailer f)) (bodyOf f) (body-bytes f p ab) c in (h .feedback, h .extra);
   lists = λ c l. smalls f p ab c;
   states = λ c l. ended f p c l;
@@ -73,15 +75,11 @@ module _ (f : List ℕ) (ab : AllBytes f) (room : ℕ) (ok : rewriteRefusal f ro
   abbrev f′ : List ℕ
   f′ = rewriteBytes f
 
-  p : Passed f
-  p = allowed f room ok .passed
+  h : refusalOf f ≡ 0
+  h = allowed f room ok .checked
 
   rg : Regular (fileOf f)
-  rg = regular f ab p
-
-  p′ : Passed f′
-  unfolding rewriteBytes
-  p′ = again (fileOf f) rg (allowed f room ok .given)
+  rg = regular f ab (passed f h)
 
   r : Rewritten (fileOf f) (fileOf f′)
   unfolding rewriteBytes
@@ -89,64 +87,81 @@ module _ (f : List ℕ) (ab : AllBytes f) (room : ℕ) (ok : rewriteRefusal f ro
 
   -- "checking": it is a file
   pub same-check : refusalOf f′ ≡ 0
-  same-check = passes f′ p′
+  unfolding rewriteBytes
+  same-check = new-passes (fileOf f) rg (allowed f room ok .given)
 
   -- "No slaves remain"
   pub no-slaves : fileOf f′ .slaves ≡ 0
   unfolding rewriteBytes
   no-slaves = new-slaves (fileOf f) rg (allowed f room ok .given)
 
+  -- it is made of bytes, as many as the layout has
+  pub new-bytes : AllBytes f′
+  unfolding rewriteBytes
+  new-bytes = bytes-new (fileOf f) rg (allowed f room ok .given)
+
+  pub length-is : rewriteLength f room ≡ sizeOf (shapeIn (rewrite (fileOf f))) + 12
+  unfolding rewriteLength rewriteBytes
+  length-is = ap (λ n. cond (same n 0) (length f′) 0) ok ∙ ap (λ b. cond b (length f′) 0) (same-refl 0)
+      ∙ length-encode (rewrite (fileOf f)) (fits (fileOf f) rg (allowed f room ok .given))
+
+  no-front : endOf f′ - trailer f′ .distance ≡ 0
+  unfolding rewriteBytes
+  no-front = let ft = fits (fileOf f) rg (allowed f room ok .given) in
+      ap₂ _-_ (end-is (rewrite (fileOf f)) ft) (ap (λ t. t .distance) (trailer-is (rewrite (fileOf f)) ft)) ∙ omega arith
+
   states-same : (c : ℕ) → c < fileOf f .charts → fileOf f′ .chart c .states ≡ fileOf f .chart c .states
   unfolding rewrittenChart chartWith
   states-same c l = ap (λ C. C .states) (r .chart c l)
 
   -- the first configuration
+  pub same-first-refusal : (left : ℕ) → firstRefusal f′ left ≡ firstRefusal f left
+  unfolding firstRefusal
+  same-first-refusal left = call-passed f′ _ same-check ∙ ap (λ n. firstOf (record { number = shortBuffer; applies = ltb left n } ∷ [])) (r .charts) ∙ sym (call-passed f _ h)
+
   pub same-first : (buffer : List ℕ) → firstBytes f′ buffer ≡ firstBytes f buffer
-  unfolding firstBytes firstRefusal initials rewrittenChart chartWith
-  same-first buffer = ap₂ (λ n xs. cond (same n 0) (laidOver xs buffer) buffer)
-      (passes-then f′ _ p′ ∙ ap (λ n. firstOf (record { number = 22; applies = ltb (length buffer) n } ∷ [])) (r .charts) ∙ sym (passes-then f _ p))
+  unfolding firstBytes initials rewrittenChart chartWith
+  same-first buffer = ap₂ (λ n xs. cond (same n 0) (laidOver xs buffer) buffer) (same-first-refusal (length buffer))
       (ap (λ n. made n (λ c. fileOf f′ .chart c .initial)) (r .charts) ∙ made-same (fileOf f .charts) _ _ (λ c l. ap (λ C. C .initial) (r .chart c l)))
 
   -- the interface
   pub same-input : inputOf f′ ≡ inputOf f
   unfolding inputOf
-  same-input = ap₂ (λ n s. cond (same n 0) s ∅) (same-check ∙ sym (passes f p)) (input-is (fileOf f) (rg .ready) (fileOf f′) r)
+  same-input = ap₂ (λ n s. cond (same n 0) s ∅) (same-check ∙ sym h) (input-is (fileOf f) (rg .ready) (fileOf f′) r)
 
   pub same-output : outputOf f′ ≡ outputOf f
   unfolding outputOf
-  same-output = ap₂ (λ n s. cond (same n 0) s ∅) (same-check ∙ sym (passes f p)) (output-is (fileOf f) (rg .ready) (fileOf f′) r)
+  same-output = ap₂ (λ n s. cond (same n 0) s ∅) (same-check ∙ sym h) (output-is (fileOf f) (rg .ready) (fileOf f′) r)
 
   -- configurations: 20 and 21
   config-same : (config : List ℕ) → configTests f′ config ≡ configTests f config
   unfolding configTests
-  config-same config = ap₂ (λ n b. record { number = 20; applies = differ (length config) n } ∷ record { number = 21; applies = b } ∷ []) (r .charts)
+  config-same config = ap₂ (λ n b. record { number = wrongLength; applies = differ (length config) n } ∷ record { number = badState; applies = b } ∷ []) (r .charts)
       (ap (λ n. anyUpTo n (λ c. notBelow (getD config c 0) (fileOf f′ .chart c .states))) (r .charts)
       ∙ any-cong (fileOf f .charts) _ _ (λ c l. ap (notBelow (getD config c 0)) (states-same c l)))
 
   valid : (config : List ℕ) (us : List Test) → firstOf (configTests f config ++ us) ≡ 0 → Valid (fileOf f) config
-  unfolding configTests firstOf
-  valid config us e c l = below _ _ (any-never (fileOf f .charts) bad (inner .0) c l)
-    where
-      bad : ℕ → Bool
-      bad c = notBelow (getD config c 0) (fileOf f .chart c .states)
+  unfolding configTests
+  valid config us e c l = let q = front (configTests f config) us (lit< tt, (lit< tt, tt)) e in
+      below _ _ (any-never (fileOf f .charts) (λ c. notBelow (getD config c 0) (fileOf f .chart c .states)) (q .0 .1 .0) c l)
 
-      inner : (anyUpTo (fileOf f .charts) bad ≡ false) × (firstOf us ≡ 0)
-      inner = first (anyUpTo (fileOf f .charts) bad) 21 (firstOf us) (lit< tt) (first (differ (length config) (fileOf f .charts)) 20 (cond (anyUpTo (fileOf f .charts) bad) 21 (firstOf us)) (lit< tt) e .1)
-
-  -- what a call answers whose tests are 1 to 11, 20, 21 and one more
-  module _ {A : Type 0} (config : List ℕ) (u u′ : Test) (us : u′ ≡ u) (x x′ : A) (other : ℕ → A) (xs : Valid (fileOf f) config → x′ ≡ x) where
+  -- a call whose tests are 1 to 11, 20, 21 and one more: its refusal, and what it answers
+  module _ (config : List ℕ) (u u′ : Test) (us : u′ ≡ u) where
     abbrev n : ℕ
     n = firstOf ((fileTests f ++ configTests f config) ++ (u ∷ []))
 
-    tests : n ≡ firstOf (configTests f config ++ (u ∷ []))
-    tests = ap firstOf (append-assoc (fileTests f) (configTests f config) (u ∷ [])) ∙ passes-then f _ p
+    abbrev n′ : ℕ
+    n′ = firstOf ((fileTests f′ ++ configTests f′ config) ++ (u′ ∷ []))
 
-    tests-same : firstOf ((fileTests f′ ++ configTests f′ config) ++ (u′ ∷ [])) ≡ n
-    tests-same = ap firstOf (append-assoc (fileTests f′) (configTests f′ config) (u′ ∷ [])) ∙ passes-then f′ _ p′
+    tests : n ≡ firstOf (configTests f config ++ (u ∷ []))
+    tests = ap firstOf (append-assoc (fileTests f) (configTests f config) (u ∷ [])) ∙ call-passed f _ h
+
+    tests-same : n′ ≡ n
+    tests-same = ap firstOf (append-assoc (fileTests f′) (configTests f′ config) (u′ ∷ [])) ∙ call-passed f′ _ same-check
         ∙ ap₂ (λ ts u. firstOf (ts ++ (u ∷ []))) (config-same config) us ∙ sym tests
 
-    answer-same : cond (same (firstOf ((fileTests f′ ++ configTests f′ config) ++ (u′ ∷ []))) 0) x′ (other (firstOf ((fileTests f′ ++ configTests f′ config) ++ (u′ ∷ [])))) ≡ cond (same n 0) x (other n)
-    answer-same = ap (λ k. cond (same k 0) x′ (other k)) tests-same ∙ go (same n 0) refl
+    answer-same : {A : Type 0} (x x′ : A) (other : ℕ → A) → (Valid (fileOf f) config → x′ ≡ x) → cond (same n′ 0) x′ (other n′) ≡ cond (same n 0) x (other n)
+    answer-same {A} x x′ other xs = ap (λ k. cond (same k 0) x′ (other k)) tests-same ∙ go (same n 0) refl
       where
         go : (b : Bool) → same n 0 ≡ b → cond b x′ (other n) ≡ cond b x (other n)
         go true e = xs (valid config (u ∷ []) (sym tests ∙ same→≡ n 0 e))
@@ -155,12 +170,29 @@ module _ (f : List ℕ) (ab : AllBytes f) (room : ℕ) (ok : rewriteRefusal f ro
   -- the step
   pub same-step : (config : List ℕ) (i : Set) (left : ℕ) → stepOf f′ config i left ≡ stepOf f config i left
   unfolding stepOf stepRefusal
-  same-step config i left = answer-same config _ _ (ap (λ n. record { number = 22; applies = ltb left n }) (r .charts)) (stepIn (fileOf f) config i) (stepIn (fileOf f′) config i) refused
+  same-step config i left = answer-same config _ _ (ap (λ n. record { number = shortBuffer; applies = ltb left n }) (r .charts)) (stepIn (fileOf f) config i) (stepIn (fileOf f′) config i) refused
       (λ v. step-is (fileOf f) (rg .ready) (fileOf f′) r config v i)
 
   -- the run
+  rowsTest : ℕ → ℕ → ℕ → Test
+  rowsTest inputs left n = record { number = shortRows; applies = ltb left (inputs * (10 + n)) }
+
+  pub same-refusal : (config : List ℕ) (inputs left : ℕ) → runRefusal f′ config inputs left ≡ runRefusal f config inputs left
+  unfolding runRefusal rowsTest
+  same-refusal config inputs left = tests-same config _ _ (ap (rowsTest inputs left) (r .charts))
+
   pub same-run : (config : List ℕ) (inputs : List Set) (rows : List ℕ) → runBytes f′ config inputs rows ≡ runBytes f config inputs rows
-  unfolding runBytes runRefusal
-  same-run config inputs rows = answer-same config _ _ (ap (λ n. record { number = 27; applies = ltb (length rows) (length inputs * (10 + n)) }) (r .charts))
+  unfolding runBytes runRefusal rowsTest
+  same-run config inputs rows = answer-same config _ _ (ap (rowsTest (length inputs) (length rows)) (r .charts))
       (laidOver (rowsOf (fileOf f) config inputs) rows) (laidOver (rowsOf (fileOf f′) config inputs) rows) (λ n. rows)
       (λ v. ap (λ z. laidOver z rows) (run-is (fileOf f) (rg .ready) (fileOf f′) r inputs config v))
+
+-- a file without slaves rewrites to itself, without its front
+pub plain-rewrites : (f : List ℕ) → AllBytes f → refusalOf f ≡ 0 → fileOf f .slaves ≡ 0 → rewriteBytes f ≡ drop (endOf f - trailer f .distance) f
+unfolding rewriteBytes fileOf
+plain-rewrites f ab e none-there = let p = passed f e in plain-same (fileOf f) (ready f p ab) (p .nodes) none-there ∙ encode-again f p ab
+
+-- rewritten again, a rewritten file stays as it is
+pub twice : (f : List ℕ) → AllBytes f → (room : ℕ) → rewriteRefusal f room ≡ 0 → rewriteBytes (rewriteBytes f) ≡ rewriteBytes f
+twice f ab room ok = plain-rewrites (rewriteBytes f) (new-bytes f ab room ok) (same-check f ab room ok) (no-slaves f ab room ok)
+    ∙ ap (λ k. drop k (rewriteBytes f)) (no-front f ab room ok)

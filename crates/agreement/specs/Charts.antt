@@ -1,5 +1,5 @@
 -- A rewritten chart: where its transitions stand, how many they are, its interface; a chart whose sets have no call.
-use mathlib.Core.Path.{_≡_, refl, sym, _∙_, ap, ap₂}
+use mathlib.Core.Path.{_≡_, refl, sym, _∙_, ap}
 use mathlib.Core.Option.{Option, none, some}
 use mathlib.Core.List.{List, [], _∷_, _++_, map, append-nil}
 use Prim.Native.Nat.{ℕ, zero, suc, _+_, _≤_, _<_}
@@ -9,7 +9,7 @@ use lib.ListN.{length, length-append, length-map}
 use Rattle.signals.specs.Mask.{_∪_, single}
 use Rattle.signals.specs.Decide.{sets, A, B, C as Cₑ, D, ∅ₑ, _∪ₑ_, _≐_}
 use Rattle.layout.specs.declared.record.Transition.{Transition}
-use Rattle.meaning.specs.Meaning.{Set, ∅, Chart, Move, nth, pick, guards, inFaceChart}
+use Rattle.meaning.specs.Meaning.{Set, ∅, Chart, nth, pick, guards, inFaceChart}
 use Rattle.meaning.specs.Rewriting.{callIn, idle, idles, called, chartWith}
 use Rattle.agreement.specs.Every.{Every}
 use Rattle.agreement.specs.Tree.{moveR}

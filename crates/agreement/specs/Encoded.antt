@@ -7,7 +7,7 @@ use Prim.Native.Nat.{ℕ, zero, suc, _+_, _*_, _-_, _^_, _≤_, _<_}
 use native.Mathlib.Nat.{mul-zero, mul-suc}
 use native.Mathlib.Omega.{arith}
 use lib.ListN.{length, getD, take, drop, length-append, List·getD-append}
-use lib.Seq.{drop-at, take-at, drop-append-add, getD-append-add, ext-getD, getD-drop}
+use lib.Seq.{drop-at, take-at, drop-append-add, getD-append-add, ext-getD}
 use Rattle.layout.specs.Record.{trailerOf, headOf, transitionOf, slaveOf, nodeOf, trailerBytes, headBytes, transitionBytes, slaveBytes, nodeBytes}
 use Rattle.layout.specs.Record.Laws.{length-trailer, length-head, length-transition, length-slave, length-node, trailer-back, head-back, transition-back, slave-back, node-back}
 use Rattle.layout.specs.Body.{transitionsFrom, slavesFrom, nodesFrom, sizeOf, headAt, transitionAt, slaveAt, nodeAt, startOf, from, transitionsOf}
@@ -22,7 +22,7 @@ use Rattle.agreement.specs.Every.{Every, every-at}
 use Rattle.meaning.specs.Numbers.{theEdition}
 use Rattle.meaning.specs.Count.{tally}
 use Rattle.meaning.specs.Count.Laws.{below-suc}
-use Rattle.meaning.specs.Meaning.{Set, ∅, Chart}
+use Rattle.meaning.specs.Meaning.{∅}
 use Rattle.meaning.specs.File.{File, endOf, trailer, bodyOf, shapeOf, chartOf, fileAt, fileOf}
 use Rattle.meaning.specs.Rewriting.{inTurn, headFor, transitionsBytes, transitionsIn, shapeIn, bodyBytes, encode}
 

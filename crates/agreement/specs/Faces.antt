@@ -1,18 +1,17 @@
 -- The rewriting keeps both interfaces of the whole. (Inside, a rewritten part has the nearest call besides: `face-t` of Same.)
-use mathlib.Core.Path.{_≡_, refl, sym, _∙_, ap, ap₂, subst, subst₂}
-use mathlib.Core.Bool.{Bool, true, false, _||_, cond}
+use mathlib.Core.Path.{_≡_, refl, _∙_, ap, ap₂, subst₂}
 use mathlib.Core.Option.{Option, none, some}
 use mathlib.Core.List.{List, [], _∷_, _++_, map}
-use Prim.Native.Nat.{ℕ, zero, suc, _+_, _≤_, _<_}
-use Rattle.signals.specs.Mask.{_∪_, _∩_, _∖_, single}
-use Rattle.signals.specs.Decide.{sets, A, B, C, D, ∅ₑ, _∪ₑ_, _∩ₑ_, _∖ₑ_, _≐_, _⊑_, _⊥ₑ_}
+use Prim.Native.Nat.{ℕ, zero, suc, _+_, _<_}
+use Rattle.signals.specs.Mask.{_∪_, _∖_}
+use Rattle.signals.specs.Decide.{sets, A, B, C, D, ∅ₑ, _∪ₑ_, _∖ₑ_, _≐_, _⊑_, _⊥ₑ_}
 use Rattle.layout.specs.declared.record.Transition.{Transition}
-use Rattle.meaning.specs.Meaning.{Set, ∅, same, Chart, Tree, Slaves, leaf, comp, hide, dec, nil, snoc, Move, actions, inFaceChart, inFace, outFace, outFaces}
+use Rattle.meaning.specs.Meaning.{Set, ∅, Chart, Tree, Slaves, leaf, comp, hide, dec, nil, snoc, Move, actions, inFaceChart, inFace, outFace, outFaces}
 use Rattle.meaning.specs.File.{File, wholeOf}
 use Rattle.meaning.specs.Rewriting.{call, callIn, idle, idles, called, chartWith, rewrite}
 use Rattle.meaning.specs.Laws.Names.{kap}
 use Rattle.agreement.specs.Tree.{calls, tree, nest, touch, moveR}
-use Rattle.agreement.specs.Same.{Old, OldMove, At, Rw, Rws, old-none, old-join, old-less, calls-old, face-t}
+use Rattle.agreement.specs.Same.{Old, At, Rw, Rws, old-none, old-join, old-less, calls-old, touch-calls, face-t}
 use Rattle.agreement.specs.Charts.{OldTs, OldChart, face-is, old-faceChart}
 use Rattle.agreement.specs.Fit.{Fit, FitS}
 use Rattle.agreement.specs.Free.{call-inj, old-chart}
@@ -39,19 +38,10 @@ module _ (sig state : ℕ → ℕ) where
   actions-own κ T (t ∷ ts) r h = ap (λ z. (t .action ∪ T t) ∪ z) (actions-own κ T ts r h)
       ∙ sets (t .action ∷ T t ∷ actions ts ∷ added T ts ∷ []) [] ((A ∪ₑ B) ∪ₑ (C ∪ₑ D) ≐ (A ∪ₑ C) ∪ₑ (B ∪ₑ D)) tt
 
-  touch-calls : (ss : Slaves) (t : Transition) → touch sig state ss t ∖ calls sig ss ≡ ∅
-  unfolding touch calls
-  touch-calls nil t = sets [] [] (∅ₑ ⊑ ∅ₑ) tt
-  touch-calls (snoc ss i u) t = go (same (t .from) (state i) || same (t .to) (state i)) (touch-calls ss t)
-    where
-      go : (b : Bool) → touch sig state ss t ∖ calls sig ss ≡ ∅ → (touch sig state ss t ∪ cond b (single (sig i)) ∅) ∖ (calls sig ss ∪ single (sig i)) ≡ ∅
-      go true h = sets (touch sig state ss t ∷ calls sig ss ∷ single (sig i) ∷ []) (A ⊑ B ∷ []) (A ∪ₑ C ⊑ B ∪ₑ C) tt h
-      go false h = sets (touch sig state ss t ∷ calls sig ss ∷ single (sig i) ∷ []) (A ⊑ B ∷ []) (A ∪ₑ ∅ₑ ⊑ B ∪ₑ C) tt h
-
   added-calls : (ss : Slaves) (ts : List Transition) → added (touch sig state ss) ts ∖ calls sig ss ≡ ∅
   unfolding added
   added-calls ss [] = sets (calls sig ss ∷ []) [] (∅ₑ ⊑ A) tt
-  added-calls ss (t ∷ ts) = sets (touch sig state ss t ∷ added (touch sig state ss) ts ∷ calls sig ss ∷ []) (A ⊑ C ∷ B ⊑ C ∷ []) (A ∪ₑ B ⊑ C) tt (touch-calls ss t) (added-calls ss ts)
+  added-calls ss (t ∷ ts) = sets (touch sig state ss t ∷ added (touch sig state ss) ts ∷ calls sig ss ∷ []) (A ⊑ C ∷ B ⊑ C ∷ []) (A ∪ₑ B ⊑ C) tt (touch-calls sig state ss t) (added-calls ss ts)
 
   added-nil : (ts : List Transition) → added (touch sig state nil) ts ≡ ∅
   unfolding added touch

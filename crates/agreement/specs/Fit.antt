@@ -1,14 +1,14 @@
 -- How charts stand in a file's tree, as the theorem on outcomes assumes it: each in its nearest slave, with its slaves. And that the nearest slave,
 -- found from the whole down, is the one found from the chart up.
-use mathlib.Core.Path.{_≡_, refl, sym, _∙_, ap, ap₂, subst}
-use mathlib.Core.Bool.{Bool, true, false, _||_, cond, true≢false, false≢true}
+use mathlib.Core.Path.{_≡_, refl, sym, _∙_, ap, subst}
+use mathlib.Core.Bool.{Bool, true, false, _||_, cond, false≢true}
 use mathlib.Core.Option.{Option, none, some}
-use Prim.Native.Nat.{ℕ, zero, suc, _+_, _≤_, _<_}
+use Prim.Native.Nat.{ℕ, zero, suc, _≤_, _<_}
 use native.Mathlib.Omega.{arith}
-use Rattle.meaning.specs.Meaning.{Set, same, Tree, Slaves, leaf, comp, hide, dec, nil, snoc}
+use Rattle.meaning.specs.Meaning.{same, Tree, Slaves, leaf, comp, hide, dec, nil, snoc}
 use Rattle.meaning.specs.File.{File, Has, HasS, gather, whole, treeOf}
 use Rattle.meaning.specs.Rewriting.{nearestIn, nearestAmong}
-use Rattle.meaning.specs.Laws.Bools.{same-refl, same→≡}
+use Rattle.meaning.specs.Laws.Bools.{same→≡}
 use Rattle.meaning.specs.Laws.Trees.{Ordered, Placed, tree₀, tree₁, tree₂}
 use Rattle.agreement.specs.Same.{Old, Apart, Some}
 

@@ -1,23 +1,25 @@
 -- The call signals: no two slaves have the same, none is in a set of the file, and each is the lowest number left. In this order: unions; the
 -- numbers that a set lacks; the calls; sets of the file.
-use mathlib.Core.Path.{_≡_, refl, sym, _∙_, ap, ap₂, subst}
-use mathlib.Core.Bool.{Bool, true, false, cond, true≢false, false≢true}
+use mathlib.Core.Path.{_≡_, refl, sym, _∙_, ap, ap₂}
+use mathlib.Core.Bool.{Bool, true, false, _||_, cond, true≢false}
 use mathlib.Core.List.{List, [], _∷_, _++_}
-use Prim.Native.Nat.{ℕ, zero, suc, _+_, _^_, _≤_, _<_}
+use Prim.Native.Nat.{ℕ, zero, suc, _+_, _-_, _^_, _≤_, _<_}
 use native.Mathlib.Omega.{arith}
 use native.Mathlib.Decide.{decLt}
+use borrow.Author.Tests.{eq-eqb, ne-eqb}
+use lib.Dec.{lit<}
 use lib.ListN.{length, getD, length-append, List·getD-append, List·getD-eq-default}
 use lib.Seq.{getD-at}
-use Rattle.signals.specs.Mask.{_∪_, _∩_, _∖_, bit, single}
-use Rattle.signals.specs.Mask.Laws.{bit-high, single-apart}
-use Rattle.signals.specs.Decide.{Claim, sets, A, B, C, D, E as Eₑ, ∅ₑ, _∪ₑ_, _∩ₑ_, _∖ₑ_, _≐_, _⊑_, _⊥ₑ_}
+use Rattle.signals.specs.Mask.{_∪_, _∖_, bit, single}
+use Rattle.signals.specs.Mask.Laws.{bit-single, bit-none, bit-union, within-at, bit-high, union-lt, single-apart}
+use Rattle.signals.specs.All.{bit-all}
+use Rattle.signals.specs.Decide.{Claim, sets, A, B, C, D, E as Eₑ, _∪ₑ_, _⊑_, _⊥ₑ_}
 use Rattle.layout.specs.declared.record.Transition.{Transition}
-use Rattle.meaning.specs.Meaning.{Set, ∅, same, Chart, guards, actions}
+use Rattle.meaning.specs.Meaning.{Set, ∅, guards, actions}
 use Rattle.meaning.specs.File.{File}
-use Rattle.meaning.specs.Count.Laws.{below-suc}
+use Rattle.meaning.specs.Count.Laws.{below-suc, or-left, or-right}
 use Rattle.meaning.specs.Rewriting.{unionUpTo, lacking, used, free, call}
-use Rattle.meaning.specs.Laws.Bools.{same→≡}
-use Rattle.agreement.specs.Same.{Old, OldMove}
+use Rattle.agreement.specs.Same.{Old}
 use Rattle.agreement.specs.Charts.{OldTs, OldChart}
 use mathlib.Core.Logic.{_⊎_, ⊎-elim}
 
@@ -28,6 +30,11 @@ unfolding unionUpTo
 union-in zero f i l = absurd (omega arith)
 union-in (suc n) f i l = ⊎-elim (λ e. rw e (sets (unionUpTo n f ∷ f n ∷ []) [] (B ⊑ A ∪ₑ B) tt))
     (λ m. sets (unionUpTo n f ∷ f n ∷ f i ∷ []) (C ⊑ A ∷ []) (C ⊑ A ∪ₑ B) tt (union-in n f i m)) (below-suc i n l)
+
+pub union-small : (k : ℕ) (g : ℕ → Set) → ((i : ℕ) → i < k → g i < 2 ^ 64) → unionUpTo k g < 2 ^ 64
+unfolding unionUpTo
+union-small zero g h = lit< tt
+union-small (suc k) g h = union-lt 64 (unionUpTo k g) (g k) (union-small k g (λ i l. h i (omega arith))) (h k (omega arith))
 
 -- ── lacking ──
 
@@ -125,6 +132,61 @@ module _ (F : File) where
           not-later : Dec (i < j) → ⊥
           not-later (yes b) = let r = lacking-rise (used F) 64 i j (64 + i) b h in let g = getD-any L j (64 + i) (64 + j) h in omega arith
           not-later (no b) = let z : i ≡ j = omega arith in let y : getD L i (64 + i) ≡ getD L j (64 + j) = ap (λ n. getD L n (64 + n)) z in omega arith
+
+  -- what is taken before slave i: the file's sets and the calls of the slaves before it
+  unfoldable pub taken : ℕ → Set
+  taken i = used F ∪ unionUpTo i (λ k. single (call F k))
+
+  in-calls : (i k n : ℕ) → k < i → call F k ≡ n → bit (unionUpTo i (λ k. single (call F k))) n ≡ true
+  in-calls i k n l e = within-at (single (call F k)) (unionUpTo i (λ k. single (call F k))) (union-in i (λ k. single (call F k)) k l) n (rw e (bit-single n n ∙ eq-eqb n n refl))
+
+  not-in-calls : (i n : ℕ) → ((k : ℕ) → k < i → call F k ≡ n → ⊥) → bit (unionUpTo i (λ k. single (call F k))) n ≡ false
+  unfolding unionUpTo
+  not-in-calls zero n h = bit-none n
+  not-in-calls (suc i) n h = bit-union n (unionUpTo i (λ k. single (call F k))) (single (call F i))
+      ∙ ap₂ _||_ (not-in-calls i n (λ k l. h k (omega arith))) (bit-single (call F i) n ∙ ne-eqb (call F i) n (h i (omega arith)))
+
+  -- a number that is not taken is no slave's before i, and not used
+  not-taken : (i n : ℕ) → bit (taken i) n ≡ false → (bit (used F) n ≡ false) × ((k : ℕ) → k < i → call F k ≡ n → ⊥)
+  unfolding taken
+  not-taken i n e = let q = sym (bit-union n (used F) (unionUpTo i (λ k. single (call F k)))) ∙ e in
+      (or-left (bit (used F) n) _ q, λ k l z. true≢false (sym (in-calls i k n l z) ∙ or-right (bit (used F) n) _ q))
+
+  -- the call of slave i is not taken, and each lower number is
+  call-free : (i : ℕ) → i < length (free F) → bit (taken i) (call F i) ≡ false
+  unfolding taken call free
+  call-free i l = bit-union (call F i) (used F) (unionUpTo i (λ k. single (call F k)))
+      ∙ ap₂ _||_ (free-unused i l) (not-in-calls i (call F i) (λ k m e. let u = call-lt k i m in omega arith))
+    where
+      free-unused : (i : ℕ) → i < length (free F) → bit (used F) (call F i) ≡ false
+      free-unused i l = lacking-is (used F) 64 i (64 + i) l .1
+
+  -- the lowest number that is not taken is the call of slave i
+  pub call-is : (i m : ℕ) → i < length (free F) → bit (taken i) m ≡ false → ((k : ℕ) → k < m → bit (taken i) k ≡ true) → m ≡ call F i
+  call-is i m l e h = go (decLt m (call F i)) (decLt (call F i) m)
+    where
+      go : Dec (m < call F i) → Dec (call F i < m) → m ≡ call F i
+      go (yes a) b = absurd (let q = not-taken i m e in let u = call-lowest i l m a (q .0) in q .1 (u .0) (u .1) (u .2))
+      go (no a) (yes b) = absurd (true≢false (sym (h (call F i) b) ∙ call-free i l))
+      go (no a) (no b) = omega arith
+
+  -- a signal that is not taken: there is a free number for slave i
+  pub call-there : (i m : ℕ) → m < 64 → bit (taken i) m ≡ false → i < length (free F)
+  unfolding call free
+  call-there i m l e = let q = not-taken i m e in let u = lacking-all (used F) 64 m l (q .0) in
+      go (u .0) (u .1) (u .2 (64 + u .0)) (q .1) (decLt (u .0) i)
+    where
+      go : (j : ℕ) → j < length (lacking (used F) 64) → getD (lacking (used F) 64) j (64 + j) ≡ m → ((k : ℕ) → k < i → getD (lacking (used F) 64) k (64 + k) ≡ m → ⊥) → Dec (j < i) → i < length (lacking (used F) 64)
+      go j l′ z no-one (yes a) = absurd (no-one j a z)
+      go j l′ z no-one (no a) = omega arith
+
+  -- all are taken: there is none
+  pub call-gone : (i : ℕ) → taken i ≡ 2 ^ 64 - 1 → length (free F) ≤ i
+  call-gone i e = go (decLt i (length (free F)))
+    where
+      go : Dec (i < length (free F)) → length (free F) ≤ i
+      go (yes l) = absurd (true≢false (sym (bit-all 64 (call F i) (call-small i l)) ∙ ap (λ z. bit z (call F i)) (sym e) ∙ call-free i l))
+      go (no l) = omega arith
 
   module _ (small : used F < 2 ^ 64) where
     call-unused : (i : ℕ) → bit (used F) (call F i) ≡ false

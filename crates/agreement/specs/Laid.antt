@@ -1,23 +1,23 @@
 -- The nodes of the rewritten file, laid down in order.
-use mathlib.Core.Path.{_≡_, refl, sym, _∙_, ap, ap₂, subst, subst₂, fun-ext}
-use mathlib.Core.Bool.{Bool, true, false, _&&_, _||_, not, cond, true≢false, false≢true}
-use mathlib.Core.Option.{Option, none, some}
+use mathlib.Core.Path.{_≡_, refl, sym, _∙_, ap, ap₂, subst, subst₂}
+use mathlib.Core.Bool.{Bool, true, false, cond, false≢true}
 use mathlib.Core.Logic.{_≢_}
 use mathlib.Core.List.{List, [], _∷_, _++_}
 use Prim.Native.Nat.{ℕ, zero, suc, _+_, _≤_, _<_}
-use native.Mathlib.Nat.{add-zero, zero-add, add-suc, suc-add, add-assoc}
+use native.Mathlib.Nat.{add-zero, zero-add}
 use native.Mathlib.Omega.{arith}
 use lib.ListN.{length, getD, length-append, List·getD-append}
 use lib.Seq.{getD-append-add, getD-at}
-use Rattle.meaning.specs.Meaning.{Set, ∅, same, Chart, Tree, Slaves, leaf, comp, hide, dec, nil, snoc}
+use Rattle.meaning.specs.Meaning.{Set, ∅, same}
 use Rattle.signals.specs.Mask.{_∪_}
 use Rattle.layout.specs.declared.record.Node.{Node}
-use Rattle.meaning.specs.Laws.Bools.{same-refl, same→≡, same-≢}
+use Rattle.meaning.specs.Laws.Bools.{same-refl, same→≡}
 use Rattle.meaning.specs.Rewriting.{callsOf, count, before, start, newName, composed, madeBy, madeFor, laid, newNode, rewrite}
-use Rattle.meaning.specs.File.{File, whole, gather, treeOf}
-use Rattle.meaning.specs.Laws.Trees.{Ordered, tree₀, tree₁, tree₂}
+use Rattle.meaning.specs.File.{File}
+use Rattle.meaning.specs.Laws.Trees.{Ordered}
 use Rattle.meaning.specs.Count.{one, tally}
-use Rattle.agreement.specs.Renamed.{slavesOf, NodesR, tally-mono}
+use Rattle.agreement.specs.Renamed.{NodesR}
+use Rattle.agreement.specs.Sums.{count-less}
 
 -- what stands past the last node
 abbrev pub noNode : Node
@@ -102,11 +102,8 @@ module _ (F : File) where
       nd : ℕ → Node
       nd i = record { kind = 1; a = at + count F c i; b = newName F (F .node i); x = F .chart c .feedback ∪ callsOf F c; y = ∅ }
 
-      count-suc : (i : ℕ) → tally (suc i) (λ i. one (same (F .master i) c)) ≡ one (same (F .master i) c) + count F c i
-      count-suc i = refl
-
       less : i < k → count F c i < count F c k
-      less h = let a = tally-mono k (suc i) (λ i. one (same (F .master i) c)) h in let b : one (same (F .master i) c) ≡ 1 = ap one (ap (λ z. same z c) e ∙ same-refl c) in let d = count-suc i in omega arith
+      less h = count-less F c i k h (ap (λ z. same z c) e ∙ same-refl c)
 
       go : (d : Bool) → same (F .master k) c ≡ d → (f : Bool) → same i k ≡ f → (i < k → getD (composed F c at k) (count F c i) noNode ≡ nd i)
           → getD (cond d (composed F c at k ++ (nd k ∷ [])) (composed F c at k)) (count F c i) noNode ≡ nd i
@@ -128,13 +125,13 @@ module _ (F : File) where
   unfolding newName
   ren-is j k s e f = ap₂ (λ k s. start F j + before F k s) e f
 
-  comp-node : (j : ℕ) → j < F .nodes → F .kind j ≡ 1 → newNode F (newName F j) ≡ record { kind = 1; a = newName F (F .a j); b = newName F (F .b j); x = F .x j; y = ∅ }
+  pub comp-node : (j : ℕ) → j < F .nodes → F .kind j ≡ 1 → newNode F (newName F j) ≡ record { kind = 1; a = newName F (F .a j); b = newName F (F .b j); x = F .x j; y = ∅ }
   comp-node j l e = ap (newNode F) (ren-is j 1 (count F (F .a j) (F .slaves)) e refl) ∙ at-node j 0 1 (count F (F .a j) (F .slaves)) l e refl (omega arith)
 
-  hide-node : (j : ℕ) → j < F .nodes → F .kind j ≡ 2 → newNode F (newName F j) ≡ record { kind = 2; a = newName F (F .a j); b = 0; x = F .x j; y = F .y j }
+  pub hide-node : (j : ℕ) → j < F .nodes → F .kind j ≡ 2 → newNode F (newName F j) ≡ record { kind = 2; a = newName F (F .a j); b = 0; x = F .x j; y = F .y j }
   hide-node j l e = ap (newNode F) (ren-is j 2 (count F (F .a j) (F .slaves)) e refl) ∙ at-node j 0 2 (count F (F .a j) (F .slaves)) l e refl (omega arith)
 
-  base-node : (j : ℕ) → j < F .nodes → F .kind j ≡ 0 → newNode F (start F j) ≡ record { kind = 0; a = F .a j; b = 0; x = ∅; y = ∅ }
+  pub base-node : (j : ℕ) → j < F .nodes → F .kind j ≡ 0 → newNode F (start F j) ≡ record { kind = 0; a = F .a j; b = 0; x = ∅; y = ∅ }
   base-node j l e = ap (newNode F) (sym (add-zero (start F j))) ∙ go (count F (F .a j) (F .slaves)) refl
     where
       go : (s : ℕ) → count F (F .a j) (F .slaves) ≡ s → newNode F (start F j + 0) ≡ record { kind = 0; a = F .a j; b = 0; x = ∅; y = ∅ }
@@ -146,12 +143,8 @@ module _ (F : File) where
   unfolding tally
   part-node j i l e m q = go (count F (F .a j) (F .slaves)) refl
     where
-      count-suc : tally (suc i) (λ i. one (same (F .master i) (F .a j))) ≡ one (same (F .master i) (F .a j)) + count F (F .a j) i
-      count-suc = refl
-
       less : count F (F .a j) i < count F (F .a j) (F .slaves)
-      less = let a = tally-mono (F .slaves) (suc i) (λ i. one (same (F .master i) (F .a j))) m in
-          let b : one (same (F .master i) (F .a j)) ≡ 1 = ap one (ap (λ z. same z (F .a j)) q ∙ same-refl (F .a j)) in let d = count-suc in omega arith
+      less = count-less F (F .a j) i (F .slaves) m (ap (λ z. same z (F .a j)) q ∙ same-refl (F .a j))
 
       go : (s : ℕ) → count F (F .a j) (F .slaves) ≡ s
           → newNode F (start F j + suc (count F (F .a j) i)) ≡ record { kind = 1; a = start F j + count F (F .a j) i; b = newName F (F .node i); x = F .chart (F .a j) .feedback ∪ callsOf F (F .a j); y = ∅ }

@@ -1,6 +1,9 @@
--- The rewritten file steps as the file does, and is a file again. In order: the rewriting over a tree (Tree); that a rewritten tree is offered,
--- puts out and permits what the tree does (Same); which charts are active (Active); lists of outcomes (Upto); a rewritten chart (Charts); how
--- charts stand in a tree (Fit); the same outcomes in the same order (Outcomes).
+-- Demand 3: the rewritten file steps as the file does, and is a file again. The promises are in Calls; what leads to them, in this order:
+-- over a tree, the rewriting (Tree), what is offered, put out and permitted (Same), activity (Active), lists of outcomes (Upto), lists of
+-- transitions (Every), a rewritten chart (Charts), how charts stand (Fit), the same outcomes in the same order (Outcomes); over records, the call
+-- signals (Free), sums (Sums), nodes renumbered (Renamed), laid down (Laid) and checked again (Recheck), the step (Step), the run (Run), the interfaces (Faces);
+-- over bytes, a file written and read back (Encoded, Reads), what passing 1 to 11 gives (Passed), the new records (New), the new file passes
+-- (Again) and is made of bytes (Bytes); a file without slaves (Plain) and bytes read and written again (Written); two files computed (Examples).
 pub mod Tree
 pub mod Same
 pub mod Active
@@ -10,16 +13,20 @@ pub mod Charts
 pub mod Fit
 pub mod Outcomes
 pub mod Free
+pub mod Sums
 pub mod Renamed
 pub mod Laid
+pub mod Recheck
 pub mod Step
 pub mod Run
 pub mod Faces
-pub mod Recheck
-pub mod Examples
 pub mod Encoded
+pub mod Reads
 pub mod Passed
 pub mod New
-pub mod Reads
 pub mod Again
+pub mod Bytes
+pub mod Plain
+pub mod Written
 pub mod Calls
+pub mod Examples

@@ -1,30 +1,27 @@
 -- What the records of a rewritten file are, if F passes 1 to 11 and 40 does not apply: sets of 64 signals, transitions between states, nodes with
 -- unused fields zero. In this order: calls; the nearest slave; charts; nodes.
-use mathlib.Core.Path.{_≡_, refl, sym, _∙_, ap, ap₂, subst}
-use mathlib.Core.Bool.{Bool, true, false, _&&_, not, cond, true≢false, false≢true}
+use mathlib.Core.Path.{_≡_, refl, sym}
+use mathlib.Core.Bool.{Bool, true, false, _&&_, cond}
 use mathlib.Core.Option.{Option, none, some}
 use mathlib.Core.List.{List, [], _∷_, _++_, map}
-use mathlib.Core.Logic.{_≢_}
-use Prim.Native.Nat.{ℕ, zero, suc, _+_, _*_, _-_, _^_, _≤_, _<_}
-use native.Mathlib.Nat.{add-zero, zero-add}
+use Prim.Native.Nat.{ℕ, zero, suc, _+_, _-_, _^_, _≤_, _<_}
 use native.Mathlib.Omega.{arith}
 use borrow.Author.Tests.{ltb-false}
-use lib.Dec.{ltb, lit<}
-use lib.ListN.{length, getD, length-append}
+use lib.Dec.{lit<}
+use lib.ListN.{length, getD}
 use Rattle.signals.specs.Mask.{_∪_, single}
 use Rattle.signals.specs.Mask.Laws.{union-lt}
 use Rattle.signals.specs.All.{single-lt}
 use Rattle.layout.specs.declared.record.Transition.{Transition}
 use Rattle.layout.specs.declared.record.Node.{Node}
-use Rattle.meaning.specs.Meaning.{Set, ∅, same, Chart}
+use Rattle.meaning.specs.Numbers.{mostCharts, mostStates}
+use Rattle.meaning.specs.Meaning.{Set, ∅, same}
 use Rattle.meaning.specs.File.{File}
-use Rattle.meaning.specs.Check.{names}
-use Rattle.meaning.specs.Rewriting.{unionUpTo, free, call, callIn, called, idle, idles, chartWith, nearestSlave, isOf, touches, callsBy, callsOf, rewrittenChart, noFree?, count, start, newName, composed, madeBy, madeFor, laid, newNode, rewrite}
-use Rattle.meaning.specs.Laws.Bools.{same-refl}
+use Rattle.meaning.specs.Rewriting.{free, call, callIn, called, idle, idles, chartWith, nearestSlave, isOf, touches, callsBy, callsOf, rewrittenChart, noFree?, count, start, newName, composed, madeBy, madeFor, laid, newNode, rewrite}
 use Rattle.meaning.specs.Laws.Names.{up, find, find-some, bySlave, byNode, nearest, enc, kap}
-use Rattle.agreement.specs.Every.{Every, every-append, every-map, every-imp}
+use Rattle.agreement.specs.Every.{Every, every-append, every-map}
 use Rattle.agreement.specs.Encoded.{Small}
-use Rattle.agreement.specs.Free.{call-small}
+use Rattle.agreement.specs.Free.{union-small, call-small}
 use Rattle.agreement.specs.Laid.{noNode, laid-length}
 use Rattle.agreement.specs.Step.{Ready, nearest-is}
 
@@ -32,8 +29,8 @@ use Rattle.agreement.specs.Step.{Ready, nearest-is}
 pub record Regular (F : File) : Type 0 where
   pub ready : Ready F
   pub some-chart : 0 < F .charts
-  pub charts : F .charts ≤ 8
-  pub most-states : (c : ℕ) → c < F .charts → F .chart c .states ≤ 16
+  pub charts : F .charts ≤ mostCharts
+  pub most-states : (c : ℕ) → c < F .charts → F .chart c .states ≤ mostStates
   pub initials : (c : ℕ) → c < F .charts → F .chart c .initial < F .chart c .states
   pub feedbacks : (c : ℕ) → c < F .charts → (F .chart c .feedback < 2 ^ 64) × (F .chart c .extra < 2 ^ 64)
   pub lists : (c : ℕ) → c < F .charts → Every Small (F .chart c .transitions)
@@ -52,7 +49,7 @@ nearest-below F (suc f) j i e = go (bySlave F j) refl (byNode F j) e (λ k q. ne
     go none p (some k) e ih = ih k e
     go none p none e ih = absurd (let z : _≡_ {A = ℕ} 0 1 = cc in omega arith)
 
-kap-below : (F : File) (c i : ℕ) → kap F c ≡ some i → i < F .slaves
+pub kap-below : (F : File) (c i : ℕ) → kap F c ≡ some i → i < F .slaves
 unfolding kap enc
 kap-below F c i e = go (find (F .nodes) (λ k. same (F .kind k) 0 && same (F .a k) c)) e
   where
@@ -87,18 +84,13 @@ module _ (F : File) (rg : Regular F) (room : noFree? F ≡ false) where
   cond-lt true s h = h
   cond-lt false s h = lit< tt
 
-  union-lts : (k : ℕ) (g : ℕ → Set) → ((i : ℕ) → i < k → g i < 2 ^ 64) → unionUpTo k g < 2 ^ 64
-  unfolding unionUpTo
-  union-lts zero g h = lit< tt
-  union-lts (suc k) g h = union-lt 64 (unionUpTo k g) (g k) (union-lts k g (λ i l. h i (omega arith))) (h k (omega arith))
-
   by-lt : (c : ℕ) (t : Transition) → callsBy F c t < 2 ^ 64
   unfolding callsBy
-  by-lt c t = union-lts (F .slaves) _ (λ i l. cond-lt (isOf F c i && touches F t i) (single (call F i)) (call-lt i l))
+  by-lt c t = union-small (F .slaves) _ (λ i l. cond-lt (isOf F c i && touches F t i) (single (call F i)) (call-lt i l))
 
   pub of-lt : (c : ℕ) → callsOf F c < 2 ^ 64
   unfolding callsOf
-  of-lt c = union-lts (F .slaves) _ (λ i l. cond-lt (isOf F c i) (single (call F i)) (call-lt i l))
+  of-lt c = union-small (F .slaves) _ (λ i l. cond-lt (isOf F c i) (single (call F i)) (call-lt i l))
 
   -- ── charts ──
 

@@ -1,9 +1,9 @@
 -- The rewritten tree has the outcomes of the tree, in the same order: so first, output, next configuration, mark and refusal are the same.
 use mathlib.Core.Path.{_≡_, refl, sym, _∙_, ap, ap₂, subst, subst₂}
-use mathlib.Core.Bool.{Bool, true, false, cond, true≢false, false≢true}
+use mathlib.Core.Bool.{Bool, true, false, true≢false, false≢true}
 use mathlib.Core.Option.{Option, none, some}
 use mathlib.Core.Logic.{_≢_}
-use mathlib.Core.List.{List, [], _∷_, _++_}
+use mathlib.Core.List.{List, [], _∷_}
 use Prim.Native.Nat.{ℕ, zero, suc, _+_, _≤_, _<_}
 use native.Mathlib.Nat.{zero-add}
 use native.Mathlib.Omega.{arith}
@@ -17,7 +17,7 @@ use Rattle.meaning.specs.Rewriting.{callIn, idle, called, chartWith}
 use Rattle.meaning.specs.Laws.Bools.{same-refl, same→≡, same-≢, not-true}
 use Rattle.meaning.specs.Laws.Above.{Above}
 use Rattle.agreement.specs.Tree.{on, tree, touch, moveR}
-use Rattle.agreement.specs.Same.{Old, At, Rw, Rws, old-cut, ok-t, out-t, face-t, face-old}
+use Rattle.agreement.specs.Same.{At, Rw, Rws, old-cut, ok-t, out-t, face-t, face-old}
 use Rattle.agreement.specs.Active.{active, some?, ok-active, active-agree, Live, live}
 use Rattle.agreement.specs.Upto.{upto-cong, upto-first, merge}
 use Rattle.agreement.specs.Charts.{place, idle-at, pick-moved, places, places-none, face-is, OldChart, old-pick, old-faceChart}

@@ -1,13 +1,11 @@
 -- Two files that agree on all that is read have the same trees. A file and what is read of its bytes agree so.
-use mathlib.Core.Path.{_≡_, refl, sym, _∙_, ap, ap₂, subst}
-use mathlib.Core.Bool.{Bool, true, false, cond, false≢true}
-use mathlib.Core.List.{List, []}
-use Prim.Native.Nat.{ℕ, zero, suc, _+_, _≤_, _<_}
+use mathlib.Core.Path.{_≡_, refl, _∙_, ap, ap₂}
+use mathlib.Core.Bool.{Bool, true, false, cond}
+use Prim.Native.Nat.{ℕ, zero, suc, _<_}
 use native.Mathlib.Omega.{arith}
-use Rattle.layout.specs.declared.record.Slave.{Slave}
 use Rattle.layout.specs.declared.record.Node.{Node}
-use Rattle.meaning.specs.Meaning.{Set, same, Chart, Tree, Slaves, leaf, comp, hide, dec, nil, snoc}
-use Rattle.meaning.specs.File.{File, byKind, whole, gather, build, treeOf, chartOf, fileAt}
+use Rattle.meaning.specs.Meaning.{same, Tree, comp, hide, snoc}
+use Rattle.meaning.specs.File.{File, byKind, whole, gather, build, treeOf, fileAt}
 use Rattle.meaning.specs.Rewriting.{shapeIn, bodyBytes}
 use Rattle.meaning.specs.Laws.Bools.{same→≡}
 use Rattle.meaning.specs.Laws.Trees.{Ordered}

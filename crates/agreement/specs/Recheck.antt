@@ -1,63 +1,28 @@
 -- The rewritten file passes rule 10: each chart is held once, each node but the last named once. The names of all new nodes are summed node by node.
-use mathlib.Core.Path.{_≡_, refl, sym, _∙_, ap, ap₂, subst, subst₂, fun-ext}
-use mathlib.Core.Bool.{Bool, true, false, _&&_, _||_, not, cond, true≢false, false≢true}
-use mathlib.Core.Option.{Option, none, some}
+use mathlib.Core.Path.{_≡_, refl, sym, _∙_, ap, ap₂, subst}
+use mathlib.Core.Bool.{Bool, true, false, _&&_, cond, false≢true}
+use mathlib.Core.Option.{none}
 use mathlib.Core.Logic.{_≢_}
 use mathlib.Core.List.{List, [], _∷_, _++_}
 use Prim.Native.Nat.{ℕ, zero, suc, _+_, _-_, _≤_, _<_}
-use native.Mathlib.Nat.{add-zero, zero-add, add-suc, suc-add, add-assoc}
+use native.Mathlib.Nat.{add-zero, zero-add}
 use native.Mathlib.Omega.{arith}
 use native.Mathlib.Decide.{decLt}
-use lib.Dec.{T, ltb, ltb→lt, nltb→le, lt→ltb}
-use lib.ListN.{length, getD, length-append, List·getD-append}
-use Rattle.meaning.specs.Meaning.{Set, ∅, same, Chart, Slaves}
+use lib.ListN.{length, getD}
+use Rattle.meaning.specs.Meaning.{Set, ∅, same}
 use Rattle.signals.specs.Mask.{_∪_}
-use Rattle.meaning.specs.Laws.Bools.{same-refl, same→≡, same-≢, bool-eq, and-l, and-r, and-i, not-true}
+use Rattle.meaning.specs.Laws.Bools.{same-refl, same→≡, same-≢, bool-eq}
 use Rattle.meaning.specs.File.{File}
 use Rattle.meaning.specs.Laws.Trees.{Ordered}
 use Rattle.meaning.specs.Count.{one, tally}
-use Rattle.meaning.specs.Laws.Names.{tally-ge, tally-two, tally-find, Rule10}
+use Rattle.meaning.specs.Laws.Names.{tally-ge, Rule10}
 use Rattle.meaning.specs.Check.{names, named, held}
 use Rattle.meaning.specs.Rewriting.{callsOf, count, before, start, newName, composed, madeBy, madeFor, laid, newNode, rewrite}
-use Rattle.agreement.specs.Renamed.{tally-mono}
-use Rattle.agreement.specs.Laid.{noNode, widthOf, width, start-suc, start-mono, inside, last-width, ren-inside, laid-length, parts-length}
+use Rattle.agreement.specs.Sums.{tally-cong, tally-zero, tally-add, tally-swap, tally-front, tally-only, count-less}
+use Rattle.agreement.specs.Laid.{noNode, widthOf, width, start-suc, start-mono, last-width, laid-length}
 use Rattle.layout.specs.declared.record.Node.{Node}
 
 -- ── sums ──
-pub tally-cong : (n : ℕ) (f g : ℕ → ℕ) → ((i : ℕ) → i < n → f i ≡ g i) → tally n f ≡ tally n g
-unfolding tally
-tally-cong zero f g h = refl
-tally-cong (suc n) f g h = ap₂ _+_ (h n (omega arith)) (tally-cong n f g (λ i l. h i (omega arith)))
-
-pub tally-zero : (n : ℕ) (f : ℕ → ℕ) → ((i : ℕ) → i < n → f i ≡ 0) → tally n f ≡ 0
-unfolding tally
-tally-zero zero f h = refl
-tally-zero (suc n) f h = let a = h n (omega arith) in let b = tally-zero n f (λ i l. h i (omega arith)) in omega arith
-
-tally-add : (n : ℕ) (f g : ℕ → ℕ) → tally n (λ i. f i + g i) ≡ tally n f + tally n g
-unfolding tally
-tally-add zero f g = refl
-tally-add (suc n) f g = let a = tally-add n f g in omega arith
-
-tally-swap : (n m : ℕ) (h : ℕ → ℕ → ℕ) → tally n (λ j. tally m (λ i. h i j)) ≡ tally m (λ i. tally n (λ j. h i j))
-unfolding tally
-tally-swap zero m h = sym (tally-zero m (λ i. 0) (λ i l. refl))
-tally-swap (suc n) m h = ap (λ z. tally m (λ i. h i n) + z) (tally-swap n m h) ∙ sym (tally-add m (λ i. h i n) (λ i. tally n (λ j. h i j)))
-
-pub tally-front : (n : ℕ) (f : ℕ → ℕ) → tally (suc n) f ≡ f 0 + tally n (λ i. f (suc i))
-unfolding tally
-tally-front zero f = refl
-tally-front (suc n) f = let a = tally-front n f in omega arith
-
--- one place only
-tally-only : (n : ℕ) (f : ℕ → ℕ) (i : ℕ) → i < n → ((k : ℕ) → k < n → k ≢ i → f k ≡ 0) → tally n f ≡ f i
-unfolding tally
-tally-only zero f i l h = absurd (omega arith)
-tally-only (suc n) f i l h = go (same i n) refl (λ m. tally-only n f i m (λ k q. h k (omega arith)))
-  where
-    go : (b : Bool) → same i n ≡ b → (i < n → tally n f ≡ f i) → f n + tally n f ≡ f i
-    go true e r = let p = same→≡ i n e in let z = tally-zero n f (λ k q. h k (omega arith) (λ w. omega arith)) in rw p (omega arith)
-    go false e r = let p : i ≢ n = λ w. false≢true (sym e ∙ rw w (same-refl n)) in let a = h n (omega arith) (λ w. p (sym w)) in let b = r (omega arith) in omega arith
 
 sumL : (Node → ℕ) → List Node → ℕ
 sumL g [] = 0
@@ -177,13 +142,6 @@ module _ (F : File) (w : Ordered F) (r : Rule10 F) (there : (i : ℕ) → i < F 
   unfolding end
   end-is j s e f = ap₂ (before F) e f
 
-  count-lt : (c i : ℕ) → i < F .slaves → same (F .master i) c ≡ true → count F c i < count F c (F .slaves)
-  unfolding tally
-  count-lt c i m e = let a = tally-mono (F .slaves) (suc i) (λ i. one (same (F .master i) c)) m in let b : one (same (F .master i) c) ≡ 1 = ap one e in let d = count-suc in omega arith
-    where
-      count-suc : tally (suc i) (λ i. one (same (F .master i) c)) ≡ one (same (F .master i) c) + count F c i
-      count-suc = refl
-
   nm-parts : (j j₀ s i : ℕ) → F .kind j ≡ 0 → count F (F .a j) (F .slaves) ≡ suc s → i ≤ F .slaves
       → sumL (nm (newName F j₀)) (composed F (F .a j) (start F j) i) ≡ tally i (λ i. one (same (F .master i) (F .a j) && same (F .node i) j₀))
   unfolding composed sumL tally nm
@@ -199,13 +157,13 @@ module _ (F : File) (w : Ordered F) (r : Rule10 F) (there : (i : ℕ) → i < F 
       nm-one : (a b : ℕ) → same a (newName F j₀) ≡ false → one (same 1 1 && same a (newName F j₀)) + one (same 1 1 && same b (newName F j₀)) + one (same 1 2 && same a (newName F j₀)) ≡ one (same b (newName F j₀))
       nm-one a b x = rw (same-refl 1, s12, x) (omega arith)
 
-      callIn : same (F .master i) c ≡ true → nm (newName F j₀) nd ≡ one (same (F .node i) j₀)
-      callIn p = let l = count-lt c i m p in let u = end-is j s e f in
+      names-slave : same (F .master i) c ≡ true → nm (newName F j₀) nd ≡ one (same (F .node i) j₀)
+      names-slave p = let l = count-less F c i (F .slaves) m p in let u = end-is j s e f in
           let x : same (start F j + count F c i) (newName F j₀) ≡ false = same-≢ _ _ (not-end j (count F c i) j₀ (omega arith)) in nm-one (start F j + count F c i) (newName F (F .node i)) x ∙ ap one (same-ren (F .node i) j₀)
 
       go : (d : Bool) → same (F .master i) c ≡ d → sumL (nm (newName F j₀)) (composed F c (start F j) i) ≡ tally i (λ i. one (same (F .master i) c && same (F .node i) j₀))
           → sumL (nm (newName F j₀)) (cond d (composed F c (start F j) i ++ (nd ∷ [])) (composed F c (start F j) i)) ≡ one (d && same (F .node i) j₀) + tally i (λ i. one (same (F .master i) c && same (F .node i) j₀))
-      go true p h = let a = sumL-append (nm (newName F j₀)) (composed F c (start F j) i) (nd ∷ []) in let b = callIn p in omega arith
+      go true p h = let a = sumL-append (nm (newName F j₀)) (composed F c (start F j) i) (nd ∷ []) in let b = names-slave p in omega arith
       go false p h = h ∙ sym (zero-add _)
 
   nm-base : (p c : ℕ) → nm p (record { kind = 0; a = c; b = 0; x = ∅; y = ∅ }) ≡ 0
@@ -307,20 +265,13 @@ module _ (F : File) (w : Ordered F) (r : Rule10 F) (there : (i : ℕ) → i < F 
       single-holder i l false e = tally-zero (F .nodes) (λ j. B i j) (λ j m. rw e (law0 (same (F .kind j) 0) (same (F .master i) (F .a j))))
 
   -- ── the nodes before the last that is made for a node ──
-  count-less : (c i k : ℕ) → i < k → same (F .master i) c ≡ true → count F c i < count F c k
-  unfolding tally
-  count-less c i k m e = let a = tally-mono k (suc i) (λ i. one (same (F .master i) c)) m in let b : one (same (F .master i) c) ≡ 1 = ap one e in let d = count-suc in omega arith
-    where
-      count-suc : tally (suc i) (λ i. one (same (F .master i) c)) ≡ one (same (F .master i) c) + count F c i
-      count-suc = refl
-
   both-zero : (a b : Bool) → (a ≡ true → b ≡ false) → one (a && b) ≡ 0
   both-zero true b h = ap one (h refl)
   both-zero false b h = refl
 
   -- of the first k slaves of c, one has q before it, if there are more than q
   none-with : (c q k : ℕ) → count F c k ≤ q → tally k (λ i. one (same (F .master i) c && same (count F c i) q)) ≡ 0
-  none-with c q k h = tally-zero k _ (λ i l. both-zero (same (F .master i) c) (same (count F c i) q) (λ e. same-≢ (count F c i) q (λ z. let a = count-less c i k l e in omega arith)))
+  none-with c q k h = tally-zero k _ (λ i l. both-zero (same (F .master i) c) (same (count F c i) q) (λ e. same-≢ (count F c i) q (λ z. let a = count-less F c i k l e in omega arith)))
 
   one-with : (c q k : ℕ) → q < count F c k → tally k (λ i. one (same (F .master i) c && same (count F c i) q)) ≡ 1
   unfolding tally
@@ -377,7 +328,7 @@ module _ (F : File) (w : Ordered F) (r : Rule10 F) (there : (i : ℕ) → i < F 
             let b = nm-parts-in P (F .a j) (start F j) (F .slaves) no-ren in
             let c = nm-2 P (start F j + suc s) 0 (callsOf F (F .a j)) (callsOf F (F .a j)) in
             let d = tally-zero (F .slaves) (λ i. one (same (F .master i) (F .a j) && same (start F j + count F (F .a j) i) P))
-            (λ i m. both-zero (same (F .master i) (F .a j)) (same (start F j + count F (F .a j) i) P) (λ z. same-≢ _ _ (elsewhere j (count F (F .a j) i) h (let y = count-less (F .a j) i (F .slaves) m z in omega arith)))) in
+            (λ i m. both-zero (same (F .master i) (F .a j)) (same (start F j + count F (F .a j) i) P) (λ z. same-≢ _ _ (elsewhere j (count F (F .a j) i) h (let y = count-less F (F .a j) i (F .slaves) m z in omega arith)))) in
             let g = no (start F j + suc s) (elsewhere j (suc s) h (omega arith)) in omega arith)
           where
             hidden : ℕ → Node

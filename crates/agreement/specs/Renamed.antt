@@ -1,17 +1,16 @@
 -- The nodes of the rewritten file give the rewritten tree.
-use mathlib.Core.Path.{_≡_, refl, sym, _∙_, ap, ap₂, subst, subst₂, fun-ext}
-use mathlib.Core.Bool.{Bool, true, false, _&&_, _||_, not, cond, true≢false, false≢true}
-use mathlib.Core.Option.{Option, none, some}
-use mathlib.Core.Logic.{_≢_}
-use mathlib.Core.List.{List, [], _∷_}
+use mathlib.Core.Path.{_≡_, refl, sym, _∙_, ap}
+use mathlib.Core.Bool.{Bool, true, false, _&&_, cond}
+use mathlib.Core.List.{[], _∷_}
 use Prim.Native.Nat.{ℕ, zero, suc, _+_, _≤_, _<_}
 use native.Mathlib.Nat.{add-zero, zero-add}
 use native.Mathlib.Omega.{arith}
-use Rattle.meaning.specs.Meaning.{Set, ∅, same, Chart, Tree, Slaves, leaf, comp, hide, dec, nil, snoc}
+use Rattle.meaning.specs.Meaning.{Set, ∅, same, Tree, Slaves, leaf, hide, dec, nil, snoc}
 use Rattle.signals.specs.Mask.{_∪_, single}
 use Rattle.signals.specs.Decide.{sets, A, ∅ₑ, _∪ₑ_, _≐_}
 use Rattle.layout.specs.declared.record.Transition.{Transition}
-use Rattle.meaning.specs.Laws.Bools.{same-refl, same→≡, same-≢}
+use Rattle.meaning.specs.Laws.Bools.{same→≡}
+use Rattle.agreement.specs.Sums.{tally-mono}
 use Rattle.agreement.specs.Tree.{calls, tree, nest, touch}
 use Rattle.meaning.specs.Rewriting.{unionUpTo, call, callsBy, callsOf, isOf, touches, count, start, newName}
 use Rattle.meaning.specs.File.{File, whole, gather, treeOf}
@@ -81,18 +80,6 @@ pub record NodesR (F F′ : File) : Type 0 where
   pub whole-a : (j : ℕ) → j < F .nodes → F .kind j ≡ 0 → 0 < count F (F .a j) (F .slaves) → F′ .a (newName F j) ≡ start F j + count F (F .a j) (F .slaves)
   pub whole-x : (j : ℕ) → j < F .nodes → F .kind j ≡ 0 → 0 < count F (F .a j) (F .slaves) → F′ .x (newName F j) ≡ callsOf F (F .a j)
   pub whole-y : (j : ℕ) → j < F .nodes → F .kind j ≡ 0 → 0 < count F (F .a j) (F .slaves) → F′ .y (newName F j) ≡ callsOf F (F .a j)
-
-pub tally-mono : (n k : ℕ) (f : ℕ → ℕ) → k ≤ n → tally k f ≤ tally n f
-unfolding tally
-tally-mono zero k f l = rw (le0 k l) (omega arith)
-  where
-    le0 : (k : ℕ) → k ≤ zero → k ≡ zero
-    le0 k l = omega arith
-tally-mono (suc n) k f l = go (same k (suc n)) refl (λ h. tally-mono n k f h)
-  where
-    go : (b : Bool) → same k (suc n) ≡ b → (k ≤ n → tally k f ≤ tally n f) → tally k f ≤ f n + tally n f
-    go true e r = rw (same→≡ k (suc n) e) (omega arith)
-    go false e r = let z : k ≢ suc n = λ w. false≢true (sym e ∙ rw w (same-refl (suc n))) in let y = r (omega arith) in omega arith
 
 gather-nil : (sc : ℕ → ℕ) (g : ℕ → Tree) (c k : ℕ) → tally k (λ i. one (same (sc i) c)) ≡ 0 → gather sc g c k ≡ nil
 unfolding gather tally

@@ -1,18 +1,18 @@
 -- A tree and its rewriting: the same is offered, put out and permitted. In this order: sets without calls; the rule of a chart; interfaces;
 -- outputs; choices permitted (`ok-t`).
-use mathlib.Core.Path.{_≡_, refl, sym, _∙_, ap, ap₂, subst}
-use mathlib.Core.Bool.{Bool, true, false, _&&_, _||_, not, cond, true≢false, false≢true, and-true, and-assoc}
+use mathlib.Core.Path.{_≡_, refl, sym, _∙_, ap, ap₂}
+use mathlib.Core.Bool.{Bool, true, false, _&&_, _||_, cond, false≢true, and-true, and-assoc, and-false, or-false}
 use mathlib.Core.Option.{Option, none, some}
-use mathlib.Core.List.{List, [], _∷_}
-use Prim.Native.Nat.{ℕ, zero, suc, _+_, _≤_, _<_}
+use mathlib.Core.List.{[], _∷_}
+use Prim.Native.Nat.{ℕ}
 use lib.Dec.{eqb}
 use Rattle.signals.specs.Mask.{_∪_, _∩_, _∖_, single, bit, within, apart}
-use Rattle.signals.specs.Mask.Laws.{bit-single, bit-none, single-apart, apart-single}
+use Rattle.signals.specs.Mask.Laws.{bit-single, bit-none, single-apart}
 use Rattle.signals.specs.Decide.{sets, A, B, C, D, E as Eₑ, F as Fₑ, G as Gₑ, H as Hₑ, ∅ₑ, _∪ₑ_, _∩ₑ_, _∖ₑ_, _≐_, _⊑_, _⊥ₑ_}
 use Rattle.layout.specs.declared.record.Transition.{Transition}
-use Rattle.meaning.specs.Meaning.{Set, ∅, same, Chart, Tree, Slaves, leaf, comp, hide, dec, nil, snoc, Move, actionOf, after, inFaceChart, inFace, inFaces, out, outs, okChart, meets, ok, oks, permitted}
+use Rattle.meaning.specs.Meaning.{Set, ∅, same, Chart, Tree, Slaves, leaf, comp, hide, dec, nil, snoc, Move, actionOf, after, inFaceChart, inFace, inFaces, out, outs, okChart, meets, ok, oks}
 use Rattle.meaning.specs.Rewriting.{callIn, called, idle}
-use Rattle.meaning.specs.Laws.Bools.{same-refl, same→≡, same-≢, and-l, and-r, and-i, and-cong, not-true}
+use Rattle.meaning.specs.Laws.Bools.{same-refl, same→≡, same-≢, and-l, and-i, and-cong, not-true}
 use Rattle.agreement.specs.Tree.{calls, on, tree, nest, touch, moveR}
 
 -- ── sets without calls ──
@@ -83,6 +83,17 @@ module _ (sig : ℕ → ℕ) where
     sig-call none i r = sets (single (sig i) ∷ []) [] (A ∩ₑ ∅ₑ ≐ ∅ₑ) tt
     sig-call (some j) i r = sig-apart i j r
 
+-- the calls that a transition makes are its chart's slaves'
+module _ (sig state : ℕ → ℕ) where
+  pub touch-calls : (ss : Slaves) (t : Transition) → touch sig state ss t ∖ calls sig ss ≡ ∅
+  unfolding touch calls
+  touch-calls nil t = sets [] [] (∅ₑ ⊑ ∅ₑ) tt
+  touch-calls (snoc ss i u) t = go (same (t .from) (state i) || same (t .to) (state i)) (touch-calls ss t)
+    where
+      go : (b : Bool) → touch sig state ss t ∖ calls sig ss ≡ ∅ → (touch sig state ss t ∪ cond b (single (sig i)) ∅) ∖ (calls sig ss ∪ single (sig i)) ≡ ∅
+      go true h = sets (touch sig state ss t ∷ calls sig ss ∷ single (sig i) ∷ []) (A ⊑ B ∷ []) (A ∪ₑ C ⊑ B ∪ₑ C) tt h
+      go false h = sets (touch sig state ss t ∷ calls sig ss ∷ single (sig i) ∷ []) (A ⊑ B ∷ []) (A ∪ₑ ∅ₑ ⊑ B ∪ₑ C) tt h
+
 -- a chart with its move, and its rewriting
 pub record At (sig state : ℕ → ℕ) (cfg : ℕ → ℕ) (E E′ : ℕ → Chart) (M M′ : ℕ → Move) (κ : Option ℕ) (c : ℕ) (ss : Slaves) : Type 0 where
   pub moved : M′ c ≡ moveR sig κ (touch sig state ss) (cfg c) (M c)
@@ -130,10 +141,6 @@ own sig κ o F T t om tf = ap₂ (λ p q. eqb p 0 && eqb q 0)
     (sets (t .needed ∷ callIn sig κ ∷ o ∷ t .action ∷ T ∷ F ∷ []) (B ⊥ₑ A ∷ Eₑ ⊥ₑ Fₑ ∷ []) ((A ∪ₑ B) ∖ₑ (C ∪ₑ B ∪ₑ (D ∪ₑ Eₑ) ∩ₑ Fₑ) ≐ A ∖ₑ (C ∪ₑ D ∩ₑ Fₑ)) tt (call-old sig κ (t .needed) (om .0)) tf)
     (sets (t .barred ∷ callIn sig κ ∷ o ∷ t .action ∷ T ∷ F ∷ []) (B ⊥ₑ A ∷ Eₑ ⊥ₑ Fₑ ∷ []) (A ∩ₑ (C ∪ₑ B ∪ₑ (D ∪ₑ Eₑ) ∩ₑ Fₑ) ≐ A ∩ₑ (C ∪ₑ D ∩ₑ Fₑ)) tt (call-old sig κ (t .barred) (om .1)) tf)
 
-and-false′ : (a : Bool) → (a && false) ≡ false
-and-false′ true = refl
-and-false′ false = refl
-
 okChart-R : (sig : ℕ → ℕ) (κ : Option ℕ) (a : Bool) (o F : Set) (T : Transition → Set) (s : ℕ) (m : Move) → OldMove sig m → Old sig o → Old sig F
     → ((t : Transition) → T t ∩ F ≡ ∅) → Awake sig κ a → okChart F true (o ∪ on sig κ a) s (moveR sig κ T s m) ≡ okChart F a o s m
 unfolding okChart moveR called idle on callIn
@@ -142,7 +149,7 @@ okChart-R sig none true o F T s none om oo oF tf w = refl
 okChart-R sig none true o F T s (some t) om oo oF tf w = ap (λ b. same (t .from) s && b) (own sig none o F (T t) t om (tf t))
 okChart-R sig (some i) true o F T s (some t) om oo oF tf w = ap (λ b. same (t .from) s && b) (own sig (some i) o F (T t) t om (tf t))
 okChart-R sig (some i) false o F T s (some t) om oo oF tf w =
-    ap (λ b. same (t .from) s && (b && apart (t .barred) ((o ∪ ∅) ∪ ((t .action ∪ T t) ∩ F)))) lacks ∙ and-false′ (same (t .from) s)
+    ap (λ b. same (t .from) s && (b && apart (t .barred) ((o ∪ ∅) ∪ ((t .action ∪ T t) ∩ F)))) lacks ∙ and-false (same (t .from) s)
   where
     lacks : within (t .needed ∪ callIn sig (some i)) ((o ∪ ∅) ∪ ((t .action ∪ T t) ∩ F)) ≡ false
     lacks = hit-zero (sig i) _ (sets (single (sig i) ∷ t .needed ∷ o ∷ (t .action ∪ T t) ∷ F ∷ []) (A ⊥ₑ C ∷ A ⊥ₑ Eₑ ∷ []) (A ⊑ (B ∪ₑ A) ∖ₑ (C ∪ₑ ∅ₑ ∪ₑ D ∩ₑ Eₑ)) tt (oo i) (oF i))
@@ -153,17 +160,13 @@ okChart-R sig (some i) true o F T s none om oo oF tf w =
     hits = hit-zero (sig i) _ (sets (single (sig i) ∷ o ∷ F ∷ []) [] (A ⊑ A ∩ₑ (B ∪ₑ A ∪ₑ ∅ₑ ∩ₑ C)) tt)
 
     law : (a b : Bool) → (a && (b && false)) ≡ false
-    law true b = and-false′ b
+    law true b = and-false b
     law false b = refl
 okChart-R sig (some i) false o F T s none om oo oF tf w =
     and-i (same-refl s) (and-i (none-zero _ (sets (o ∷ F ∷ []) [] (∅ₑ ⊑ A ∪ₑ ∅ₑ ∪ₑ ∅ₑ ∩ₑ B) tt))
     (none-zero _ (sets (single (sig i) ∷ o ∷ F ∷ []) (A ⊥ₑ B ∷ []) (A ⊥ₑ B ∪ₑ ∅ₑ ∪ₑ ∅ₑ ∩ₑ C) tt (oo i))))
 
 -- ── interfaces ──
-
-or-false′ : (a : Bool) → (a || false) ≡ a
-or-false′ true = refl
-or-false′ false = refl
 
 -- slave j is among them
 In : ℕ → Slaves → Bool
@@ -263,14 +266,9 @@ module _ (sig state : ℕ → ℕ) (inj : (i j : ℕ) → sig i ≡ sig j → i 
   made-nil (some t) = refl
 
   made-calls : (ss : Slaves) (m : Move) → made sig state ss m ∖ calls sig ss ≡ ∅
-  unfolding made calls touch
+  unfolding made
   made-calls ss none = sets (calls sig ss ∷ []) [] (∅ₑ ⊑ A) tt
-  made-calls nil (some t) = sets [] [] (∅ₑ ⊑ ∅ₑ) tt
-  made-calls (snoc ss i u) (some t) = go (same (t .from) (state i) || same (t .to) (state i)) (made-calls ss (some t))
-    where
-      go : (b : Bool) → touch sig state ss t ∖ calls sig ss ≡ ∅ → (touch sig state ss t ∪ cond b (single (sig i)) ∅) ∖ (calls sig ss ∪ single (sig i)) ≡ ∅
-      go true h = sets (touch sig state ss t ∷ calls sig ss ∷ single (sig i) ∷ []) (A ⊑ B ∷ []) (A ∪ₑ C ⊑ B ∪ₑ C) tt h
-      go false h = sets (touch sig state ss t ∷ calls sig ss ∷ single (sig i) ∷ []) (A ⊑ B ∷ []) (A ∪ₑ ∅ₑ ⊑ B ∪ₑ C) tt h
+  made-calls ss (some t) = touch-calls sig state ss t
 
   mutual
     unfolding out tree
@@ -370,7 +368,7 @@ module _ (sig state : ℕ → ℕ) (inj : (i j : ℕ) → sig i ≡ sig j → i 
       go : (b : Bool) → same j i ≡ b → single (sig j) ∩ T ≡ cond (In j ss && hits t j) (single (sig j)) ∅
           → single (sig j) ∩ (T ∪ cond (hits t i) (single (sig i)) ∅) ≡ cond ((In j ss || b) && hits t j) (single (sig j)) ∅
       go true e r = let q = same→≡ j i e in rw q (own-call (In i ss) (hits t i) (rw q at r))
-      go false e r = other-call (hits t i) (sig-apart sig inj j i (λ q. false≢true (sym e ∙ rw q (same-refl j)))) ∙ r ∙ ap (λ n. cond (n && hits t j) (single (sig j)) ∅) (sym (or-false′ (In j ss)))
+      go false e r = other-call (hits t i) (sig-apart sig inj j i (λ q. false≢true (sym e ∙ rw q (same-refl j)))) ∙ r ∙ ap (λ n. cond (n && hits t j) (single (sig j)) ∅) (sym (or-false (In j ss)))
 
   -- a permitted move makes a slave's call exactly if the slave is active
   made-at : (ss : Slaves) (F : Set) (a : Bool) (o : Set) (s : ℕ) (m : Move) → okChart F a o s m ≡ true → (j : ℕ) → In j ss ≡ true

@@ -1,28 +1,25 @@
 -- The rewritten file steps as the file does, from each configuration and for each input; so its runs are the same, and its interfaces.
 use mathlib.Core.Path.{_≡_, refl, sym, _∙_, ap, ap₂, subst, fun-ext}
-use mathlib.Core.Bool.{Bool, true, false, _&&_, cond}
-use mathlib.Core.Option.{Option, none, some}
-use mathlib.Core.List.{List, [], _∷_, _++_}
-use Prim.Native.Nat.{ℕ, zero, suc, _+_, _-_, _^_, _≤_, _<_}
+use mathlib.Core.Bool.{true, _&&_}
+use mathlib.Core.Option.{none}
+use mathlib.Core.List.{List}
+use Prim.Native.Nat.{ℕ, zero, suc, _-_, _^_, _≤_, _<_}
 use native.Mathlib.Omega.{arith}
 use lib.ListN.{length, getD}
 use Rattle.signals.specs.Mask.{_∪_, _∩_, _∖_}
-use Rattle.layout.specs.declared.record.Transition.{Transition}
-use Rattle.meaning.specs.Meaning.{Set, ∅, Chart, Move, Tree, Slaves, leaf, comp, hide, dec, nil, snoc, inFace, out, ok, permitted, moves, upd, Outcome, upto, outcome, search, outcomes, Answer, answer, refused, given}
+use Rattle.meaning.specs.Meaning.{Set, Chart, Move, Tree, Slaves, leaf, comp, hide, dec, nil, snoc, inFace, ok, permitted, moves, upd, upto, outcome, search, outcomes, answer}
 use Rattle.meaning.specs.File.{File, treeOf, wholeOf, Has}
-use Rattle.meaning.specs.Calls.{stepIn, afterStep, rowOf, rowsOf}
-use Rattle.meaning.specs.Rewriting.{used, call, chartWith, nearestSlave, callsBy, rewrittenChart, count, before, start, newName, rewrite}
+use Rattle.meaning.specs.Calls.{stepIn}
+use Rattle.meaning.specs.Rewriting.{used, call, chartWith, nearestSlave, rewrittenChart, start, newName, rewrite}
 use Rattle.meaning.specs.Check.Nodes.{Sound}
-use Rattle.meaning.specs.Laws.Trees.{Ordered, Rule11, above-node, all-there}
-use Rattle.meaning.specs.Laws.Names.{Rule10, enc, kap, placed, joined, enc-last}
+use Rattle.meaning.specs.Laws.Trees.{above-node, all-there}
+use Rattle.meaning.specs.Laws.Names.{enc, kap, placed, joined, enc-last}
 use Rattle.agreement.specs.Every.{Every}
 use Rattle.agreement.specs.Tree.{calls, tree, nest, touch}
-use Rattle.agreement.specs.Same.{Old}
-use Rattle.agreement.specs.Charts.{OldChart}
 use Rattle.agreement.specs.Fit.{Fit, fit-node, nearest-fit}
 use Rattle.agreement.specs.Outcomes.{same-outcomes}
 use Rattle.agreement.specs.Free.{call-inj, old-chart, old-x}
-use Rattle.agreement.specs.Renamed.{slavesOf, touch-of, tree-ren, NodesR}
+use Rattle.agreement.specs.Renamed.{slavesOf, touch-of, tree-ren}
 use Rattle.agreement.specs.Laid.{nodesR, orderedR, start-suc}
 
 -- ── a rewritten tree has no slaves, so their states do not matter ──

@@ -1,11 +1,11 @@
 -- The rewriting over a tree: what a decomposed chart becomes, the calls that its transitions make, what a move becomes. That the nodes of a
 -- rewritten file make this tree is in Renamed and Laid.
-use mathlib.Core.Bool.{Bool, true, false, _||_, cond}
+use mathlib.Core.Bool.{Bool, _||_, cond}
 use mathlib.Core.Option.{Option, none, some}
 use Prim.Native.Nat.{ℕ}
 use Rattle.signals.specs.Mask.{_∪_, single}
 use Rattle.layout.specs.declared.record.Transition.{Transition}
-use Rattle.meaning.specs.Meaning.{Set, ∅, same, Chart, Tree, Slaves, leaf, comp, hide, dec, nil, snoc, Move}
+use Rattle.meaning.specs.Meaning.{Set, ∅, same, Tree, Slaves, leaf, comp, hide, dec, nil, snoc, Move}
 use Rattle.meaning.specs.Rewriting.{callIn, called, idle}
 
 -- sig: the call signal of each slave; state: its state

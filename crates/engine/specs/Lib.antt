@@ -1,10 +1,3 @@
--- What the contracts of engine cite beyond the crate meaning: what is known of a body after each check (Known), one transition as the walk of 7 meets
--- it (Walk), what the check tells the other calls (Open), tables of the nodes' values (Parts); what the wiring of a file leaves, the masks (Wire),
--- the nearest enclosing slaves (Nearest), both in a search's tables (Wired).
-pub mod Known
-pub mod Walk
-pub mod Open
-pub mod Parts
-pub mod Wire
-pub mod Nearest
-pub mod Wired
+-- What the contracts of engine cite beyond the crate meaning: the charts' own interfaces (Faces), and what a step's functions ask and leave (Step).
+pub mod Faces
+pub mod Step

@@ -87,6 +87,12 @@ noStep = 23
 abbrev pub shortRows : ℕ
 shortRows = 27
 
+abbrev pub oddFront : ℕ
+oddFront = 30
+
+abbrev pub tooLong : ℕ
+tooLong = 31
+
 abbrev pub noFreeSignal : ℕ
 noFreeSignal = 40
 
@@ -104,9 +110,3 @@ manyNodes = 44
 
 abbrev pub shortOut : ℕ
 shortOut = 45
-
-abbrev pub oddFront : ℕ
-oddFront = 30
-
-abbrev pub tooLong : ℕ
-tooLong = 31

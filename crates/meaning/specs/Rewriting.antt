@@ -1,7 +1,7 @@
 -- The rewriting (document 01, "The rewriting"): a file with slaves becomes a file without, sentence by sentence. In this order: the call signals;
 -- the charts; the nodes; the rewritten file; refusals 40 to 44; the file in bytes; what the call answers. That the rewritten file steps as the
 -- file does is proved in the crate agreement.
-use mathlib.Core.Bool.{Bool, true, false, _&&_, _||_, cond}
+use mathlib.Core.Bool.{Bool, _&&_, _||_, cond}
 use mathlib.Core.Option.{Option, none, some}
 use mathlib.Core.List.{List, [], _∷_, _++_, map}
 use Prim.Native.Nat.{ℕ, zero, suc, _+_}
@@ -50,7 +50,19 @@ module _ (F : File) where
   unfoldable pub call : ℕ → ℕ
   call i = getD free i (mostSignals + i)
 
--- ── the charts ──
+  -- ── the charts ──
+
+  -- slave i is one of chart c
+  abbrev pub isOf : ℕ → ℕ → Bool
+  isOf c i = same (F .master i) c
+
+  -- "whose from or to is a slave's state"
+  abbrev pub touches : Transition → ℕ → Bool
+  touches t i = same (t .from) (F .state i) || same (t .to) (F .state i)
+
+  -- "A transition of a master whose from or to is a slave's state adds that call to its action."
+  unfoldable pub callsBy : ℕ → Transition → Set
+  callsBy c t = unionUpTo (F .slaves) (λ i. cond (isOf c i && touches t i) (single (call i)) ∅)
 
 -- call: the call signal of each slave; a chart stands in a slave, its nearest, or in none
 module _ (call : ℕ → ℕ) where
@@ -108,26 +120,14 @@ module _ (F : File) where
   unfoldable pub nearestSlave : ℕ → Option ℕ
   nearestSlave c = nearestIn (wholeOf F) none c
 
-  -- slave i is one of chart c
-  abbrev pub isOf : ℕ → ℕ → Bool
-  isOf c i = same (F .master i) c
-
-  -- "whose from or to is a slave's state"
-  abbrev pub touches : Transition → ℕ → Bool
-  touches t i = same (t .from) (F .state i) || same (t .to) (F .state i)
-
-  -- "A transition of a master whose from or to is a slave's state adds that call to its action."
-  unfoldable pub callsBy : ℕ → Transition → Set
-  callsBy c t = unionUpTo (F .slaves) (λ i. cond (isOf c i && touches t i) (single (call F i)) ∅)
-
   unfoldable pub rewrittenChart : ℕ → Chart
-  rewrittenChart c = chartWith (call F) (nearestSlave c) (callsBy c) (F .chart c)
+  rewrittenChart c = chartWith (call F) (nearestSlave c) (callsBy F c) (F .chart c)
 
   -- ── the nodes ──
 
   -- how many of the first k slaves are chart c's
   abbrev pub count : ℕ → ℕ → ℕ
-  count c k = tally k (λ i. one (isOf c i))
+  count c k = tally k (λ i. one (isOf F c i))
 
   -- how many nodes come before the last one that is made for a node, by its kind and its chart's slaves: for a master's its chart node and a
   -- composed node a slave, else none
@@ -150,14 +150,14 @@ module _ (F : File) where
 
   -- "all its calls", of the master c
   unfoldable pub callsOf : ℕ → Set
-  callsOf c = unionUpTo (F .slaves) (λ i. cond (isOf c i) (single (call F i)) ∅)
+  callsOf c = unionUpTo (F .slaves) (λ i. cond (isOf F c i) (single (call F i)) ∅)
 
   -- "for each of its slaves by state, a composed node (a = what was made so far, b = slave's node), feedback = the master's joined with all its
   -- calls": for the first k slaves, of chart c, whose chart node is number `at`. Slaves stand by state, by refusal 8.
   unfoldable pub composed : ℕ → ℕ → ℕ → List Node
   composed c at zero = []
   composed c at (suc i) =
-      cond (isOf c i)
+      cond (isOf F c i)
       (composed c at i
       ++ (record { kind = 1; a = at + count c i; b = newName (F .node i); x = F .chart c .feedback ∪ callsOf c; y = ∅ } ∷ []))
       (composed c at i)

@@ -49,8 +49,8 @@ module _ (s : List ℕ) where
   abbrev pub stateAt : ℕ → ℕ
   stateAt c = getD s (88 + c) 0
 
--- what a search asks of its tables
-pub record Tables (m s : List ℕ) : Type 0 where
+-- what a search over N charts asks of its tables
+pub record Tables (N : ℕ) (m s : List ℕ) : Type 0 where
   pub masks : length m ≡ 336
   pub small : length s ≡ 96
-  pub counts : (c : ℕ) → countAt s c ≤ 8
+  pub counts : (c : ℕ) → c < N → countAt s c ≤ 8

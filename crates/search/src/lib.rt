@@ -1,14 +1,14 @@
 // The search for permitted choices over tables of masks: it settles one chart after another until none is left. It knows no file.
 ghost use mathlib.Core.Path.{_≡_};
-ghost use mathlib.Core.Bool.{_&&_, not, cond};
+ghost use mathlib.Core.Bool.{true, _&&_, not, cond};
 ghost use mathlib.Core.List.{List};
-ghost use Prim.Native.Nat.{ℕ, suc, _+_, _-_, _*_, _≤_, _<_};
+ghost use Prim.Native.Nat.{ℕ, _+_, _-_, _*_, _≤_, _<_};
 ghost use lib.ListN.{length, getD};
-ghost use Rattle.signals.specs.Mask.{_∪_, _∩_};
+ghost use Rattle.signals.specs.Mask.{_∪_, _∩_, within, apart};
 ghost use Rattle.meaning.specs.Meaning.{same, eqList};
 ghost use Rattle.meaning.specs.Calls.{made};
-ghost use Rattle.search.specs.Table.{Tables, actionAt, backAt, upAt};
-ghost use Rattle.search.specs.Hunt.{wakes, taken, rested, passesAt, fineAt, outputAt, hunts, settleOf, over};
+ghost use Rattle.search.specs.Table.{Tables, neededAt, barredAt, actionAt, backAt, aheadAt, upAt};
+ghost use Rattle.search.specs.Hunt.{wakes, taken, rested, fineAt, outputAt, hunts, settleOf, over};
 
 // A beginning of a choice: what each chart is surely offered, and of each settled chart its candidate, its next state, and 1 if it is active.
 pub struct Trail {
@@ -101,47 +101,47 @@ fn rested(small: &[u8], t: Trail, k: usize) -> Trail
     }
 }
 
-// Whether settled chart d can still be met, charts from k on being left.
-fn passes(masks: &[u64], t: Trail, k: usize, d: usize) -> bool
-    requires { ⌜ (length (now masks) ≡ 336) × (k ≤ 8) × (d < 8) × ((c : ℕ) → getD (t .choice) c 0 < 8) ⌝ }
-    ensures { λ r. ⌜ ((s : List ℕ) → r ≡ passesAt (now (masks .entry)) s t k d) ⌝ }
+// Whether chart d, settled by its candidate v and surely offered low, can still be met, charts from k on being left (`passesAt`).
+fn passes(masks: &[u64], awake: u8, v: u8, low: u64, k: usize, d: usize) -> bool
+    requires { ⌜ (length (now masks) ≡ 336) × (k ≤ 8) × (d < 8) × (v < 8) ⌝ }
+    ensures { λ r. ⌜ r ≡ cond (same awake 1)
+        (within (neededAt (now (masks .entry)) d v) (low ∪ aheadAt (now (masks .entry)) k d) && apart (barredAt (now (masks .entry)) d v) low)
+        true ⌝ }
 {
-    if t.awake[d] != 1 {
+    if awake != 1 {
         return true;
     }
-    let low = t.low[d];
-    let v = t.choice[d] as usize;
-    if !signals::within(masks[8 * d + v], low | masks[256 + (8 * k + d)]) {
+    let at = 8 * d + v as usize;
+    if !signals::within(masks[at], low | masks[256 + (8 * k + d)]) {
         return false;
     }
-    signals::apart(masks[64 + (8 * d + v)], low)
+    signals::apart(masks[64 + at], low)
 }
 
-// Whether every chart up to k, the last that was settled, can still be met.
+// Whether every chart up to k, the last that was settled, can still be met. The last is tested first: it fails most often.
 fn fine(masks: &[u64], t: Trail, k: usize) -> bool
     requires { ⌜ (length (now masks) ≡ 336) × (k < 8) × ((c : ℕ) → getD (t .choice) c 0 < 8) ⌝ }
     ensures { λ r. ⌜ ((s : List ℕ) → r ≡ fineAt (now (masks .entry)) s t k) ⌝ }
 {
-    let mut d: usize = 0;
-    while d <= k {
-        if !passes(masks, t, k + 1, d) {
+    let mut d = k + 1;
+    while d > 0 {
+        d -= 1;
+        if !passes(masks, t.awake[d], t.choice[d], t.low[d], k + 1, d) {
             return false;
         }
-        d += 1;
     }
     true
 }
 
-// What comes out of the whole of chart d's action.
-fn shown(masks: &[u64], t: Trail, d: usize) -> u64
-    requires { ⌜ (length (now masks) ≡ 336) × (d < 8) × ((c : ℕ) → getD (t .choice) c 0 < 8) ⌝ }
-    ensures { λ r. ⌜ r ≡ cond (same (getD (t .awake) d 0) 1) (actionAt (now (masks .entry)) d (getD (t .choice) d 0) ∩ upAt (now (masks .entry)) d) 0 ⌝ }
+// What comes out of the whole of the action of chart d, settled by its candidate v.
+fn shown(masks: &[u64], awake: u8, v: u8, d: usize) -> u64
+    requires { ⌜ (length (now masks) ≡ 336) × (d < 8) × (v < 8) ⌝ }
+    ensures { λ r. ⌜ r ≡ cond (same awake 1) (actionAt (now (masks .entry)) d v ∩ upAt (now (masks .entry)) d) 0 ⌝ }
 {
-    if t.awake[d] != 1 {
+    if awake != 1 {
         return 0;
     }
-    let v = t.choice[d] as usize;
-    masks[128 + (8 * d + v)] & masks[328 + d]
+    masks[128 + (8 * d + v as usize)] & masks[328 + d]
 }
 
 // What comes out of the whole, all charts being settled.
@@ -152,12 +152,13 @@ fn output(masks: &[u64], t: Trail) -> u64
     let mut all: u64 = 0;
     let mut d: usize = 0;
     while d < 8 {
-        all = all | shown(masks, t, d);
+        all = all | shown(masks, t.awake[d], t.choice[d], d);
         d += 1;
     }
     all
 }
 
+// Whether two configurations are equal.
 fn same_states(a: [u8; 8], b: [u8; 8]) -> bool
     ensures { λ r. ⌜ r ≡ eqList a b ⌝ }
 {
@@ -216,7 +217,7 @@ pub fn search(
     t: Trail,
     acc: Found,
 ) -> Found
-    requires { ⌜ Tables (now masks) (now small) × (charts ≤ 8) × (left ≤ charts) × ((c : ℕ) → getD (t .choice) c 0 < 8) ⌝ }
+    requires { ⌜ Tables charts (now masks) (now small) × (charts ≤ 8) × (left ≤ charts) × ((c : ℕ) → getD (t .choice) c 0 < 8) ⌝ }
     ensures { λ r. ⌜ r ≡ over (hunts (now (masks .entry)) (now (small .entry)) left (charts - left) t) acc ⌝ }
 {
     if left == 0 {

@@ -103,7 +103,7 @@ module _ (E : ℕ → Chart) (state : ℕ → ℕ) (cfg : ℕ → ℕ) (t : Tree
   search-empty (suc n) c ch h = upto-cong (length (E c .transitions)) _ (λ v. []) (λ v l. search-empty n (suc c) (upd ch c v)
       (λ ch₂ b. h ch₂ (λ i l. b i (omega arith) ∙ upd-off ch c v i l))) ∙ upto-first (length (E c .transitions)) (λ v. []) (λ k l. refl)
 
-join-cong : (k : ℕ) (f g : ℕ → Set) → ((e : ℕ) → e < k → f e ≡ g e) → join k f ≡ join k g
+pub join-cong : (k : ℕ) (f g : ℕ → Set) → ((e : ℕ) → e < k → f e ≡ g e) → join k f ≡ join k g
 unfolding join
 join-cong zero f g h = refl
 join-cong (suc k) f g h = ap₂ _∪_ (join-cong k f g (λ e l. h e (omega arith))) (h k (omega arith))

@@ -17,7 +17,7 @@ use Rattle.wiring.specs.Wire.{Small, awakeBy, fits}
 use Rattle.wiring.specs.Wired.{awakeIn, awake, Stands, offer, ruled, permitted-wired}
 use Rattle.wiring.specs.Dropped.{open?, fits-open, May, Bounds, Below, passes, passes-last, passes-below, skip-dropped, search-empty, upto-cong, upd-off, test}
 
-every-cong : (n : ℕ) (f g : ℕ → Bool) → ((i : ℕ) → i < n → f i ≡ g i) → every n f ≡ every n g
+pub every-cong : (n : ℕ) (f g : ℕ → Bool) → ((i : ℕ) → i < n → f i ≡ g i) → every n f ≡ every n g
 unfolding every
 every-cong zero f g h = refl
 every-cong (suc n) f g h = ap₂ _&&_ (h n (omega arith)) (every-cong n f g (λ i l. h i (omega arith)))
@@ -43,7 +43,7 @@ module _ (enc : ℕ → Option ℕ) (sc state cfg : ℕ → ℕ) (N : ℕ) (lowe
       go none e ih = refl
       go (some i) e ih = let r = lower c i l e in ap₂ (λ b m. b && meets (cfg (sc i)) m (state i)) (ih i r) (h (sc i) r)
 
-  awake-below : (c : ℕ) → c < N → ((d : ℕ) → d < c → M₂ d ≡ M d) → awake enc sc state cfg M₂ c ≡ awake enc sc state cfg M c
+  pub awake-below : (c : ℕ) → c < N → ((d : ℕ) → d < c → M₂ d ≡ M d) → awake enc sc state cfg M₂ c ≡ awake enc sc state cfg M c
   unfolding awake
   awake-below c l h = awakeIn-below (suc c) c l h
 

@@ -1,11 +1,11 @@
 -- The wiring by the node records: what the code computes at a node.
-use mathlib.Core.Path.{_≡_, refl, sym, _∙_, ap, ap₂, subst, fun-ext}
-use mathlib.Core.Bool.{Bool, true, false, _&&_, _||_, not, cond}
-use Prim.Native.Nat.{ℕ, zero, suc, _+_, _≤_, _<_}
-use mathlib.Core.List.{List, [], _∷_}
+use mathlib.Core.Path.{_≡_, refl, _∙_, ap}
+use mathlib.Core.Bool.{not, cond}
+use Prim.Native.Nat.{ℕ, zero, suc, _<_}
+use mathlib.Core.List.{[], _∷_}
 use Rattle.signals.specs.Mask.{_∪_, _∩_, _∖_}
 use Rattle.signals.specs.Decide.{sets, A, B, C, ∅ₑ, _∪ₑ_, _∩ₑ_, _≐_}
-use Rattle.meaning.specs.Meaning.{Set, ∅, same, Chart, Tree, Slaves, leaf, comp, hide, dec, nil, snoc}
+use Rattle.meaning.specs.Meaning.{same, Chart, Slaves, nil, snoc}
 use Rattle.meaning.specs.File.{File, whole, gather, treeOf}
 use Rattle.meaning.specs.Laws.Bools.{same-refl, same-≢}
 use Rattle.meaning.specs.Laws.Trees.{Ordered, tree₀, tree₁, tree₂}
@@ -76,10 +76,6 @@ module _ (F : File) (w : Ordered F) where
   pub slaves-out : (d k : ℕ) → (F .master k ≡ d → ⊥) → some-of d (suc k) ≡ some-of d k
   unfolding gather
   slaves-out d k h = ap (λ b. cond b (snoc (some-of d k) k (treeOf F (F .node k))) (some-of d k)) (same-≢ (F .master k) d h)
-
-  pub slaves-none : (d : ℕ) → some-of d zero ≡ nil
-  unfolding gather
-  slaves-none d = refl
 
   pub downs-step : (d k c : ℕ) → F .master k ≡ d → downs (some-of d (suc k)) c ≡ downs (some-of d k) c ∪ down (treeOf F (F .node k)) c
   unfolding down

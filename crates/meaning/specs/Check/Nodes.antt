@@ -1,16 +1,16 @@
 -- What a file is once refusals 8 to 11 do not apply: the assumptions of the wiring and of the step. In this order: a test that is false, part by
 -- part; what 8, 9 and 10 give; that the charts of a tree are below the file's number of them; what 11 gives; all of it in one record (`sound`).
 use mathlib.Core.Path.{_≡_, refl, sym, _∙_, ap}
-use mathlib.Core.Bool.{Bool, true, false, _&&_, _||_, not, cond, true≢false, false≢true}
-use Prim.Native.Nat.{ℕ, zero, suc, _+_, _≤_, _<_}
+use mathlib.Core.Bool.{Bool, true, false, _&&_, not, cond, true≢false, false≢true}
+use Prim.Native.Nat.{ℕ, zero, suc, _≤_, _<_}
 use native.Mathlib.Omega.{arith}
 use borrow.Author.Tests.{ltb-true, not-false}
 use lib.Dec.{ltb}
 use Rattle.meaning.specs.Count.{anyUpTo}
-use Rattle.meaning.specs.Count.Laws.{or-left, or-right, or-three, or-four, any-never, one-most}
-use Rattle.meaning.specs.Meaning.{same, Tree, Slaves, nil, snoc}
+use Rattle.meaning.specs.Count.Laws.{or-left, or-three, or-four, any-never}
+use Rattle.meaning.specs.Meaning.{same, Slaves, nil, snoc}
 use Rattle.meaning.specs.File.{File, treeOf, gather, whole, Has, HasS}
-use Rattle.meaning.specs.Check.{notBelow, differ, inOrder, slave?, slaves?, nodeOfKind?, nodes?, holds, names, named, held, naming?, inside?}
+use Rattle.meaning.specs.Check.{notBelow, differ, inOrder, slave?, slaves?, nodeOfKind?, nodes?, holds, named, held, naming?, inside?}
 use Rattle.meaning.specs.Laws.Bools.{same-refl, same→≡, same-≢, and-i}
 use Rattle.meaning.specs.Laws.Above.{live-either}
 use Rattle.meaning.specs.Laws.Trees.{Ordered, Rule11, tree₀, tree₁, tree₂}
@@ -105,12 +105,6 @@ module _ (F : File) where
 
       at : (j : ℕ) → j < F .nodes → differ (named F j) (cond (same (suc j) (F .nodes)) 0 1) ≡ false
       at j l = any-never (F .nodes) (λ j. differ (named F j) (cond (same (suc j) (F .nodes)) 0 1)) (q .1) j l
-
-  -- a node names at most two others; three is plain from the sum
-  pub names-most : (k j : ℕ) → names F k j ≤ 3
-  unfolding names
-  names-most k j =
-      omega (arith, one-most (same (F .kind k) 1 && same (F .a k) j), one-most (same (F .kind k) 1 && same (F .b k) j), one-most (same (F .kind k) 2 && same (F .a k) j))
 
   -- ── 8 to 10 ──
 

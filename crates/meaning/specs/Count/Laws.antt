@@ -3,11 +3,11 @@
 use mathlib.Core.Path.{_≡_, refl, sym, ap, _∙_}
 use mathlib.Core.Bool.{Bool, true, false, _||_, false≢true}
 use mathlib.Core.Logic.{_⊎_, ⊎-elim}
-use Prim.Native.Nat.{ℕ, zero, suc, _+_, _*_, _≤_, _<_}
-use native.Mathlib.Nat.{eq-or-lt-of-le, mul-zero, mul-suc}
+use Prim.Native.Nat.{ℕ, zero, suc, _+_, _≤_, _<_}
+use native.Mathlib.Nat.{eq-or-lt-of-le}
 use native.Mathlib.Numerals.{add-one}
 use native.Mathlib.Omega.{arith}
-use Rattle.meaning.specs.Count.{anyUpTo, tally, one}
+use Rattle.meaning.specs.Count.{anyUpTo, tally}
 
 pub below-suc : (k n : ℕ) → k < suc n → (k ≡ n) ⊎ (k < n)
 below-suc k n l = eq-or-lt-of-le (let h : k ≤ n = omega arith in h)
@@ -79,13 +79,3 @@ tally-more n f = rw add-one
 
 pub tally-done : (i n : ℕ) (f : ℕ → ℕ) → i ≤ n → n ≤ i → tally i f ≡ tally n f
 tally-done i n f a b = let e : i ≡ n = omega arith in rw e
-
--- where each part is at most m, the sum is at most m for each
-pub tally-most : (m n : ℕ) (f : ℕ → ℕ) → ((k : ℕ) → f k ≤ m) → tally n f ≤ m * n
-unfolding tally
-tally-most m zero f h = omega (arith, mul-zero m)
-tally-most m (suc n) f h = omega (arith, h n, tally-most m n f h, mul-suc m n)
-
-pub one-most : (b : Bool) → one b ≤ 1
-one-most true = omega arith
-one-most false = omega arith

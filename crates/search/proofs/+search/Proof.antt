@@ -1,7 +1,7 @@
 -- `search::search` meets its contract. It ends since `left` falls at each call; its loop has been through the candidates below v, and may stop
 -- where two permitted choices disagree, since nothing more can change.
-use mathlib.Core.Path.{_≡_, refl, sym, ap, ap₂, _∙_}
-use mathlib.Core.Bool.{Bool, true, false, _&&_, not, cond}
+use mathlib.Core.Path.{_≡_, refl, sym, ap₂, _∙_}
+use mathlib.Core.Bool.{true, false, _&&_, not, cond}
 use mathlib.Core.List.{List, [], _∷_}
 use mathlib.Core.Logic.{⊎-elim}
 use Prim.Native.Nat.{ℕ, zero, suc, _+_, _-_, _<_, _≤_}
@@ -179,7 +179,7 @@ module _ (t : ℕ) where
   cast-n : lts.Need-cast-n (callees t) (at t) search′.Post Inv-loop μ-loop
   cast-n c =
       let b = c .before .before .before .before .before .before in
-      omega (arith, b .pre .1 .0 .counts (b .args .charts - b .args .left))
+      omega (arith, b .pre .1 .0 .counts (b .args .charts - b .args .left) (omega arith))
 
   loop-holds : lts.Need-loop-holds (callees t) (at t) search′.Post Inv-loop μ-loop
   unfolding each over
@@ -216,7 +216,7 @@ module _ (t : ℕ) where
   taken-requires : lts.Need-taken-requires (callees t) (at t) search′.Post Inv-loop μ-loop
   taken-requires c κs =
       let b = entry (c .before .before .before) in
-      (b .pre .1 .0 .masks, b .pre .1 .0 .small, omega (arith, b .pre .1), omega (arith, b .pre .1 .0 .counts (b .args .charts - b .args .left)))
+      (b .pre .1 .0 .masks, b .pre .1 .0 .small, omega (arith, b .pre .1), omega (arith, b .pre .1 .0 .counts (b .args .charts - b .args .left) (omega arith)))
 
   -- every candidate stays below 8
   chosen : (c : lts.After-taken (callees t) (at t) search′.Post Inv-loop μ-loop) → (d : ℕ) → getD (c .taken .result .choice) d 0 < 8
@@ -224,7 +224,7 @@ module _ (t : ℕ) where
       let b = entry (c .before .before .before .before) in
       let l = c .before .before .before .before .loop in
       chosen-taken (b .args .masks .now) (b .args .small .now) (b .args .t) (b .args .charts - b .args .left) (l .v) (c .taken .ensures)
-      (omega (arith, b .pre .1 .0 .counts (b .args .charts - b .args .left))) (b .pre .1 .3)
+      (omega (arith, b .pre .1 .0 .counts (b .args .charts - b .args .left) (omega arith))) (b .pre .1 .3)
 
   fine-requires-2 : lts.Need-fine-requires-2 (callees t) (at t) search′.Post Inv-loop μ-loop
   fine-requires-2 c κs =
@@ -240,7 +240,7 @@ module _ (t : ℕ) where
   add-v : lts.Need-add-v (callees t) (at t) search′.Post Inv-loop μ-loop
   add-v c =
       let b = entry (c .before .before .before .before .before .before) in
-      omega (arith, b .pre .1 .0 .counts (b .args .charts - b .args .left))
+      omega (arith, b .pre .1 .0 .counts (b .args .charts - b .args .left) (omega arith))
 
   loop-again : lts.Need-loop-again (callees t) (at t) search′.Post Inv-loop μ-loop
   loop-again c =

@@ -1,16 +1,32 @@
 -- `search::lower` meets its contract: entries below c are computed, those from c on are as they came.
-use mathlib.Core.Path.{_≡_, refl}
-use mathlib.Core.List.{List, _++_, append-nil}
-use Prim.Native.Nat.{ℕ, _-_, _≤_}
+use mathlib.Core.Path.{_≡_, refl, _∙_}
+use mathlib.Core.List.{List, _∷_, _++_, append-nil, append-assoc}
+use Prim.Native.Nat.{ℕ, zero, suc, _+_, _-_, _<_, _≤_}
+use native.Mathlib.Numerals.{add-one}
 use native.Mathlib.Omega.{arith}
 use borrow.Author.Needs.{needs}
-use lib.ListN.{length, getD, drop, drop-of-length-le}
+use lib.ListN.{length, getD, drop, set, length-append, drop-of-length-le}
+use lib.Seq.{drop-cons, set-at, getD-at}
 use Rattle.signals.specs.Mask.{_∪_, _∩_}
 use Rattle.meaning.specs.Calls.{made}
 use Rattle.search.specs.Table.{backAt}
-use Rattle.search.proofs.Laws.{made-more}
 use Rattle.search.proofs.lower.Statement.{statement}
 use Rattle.search.proofs.lower.Tie as tie
+
+length-made : (n : ℕ) (f : ℕ → ℕ) → length (made n f) ≡ n
+unfolding made
+length-made zero f = refl
+length-made (suc n) f = rw (length-append, length-made n f) (omega arith)
+
+-- an array b whose entries below i are computed from themselves, each by f: one entry more
+made-more : (b l : List ℕ) (f : ℕ → ℕ → ℕ) (i : ℕ) → i < length b → l ≡ made i (λ c. f c (getD b c 0)) ++ drop i b →
+    set l i (f i (getD l i 0)) ≡ made (i + 1) (λ c. f c (getD b c 0)) ++ drop (i + 1) b
+unfolding made
+made-more b l f i h e =
+    let g : ℕ → ℕ = λ c. f c (getD b c 0) in
+    let n : length (made i g) ≡ i = length-made i g in
+    let q : l ≡ made i g ++ getD b i 0 ∷ drop (suc i) b = e ∙ rw (drop-cons b i 0) in
+    rw (q, getD-at (made i g) (getD b i 0) (drop (suc i) b) 0 i n, set-at (made i g) (getD b i 0) (drop (suc i) b) (g i) i n, add-one, append-assoc)
 
 abbrev Inv-loop : tie.InvT-loop
 Inv-loop masks action k lows₀ c₀ lows c = (c ≤ 8) × (lows ≡ made c (λ d. getD lows₀ d 0 ∪ action ∩ backAt masks d k) ++ drop c lows₀)

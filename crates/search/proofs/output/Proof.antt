@@ -1,10 +1,10 @@
 -- `search::output` meets its contract: the union of what the charts below d show.
-use mathlib.Core.Path.{_≡_, refl, sym, _∙_}
+use mathlib.Core.Path.{_≡_, refl}
 use mathlib.Core.Bool.{cond}
 use mathlib.Core.List.{List}
 use Prim.Native.Nat.{ℕ, _+_, _-_, _≤_}
+use native.Mathlib.Numerals.{add-one}
 use native.Mathlib.Omega.{arith}
-use borrow.Author.Needs.{needs}
 use lib.ListN.{getD}
 use Rattle.signals.specs.Mask.{_∪_, _∩_}
 use Rattle.meaning.specs.Meaning.{same}
@@ -12,9 +12,12 @@ use Rattle.wiring.specs.Wire.{join}
 use Rattle.search.specs.declared.Trail.{Trail}
 use Rattle.search.specs.Table.{actionAt, upAt}
 use Rattle.search.specs.Hunt.{outputAt}
-use Rattle.search.proofs.Laws.{join-more}
 use Rattle.search.proofs.output.Statement.{statement}
 use Rattle.search.proofs.output.Tie as tie
+
+join-more : (n : ℕ) (f : ℕ → ℕ) → join (n + 1) f ≡ join n f ∪ f n
+unfolding join
+join-more n f = rw add-one
 
 -- what comes out of the whole of chart d's action
 abbrev shown : List ℕ → Trail → ℕ → ℕ
@@ -32,12 +35,20 @@ loop-holds c = (omega arith, refl)
 
 loop-again : tie.Need-loop-again Inv-loop μ-loop
 loop-again c =
-    let l = c .before .before .loop in
+    let l = c .before .before .before .before .loop in
     (omega arith, rw (join-more, l .inv .1, c .shown .ensures))
 
 returns : tie.Need-returns Inv-loop μ-loop
 unfolding outputAt
 returns c s = let e : c .before .loop .d ≡ 8 = omega arith in rw e at (c .before .loop .inv .1)
 
+shown-requires : tie.Need-shown-requires Inv-loop μ-loop
+shown-requires c κs =
+    let b = c .before .before .before .before .before in
+    (b .pre .0, omega arith, b .pre .1 (c .before .before .before .loop .d))
+
 pub output-spec : {M : Type 1} → statement M
-output-spec = tie.close (tie.spec Inv-loop μ-loop loop-holds (λ c κs. search needs) (λ c. omega arith) (λ c. omega arith) loop-again returns)
+output-spec =
+    tie.close
+    (tie.spec Inv-loop μ-loop loop-holds (λ c. omega arith) (λ c. omega arith) shown-requires (λ c. omega arith) (λ c. omega arith) loop-again
+    returns)

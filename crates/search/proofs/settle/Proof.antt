@@ -1,11 +1,11 @@
 -- `search::settle` meets its contract: a law for each way through the definition.
-use mathlib.Core.Path.{_≡_, refl, sym, _∙_}
-use mathlib.Core.Bool.{true, false, _&&_, and-false}
+use mathlib.Core.Path.{_≡_, sym, _∙_}
+use mathlib.Core.Bool.{true, false, and-false}
 use mathlib.Core.List.{List}
 use Prim.Native.Nat.{ℕ}
 use borrow.Author.Needs.{needs}
 use borrow.Author.Tests.{eq-eqb, ne-eqb, not-true, not-false}
-use Rattle.meaning.specs.Meaning.{same, eqList, Outcome}
+use Rattle.meaning.specs.Meaning.{same, eqList}
 use Rattle.search.specs.declared.Found.{Found}
 use Rattle.search.specs.Hunt.{settleOf}
 use Rattle.search.proofs.settle.Statement.{statement}

@@ -1,5 +1,4 @@
 -- `search::taken` meets its contract: the definition's own stores, and what `lower` gives.
-use mathlib.Core.Path.{refl}
 use borrow.Author.Needs.{needs}
 use Rattle.search.specs.Hunt.{taken}
 use Rattle.search.proofs.taken.Statement.{statement}

@@ -1,7 +1,7 @@
 -- Laws of what a search keeps. In order: `over`, which goes through a list of outcomes; `each`; that `over` gives the answer of the whole list
 -- (`answer-over`); lists of outcomes that answer alike wherever they stand (`Alike`), and blocks of `each` that may be left out.
 use mathlib.Core.Path.{_≡_, refl, sym, ap, ap₂, _∙_}
-use mathlib.Core.Bool.{Bool, true, false, _&&_, not, cond, and-assoc, and-true, false≢true}
+use mathlib.Core.Bool.{Bool, true, false, _&&_, and-assoc, and-true}
 use mathlib.Core.Logic.{_⊎_, ⊎-elim}
 use mathlib.Core.Option.{Option, none, some}
 use mathlib.Core.List.{List, [], _∷_, _++_, append-nil, append-assoc}
@@ -9,7 +9,7 @@ use Prim.Native.Nat.{ℕ, zero, suc, _+_, _≤_, _<_}
 use native.Mathlib.Nat.{eq-or-lt-of-le}
 use native.Mathlib.Numerals.{add-one}
 use native.Mathlib.Omega.{arith}
-use Rattle.meaning.specs.Meaning.{same, Outcome, eqList, agree, Answer, refused, given, answer}
+use Rattle.meaning.specs.Meaning.{same, Outcome, eqList, agree, given, answer}
 use Rattle.meaning.specs.Laws.Bools.{same-refl, same→≡, and-l, and-r, bool-eq}
 use Rattle.search.specs.Hunt.{each, pickFound, settleOf, over, nothing, answerIn}
 use Rattle.search.specs.declared.Found.{Found}
@@ -28,7 +28,9 @@ pub record Stopped (f : Found) : Type 0 where
 
 settle-stopped : (o : Outcome) (f : Found) → Stopped f → settleOf o f ≡ f
 unfolding settleOf
-settle-stopped o f h = ap (λ (b : Bool). pickFound b both (record { has = true; agree = true; output = o .output; next = o .next })) (h .has) ∙ either (same (o .output) (f .output) && eqList (o .next) (f .next))
+settle-stopped o f h =
+    ap (λ (b : Bool). pickFound b both (record { has = true; agree = true; output = o .output; next = o .next })) (h .has)
+    ∙ either (same (o .output) (f .output) && eqList (o .next) (f .next))
   where
     off : Found
     off = record { has = true; agree = false; output = f .output; next = f .next }
@@ -171,7 +173,7 @@ alike-append {xs} {ys} {zs} {ws} p q =
       agrees = λ a. agree-append a xs zs ∙ ap₂ _&&_ (p .agrees a) (q .agrees a) ∙ sym (agree-append a ys ws);
     }
 
-eqList-refl : (cs : List ℕ) → eqList cs cs ≡ true
+pub eqList-refl : (cs : List ℕ) → eqList cs cs ≡ true
 unfolding eqList
 eqList-refl [] = refl
 eqList-refl (c ∷ cs) = rw (same-refl c) (eqList-refl cs)
@@ -255,7 +257,7 @@ alike-twice xs ys = rw (← append-assoc) (alike-drop (xs ++ ys) xs (among-left 
 -- ── blocks of `each` that may be left out ──
 
 module _ (f : ℕ → List Outcome) where
-  among-each : (n u : ℕ) → u < n → Among (f u) (each n f)
+  pub among-each : (n u : ℕ) → u < n → Among (f u) (each n f)
   unfolding each
   among-each zero u l = absurd (omega arith)
   among-each (suc n) u l =

@@ -7,7 +7,7 @@ use lib.ListN.{length, drop, length-set}
 use Rattle.layout.specs.Body.{headAt}
 use Rattle.layout.specs.declared.record.Head.{Head}
 use Rattle.meaning.specs.Calls.{made}
-use Rattle.engine.proofs.Laws.{length-made, made-store}
+use Rattle.checks.proofs.Laws.{length-made, made-store}
 use Rattle.engine.proofs.file.put_initials.Statement.{statement}
 use Rattle.engine.proofs.file.put_initials.Tie as tie
 

@@ -1,0 +1,209 @@
+// Answers recorded calls of the engine: reads commands from standard input, makes each call on buffers filled with one byte, and prints a line
+// for it. docs/CASES.md has the format; reference/ makes the commands and the lines that are expected.
+ghost use mathlib.Core.Path.{_≡_};
+ghost use Prim.Native.Nat.{_≤_, _<_};
+ghost use lib.ListN.{length};
+ghost use Rattle.io.specs.Counts.{Counts};
+use libc::STDIN_FILENO;
+use libc::STDOUT_FILENO;
+
+const MOST_COMMANDS: u32 = 1000000;
+
+const MOST_BYTES: usize = 65536;
+
+const FILL: u8 = 0xA5;
+
+// A command's header: which call, and how many bytes of each kind follow it.
+struct Command {
+    op: u8,
+    name: usize,
+    config: usize,
+    file: usize,
+    room: usize,
+    inputs: usize,
+}
+
+fn wide(b: u8) -> usize {
+    b as usize
+}
+
+fn header(head: &[u8]) -> Command
+    requires { ⌜ length (now head) ≡ 16 ⌝ }
+{
+    Command {
+        op: head[0],
+        name: wide(head[1]),
+        config: layout::number::le16(head, 2) as usize,
+        file: layout::number::le32(head, 4) as usize,
+        room: layout::number::le32(head, 8) as usize,
+        inputs: layout::number::le16(head, 12) as usize,
+    }
+}
+
+fn space() {
+    io::write_all(STDOUT_FILENO, b" ");
+}
+
+// A refusal, after the name of its call.
+fn print_refusal(call: &[u8], number: u8) {
+    io::write_all(STDOUT_FILENO, call);
+    io::print_decimal(STDOUT_FILENO, number as u64);
+}
+
+fn print_set(set: u64) {
+    space();
+    io::print_hex(STDOUT_FILENO, set, 16);
+}
+
+fn print_byte(b: u8) {
+    io::print_hex(STDOUT_FILENO, b as u64, 2);
+}
+
+// A lent buffer after the call, all of it; `-` if it is empty.
+fn print_buffer(buffer: &[u8]) {
+    space();
+    if buffer.len() == 0 {
+        io::write_all(STDOUT_FILENO, b"-");
+    }
+    let mut i: usize = 0;
+    while i < buffer.len() {
+        print_byte(buffer[i]);
+        i += 1;
+    }
+}
+
+fn end_line() {
+    io::write_all(STDOUT_FILENO, b"\n");
+}
+
+fn print_check(file: &[u8]) {
+    print_refusal(b" check ", engine::file::check(file));
+    end_line();
+}
+
+fn print_first(file: &[u8], config: &mut [u8]) {
+    print_refusal(b" first ", engine::file::first(file, config));
+    print_buffer(config);
+    end_line();
+}
+
+fn print_interface(file: &[u8]) {
+    let faces = engine::interface::interface(file);
+    print_refusal(b" interface ", faces.refusal);
+    print_set(faces.input);
+    print_set(faces.output);
+    end_line();
+}
+
+fn print_mark(mark: bool) {
+    if mark {
+        io::write_all(STDOUT_FILENO, b" y");
+    } else {
+        io::write_all(STDOUT_FILENO, b" n");
+    }
+}
+
+fn print_step(file: &[u8], config: &[u8], input: u64, next: &mut [u8]) {
+    let s = engine::step::step(file, config, input, next);
+    print_refusal(b" step ", s.refusal);
+    print_set(s.output);
+    print_mark(s.mark);
+    print_buffer(next);
+    end_line();
+}
+
+// The call that a command asks for, on its file, its configuration, its input and a lent buffer.
+fn print_call(op: u8, file: &[u8], config: &[u8], input: u64, lent: &mut [u8]) {
+    match op {
+        0 => print_check(file),
+        1 => print_first(file, lent),
+        2 => print_interface(file),
+        _ => print_step(file, config, input, lent),
+    }
+}
+
+// Makes the call on the first `room` bytes of the lent buffer.
+fn print_within(op: u8, file: &[u8], config: &[u8], input: u64, lent: &mut [u8], room: usize)
+    requires { ⌜ room ≤ length (now lent) ⌝ }
+{
+    print_call(op, file, config, input, &mut lent[..room]);
+}
+
+// Reads n bytes to the front of a buffer, or as many as there are; none if they do not fit.
+fn read_part(buffer: &mut [u8], n: usize) -> usize
+    ensures { λ r. ⌜ Counts r (now (buffer .exit)) ⌝ }
+{
+    if n > buffer.len() {
+        return 0;
+    }
+    io::read_full(STDIN_FILENO, &mut buffer[..n])
+}
+
+fn read_input() -> u64 {
+    let mut word = [0u8; 8];
+    io::read_full(STDIN_FILENO, &mut word);
+    layout::number::le64(&word, 0)
+}
+
+// Reads n inputs, and gives the last; no input is the empty set.
+fn read_inputs(n: usize) -> u64 {
+    let mut last: u64 = 0;
+    let mut i: usize = 0;
+    while i < n {
+        last = read_input();
+        i += 1;
+    }
+    last
+}
+
+// Reads a command's name and prints it.
+fn pass_name(n: usize) {
+    let mut name = [0u8; 256];
+    let got = read_part(&mut name, n);
+    io::write_all(STDOUT_FILENO, &name[..got]);
+}
+
+// Reads what follows a header and answers it; false if it is too large to be read.
+fn answer(c: Command) -> bool {
+    let size = c.file;
+    let room = c.room;
+    let states = c.config;
+    if size > MOST_BYTES {
+        return false;
+    }
+    if room > MOST_BYTES {
+        return false;
+    }
+    if states > MOST_BYTES {
+        return false;
+    }
+    pass_name(c.name);
+    let mut file = [0u8; MOST_BYTES];
+    let mut config = [0u8; MOST_BYTES];
+    let mut lent = [FILL; MOST_BYTES];
+    let got = read_part(&mut file, size);
+    let had = read_part(&mut config, states);
+    let input = read_inputs(c.inputs);
+    print_within(c.op, &file[..got], &config[..had], input, &mut lent, room);
+    true
+}
+
+// Answers the next command; false at the end of the input.
+fn answer_next() -> bool {
+    let mut head = [0u8; 16];
+    let got = io::read_full(STDIN_FILENO, &mut head);
+    if got < 16 {
+        return false;
+    }
+    answer(header(&head))
+}
+
+fn main() {
+    let mut left = MOST_COMMANDS;
+    while left > 0 {
+        if !answer_next() {
+            return;
+        }
+        left -= 1;
+    }
+}

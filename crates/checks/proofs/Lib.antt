@@ -1,0 +1,2 @@
+-- What proofs of checks share: loops over records.
+pub mod Laws

@@ -1,0 +1,45 @@
+-- Laws of tables: one more value stored in a table that is right so far (`fill-more`); a slave's node is in it (`slave-there`); what a whole table says of a node (`filled`), for the charts
+-- inside (`inside-bit`).
+use mathlib.Core.Path.{_≡_, sym, ap, _∙_}
+use mathlib.Core.List.{List}
+use mathlib.Core.Logic.{⊎-elim}
+use Prim.Native.Nat.{ℕ, _+_, _<_}
+use native.Mathlib.Nat.{lt-irrefl}
+use native.Mathlib.Omega.{arith}
+use lib.ListN.{length, getD, set}
+use lib.Seq.{getD-set-same, getD-set-other}
+use Rattle.signals.specs.Mask.{bit, single}
+use Rattle.layout.specs.Body.{slaveAt}
+use Rattle.layout.specs.declared.body.Shape.{Shape}
+use Rattle.layout.specs.declared.record.Slave.{Slave}
+use Rattle.meaning.specs.Numbers.{mostNodes}
+use Rattle.meaning.specs.Count.Laws.{below-suc}
+use Rattle.meaning.specs.Meaning.{Set}
+use Rattle.meaning.specs.File.{File, treeOf, Has, fileAt}
+use Rattle.meaning.specs.Laws.Folds.{fold, fold-own, has-fold}
+use Rattle.meaning.specs.Check.Nodes.{Treed, has-below}
+use Rattle.checks.specs.Known.{Sized}
+use Rattle.checks.specs.Parts.{offOf, Filled}
+use Rattle.checks.specs.declared.parts.Off.{Off}
+use Rattle.checks.specs.declared.parts.Off.the-variants.{Nothing}
+
+pub fill-more : (f : ℕ → ℕ) (t : List ℕ) (j v : ℕ) → ((k : ℕ) → k < j → getD t k 0 ≡ f k) → v ≡ f j → j < length t
+    → (k : ℕ) → k < j + 1 → getD (set t j v) k 0 ≡ f k
+fill-more f t j v h e m k l =
+    ⊎-elim (λ q. ap (λ (i : ℕ). getD (set t j v) i 0) q ∙ getD-set-same t j v 0 m ∙ e ∙ ap f (sym q))
+    (λ q. getD-set-other t j k v 0 (λ s. lt-irrefl j (rw s at q)) ∙ h k q) (below-suc k j (omega arith))
+
+-- a slave's node is in the table
+pub slave-there : (n : Shape) (b : List ℕ) (i : ℕ) (s : Slave) → s ≡ slaveAt n b i → Sized n b → Treed (fileAt n b) → i < n .slaves → s .node < mostNodes
+unfolding fileAt
+slave-there n b i s e z w l = let h = w .node-there i l .0 in let m = z .nodes in rw e (omega arith)
+
+module _ (F : File) (w : Treed F) (own : List ℕ) (t : List ℕ) where
+  -- the charts' values are asked of the file's charts alone
+  pub filled : (off : Off) (v : ℕ → Set) → Filled F own off t (F .nodes) → ((c : ℕ) → c < F .charts → getD own c 0 ≡ v c)
+      → (j : ℕ) → j < F .nodes → getD t j 0 ≡ fold v (offOf off) (treeOf F j)
+  filled off v f h j l = f .at j l ∙ fold-own (λ c. getD own c 0) v (offOf off) (treeOf F j) (λ c e. h c (has-below F w j c l e))
+
+  pub inside-bit : Filled F own Nothing t (F .nodes) → ((c : ℕ) → c < F .charts → getD own c 0 ≡ single c)
+      → (j c : ℕ) → j < F .nodes → bit (getD t j 0) c ≡ Has (treeOf F j) c
+  inside-bit f h j c l = ap (λ (s : Set). bit s c) (filled Nothing single f h j l) ∙ has-fold c (treeOf F j)

@@ -1,0 +1,10 @@
+// The file check: refusals 1 to 11 of document 01, each in its own module, and the opening of a file that passes them.
+pub mod body;
+pub mod charts;
+pub mod limits;
+pub mod nodes;
+pub mod opening;
+pub mod parts;
+pub mod slaves;
+pub mod trailer;
+pub mod zeros;

@@ -1,0 +1,54 @@
+// The numbers of document 01 that have a name: limits, and refusals. Each stands here once.
+
+pub const EDITION: u8 = 1;
+
+pub const MOST_CHARTS: u8 = 8;
+
+pub const MOST_SLAVES: u8 = 7;
+
+pub const MOST_NODES: u8 = 64;
+
+pub const MOST_TRANSITIONS: u16 = 512;
+// In a chart.
+pub const MOST_STATES: u8 = 16;
+// The same as the length of a table by state.
+pub const STATES: usize = MOST_STATES as usize;
+
+pub const MOST_IN_CHART: u8 = 64;
+// Transitions from one state.
+pub const MOST_FROM_STATE: u8 = 8;
+
+// No refusal.
+pub const ACCEPTED: u8 = 0;
+
+pub const TOO_SHORT: u8 = 1;
+
+pub const OTHER_EDITION: u8 = 2;
+
+pub const BAD_COUNTS: u8 = 3;
+
+pub const BAD_DISTANCE: u8 = 4;
+
+pub const NOT_ZERO: u8 = 5;
+
+pub const BAD_CHART: u8 = 6;
+
+pub const BAD_TRANSITION: u8 = 7;
+
+pub const BAD_SLAVE: u8 = 8;
+
+pub const BAD_NODE: u8 = 9;
+
+pub const BAD_NAMING: u8 = 10;
+
+pub const BAD_INSIDE: u8 = 11;
+
+pub const WRONG_LENGTH: u8 = 20;
+
+pub const BAD_STATE: u8 = 21;
+
+pub const SHORT_BUFFER: u8 = 22;
+
+pub const NO_STEP: u8 = 23;
+
+pub const SHORT_ROWS: u8 = 27;

@@ -1,0 +1,57 @@
+// The opening of a file: the whole check, 1 to 11, and where the body stands.
+ghost use mathlib.Core.Path.{_≡_};
+ghost use Rattle.checks.specs.Open.{Opens};
+use crate::limits;
+use layout::body::Shape;
+
+// The trailer's bytes.
+const TRAILER: usize = 12;
+
+// What the check of a file found: its refusal, and, if there is none, the body: how many records of each kind it has, and where it stands.
+pub struct Opening {
+    pub refusal: u8,
+    pub shape: Shape,
+    pub start: usize,
+    pub end: usize,
+}
+
+fn refused(r: u8) -> Opening
+    ensures { λ o. ⌜ o .refusal ≡ r ⌝ }
+{
+    Opening {
+        refusal: r,
+        shape: Shape {
+            charts: 0,
+            transitions: 0,
+            slaves: 0,
+            nodes: 0,
+        },
+        start: 0,
+        end: 0,
+    }
+}
+
+// 1 to 11. The other calls begin here, and pick the body as `&file[start..end]`.
+pub fn opened(file: &[u8]) -> Opening
+    ensures { λ o. ⌜ Opens (now (file .entry)) o ⌝ }
+{
+    let len = file.len();
+    if len < TRAILER {
+        return refused(limits::TOO_SHORT);
+    }
+    let end = len - TRAILER;
+    let t = layout::record::read_trailer(file, end);
+    let r = crate::trailer::refusal(t, end);
+    if r != limits::ACCEPTED {
+        return refused(r);
+    }
+    let n = crate::trailer::shape(t);
+    let start = end - t.distance as usize;
+    let body = &file[start..end];
+    Opening {
+        refusal: crate::body::refusal(file, end, n, body),
+        shape: n,
+        start: start,
+        end: end,
+    }
+}

@@ -1,0 +1,57 @@
+-- What the step's functions ask and leave. A step of a body that passed 1 to 11 (`stepAfter`) is what document 01's list goes on with; the search
+-- over the tables of a wired file answers it (`Prepared`, `Finds`).
+use mathlib.Core.Path.{_≡_}
+use mathlib.Core.Bool.{Bool, false, cond}
+use mathlib.Core.List.{List, [], _∷_, _++_}
+use Prim.Native.Nat.{ℕ}
+use lib.Dec.{ltb}
+use lib.ListN.{length, getD}
+use Rattle.layout.specs.declared.body.Shape.{Shape}
+use Rattle.meaning.specs.Numbers.{wrongLength, badState, shortBuffer}
+use Rattle.meaning.specs.Count.{anyUpTo}
+use Rattle.meaning.specs.Meaning.{Set, same, Answer, refused}
+use Rattle.meaning.specs.File.{File, fileAt}
+use Rattle.meaning.specs.Check.{Test, firstOf, differ, notBelow, transitions?}
+use Rattle.meaning.specs.Check.Nodes.{Sound}
+use Rattle.meaning.specs.Calls.{stepIn, refusalIn, outputIn, markIn}
+use Rattle.search.specs.declared.Found.{Found}
+use Rattle.tables.specs.Filled.{answerOf}
+use Rattle.checks.specs.Known.{Sized, Summed}
+use Rattle.plan.specs.Wired.{Wired}
+use Rattle.plan.specs.Candidates.{Tabled}
+use Rattle.engine.specs.declared.step.Stepped.{Stepped}
+pub mod Laws
+
+-- an answer in numbers
+abbrev pub steppedOf : Answer → Stepped
+steppedOf r = record { refusal = refusalIn r; output = outputIn r; mark = markIn r }
+
+-- 20 and 21
+unfoldable pub configTestsIn : File → List ℕ → List Test
+configTestsIn F config =
+    record { number = wrongLength; applies = differ (length config) (F .charts) }
+    ∷ record { number = badState; applies = anyUpTo (F .charts) (λ c. notBelow (getD config c 0) (F .chart c .states)) }
+    ∷ []
+
+-- 20 to 22
+unfoldable pub refusalAfter : File → List ℕ → ℕ → ℕ
+refusalAfter F config room = firstOf (configTestsIn F config ++ (record { number = shortBuffer; applies = ltb room (F .charts) } ∷ []))
+
+unfoldable pub stepAfter : File → List ℕ → Set → ℕ → Answer
+stepAfter F config i room = cond (same (refusalAfter F config room) 0) (stepIn F config i) (refused (refusalAfter F config room))
+
+-- a body that passed 1 to 11
+pub record Checked (n : Shape) (b : List ℕ) : Type 0 where
+  pub sized : Sized n b
+  pub summed : Summed n b
+  pub transitions : transitions? n b ≡ false
+  pub sound : Sound (fileAt n b)
+
+-- a search's tables m and s for a body, wired; a has what of the input gets down to each chart
+pub record Prepared (n : Shape) (b a m s : List ℕ) : Type 0 where
+  pub wired : Wired (fileAt n b) a m s
+  pub tabled : Tabled m s
+
+-- what was found answers the step
+abbrev pub Finds : Shape → List ℕ → List ℕ → Set → Found → Type 0
+Finds n b config i f = answerOf (n .charts) f ≡ stepIn (fileAt n b) config i

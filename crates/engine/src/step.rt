@@ -1,0 +1,180 @@
+// The step (document 01, "The meaning of a step"): check, wire, choose candidates, search.
+ghost use mathlib.Core.Path.{_≡_};
+ghost use mathlib.Core.Bool.{false};
+ghost use Prim.Native.Nat.{ℕ, _≤_, _<_};
+ghost use lib.ListN.{length, take, getD};
+ghost use Rattle.signals.specs.Mask.{_∩_};
+ghost use Rattle.layout.specs.Body.{Holds, headAt};
+ghost use Rattle.meaning.specs.Count.{anyUpTo};
+ghost use Rattle.meaning.specs.Meaning.{refused as refusedAnswer};
+ghost use Rattle.meaning.specs.File.{fileAt};
+ghost use Rattle.meaning.specs.Check.{notBelow, firstOf};
+ghost use Rattle.meaning.specs.Calls.{laidOver, stepOf, nextIn};
+ghost use Rattle.search.specs.Hunt.{nothing};
+ghost use Rattle.tables.specs.Filled.{beginning};
+ghost use Rattle.plan.specs.Wire.{Row};
+ghost use Rattle.plan.specs.Candidates.{Ready};
+ghost use Rattle.engine.specs.Step.{steppedOf, configTestsIn, stepAfter, Checked, Prepared, Finds};
+use checks::limits;
+use layout::body::Shape;
+use search::Found;
+use search::Trail;
+
+// The answer of a step beside the next configuration: 0 or the refusal, the output, and whether all permitted choices agree.
+pub struct Stepped {
+    pub refusal: u8,
+    pub output: u64,
+    pub mark: bool,
+}
+
+fn refused(r: u8) -> Stepped
+    ensures { λ s. ⌜ s ≡ record { refusal = r; output = 0; mark = false } ⌝ }
+{
+    Stepped {
+        refusal: r,
+        output: 0,
+        mark: false,
+    }
+}
+
+// 21: a state that its chart lacks.
+fn bad_states(n: Shape, body: &[u8], config: &[u8]) -> bool
+    requires { ⌜ Holds n (now body) × (n .charts ≤ length (now config)) ⌝ }
+    ensures { λ r. ⌜ r ≡ anyUpTo (n .charts) (λ c. notBelow (getD (now (config .entry)) c 0) (headAt n (now (body .entry)) c .states)) ⌝ }
+{
+    let charts = n.charts;
+    let mut c: usize = 0;
+    while c < charts {
+        if config[c] >= layout::body::head_at(n, body, c).states {
+            return true;
+        }
+        c += 1;
+    }
+    false
+}
+
+// 20 and 21.
+pub fn config_refusal(n: Shape, body: &[u8], config: &[u8]) -> u8
+    requires { ⌜ Holds n (now body) ⌝ }
+    ensures { λ r. ⌜ r ≡ firstOf (configTestsIn (fileAt n (now (body .entry))) (now (config .entry))) ⌝ }
+{
+    if config.len() != n.charts {
+        return limits::WRONG_LENGTH;
+    }
+    if bad_states(n, body, config) {
+        return limits::BAD_STATE;
+    }
+    limits::ACCEPTED
+}
+
+// What of the input is surely offered to each chart.
+fn lows(down: [u64; 8], input: u64) -> [u64; 8]
+    ensures { λ r. ⌜ Row r (λ c. input ∩ getD down c 0) ⌝ }
+{
+    let mut low = down;
+    let mut c: usize = 0;
+    while c < 8 {
+        low[c] = input & down[c];
+        c += 1;
+    }
+    low
+}
+
+// No chart is settled.
+fn begin(low: [u64; 8]) -> Trail
+    ensures { λ r. ⌜ r ≡ beginning low ⌝ }
+{
+    Trail {
+        low,
+        choice: [0; 8],
+        next: [0; 8],
+        awake: [0; 8],
+    }
+}
+
+fn none_found() -> Found
+    ensures { λ r. ⌜ r ≡ nothing ⌝ }
+{
+    Found {
+        has: false,
+        agree: false,
+        output: 0,
+        next: [0; 8],
+    }
+}
+
+// One step of a wired body from a configuration. The tables are ready for another.
+pub fn found(
+    n: Shape,
+    body: &[u8],
+    config: &[u8],
+    input: u64,
+    down: [u64; 8],
+    masks: &mut [u64],
+    small: &mut [u8],
+) -> Found
+    requires { ⌜ Checked n (now body) × Ready n (now body) (now config) × Prepared n (now body) down (now masks) (now small) ⌝ }
+    ensures { λ r. ⌜ Finds n (now (body .entry)) (now (config .entry)) input r × Prepared n (now (body .entry)) down (now (masks .exit)) (now (small .exit)) ⌝ }
+{
+    let low = lows(down, input);
+    plan::candidates::choose(n, body, config, low, masks, small);
+    if plan::candidates::is_stuck(small, n.charts) {
+        return none_found();
+    }
+    search::search(masks, small, n.charts, n.charts, begin(low), none_found())
+}
+
+// The first n states, over the front of a lent buffer.
+pub fn put_states(buffer: &mut [u8], states: [u8; 8], n: usize)
+    requires { ⌜ (n ≤ 8) × (n ≤ length (now buffer)) ⌝ }
+    ensures { λ _. ⌜ now (buffer .exit) ≡ laidOver (take n states) (now (buffer .entry)) ⌝ }
+{
+    let mut i: usize = 0;
+    while i < n {
+        buffer[i] = states[i];
+        i += 1;
+    }
+}
+
+// A step of a body that passed 1 to 11.
+fn of_body(n: Shape, body: &[u8], config: &[u8], input: u64, next: &mut [u8]) -> Stepped
+    requires { ⌜ Checked n (now body) ⌝ }
+    ensures { λ r. ⌜ (r ≡ steppedOf (stepAfter (fileAt n (now (body .entry))) (now (config .entry)) input (length (now (next .entry))))) × (now (next .exit) ≡ nextIn (stepAfter (fileAt n (now (body .entry))) (now (config .entry)) input (length (now (next .entry)))) (now (next .entry))) ⌝ }
+{
+    let r = config_refusal(n, body, config);
+    if r != limits::ACCEPTED {
+        return refused(r);
+    }
+    if next.len() < n.charts {
+        return refused(limits::SHORT_BUFFER);
+    }
+    let mut masks = [0u64; 336];
+    let mut small = [0u8; 96];
+    let down = plan::wire::wired(n, body, &mut masks, &mut small);
+    let f = found(n, body, config, input, down, &mut masks, &mut small);
+    if !f.has {
+        return refused(limits::NO_STEP);
+    }
+    let states = f.next;
+    put_states(next, states, n.charts);
+    Stepped {
+        refusal: limits::ACCEPTED,
+        output: f.output,
+        mark: f.agree,
+    }
+}
+
+// One step from a configuration under an input: the output and the mark, and the next configuration in `next`.
+pub fn step(file: &[u8], config: &[u8], input: u64, next: &mut [u8]) -> Stepped
+    ensures { λ r. ⌜ (r ≡ steppedOf (stepOf (now (file .entry)) (now (config .entry)) input (length (now (next .entry))))) × (now (next .exit) ≡ nextIn (stepOf (now (file .entry)) (now (config .entry)) input (length (now (next .entry)))) (now (next .entry))) ⌝ }
+{
+    let o = checks::opening::opened(file);
+    let r = o.refusal;
+    if r != limits::ACCEPTED {
+        return refused(r);
+    }
+    let n = o.shape;
+    let start = o.start;
+    let end = o.end;
+    of_body(n, &file[start..end], config, input, next)
+}

@@ -1,0 +1,119 @@
+-- How candidates get into the tables of a search: each transition from a chart's present state, unless it fails alone or is there already; then
+-- what later charts may put out. Laws are in Fill/Laws.antt.
+use mathlib.Core.Path.{_≡_}
+use mathlib.Core.Bool.{Bool, true, false, _&&_, not, cond}
+use mathlib.Core.Option.{some}
+use mathlib.Core.List.{List}
+use Prim.Native.Nat.{ℕ, zero, suc, _+_, _*_, _-_, _≤_, _<_}
+use lib.Dec.{ltb}
+use lib.ListN.{length, getD, set}
+use Rattle.signals.specs.Mask.{_∪_, _∩_}
+use Rattle.layout.specs.declared.record.Transition.{Transition}
+use Rattle.meaning.specs.Count.{anyUpTo}
+use Rattle.meaning.specs.Meaning.{Set, same, Move, pick, actionOf}
+use Rattle.wiring.specs.Wire.{join}
+use Rattle.wiring.specs.Dropped.{ahead, test}
+use Rattle.wiring.specs.Hunt.{mayOf}
+use Rattle.search.specs.Table.{neededAt, barredAt, actionAt, backAt, aheadAt, toAt, countAt, masterAt, stateAt}
+use Rattle.tables.specs.Filled.{Listed, mayAt}
+pub mod Laws
+
+-- ── a move tested alone ──
+
+-- low: what its chart is surely offered; own: what of the chart's own action gets back to it; others: all that the others might put in
+unfoldable pub lastsBy : Set → Set → Set → Move → Bool
+lastsBy low own others M = test M (low ∪ actionOf M ∩ own) (low ∪ actionOf M ∩ own ∪ others)
+
+-- what the charts other than c might put in for it, each of its `may`
+unfoldable pub othersAt : List ℕ → ℕ → (ℕ → Set) → ℕ → Set
+othersAt m N may c = join N (λ e. cond (same e c) 0 (may e) ∩ backAt m c e)
+
+-- ── one transition more ──
+
+-- the tables while chart c is filled, with how many candidates it has so far
+pub record Filling : Type 0 where
+  pub masks : List ℕ
+  pub small : List ℕ
+  pub count : ℕ
+
+-- candidate v of chart c is the transition, as a test
+unfoldable pub isAt : List ℕ → List ℕ → ℕ → ℕ → Transition → Bool
+isAt m s c v t = same (neededAt m c v) (t .needed) && (same (barredAt m c v) (t .barred) && (same (actionAt m c v) (t .action) && same (toAt s c v) (t .to)))
+
+unfoldable pub isAgain : List ℕ → List ℕ → ℕ → ℕ → Transition → Bool
+isAgain m s c n t = anyUpTo n (λ v. isAt m s c v t)
+
+unfoldable pub putMasks : List ℕ → ℕ → ℕ → Transition → List ℕ
+putMasks m c v t = set (set (set m (8 * c + v) (t .needed)) (64 + (8 * c + v)) (t .barred)) (128 + (8 * c + v)) (t .action)
+
+unfoldable pub putSmall : List ℕ → ℕ → ℕ → Transition → List ℕ
+putSmall s c v t = set s (8 * c + v) (t .to)
+
+abbrev pub put : ℕ → Transition → Filling → Filling
+put c t f = record { masks = putMasks (f .masks) c (f .count) t; small = putSmall (f .small) c (f .count) t; count = f .count + 1 }
+
+abbrev pub pickFilling : Bool → Filling → Filling → Filling
+pickFilling true a b = a
+pickFilling false a b = b
+
+-- chart c is at q
+module _ (c q : ℕ) (low own others : Set) where
+  unfoldable pub considered : Transition → Filling → Filling
+  considered t f =
+      pickFilling (same (t .from) q)
+      (pickFilling (lastsBy low own others (some t)) (pickFilling (isAgain (f .masks) (f .small) c (f .count) t) f (put c t f)) f)
+      f
+
+  -- the first p transitions of g
+  unfoldable pub listing : (ℕ → Transition) → ℕ → Filling → Filling
+  listing g zero f = f
+  listing g (suc p) f = considered (g p) (listing g p f)
+
+-- ── all charts ──
+
+module _ (ts : ℕ → List Transition) (cfg : ℕ → ℕ) (N : ℕ) (lows : List ℕ) where
+  -- the move of chart c at place v is kept
+  unfoldable pub keepAt : List ℕ → ℕ → ℕ → Bool
+  keepAt m c v = lastsBy (getD lows c 0) (backAt m c c) (othersAt m N (λ e. mayOf (ts e) (cfg e)) c) (pick (ts c) v)
+
+  -- the first k charts have their candidates; of the tables m₀ and s₀ the rest is as it was
+  pub record Until (m₀ s₀ : List ℕ) (k : ℕ) (m s : List ℕ) : Type 0 where
+    pub listed : (c : ℕ) → c < k → Listed m s c (ts c) (cfg c) (keepAt m₀ c) (length (ts c)) (countAt s c)
+    pub counts : (c : ℕ) → c < k → countAt s c ≤ 8
+    pub wires : (i : ℕ) → 192 ≤ i → getD m i 0 ≡ getD m₀ i 0
+    pub rest : (i : ℕ) → 64 + k ≤ i → getD s i 0 ≡ getD s₀ i 0
+    pub masks : length m ≡ 336
+    pub small : length s ≡ 96
+
+  -- all of it
+  pub record Chosen (m s : List ℕ) : Type 0 where
+    pub listed : (c : ℕ) → c < N → Listed m s c (ts c) (cfg c) (keepAt m c) (length (ts c)) (countAt s c)
+    pub counts : (c : ℕ) → c < N → countAt s c ≤ 8
+    pub ahead-at : (k c : ℕ) → k ≤ N → c < N → aheadAt m k c ≡ ahead (N - k) k (λ e. mayAt m s e ∩ backAt m c e)
+    pub state-at : (c : ℕ) → c < N → stateAt s c ≡ cfg c
+
+-- ── what later charts may put out ──
+
+-- row k of the first n charts is w, the rest as it was
+pub record AheadRow (k : ℕ) (w : ℕ → Set) (n : ℕ) (m₀ m : List ℕ) : Type 0 where
+  pub row : (c : ℕ) → c < n → aheadAt m k c ≡ w c
+  pub below : (i : ℕ) → i < 256 + 8 * k → getD m i 0 ≡ getD m₀ i 0
+  pub above : (i : ℕ) → 256 + (8 * k + n) ≤ i → getD m i 0 ≡ getD m₀ i 0
+  pub masks : length m ≡ length m₀
+
+-- row k from row k + 1: chart k's candidates put out u
+unfoldable pub aheadBy : List ℕ → ℕ → Set → ℕ → Set
+aheadBy m k u c = u ∩ backAt m c k ∪ aheadAt m (suc k) c
+
+-- the rows from k on
+pub record AheadFrom (N : ℕ) (s : List ℕ) (k : ℕ) (m₀ m : List ℕ) : Type 0 where
+  pub rows : (j c : ℕ) → k ≤ j → j ≤ N → c < N → aheadAt m j c ≡ ahead (N - j) j (λ e. mayAt m₀ s e ∩ backAt m₀ c e)
+  pub below : (i : ℕ) → i < 256 → getD m i 0 ≡ getD m₀ i 0
+  pub above : (i : ℕ) → 328 ≤ i → getD m i 0 ≡ getD m₀ i 0
+  pub masks : length m ≡ length m₀
+
+-- ── no search is needed ──
+
+-- a chart that stands in no slave has no candidate
+unfoldable pub stuck : List ℕ → ℕ → Bool
+stuck s N = anyUpTo N (λ c. same (countAt s c) 0 && not (ltb (masterAt s c) 8))

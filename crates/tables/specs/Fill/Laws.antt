@@ -1,0 +1,500 @@
+-- Laws of filling. In order: a transition that is put down (put), one more transition (considered, listing), one more chart (until-next), the rows
+-- ahead (ahead-row, ahead-from), and that what is chosen by the tables is what a file's candidates are (candidates).
+use mathlib.Core.Path.{_≡_, refl, sym, _∙_, ap, ap₂, subst, fun-ext}
+use mathlib.Core.Bool.{Bool, true, false, _&&_, _||_, not, cond, true≢false, false≢true}
+use mathlib.Core.Option.{Option, none, some}
+use mathlib.Core.List.{List, [], _∷_}
+use mathlib.Core.Logic.{_≢_}
+use Prim.Native.Nat.{ℕ, zero, suc, _+_, _*_, _-_, _≤_, _<_}
+use native.Mathlib.Omega.{arith}
+use native.Mathlib.Numerals.{add-one}
+use lib.Dec.{ltb}
+use lib.ListN.{length, getD, set, length-set}
+use lib.Seq.{getD-set-same, getD-set-other}
+use borrow.Author.Tests.{le-ltb, ltb-false}
+use borrow.Author.Tests.{not-true as tests-not-true}
+use Rattle.signals.specs.Mask.{_∪_, _∩_, _∖_}
+use Rattle.signals.specs.Decide.{sets, A, B, C, D, E as Eₑ, F as Fₑ, ∅ₑ, _∪ₑ_, _∩ₑ_, _≐_}
+use Rattle.layout.specs.declared.record.Transition.{Transition}
+use Rattle.meaning.specs.Count.{anyUpTo, tally, one}
+use Rattle.meaning.specs.Meaning.{Set, same, Chart, Tree, Move, nth, pick, actionOf, Outcome}
+use Rattle.meaning.specs.Laws.Bools.{same-refl, same→≡, same-≢, and-l, and-r}
+use Rattle.wiring.specs.Wire.{join, down, back, offered}
+use Rattle.wiring.specs.Dropped.{ahead, test, join-cong}
+use Rattle.wiring.specs.Hunt.{mayOf}
+use Rattle.wiring.specs.Filter.{lasts}
+use Rattle.search.specs.Table.{neededAt, barredAt, actionAt, backAt, aheadAt, toAt, countAt, masterAt, stateAt}
+use Rattle.search.specs.Hunt.{each, wakes, taken, rested, fineAt, hunts}
+use Rattle.search.specs.declared.Trail.{Trail}
+use Rattle.tables.specs.Filled.{Is, Listed, start, other, fails, again, fresh, mayAt, Rows, Candidates}
+use Rattle.tables.specs.Fill.{lastsBy, othersAt, Filling, isAt, isAgain, putMasks, putSmall, put, pickFilling, considered, listing, keepAt, Until, Chosen, AheadRow, aheadBy, AheadFrom, stuck}
+
+-- ── candidates that stay ──
+
+-- candidate v of chart d is in the tables m and s what it was in m₀ and s₀
+pub record Stays (m₀ s₀ m s : List ℕ) (d v : ℕ) : Type 0 where
+  needed : neededAt m d v ≡ neededAt m₀ d v
+  barred : barredAt m d v ≡ barredAt m₀ d v
+  action : actionAt m d v ≡ actionAt m₀ d v
+  to : toAt s d v ≡ toAt s₀ d v
+
+is-stays : (m₀ s₀ m s : List ℕ) (d v : ℕ) (t : Transition) → Stays m₀ s₀ m s d v → Is m₀ s₀ d v t → Is m s d v t
+is-stays m₀ s₀ m s d v t h i = record { needed = h .needed ∙ i .needed; barred = h .barred ∙ i .barred; action = h .action ∙ i .action; to = h .to ∙ i .to }
+
+listed-stays : (m₀ s₀ m s : List ℕ) (d : ℕ) (ts : List Transition) (q : ℕ) (keep : ℕ → Bool) {p n : ℕ} → Listed m₀ s₀ d ts q keep p n → ((v : ℕ) → v < n → Stays m₀ s₀ m s d v)
+    → Listed m s d ts q keep p n
+listed-stays m₀ s₀ m s d ts q keep start h = start
+listed-stays m₀ s₀ m s d ts q keep (other r t e f) h = other (listed-stays m₀ s₀ m s d ts q keep r h) t e f
+listed-stays m₀ s₀ m s d ts q keep (fails r e) h = fails (listed-stays m₀ s₀ m s d ts q keep r h) e
+listed-stays m₀ s₀ m s d ts q keep (again r t e v l i) h = again (listed-stays m₀ s₀ m s d ts q keep r h) t e v l (is-stays m₀ s₀ m s d v t (h v l) i)
+listed-stays m₀ s₀ m s d ts q keep (fresh {n = n} r t e f k i) h =
+    fresh (listed-stays m₀ s₀ m s d ts q keep r (λ v l. h v (omega arith))) t e f k (is-stays m₀ s₀ m s d n t (h n (omega arith)) i)
+
+stays-refl : (m s : List ℕ) (d v : ℕ) → Stays m s m s d v
+stays-refl m s d v = record { needed = refl; barred = refl; action = refl; to = refl }
+
+stays-trans : (m₀ s₀ m₁ s₁ m s : List ℕ) (d v : ℕ) → Stays m₀ s₀ m₁ s₁ d v → Stays m₁ s₁ m s d v → Stays m₀ s₀ m s d v
+stays-trans m₀ s₀ m₁ s₁ m s d v a b = record { needed = b .needed ∙ a .needed; barred = b .barred ∙ a .barred; action = b .action ∙ a .action; to = b .to ∙ a .to }
+
+-- ── put ──
+
+-- at other places of the masks nothing changes
+put-masks-off : (m : List ℕ) (c v : ℕ) (t : Transition) (i : ℕ) → i ≢ 8 * c + v → i ≢ 64 + (8 * c + v) → i ≢ 128 + (8 * c + v) → getD (putMasks m c v t) i 0 ≡ getD m i 0
+unfolding putMasks
+put-masks-off m c v t i a b d = getD-set-other (set (set m (8 * c + v) (t .needed)) (64 + (8 * c + v)) (t .barred)) (128 + (8 * c + v)) i (t .action) 0 d
+    ∙ getD-set-other (set m (8 * c + v) (t .needed)) (64 + (8 * c + v)) i (t .barred) 0 b ∙ getD-set-other m (8 * c + v) i (t .needed) 0 a
+
+put-small-off : (s : List ℕ) (c v : ℕ) (t : Transition) (i : ℕ) → i ≢ 8 * c + v → getD (putSmall s c v t) i 0 ≡ getD s i 0
+unfolding putSmall
+put-small-off s c v t i a = getD-set-other s (8 * c + v) i (t .to) 0 a
+
+pub length-put-masks : (m : List ℕ) (c v : ℕ) (t : Transition) → length (putMasks m c v t) ≡ length m
+unfolding putMasks
+length-put-masks m c v t = simp length-set
+
+pub length-put-small : (s : List ℕ) (c v : ℕ) (t : Transition) → length (putSmall s c v t) ≡ length s
+unfolding putSmall
+length-put-small s c v t = length-set s (8 * c + v) (t .to)
+
+module _ (m s : List ℕ) (c v : ℕ) (t : Transition) (lc : c < 8) (lv : v < 8) where
+  put-stays : (d u : ℕ) → d < 8 → u < 8 → (d ≢ c) → Stays m s (putMasks m c v t) (putSmall s c v t) d u
+  put-stays d u ld lu n =
+      record {
+        needed = put-masks-off m c v t (8 * d + u) (λ e. n (omega arith)) (λ e. omega arith) (λ e. omega arith);
+        barred = put-masks-off m c v t (64 + (8 * d + u)) (λ e. omega arith) (λ e. n (omega arith)) (λ e. omega arith);
+        action = put-masks-off m c v t (128 + (8 * d + u)) (λ e. omega arith) (λ e. omega arith) (λ e. n (omega arith));
+        to = put-small-off s c v t (8 * d + u) (λ e. n (omega arith));
+      }
+
+  put-earlier : (u : ℕ) → u < v → Stays m s (putMasks m c v t) (putSmall s c v t) c u
+  put-earlier u l =
+      record {
+        needed = put-masks-off m c v t (8 * c + u) (λ e. omega arith) (λ e. omega arith) (λ e. omega arith);
+        barred = put-masks-off m c v t (64 + (8 * c + u)) (λ e. omega arith) (λ e. omega arith) (λ e. omega arith);
+        action = put-masks-off m c v t (128 + (8 * c + u)) (λ e. omega arith) (λ e. omega arith) (λ e. omega arith);
+        to = put-small-off s c v t (8 * c + u) (λ e. omega arith);
+      }
+
+  put-is : length m ≡ 336 → length s ≡ 96 → Is (putMasks m c v t) (putSmall s c v t) c v t
+  unfolding putMasks putSmall
+  put-is lm ls =
+      record {
+        needed = getD-set-other (set (set m (8 * c + v) (t .needed)) (64 + (8 * c + v)) (t .barred)) (128 + (8 * c + v)) (8 * c + v) (t .action) 0 (λ e. omega arith)
+            ∙ getD-set-other (set m (8 * c + v) (t .needed)) (64 + (8 * c + v)) (8 * c + v) (t .barred) 0 (λ e. omega arith) ∙ getD-set-same m (8 * c + v) (t .needed) 0 (omega arith);
+        barred = getD-set-other (set (set m (8 * c + v) (t .needed)) (64 + (8 * c + v)) (t .barred)) (128 + (8 * c + v)) (64 + (8 * c + v)) (t .action) 0 (λ e. omega arith)
+            ∙ getD-set-same (set m (8 * c + v) (t .needed)) (64 + (8 * c + v)) (t .barred) 0 (simp length-set (omega arith));
+        action = getD-set-same (set (set m (8 * c + v) (t .needed)) (64 + (8 * c + v)) (t .barred)) (128 + (8 * c + v)) (t .action) 0 (simp length-set (omega arith));
+        to = getD-set-same s (8 * c + v) (t .to) 0 (omega arith);
+      }
+
+-- ── the same transition again ──
+
+at-is : (m s : List ℕ) (c v : ℕ) (t : Transition) → isAt m s c v t ≡ true → Is m s c v t
+unfolding isAt
+at-is m s c v t h =
+    let r = and-r (same (neededAt m c v) (t .needed)) _ h in
+    let r′ = and-r (same (barredAt m c v) (t .barred)) _ r in
+    record {
+      needed = same→≡ (neededAt m c v) (t .needed) (and-l _ _ h);
+      barred = same→≡ (barredAt m c v) (t .barred) (and-l _ _ r);
+      action = same→≡ (actionAt m c v) (t .action) (and-l _ _ r′);
+      to = same→≡ (toAt s c v) (t .to) (and-r (same (actionAt m c v) (t .action)) _ r′);
+    }
+
+any-one : (n : ℕ) (p : ℕ → Bool) → anyUpTo n p ≡ true → (v : ℕ) × (v < n) × (p v ≡ true)
+unfolding anyUpTo
+any-one zero p h = absurd (false≢true h)
+any-one (suc n) p h = go (anyUpTo n p) refl h (any-one n p)
+  where
+    go : (b : Bool) → anyUpTo n p ≡ b → (b || p n) ≡ true → (anyUpTo n p ≡ true → (v : ℕ) × (v < n) × (p v ≡ true)) → (v : ℕ) × (v < suc n) × (p v ≡ true)
+    go true e h r = let u = r e in (u .0, (let l = u .1 in omega arith), u .2)
+    go false e h r = (n, omega arith, h)
+
+tally-plus : (k : ℕ) (w : ℕ → ℕ) (p : ℕ) → p < k → w p + tally p w ≤ tally k w
+unfolding tally
+tally-plus zero w p l = absurd (omega arith)
+tally-plus (suc k) w p l = go (same p k) refl (tally-plus k w p)
+  where
+    go : (b : Bool) → same p k ≡ b → (p < k → w p + tally p w ≤ tally k w) → w p + tally p w ≤ w k + tally k w
+    go true e r = rw (same→≡ p k e) (omega arith)
+    go false e r = let z : p ≢ k = λ x. false≢true (sym e ∙ rw x (same-refl k)) in let h = r (omega arith) in omega arith
+
+tally-mono : (k : ℕ) (w : ℕ → ℕ) (p : ℕ) → p ≤ k → tally p w ≤ tally k w
+tally-mono k w p l = go (same p k) refl
+  where
+    go : (b : Bool) → same p k ≡ b → tally p w ≤ tally k w
+    go true e = rw (same→≡ p k e) (omega arith)
+    go false e = let z : p ≢ k = λ x. false≢true (sym e ∙ rw x (same-refl k)) in let h = tally-plus k w p (omega arith) in omega arith
+
+-- ── one transition more ──
+
+module _ (c q : ℕ) (low own others : Set) where
+  abbrev step : Transition → Filling → Filling
+  step t f = considered c q low own others t f
+
+  -- whatever holds of a filling and of one with a candidate more holds after a transition was considered
+  by-cases : (P : Filling → Type 0) (t : Transition) (f : Filling) → (same (t .from) q ≡ false → P f) → (same (t .from) q ≡ true → lastsBy low own others (some t) ≡ false → P f)
+      → (isAgain (f .masks) (f .small) c (f .count) t ≡ true → P f) → (same (t .from) q ≡ true → lastsBy low own others (some t) ≡ true → P (put c t f)) → P (step t f)
+  unfolding considered
+  by-cases P t f a b d e = go₁ (same (t .from) q) refl
+    where
+      go₃ : same (t .from) q ≡ true → lastsBy low own others (some t) ≡ true → (x : Bool) → isAgain (f .masks) (f .small) c (f .count) t ≡ x → P (pickFilling x f (put c t f))
+      go₃ h k true g = d g
+      go₃ h k false g = e h k
+
+      go₂ : same (t .from) q ≡ true → (x : Bool) → lastsBy low own others (some t) ≡ x → P (pickFilling x (pickFilling (isAgain (f .masks) (f .small) c (f .count) t) f (put c t f)) f)
+      go₂ h true k = go₃ h k (isAgain (f .masks) (f .small) c (f .count) t) refl
+      go₂ h false k = b h k
+
+      go₁ : (x : Bool) → same (t .from) q ≡ x
+          → P (pickFilling x (pickFilling (lastsBy low own others (some t)) (pickFilling (isAgain (f .masks) (f .small) c (f .count) t) f (put c t f)) f) f)
+      go₁ true h = go₂ h (lastsBy low own others (some t)) refl
+      go₁ false h = a h
+
+  pub length-masks : (g : ℕ → Transition) (p : ℕ) (f : Filling) → length (listing c q low own others g p f .masks) ≡ length (f .masks)
+  unfolding listing
+  length-masks g zero f = refl
+  length-masks g (suc p) f = let l = listing c q low own others g p f in
+      by-cases (λ h. length (h .masks) ≡ length (l .masks)) (g p) l (λ e. refl) (λ e k. refl) (λ e. refl) (λ e k. length-put-masks (l .masks) c (l .count) (g p)) ∙ length-masks g p f
+
+  pub length-small : (g : ℕ → Transition) (p : ℕ) (f : Filling) → length (listing c q low own others g p f .small) ≡ length (f .small)
+  unfolding listing
+  length-small g zero f = refl
+  length-small g (suc p) f = let l = listing c q low own others g p f in
+      by-cases (λ h. length (h .small) ≡ length (l .small)) (g p) l (λ e. refl) (λ e k. refl) (λ e. refl) (λ e k. length-put-small (l .small) c (l .count) (g p)) ∙ length-small g p f
+
+  -- a chart has no more candidates than transitions from its state
+  abbrev pub leave : (ℕ → Transition) → ℕ → ℕ
+  leave g p = tally p (λ u. one (same (g u .from) q))
+
+  pub count-leave : (g : ℕ → Transition) (p : ℕ) (f : Filling) → listing c q low own others g p f .count ≤ f .count + leave g p
+  unfolding listing tally
+  count-leave g zero f = omega arith
+  count-leave g (suc p) f = let l = listing c q low own others g p f in let r = count-leave g p f in
+      by-cases (λ h. h .count ≤ f .count + (one (same (g p .from) q) + leave g p)) (g p) l (λ e. omega arith) (λ e k. omega arith) (λ e. omega arith)
+      (λ e k. rw e (omega arith))
+
+  -- there is room for one more
+  pub leave-room : (g : ℕ → Transition) (p k : ℕ) (f : Filling) → f .count ≡ 0 → p < k → leave g k ≤ 8 → g p .from ≡ q → listing c q low own others g p f .count < 8
+  leave-room g p k f z l few e = let r = count-leave g p f in let x : one (same (g p .from) q) ≡ 1 = rw (e, same-refl q) in
+      let h = tally-plus k (λ u. one (same (g u .from) q)) p l in omega arith
+
+  pub count-few : (g : ℕ → Transition) (p k : ℕ) (f : Filling) → f .count ≡ 0 → p ≤ k → leave g k ≤ 8 → listing c q low own others g p f .count ≤ 8
+  count-few g p k f z l few = let r = count-leave g p f in let h = tally-mono k (λ u. one (same (g u .from) q)) p l in omega arith
+
+  module _ (lc : c < 8) (ts : List Transition) (keep : ℕ → Bool) (f₀ : Filling) where
+    -- the filling f after p transitions
+    pub record Lists (p : ℕ) (f : Filling) : Type 0 where
+      pub listed : Listed (f .masks) (f .small) c ts q keep p (f .count)
+      pub stays : (d u : ℕ) → d < 8 → u < 8 → d ≢ c → Stays (f₀ .masks) (f₀ .small) (f .masks) (f .small) d u
+      pub wires : (i : ℕ) → 192 ≤ i → getD (f .masks) i 0 ≡ getD (f₀ .masks) i 0
+      pub rest : (i : ℕ) → 64 ≤ i → getD (f .small) i 0 ≡ getD (f₀ .small) i 0
+
+    lists-next : (p : ℕ) (t : Transition) (f : Filling) → nth ts p ≡ some t → keep (suc p) ≡ lastsBy low own others (some t) → length (f .masks) ≡ 336 → length (f .small) ≡ 96
+        → (t .from ≡ q → f .count < 8) → Lists p f → Lists (suc p) (step t f)
+    lists-next p t f e k lm ls room l = by-cases (λ h. Lists (suc p) h) t f
+        (λ a. same-but (other (l .listed) t e (λ w. false≢true (sym a ∙ rw w (same-refl q)))))
+        (λ a b. same-but (fails (l .listed) (k ∙ b)))
+        (λ a. let u = again-one a in same-but (again (l .listed) t e (u .0) (u .1) (at-is (f .masks) (f .small) c (u .0) t (u .2))))
+        (λ a b. fresh-one (same→≡ (t .from) q a) (k ∙ b))
+      where
+        same-but : Listed (f .masks) (f .small) c ts q keep (suc p) (f .count) → Lists (suc p) f
+        same-but h = record { listed = h; stays = l .stays; wires = l .wires; rest = l .rest }
+
+        again-one : isAgain (f .masks) (f .small) c (f .count) t ≡ true → (v : ℕ) × (v < f .count) × (isAt (f .masks) (f .small) c v t ≡ true)
+        again-one a = any-one (f .count) (λ v. isAt (f .masks) (f .small) c v t) (unfold isAgain in a)
+
+        fresh-one : t .from ≡ q → keep (suc p) ≡ true → Lists (suc p) (put c t f)
+        fresh-one h b = let lv = room h in
+            record {
+              listed = rw (add-one (f .count)) (fresh (listed-stays (f .masks) (f .small) (putMasks (f .masks) c (f .count) t) (putSmall (f .small) c (f .count) t) c ts q keep (l .listed)
+                  (λ v r. put-earlier (f .masks) (f .small) c (f .count) t lc lv v r)) t e h b (put-is (f .masks) (f .small) c (f .count) t lc lv lm ls));
+              stays = λ d u ld lu n. stays-trans (f₀ .masks) (f₀ .small) (f .masks) (f .small) _ _ d u (l .stays d u ld lu n) (put-stays (f .masks) (f .small) c (f .count) t lc lv d u ld lu n);
+              wires = λ i r. put-masks-off (f .masks) c (f .count) t i (λ x. omega arith) (λ x. omega arith) (λ x. omega arith) ∙ l .wires i r;
+              rest = λ i r. put-small-off (f .small) c (f .count) t i (λ x. omega arith) ∙ l .rest i r;
+            }
+
+    pub listing-lists : (g : ℕ → Transition) (k p : ℕ) → p ≤ k → leave g k ≤ 8 → ((u : ℕ) → u < k → nth ts u ≡ some (g u)) → ((u : ℕ) → u < k → keep (suc u) ≡ lastsBy low own others (some (g u)))
+        → length (f₀ .masks) ≡ 336 → length (f₀ .small) ≡ 96 → f₀ .count ≡ 0 → Lists p (listing c q low own others g p f₀)
+    unfolding listing
+    listing-lists g k zero l few at kp lm ls z = record { listed = rw z start; stays = λ d u ld lu n. stays-refl (f₀ .masks) (f₀ .small) d u; wires = λ i r. refl; rest = λ i r. refl }
+    listing-lists g k (suc p) l few at kp lm ls z = lists-next p (g p) (listing c q low own others g p f₀) (at p l) (kp p l) (length-masks g p f₀ ∙ lm) (length-small g p f₀ ∙ ls)
+        (λ e. leave-room g p k f₀ z l few e) (listing-lists g k p (omega arith) few at kp lm ls z)
+
+-- ── one chart more ──
+
+module _ (ts : ℕ → List Transition) (cfg : ℕ → ℕ) (N : ℕ) (lows m₀ s₀ : List ℕ) (few : N ≤ 8) where
+  -- the wiring of chart c is the same in tables that agree on it
+  others-same : (m m₁ : List ℕ) (may : ℕ → Set) (c : ℕ) → c < N → ((i : ℕ) → 192 ≤ i → i < 256 → getD m i 0 ≡ getD m₁ i 0) → othersAt m N may c ≡ othersAt m₁ N may c
+  unfolding othersAt
+  others-same m m₁ may c l h = join-cong N _ _ (λ e r. ap (λ z. cond (same e c) 0 (may e) ∩ z) (h (192 + (8 * c + e)) (omega arith) (omega arith)))
+
+  keep-same : (m m₁ : List ℕ) (c v : ℕ) → c < N → ((i : ℕ) → 192 ≤ i → i < 256 → getD m i 0 ≡ getD m₁ i 0) → keepAt ts cfg N lows m c v ≡ keepAt ts cfg N lows m₁ c v
+  unfolding keepAt
+  keep-same m m₁ c v l h = ap₂ (λ a b. lastsBy (getD lows c 0) a b (pick (ts c) v)) (h (192 + (8 * c + c)) (omega arith) (omega arith)) (others-same m m₁ _ c l h)
+
+  keep-by : (m : List ℕ) (c : ℕ) (low own others : Set) (u : ℕ) (t : Transition) → low ≡ getD lows c 0 → own ≡ backAt m c c → others ≡ othersAt m N (λ e. mayOf (ts e) (cfg e)) c
+      → nth (ts c) u ≡ some t → keepAt ts cfg N lows m c (suc u) ≡ lastsBy low own others (some t)
+  unfolding keepAt pick
+  keep-by m c low own others u t el eo es e = rw (el, eo, es, e)
+
+  pub until-none : length m₀ ≡ 336 → length s₀ ≡ 96 → Until ts cfg N lows m₀ s₀ 0 m₀ s₀
+  until-none lm ls = record { listed = λ c l. absurd (omega arith); counts = λ c l. absurd (omega arith); wires = λ i l. refl; rest = λ i l. refl; masks = lm; small = ls }
+
+  module _ (k : ℕ) (lk : k < N) (m s : List ℕ) (low own others : Set) (g : ℕ → Transition) where
+    abbrev done : Filling
+    done = listing k (cfg k) low own others g (length (ts k)) (record { masks = m; small = s; count = 0 })
+
+    abbrev counted : List ℕ
+    counted = set (done .small) (64 + k) (done .count)
+
+    -- chart k gets its candidates
+    pub until-next : Until ts cfg N lows m₀ s₀ k m s → ((u : ℕ) → u < length (ts k) → nth (ts k) u ≡ some (g u)) → tally (length (ts k)) (λ u. one (same (g u .from) (cfg k))) ≤ 8
+        → low ≡ getD lows k 0 → own ≡ backAt m k k → others ≡ othersAt m N (λ e. mayOf (ts e) (cfg e)) k → Until ts cfg N lows m₀ s₀ (suc k) (done .masks) counted
+    until-next un at room el eo es =
+        record {
+          listed = λ c l. go c l (same c k) refl;
+          counts = λ c l. go′ c l (same c k) refl;
+          wires = λ i l. li .wires i l ∙ un .wires i l;
+          rest = λ i l. getD-set-other (done .small) (64 + k) i (done .count) 0 (λ e. omega arith) ∙ li .rest i (omega arith) ∙ un .rest i (omega arith);
+          masks = length-masks k (cfg k) low own others g (length (ts k)) f₀ ∙ un .masks;
+          small = length-set (done .small) (64 + k) (done .count) ∙ ls;
+        }
+      where
+        f₀ : Filling
+        f₀ = record { masks = m; small = s; count = 0 }
+
+        ls : length (done .small) ≡ 96
+        ls = length-small k (cfg k) low own others g (length (ts k)) f₀ ∙ un .small
+
+        kept : (u : ℕ) → u < length (ts k) → keepAt ts cfg N lows m₀ k (suc u) ≡ lastsBy low own others (some (g u))
+        kept u l = keep-same m₀ m k (suc u) lk (λ i r _. sym (un .wires i r)) ∙ keep-by m k low own others u (g u) el eo es (at u l)
+
+        li : Lists k (cfg k) low own others (let h = few in omega arith) (ts k) (keepAt ts cfg N lows m₀ k) f₀ (length (ts k)) done
+        li = listing-lists k (cfg k) low own others (let h = few in omega arith) (ts k) (keepAt ts cfg N lows m₀ k) f₀ g (length (ts k)) (length (ts k)) (omega arith) room at kept (un .masks) (un .small) refl
+
+        full : done .count ≤ 8
+        full = let h = count-leave k (cfg k) low own others g (length (ts k)) f₀ in omega arith
+
+        to-stays : (c v : ℕ) → c < 8 → v < 8 → Stays (done .masks) (done .small) (done .masks) counted c v
+        to-stays c v l r = record { needed = refl; barred = refl; action = refl; to = getD-set-other (done .small) (64 + k) (8 * c + v) (done .count) 0 (λ e. omega arith) }
+
+        count-at : countAt counted k ≡ done .count
+        count-at = getD-set-same (done .small) (64 + k) (done .count) 0 (let h = ls in omega arith)
+
+        count-off : (c : ℕ) → c ≢ k → countAt counted c ≡ countAt s c
+        count-off c n = getD-set-other (done .small) (64 + k) (64 + c) (done .count) 0 (λ e. n (omega arith)) ∙ li .rest (64 + c) (omega arith)
+
+        apart? : (c : ℕ) → same c k ≡ false → c ≢ k
+        apart? c e w = false≢true (sym e ∙ rw w (same-refl k))
+
+        go : (c : ℕ) → c < suc k → (b : Bool) → same c k ≡ b → Listed (done .masks) counted c (ts c) (cfg c) (keepAt ts cfg N lows m₀ c) (length (ts c)) (countAt counted c)
+        go c l true e = rw (same→≡ c k e, count-at) (listed-stays (done .masks) (done .small) (done .masks) counted k (ts k) (cfg k) (keepAt ts cfg N lows m₀ k) (li .listed)
+            (λ v r. to-stays k v (omega arith) (let h = full in omega arith)))
+        go c l false e = let n = apart? c e in let h = un .counts c (omega arith) in rw (count-off c n)
+            (listed-stays m s (done .masks) counted c (ts c) (cfg c) (keepAt ts cfg N lows m₀ c) (un .listed c (omega arith))
+            (λ v r. stays-trans m s (done .masks) (done .small) (done .masks) counted c v (li .stays c v (omega arith) (omega arith) n) (to-stays c v (omega arith) (omega arith))))
+
+        go′ : (c : ℕ) → c < suc k → (b : Bool) → same c k ≡ b → countAt counted c ≤ 8
+        go′ c l true e = rw (same→≡ c k e, count-at) full
+        go′ c l false e = rw (count-off c (apart? c e)) (un .counts c (let n = apart? c e in omega arith))
+
+-- ── the rows ahead ──
+
+pub row-none : (k : ℕ) (w : ℕ → Set) (m : List ℕ) → AheadRow k w 0 m m
+row-none k w m = record { row = λ c l. absurd (omega arith); below = λ i l. refl; above = λ i l. refl; masks = refl }
+
+pub row-next : (k : ℕ) (w : ℕ → Set) (n : ℕ) (m₀ m : List ℕ) (v : Set) → AheadRow k w n m₀ m → 256 + (8 * k + n) < length m₀ → v ≡ w n → AheadRow k w (n + 1) m₀ (set m (256 + (8 * k + n)) v)
+row-next k w n m₀ m v a l e =
+    record {
+      row = λ c r. go c r (same c n) refl;
+      below = λ i r. getD-set-other m (256 + (8 * k + n)) i v 0 (λ x. omega arith) ∙ a .below i r;
+      above = λ i r. getD-set-other m (256 + (8 * k + n)) i v 0 (λ x. omega arith) ∙ a .above i (omega arith);
+      masks = length-set m (256 + (8 * k + n)) v ∙ a .masks;
+    }
+  where
+    go : (c : ℕ) → c < n + 1 → (b : Bool) → same c n ≡ b → getD (set m (256 + (8 * k + n)) v) (256 + (8 * k + c)) 0 ≡ w c
+    go c r true x = rw (same→≡ c n x) (getD-set-same m (256 + (8 * k + n)) v 0 (let h = a .masks in omega arith) ∙ e)
+    go c r false x = let z : c ≢ n = λ y. false≢true (sym x ∙ rw y (same-refl n)) in
+        getD-set-other m (256 + (8 * k + n)) (256 + (8 * k + c)) v 0 (λ y. omega arith) ∙ a .row c (omega arith)
+
+-- what stands before and after row k is still there to make it
+pub row-value : (k : ℕ) (w : ℕ → Set) (c : ℕ) (m₀ m : List ℕ) (u : Set) → AheadRow k w c m₀ m → c < 8 → k < 8 → u ∩ backAt m c k ∪ aheadAt m (k + 1) c ≡ aheadBy m₀ k u c
+unfolding aheadBy
+row-value k w c m₀ m u a l r = ap₂ (λ x y. u ∩ x ∪ y) (a .below (192 + (8 * c + k)) (omega arith)) (ap (λ z. aheadAt m z c) (add-one k) ∙ a .above (256 + (8 * suc k + c)) (omega arith))
+
+module _ (N : ℕ) (few : N ≤ 8) (s m₀ : List ℕ) where
+  -- nothing is left after the last chart
+  pub from-last : (m : List ℕ) → AheadRow N (λ c. 0) N m₀ m → AheadFrom N s N m₀ m
+  unfolding ahead
+  from-last m a =
+      record {
+        rows = λ j c p q l. let e : j ≡ N = omega arith in let z : N - N ≡ 0 = omega arith in rw (e, z) (a .row c l);
+        below = λ i l. a .below i (omega arith);
+        above = λ i l. a .above i (omega arith);
+        masks = a .masks;
+      }
+
+  may-same : (m : List ℕ) (c : ℕ) → c < N → countAt s c ≤ 8 → ((i : ℕ) → i < 256 → getD m i 0 ≡ getD m₀ i 0) → mayAt m s c ≡ mayAt m₀ s c
+  unfolding mayAt
+  may-same m c l f h = join-cong (countAt s c) _ _ (λ v r. h (128 + (8 * c + v)) (omega arith))
+
+  pub from-next : (k : ℕ) (m m′ : List ℕ) (u : Set) → suc k ≤ N → countAt s k ≤ 8 → u ≡ mayAt m s k → AheadFrom N s (suc k) m₀ m → AheadRow k (aheadBy m k u) N m m′ → AheadFrom N s k m₀ m′
+  unfolding ahead aheadBy
+  from-next k m m′ u l f e a r =
+      record {
+        rows = λ j c p q x. go j c p q x (same j k) refl;
+        below = λ i p. r .below i (omega arith) ∙ a .below i p;
+        above = λ i p. r .above i (omega arith) ∙ a .above i p;
+        masks = r .masks ∙ a .masks;
+      }
+    where
+      part : ℕ → ℕ → Set
+      part c e = mayAt m₀ s e ∩ backAt m₀ c e
+
+      go : (j c : ℕ) → k ≤ j → j ≤ N → c < N → (b : Bool) → same j k ≡ b → aheadAt m′ j c ≡ ahead (N - j) j (part c)
+      go j c p q x true y = rw (same→≡ j k y) (r .row c x ∙ ap₂ _∪_ (ap₂ _∩_ (e ∙ may-same m k (omega arith) f (a .below)) (a .below (192 + (8 * c + k)) (omega arith))) (a .rows (suc k) c (omega arith) (omega arith) x)
+          ∙ sym (ap (λ n. ahead n k (part c)) (let h : N - k ≡ suc (N - suc k) = omega arith in h)))
+      go j c p q x false y = let z : j ≢ k = λ o. false≢true (sym y ∙ rw o (same-refl k)) in r .above (256 + (8 * j + c)) (omega arith) ∙ a .rows j c (omega arith) q x
+
+-- ── all of it ──
+
+ahead-cong : (n k : ℕ) (f g : ℕ → Set) → ((e : ℕ) → e < n + k → f e ≡ g e) → ahead n k f ≡ ahead n k g
+unfolding ahead
+ahead-cong zero k f g h = refl
+ahead-cong (suc n) k f g h = ap₂ _∪_ (h k (omega arith)) (ahead-cong n (suc k) f g (λ e l. h e (omega arith)))
+
+listed-kept : (m s : List ℕ) (c : ℕ) (ts : List Transition) (q : ℕ) (keep keep′ : ℕ → Bool) → ((v : ℕ) → keep v ≡ keep′ v) → {p n : ℕ} → Listed m s c ts q keep p n → Listed m s c ts q keep′ p n
+listed-kept m s c ts q keep keep′ h {p} {n} l = subst (λ f. Listed m s c ts q f p n) (fun-ext h) l
+
+module _ (ts : ℕ → List Transition) (cfg : ℕ → ℕ) (N : ℕ) (lows m₀ s₀ : List ℕ) (few : N ≤ 8) where
+  pub chosen : (m m′ s : List ℕ) → Until ts cfg N lows m₀ s₀ N m s → AheadFrom N s 0 m m′ → ((c : ℕ) → c < N → stateAt s₀ c ≡ cfg c) → Chosen ts cfg N lows m′ s
+  chosen m m′ s un a st =
+      record {
+        listed = λ c l. listed-kept m′ s c (ts c) (cfg c) (keepAt ts cfg N lows m₀ c) (keepAt ts cfg N lows m′ c)
+            (λ v. keep-same ts cfg N lows m₀ s₀ few m₀ m′ c v l (λ i p q. sym (a .below i q ∙ un .wires i p)))
+            (listed-stays m s m′ s c (ts c) (cfg c) (keepAt ts cfg N lows m₀ c) (un .listed c l) (λ v r. let h = un .counts c l in
+            record { needed = a .below (8 * c + v) (omega arith); barred = a .below (64 + (8 * c + v)) (omega arith); action = a .below (128 + (8 * c + v)) (omega arith); to = refl }));
+        counts = un .counts;
+        ahead-at = λ k c p q. a .rows k c (omega arith) p q ∙ ahead-cong (N - k) k _ _ (λ e x. ap₂ _∩_ (sym (may-same N few s m m′ e (omega arith) (un .counts e (omega arith)) (a .below)))
+            (sym (a .below (192 + (8 * c + e)) (omega arith))));
+        state-at = λ c l. un .rest (88 + c) (omega arith) ∙ st c l;
+      }
+
+-- ── what is chosen by the tables is what the file's candidates are ──
+
+-- chart c's own part of what it is offered, apart
+join-apart : (N c : ℕ) (a : Set) (f b : ℕ → Set) → c < N → join N (λ e. cond (same e c) a (f e) ∩ b e) ≡ a ∩ b c ∪ join N (λ e. cond (same e c) 0 (f e) ∩ b e)
+unfolding join
+join-apart zero c a f b l = absurd (omega arith)
+join-apart (suc N) c a f b l = go (same c N) refl (join-apart N c a f b)
+  where
+    with-own : Set → ℕ → Set
+    with-own z e = cond (same e c) z (f e) ∩ b e
+
+    elsewhere : (z z′ : Set) (e : ℕ) → e ≢ c → with-own z e ≡ with-own z′ e
+    elsewhere z z′ e n = rw (same-≢ e c n)
+
+    here : (z : Set) → with-own z c ≡ z ∩ b c
+    here z = rw (same-refl c)
+
+    go : (x : Bool) → same c N ≡ x → (c < N → join N (with-own a) ≡ a ∩ b c ∪ join N (with-own 0)) → join N (with-own a) ∪ with-own a N ≡ a ∩ b c ∪ (join N (with-own 0) ∪ with-own 0 N)
+    go true x r = let e = same→≡ c N x in
+        sets (join N (with-own a) ∷ join N (with-own 0) ∷ with-own a N ∷ with-own 0 N ∷ (a ∩ b c) ∷ b c ∷ []) (A ≐ B ∷ C ≐ Eₑ ∷ D ≐ ∅ₑ ∩ₑ Fₑ ∷ []) (A ∪ₑ C ≐ Eₑ ∪ₑ (B ∪ₑ D)) tt
+        (join-cong N (with-own a) (with-own 0) (λ i l. elsewhere a 0 i (λ y. omega arith))) (ap (with-own a) (sym e) ∙ here a) (ap (with-own 0) (sym e) ∙ here 0)
+    go false x r = let z : c ≢ N = λ o. false≢true (sym x ∙ rw o (same-refl N)) in
+        sets (join N (with-own a) ∷ (a ∩ b c) ∷ join N (with-own 0) ∷ with-own a N ∷ with-own 0 N ∷ []) (A ≐ B ∪ₑ C ∷ D ≐ Eₑ ∷ []) (A ∪ₑ D ≐ B ∪ₑ (C ∪ₑ Eₑ)) tt (r (omega arith))
+        (elsewhere a 0 N (λ y. z (sym y)))
+
+join-off : (N c : ℕ) (b : ℕ → Set) → join N (λ e. cond (same e c) 0 0 ∩ b e) ≡ 0
+unfolding join
+join-off zero c b = refl
+join-off (suc N) c b = sets (join N (λ e. cond (same e c) 0 0 ∩ b e) ∷ cond (same N c) 0 0 ∷ b N ∷ []) (A ≐ ∅ₑ ∷ B ≐ ∅ₑ ∷ []) (A ∪ₑ B ∩ₑ C ≐ ∅ₑ) tt (join-off N c b) (either (same N c))
+  where
+    either : (x : Bool) → cond {A = Set} x 0 0 ≡ 0
+    either true = refl
+    either false = refl
+
+module _ (E : ℕ → Chart) (state : ℕ → ℕ) (cfg : ℕ → ℕ) (N : ℕ) (enc : ℕ → Option ℕ) (sc : ℕ → ℕ) (t : Tree) (inp : Set) (m s lows : List ℕ)
+    (ro : Rows E state cfg N enc sc t m s) (lw : (c : ℕ) → c < N → getD lows c 0 ≡ inp ∩ down t c) where
+  abbrev may₀ : ℕ → Set
+  may₀ c = mayOf (E c .transitions) (cfg c)
+
+  -- what chart c is offered, its own action a and the others' f
+  offered-apart : (c : ℕ) (a : Set) (f : ℕ → Set) → c < N → offered N (λ e. cond (same e c) a (f e)) inp (down t c) (back E t c)
+      ≡ getD lows c 0 ∪ a ∩ backAt m c c ∪ join N (λ e. cond (same e c) 0 (f e) ∩ backAt m c e)
+  unfolding offered
+  offered-apart c a f l = sets ((inp ∩ down t c) ∷ join N (λ e. cond (same e c) a (f e) ∩ back E t c e) ∷ getD lows c 0 ∷ (a ∩ backAt m c c) ∷ join N (λ e. cond (same e c) 0 (f e) ∩ backAt m c e) ∷ [])
+      (C ≐ A ∷ B ≐ D ∪ₑ Eₑ ∷ []) (A ∪ₑ B ≐ C ∪ₑ D ∪ₑ Eₑ) tt (lw c l)
+      (join-cong N _ _ (λ e r. ap (λ z. cond (same e c) a (f e) ∩ z) (sym (ro .back-at c e l r))) ∙ join-apart N c a f (backAt m c) l)
+
+  keep-lasts : (c v : ℕ) → c < N → keepAt (λ e. E e .transitions) cfg N lows m c v ≡ lasts E state cfg N t inp may₀ c v
+  unfolding keepAt lastsBy lasts othersAt
+  keep-lasts c v l = ap₂ (test (pick (E c .transitions) v))
+      (sym (offered-apart c (actionOf (pick (E c .transitions) v)) (λ e. 0) l
+      ∙ sets ((getD lows c 0 ∪ actionOf (pick (E c .transitions) v) ∩ backAt m c c) ∷ join N (λ e. cond (same e c) 0 0 ∩ backAt m c e) ∷ []) (B ≐ ∅ₑ ∷ []) (A ∪ₑ B ≐ A) tt (join-off N c (backAt m c))))
+      (sym (offered-apart c (actionOf (pick (E c .transitions) v)) may₀ l))
+
+  pub candidates : Chosen (λ e. E e .transitions) cfg N lows m s → Candidates E cfg N t (lasts E state cfg N t inp may₀) m s
+  candidates ch =
+      record {
+        listed = λ c l. listed-kept m s c (E c .transitions) (cfg c) (keepAt (λ e. E e .transitions) cfg N lows m c) (lasts E state cfg N t inp may₀ c) (λ v. keep-lasts c v l) (ch .listed c l);
+        ahead-at = λ k c p q. ch .ahead-at k c p q ∙ ahead-cong (N - k) k _ _ (λ e x. ap (λ z. mayAt m s e ∩ z) (ro .back-at c e q (omega arith)));
+      }
+
+-- ── no search is needed ──
+
+each-none : (n : ℕ) (f : ℕ → List Outcome) → ((v : ℕ) → v < n → f v ≡ []) → each n f ≡ []
+unfolding each
+each-none zero f h = refl
+each-none (suc n) f h = rw (each-none n f (λ v l. h v (omega arith)), h n (omega arith))
+
+module _ (m s : List ℕ) (c : ℕ) (z : countAt s c ≡ 0) (o : 8 ≤ masterAt s c) where
+  -- a chart that is surely active and has no candidate: nothing is found
+  hunts-none : (n k : ℕ) (t : Trail) → k ≤ c → c < n + k → hunts m s n k t ≡ []
+  unfolding hunts each wakes
+  hunts-none zero k t p q = absurd (omega arith)
+  hunts-none (suc n) k t p q = go (same k c) refl (hunts-none n (suc k))
+    where
+      block : Trail → List Outcome
+      block t′ = cond (fineAt m s t′ k) (hunts m s n (suc k) t′) []
+
+      both : (b : Bool) (x : List Outcome) → x ≡ [] → cond b x [] ≡ []
+      both true x e = e
+      both false x e = refl
+
+      either : (b : Bool) (x y : List Outcome) → x ≡ [] → y ≡ [] → cond b x y ≡ []
+      either true x y e f = e
+      either false x y e f = f
+
+      go : (b : Bool) → same k c ≡ b → ((t′ : Trail) → suc k ≤ c → c < n + suc k → hunts m s n (suc k) t′ ≡ [])
+          → cond (wakes m s t k) (each (countAt s k) (λ v. block (taken m s t k v))) (block (rested m s t k)) ≡ []
+      go true e ih = rw (same→≡ k c e, le-ltb (masterAt s c) 8 o, z)
+      go false e ih = let w : k ≢ c = λ x. false≢true (sym e ∙ rw x (same-refl c)) in
+          let end : (t′ : Trail) → block t′ ≡ [] = λ t′. both (fineAt m s t′ k) (hunts m s n (suc k) t′) (ih t′ (omega arith) (omega arith)) in
+          either (wakes m s t k) _ _ (each-none (countAt s k) _ (λ v l. end (taken m s t k v))) (end (rested m s t k))
+
+pub hunts-stuck : (m s : List ℕ) (N : ℕ) (t : Trail) → stuck s N ≡ true → hunts m s N 0 t ≡ []
+unfolding stuck
+hunts-stuck m s N t h = let u = any-one N (λ c. same (countAt s c) 0 && not (ltb (masterAt s c) 8)) h in let l = u .1 in
+    hunts-none m s (u .0) (same→≡ (countAt s (u .0)) 0 (and-l _ _ (u .2))) (ltb-false (masterAt s (u .0)) 8 (tests-not-true (ltb (masterAt s (u .0)) 8) (and-r (same (countAt s (u .0)) 0) _ (u .2)))) N 0 t (omega arith) (omega arith)

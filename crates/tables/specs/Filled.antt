@@ -1,0 +1,68 @@
+-- What the tables of a search hold for a file, a configuration and an input: the wiring, the present states, and the candidates.
+use mathlib.Core.Path.{_≡_}
+use mathlib.Core.Bool.{Bool, true, false, cond}
+use mathlib.Core.Option.{Option, none, some}
+use mathlib.Core.List.{List, [], _∷_}
+use mathlib.Core.Logic.{_≢_}
+use Prim.Native.Nat.{ℕ, zero, suc, _-_, _≤_, _<_}
+use lib.ListN.{length, take, replicate}
+use Rattle.signals.specs.Mask.{_∩_}
+use Rattle.layout.specs.declared.record.Transition.{Transition}
+use Rattle.meaning.specs.Meaning.{Set, Chart, Tree, nth, Answer, refused, given}
+use Rattle.wiring.specs.Wire.{join, up, back}
+use Rattle.wiring.specs.Dropped.{ahead}
+use Rattle.search.specs.Table.{neededAt, barredAt, actionAt, backAt, aheadAt, upAt, toAt, countAt, masterAt, slaveStateAt, stateAt}
+use Rattle.search.specs.Hunt.{answerIn}
+use Rattle.search.specs.declared.Trail.{Trail}
+use Rattle.search.specs.declared.Found.{Found}
+
+module _ (m s : List ℕ) where
+  -- candidate v of chart c is a transition, as far as a step sees it
+  pub record Is (c v : ℕ) (t : Transition) : Type 0 where
+    pub needed : neededAt m c v ≡ t .needed
+    pub barred : barredAt m c v ≡ t .barred
+    pub action : actionAt m c v ≡ t .action
+    pub to : toAt s c v ≡ t .to
+
+  -- The first p of chart c's transitions ts give n candidates, q being the chart's present state: a transition is from another state, or is not
+  -- kept (its place is one more), or is an earlier candidate again, or is a candidate of its own.
+  pub data Listed (c : ℕ) (ts : List Transition) (q : ℕ) (keep : ℕ → Bool) : ℕ → ℕ → Type 0 where
+    start : Listed c ts q keep zero zero
+    other : {p n : ℕ} → Listed c ts q keep p n → (t : Transition) → nth ts p ≡ some t → t .from ≢ q → Listed c ts q keep (suc p) n
+    fails : {p n : ℕ} → Listed c ts q keep p n → keep (suc p) ≡ false → Listed c ts q keep (suc p) n
+    again : {p n : ℕ} → Listed c ts q keep p n → (t : Transition) → nth ts p ≡ some t → (v : ℕ) → v < n → Is c v t → Listed c ts q keep (suc p) n
+    fresh : {p n : ℕ} → Listed c ts q keep p n → (t : Transition) → nth ts p ≡ some t → t .from ≡ q → keep (suc p) ≡ true → Is c n t
+        → Listed c ts q keep (suc p) (suc n)
+
+  -- what chart c's candidates put out, all together
+  unfoldable pub mayAt : ℕ → Set
+  mayAt c = join (countAt s c) (actionAt m c)
+
+module _ (E : ℕ → Chart) (state : ℕ → ℕ) (cfg : ℕ → ℕ) (N : ℕ) (enc : ℕ → Option ℕ) (sc : ℕ → ℕ) (t : Tree) where
+  -- the wiring of the tree t of N charts; the masters and states of the nearest enclosing slaves; the present states
+  pub record Rows (m s : List ℕ) : Type 0 where
+    pub few : N ≤ 8
+    pub back-at : (c d : ℕ) → c < N → d < N → backAt m c d ≡ back E t c d
+    pub up-at : (d : ℕ) → d < N → upAt m d ≡ up t d
+    pub outside : (c : ℕ) → c < N → enc c ≡ none → 8 ≤ masterAt s c
+    pub inside : (c i : ℕ) → c < N → enc c ≡ some i → (masterAt s c ≡ sc i) × (slaveStateAt s c ≡ state i)
+    pub state-at : (c : ℕ) → c < N → stateAt s c ≡ cfg c
+
+module _ (E : ℕ → Chart) (cfg : ℕ → ℕ) (N : ℕ) (t : Tree) where
+  -- the candidates, and what those of later charts put out
+  pub record Candidates (keep : ℕ → ℕ → Bool) (m s : List ℕ) : Type 0 where
+    pub listed : (c : ℕ) → c < N → Listed m s c (E c .transitions) (cfg c) (keep c) (length (E c .transitions)) (countAt s c)
+    pub ahead-at : (k c : ℕ) → k ≤ N → c < N → aheadAt m k c ≡ ahead (N - k) k (λ e. mayAt m s e ∩ back E t c e)
+
+-- no chart is settled; low is what each is surely offered
+unfoldable pub beginning : List ℕ → Trail
+beginning low = record { low = low; choice = replicate 8 0; next = replicate 8 0; awake = replicate 8 0 }
+
+-- the answer with the states of N charts
+unfoldable pub trimmed : ℕ → Answer → Answer
+trimmed N (refused r) = refused r
+trimmed N (given o n m) = given o (take N n) m
+
+-- what was found, as the answer of a step of N charts
+abbrev pub answerOf : ℕ → Found → Answer
+answerOf N f = trimmed N (answerIn f)

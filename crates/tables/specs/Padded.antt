@@ -1,0 +1,68 @@
+-- Lists of outcomes that say the same: one of a search over tables, whose configurations have 8 states, zeros behind; one of the meaning. Laws: of
+-- one outcome, of ++, of what comes again (padded-one to padded-again), and of the answer (found).
+use mathlib.Core.Path.{_≡_, refl, sym, _∙_, ap, ap₂}
+use mathlib.Core.Bool.{Bool, _&&_}
+use mathlib.Core.List.{List, [], _∷_, _++_, map, map-append, append-nil}
+use Prim.Native.Nat.{ℕ, _-_}
+use native.Mathlib.Omega.{arith}
+use lib.ListN.{length, take, replicate}
+use lib.Seq.{take-at}
+use Rattle.meaning.specs.Meaning.{same, Outcome, eqList, agree, Answer, given, answer}
+use Rattle.search.specs.Hunt.{over, nothing}
+use Rattle.search.specs.Hunt.Laws.{eqList-refl, Alike, alike-refl, alike-path, alike-sym, alike-trans, alike-append, alike-answer, Among, alike-drop, answer-over}
+use Rattle.tables.specs.Filled.{answerOf, trimmed}
+
+-- ── outcomes of 8 states ──
+
+module _ (N : ℕ) where
+  unfoldable pub pad : Outcome → Outcome
+  pad o = record { output = o .output; next = o .next ++ replicate (8 - N) 0 }
+
+  -- padded, ys is like xs
+  pub record Padded (xs ys : List Outcome) : Type 0 where
+    alike : Alike xs (map pad ys)
+
+  pub padded-none : Padded [] []
+  padded-none = record { alike = alike-refl [] }
+
+  pub padded-one : (a b : Outcome) → a .output ≡ b .output → a .next ≡ b .next ++ replicate (8 - N) 0 → Padded (a ∷ []) (b ∷ [])
+  unfolding pad
+  padded-one a b p q = record { alike = alike-path (λ i. record { output = p i; next = q i } ∷ []) }
+
+  pub padded-append : (xs ys zs ws : List Outcome) → Padded xs ys → Padded zs ws → Padded (xs ++ zs) (ys ++ ws)
+  padded-append xs ys zs ws p q = record { alike = rw (map-append pad ys ws) (alike-append (p .alike) (q .alike)) }
+
+  pub padded-nothing : (xs ys ws : List Outcome) → Padded xs ys → ws ≡ [] → Padded xs (ys ++ ws)
+  padded-nothing xs ys ws p e = rw (e, append-nil ys) p
+
+  -- what is in the list already may come again
+  pub padded-again : (xs ys zs ws : List Outcome) → Padded xs ys → Padded zs ws → Among zs xs → Padded xs (ys ++ ws)
+  padded-again xs ys zs ws p q i = record { alike = alike-trans (alike-sym (alike-drop xs zs i)) (padded-append xs ys zs ws p q .alike) }
+
+  -- ── the answer ──
+
+  -- every outcome is of N states
+  abbrev pub Sizes : List Outcome → Type 0
+  Sizes [] = Unit {0}
+  Sizes (o ∷ os) = (length (o .next) ≡ N) × Sizes os
+
+  -- what stands behind lists of one length says nothing
+  eqList-behind : (a b z : List ℕ) → length a ≡ length b → eqList (a ++ z) (b ++ z) ≡ eqList a b
+  unfolding eqList
+  eqList-behind [] [] z e = eqList-refl z
+  eqList-behind [] (y ∷ b) z e = absurd (omega arith)
+  eqList-behind (x ∷ a) [] z e = absurd (omega arith)
+  eqList-behind (x ∷ a) (y ∷ b) z e = ap (λ r. same x y && r) (eqList-behind a b z (omega arith))
+
+  agree-pad : (a : Outcome) (os : List Outcome) → length (a .next) ≡ N → Sizes os → agree (pad a) (map pad os) ≡ agree a os
+  unfolding agree pad
+  agree-pad a [] l s = refl
+  agree-pad a (o ∷ os) l s = ap₂ (λ x y. (same (a .output) (o .output) && x) && y) (eqList-behind (a .next) (o .next) (replicate (8 - N) 0) (l ∙ sym (s .0))) (agree-pad a os l (s .1))
+
+  answer-pad : (os : List Outcome) → Sizes os → trimmed N (answer (map pad os)) ≡ answer os
+  unfolding answer trimmed pad
+  answer-pad [] s = refl
+  answer-pad (o ∷ os) s = ap₂ (given (o .output)) (take-at (o .next) (replicate (8 - N) 0) N (s .0)) (agree-pad o os (s .0) (s .1))
+
+  pub found : (xs ys : List Outcome) → Padded xs ys → Sizes ys → answerOf N (over xs nothing) ≡ answer ys
+  found xs ys p s = ap (trimmed N) (answer-over xs ∙ alike-answer xs (map pad ys) (p .alike)) ∙ answer-pad ys s
