@@ -6,24 +6,23 @@ use Prim.Native.Nat.{ℕ, zero, _+_, _≤_, _<_}
 use lib.Dec.{ltb}
 use lib.ListN.{length, getD}
 use Rattle.signals.specs.Mask.{single}
-use Rattle.layout.specs.Body.{Holds, headAt, startOf}
+use Rattle.layout.specs.Body.{headAt, startOf}
 use Rattle.layout.specs.declared.body.Shape.{Shape}
 use Rattle.layout.specs.declared.record.Head.{Head}
-use Rattle.meaning.specs.Numbers.{mostSignals, mostCharts, mostSlaves, mostNodes, mostInChart, mostTransitions}
+use Rattle.meaning.specs.Numbers.{mostSignals, mostNodes, mostInChart, mostTransitions}
 use Rattle.meaning.specs.Meaning.{Set}
 use Rattle.meaning.specs.File.{File, fileAt}
-use Rattle.meaning.specs.Check.Nodes.{Treed}
+use Rattle.meaning.specs.Check.Nodes.{Sound}
 use Rattle.meaning.specs.Rewriting.{lacking, call, callIn, nearestSlave, rewrittenChart, count, start, newName, rewrite, transitionsIn}
+use Rattle.meaning.specs.Laws.Names.{kap}
+use Rattle.checks.specs.Known.{Sized, Summed}
 use Rattle.rewrite.specs.declared.calls.Calls.{Calls}
 
+-- a body that passed 1 to 11
 pub record Checked (n : Shape) (b : List ℕ) : Type 0 where
-  pub holds : Holds n b
-  pub charts : n .charts ≤ mostCharts
-  pub transitions : n .transitions ≤ mostTransitions
-  pub slaves : n .slaves ≤ mostSlaves
-  pub nodes : n .nodes ≤ mostNodes
-  pub summed : startOf n b (n .charts) ≡ n .transitions
-  pub treed : Treed (fileAt n b)
+  pub sized : Sized n b
+  pub summed : Summed n b
+  pub sound : Sound (fileAt n b)
 
 -- slaves get the numbers that `used` lacks, one after another
 pub record Calling (used slaves : ℕ) (r : Calls) : Type 0 where
@@ -69,6 +68,10 @@ pub record Begins (F : File) (j first : ℕ) : Type 0 where
 -- the counts of a shape fit their bytes
 abbrev pub Small : Shape → Type 0
 Small m = (m .charts < 256) × (m .transitions < 65536) × (m .slaves < 256) × (m .nodes < 256)
+
+-- the nearest slave of a chart, from the whole down, is the nearest from the chart up
+abbrev pub Upward : File → Type 0
+Upward F = (c : ℕ) → c < F .charts → nearestSlave F c ≡ kap F c
 
 -- of each node the name that it gets
 abbrev pub NamesIn : File → List ℕ → Type 0

@@ -1,12 +1,16 @@
 // Call signals: the signals that a file uses, and for each slave the lowest that is left.
 ghost use mathlib.Core.Path.{_≡_};
+ghost use mathlib.Core.Bool.{cond};
 ghost use Prim.Native.Nat.{_+_, _≤_};
+ghost use lib.Dec.{ltb};
+ghost use lib.ListN.{getD};
 ghost use Rattle.signals.specs.Mask.{_∪_};
 ghost use Rattle.layout.specs.Body.{Holds, from, transitionAt};
 ghost use Rattle.meaning.specs.Meaning.{guards, actions};
+ghost use Rattle.meaning.specs.Numbers.{mostSlaves};
 ghost use Rattle.meaning.specs.File.{fileAt};
 ghost use Rattle.meaning.specs.Rewriting.{unionUpTo, used};
-ghost use Rattle.rewrite.specs.Known.{Checked, Calling};
+ghost use Rattle.rewrite.specs.Known.{Checked, Calling, CallsIn, InnerIn, Upward};
 use layout::body::Shape;
 use signals::Found;
 
@@ -96,4 +100,34 @@ pub fn given(slaves: usize, used: u64) -> Calls
         enough: true,
         sets: sets,
     }
+}
+
+// The call of slave i; none for a number that is no slave's.
+fn call_of(calls: &[u64; 8], slaves: usize, i: u8) -> u64
+    requires { ⌜ slaves ≤ mostSlaves ⌝ }
+    ensures { λ r. ⌜ r ≡ cond (ltb i slaves) (getD (now (calls .entry)) i 0) 0 ⌝ }
+{
+    let at = i as usize;
+    if at < slaves { calls[at] } else { 0 }
+}
+
+// Of each chart the call that it takes, that of its nearest enclosing slave.
+pub fn inner(n: Shape, body: &[u8], calls: &[u64; 8]) -> [u64; 8]
+    requires { ⌜ Checked n (now body) × CallsIn (fileAt n (now body)) (now calls) × Upward (fileAt n (now body)) ⌝ }
+    ensures { λ r. ⌜ InnerIn (fileAt n (now (body .entry))) r ⌝ }
+{
+    let near = plan::wire::enclosers(n, body);
+    let nodes = n.nodes;
+    let slaves = n.slaves;
+    let mut inner = [0u64; 8];
+    let mut j: usize = 0;
+    while j < nodes {
+        let node = layout::body::node_at(n, body, j);
+        let c = node.a as usize;
+        if node.kind == 0 {
+            inner[c] = call_of(calls, slaves, near[j]);
+        }
+        j += 1;
+    }
+    inner
 }

@@ -64,10 +64,10 @@ used-by-charts-spec =
     Inv-loop
     μ-loop
     loop-holds
-    (λ c κs. (c .before .before .before .before .pre .holds, omega arith))
+    (λ c κs. (c .before .before .before .before .pre .sized .holds, omega arith))
     (λ c. search needs)
-    (λ c κs. (c .before .before .before .before .before .before .pre .holds, room c))
-    (λ c. let r = room (c .before .before .before) in let t = c .before .before .before .before .before .before .before .before .before .pre .transitions in omega arith)
+    (λ c κs. (c .before .before .before .before .before .before .pre .sized .holds, room c))
+    (λ c. let r = room (c .before .before .before) in let t = c .before .before .before .before .before .before .before .before .before .pre .sized .transitions in omega arith)
     (λ c. omega arith)
     (λ c. omega arith)
     loop-again

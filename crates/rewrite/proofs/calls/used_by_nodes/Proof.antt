@@ -40,7 +40,7 @@ used-by-nodes-spec =
     Inv-loop
     μ-loop
     loop-holds
-    (λ c κs. (c .before .before .before .before .pre .holds, omega arith))
+    (λ c κs. (c .before .before .before .before .pre .sized .holds, omega arith))
     (λ c. omega arith)
     (λ c. omega arith)
     loop-again

@@ -53,10 +53,10 @@ calls-of-spec =
     Inv-loop
     μ-loop
     loop-holds
-    (λ c κs. (c .before .before .before .pre .0 .holds, c .loop-test .taken))
+    (λ c κs. (c .before .before .before .pre .0 .sized .holds, c .loop-test .taken))
     (λ c. search needs)
     (λ c. search needs)
-    (λ c. let h = c .before .before .before .before .before .before .pre .0 .slaves in omega arith)
+    (λ c. let h = c .before .before .before .before .before .before .pre .0 .sized .slaves in omega arith)
     (λ c. omega arith)
     (λ c. omega arith)
     loop-again

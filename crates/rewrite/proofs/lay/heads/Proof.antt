@@ -63,9 +63,9 @@ heads-spec =
     Inv-loop
     μ-loop
     loop-holds
-    (λ c κs. (c .before .before .before .before .pre .0 .holds, c .loop-test .taken))
+    (λ c κs. (c .before .before .before .before .pre .0 .sized .holds, c .loop-test .taken))
     (λ c. search needs)
-    (λ c. let h = c .before .before .before .before .before .pre .0 .charts in omega arith)
+    (λ c. let h = c .before .before .before .before .before .pre .0 .sized .charts in omega arith)
     (λ c κs. search needs)
     (λ c. let s = small c in omega arith)
     (λ c κs. room (c .before .before .before .before))

@@ -61,7 +61,7 @@ holder-spec =
     tie.close
     (tie.spec
     (λ c κs. c .before .before .pre .0)
-    (λ c. let h = c .before .before .before .before .pre .0 .charts in let t = c .before .before .before .before .pre .3 .there in omega arith)
+    (λ c. let h = c .before .before .before .before .pre .0 .sized .charts in let t = c .before .before .before .before .pre .3 .there in omega arith)
     put-node-requires
     (λ c. puts-length (returns c))
     returns

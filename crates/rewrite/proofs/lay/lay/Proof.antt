@@ -45,7 +45,7 @@ module _ (n : Shape) (b : List ℕ) (m : Shape) (edition : ℕ) (em : m ≡ shap
 
   small : Checked n b → Fits F → Small m
   unfolding shapeIn fileAt
-  small w f = let c = w .charts in let t = f .total in let k = f .nodes in rw em (omega arith, omega arith, omega arith, omega arith)
+  small w f = let c = w .sized .charts in let t = f .total in let k = f .nodes in rw em (omega arith, omega arith, omega arith, omega arith)
 
   module _ (out : List ℕ) (r : length (encode (rewrite F)) ≤ length out) where
     room-all : Room (hs F ++ (ts F ++ (ns F ++ end m edition))) 0 out

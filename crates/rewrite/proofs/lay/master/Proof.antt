@@ -80,8 +80,8 @@ master-spec =
     tie.close
     (tie.spec
     (λ c κs. (c .before .before .pre .0, c .before .before .pre .1))
-    (λ c κs. (c .before .before .before .pre .0 .holds, c .before .before .before .pre .3 .there))
-    (λ c. let h = c .before .before .before .before .pre .0 .charts in let t = c .before .before .before .before .pre .3 .there in omega arith)
+    (λ c κs. (c .before .before .before .pre .0 .sized .holds, c .before .before .before .pre .3 .there))
+    (λ c. let h = c .before .before .before .before .pre .0 .sized .charts in let t = c .before .before .before .before .pre .3 .there in omega arith)
     put-node-requires
     (λ c. let m = c .before .before .before .before .before .before .before .before .before .pre .3 .named in omega arith)
     parts-requires

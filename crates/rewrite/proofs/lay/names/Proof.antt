@@ -57,7 +57,7 @@ small c =
 loop-again : tie.Need-loop-again Inv-loop μ-loop
 loop-again c =
     let i = c .before .before .loop in
-    let h = c .before .before .before .before .pre .0 .nodes in
+    let h = c .before .before .before .before .pre .0 .sized .nodes in
     (omega arith, named-more _ (i .j) _ _ _ (omega arith) (c .before-last .ensures .0) (i .inv .1))
 
 returns : tie.Need-returns Inv-loop μ-loop
@@ -74,7 +74,7 @@ names-spec =
     (λ c κs. (c .before .before .before .pre .0, c .loop-test .taken))
     (λ c. let s = small c in omega arith)
     (λ c. let s = small c in omega arith)
-    (λ c. let h = c .before .before .before .before .pre .0 .nodes in omega arith)
+    (λ c. let h = c .before .before .before .before .pre .0 .sized .nodes in omega arith)
     (λ c. let s = small c in omega arith)
     (λ c. omega arith)
     (λ c. omega arith)

@@ -56,7 +56,7 @@ module _ (n : Shape) (b : List ℕ) (j : ℕ) (r : Node) (e : r ≡ nodeAt n b j
       holder : Holder F (r .a) first
       unfolding newName
       holder =
-          let c = w .treed .chart-there j l (kind-is 0 k) in
+          let c = w .sound .chart-there j l (kind-is 0 k) in
           let m = h .named in
           let i = h .is in
           let q = ren-inside F (F .nodes) j l in
@@ -65,7 +65,7 @@ module _ (n : Shape) (b : List ℕ) (j : ℕ) (r : Node) (e : r ≡ nodeAt n b j
           record { there = rw a-is c; named = rw a-is (omega arith) }
 
     both-there : r .kind ≡ 1 → (r .a < F .nodes) × (r .b < F .nodes)
-    both-there k = let m = w .treed .ordered .lower₁ j l (kind-is 1 k) in let p = a-is in let q = b-is in (omega arith, omega arith)
+    both-there k = let m = w .sound .ordered .lower₁ j l (kind-is 1 k) in let p = a-is in let q = b-is in (omega arith, omega arith)
 
     both-bytes : r .kind ≡ 1 → (names : List ℕ) → NamesIn F names → nodesBytes (madeFor F j) ≡ nodeBytes (composing (getD names (r .a) 0) (getD names (r .b) 0) (r .x))
     unfolding fileAt
@@ -76,10 +76,10 @@ module _ (n : Shape) (b : List ℕ) (j : ℕ) (r : Node) (e : r ≡ nodeAt n b j
 
     module _ (k₀ : r .kind ≡ 0 → ⊥) (k₁ : r .kind ≡ 1 → ⊥) where
       last-kind : F .kind j ≡ 2
-      last-kind = let m = w .treed .ordered .kinds j l in let z = kind-is (r .kind) refl in omega arith
+      last-kind = let m = w .sound .ordered .kinds j l in let z = kind-is (r .kind) refl in omega arith
 
       hidden-there : r .a < F .nodes
-      hidden-there = let m = w .treed .ordered .lower₂ j l last-kind in let p = a-is in omega arith
+      hidden-there = let m = w .sound .ordered .lower₂ j l last-kind in let p = a-is in omega arith
 
       hidden-bytes : (names : List ℕ) → NamesIn F names → nodesBytes (madeFor F j) ≡ nodeBytes (hiding (getD names (r .a) 0) (r .x) (r .y))
       unfolding fileAt
@@ -107,14 +107,14 @@ element-copy-out-t20 : tie.Need-element-copy-out-t20
 unfolding fileAt
 element-copy-out-t20 c =
     let p = c .before .before .before .before .before .before .before .pre in
-    let h = p .0 .nodes in
+    let h = p .0 .sized .nodes in
     let t = both-there _ _ _ _ (c .before .before .before .before .node-at .ensures) (p .0) (p .3 .there) (c .if2 .taken) in omega arith
 
 element-copy-out-t23 : tie.Need-element-copy-out-t23
 unfolding fileAt
 element-copy-out-t23 c =
     let p = c .before .before .before .before .before .before .before .before .pre in
-    let h = p .0 .nodes in
+    let h = p .0 .sized .nodes in
     let t = both-there _ _ _ _ (c .before .before .before .before .before .node-at .ensures) (p .0) (p .3 .there) (c .before .if2 .taken) in omega arith
 
 put-node-requires : tie.Need-put-node-requires
@@ -133,7 +133,7 @@ element-copy-out-t28 : tie.Need-element-copy-out-t28
 unfolding fileAt
 element-copy-out-t28 c =
     let p = c .before .before .before .before .before .before .before .pre in
-    let h = p .0 .nodes in
+    let h = p .0 .sized .nodes in
     let t = hidden-there _ _ _ _ (c .before .before .before .before .node-at .ensures) (p .0) (p .3 .there) (c .before .if1 .left) (c .if2 .left) in omega arith
 
 put-node-requires-2 : tie.Need-put-node-requires-2
@@ -153,7 +153,7 @@ unfolding fileAt
 node-spec =
     tie.close
     (tie.spec
-    (λ c κs. (c .before .before .pre .0 .holds, c .before .before .pre .3 .there))
+    (λ c κs. (c .before .before .pre .0 .sized .holds, c .before .before .pre .3 .there))
     (λ c. search needs)
     (λ c. search needs)
     holder-requires

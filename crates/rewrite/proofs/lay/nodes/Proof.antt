@@ -68,7 +68,7 @@ nodes-spec =
     μ-loop
     loop-holds
     node-requires
-    (λ c. let h = c .before .before .before .before .before .before .before .before .pre .0 .nodes in omega arith)
+    (λ c. let h = c .before .before .before .before .before .before .before .before .pre .0 .sized .nodes in omega arith)
     (λ c. let s = small c in omega arith)
     (λ c. let s = small c in omega arith)
     (λ c. omega arith)

@@ -58,8 +58,8 @@ own-spec =
     Inv-loop
     μ-loop
     loop-holds
-    (λ c. let h = c .before .before .before .before .pre .0 .transitions in let s = c .before .before .before .before .pre .2 in omega arith)
-    (λ c κs. (c .before .before .before .before .pre .0 .holds, (let s = c .before .before .before .before .pre .2 in omega arith)))
+    (λ c. let h = c .before .before .before .before .pre .0 .sized .transitions in let s = c .before .before .before .before .pre .2 in omega arith)
+    (λ c κs. (c .before .before .before .before .pre .0 .sized .holds, (let s = c .before .before .before .before .pre .2 in omega arith)))
     (λ c κs. (c .before .before .before .before .before .pre .0, c .before .before .before .before .before .pre .1))
     (λ c κs. search needs)
     (λ c κs. room (c .before .before .before .before))

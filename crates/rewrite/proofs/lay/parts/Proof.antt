@@ -52,7 +52,7 @@ module _ (n : Shape) (b : List ℕ) (c x first i : ℕ) (r : Slave) (e : r ≡ s
   module _ (w : Checked n b) (l : i < n .slaves) where
     there : r .node < n .nodes
     unfolding fileAt
-    there = let h = w .treed .node-there i l .0 in let q = ap (λ (s : Slave). s .node) e in omega arith
+    there = let h = w .sound .node-there i l .0 in let q = ap (λ (s : Slave). s .node) e in omega arith
 
     name : (names : List ℕ) → NamesIn F names → getD names (r .node) 0 ≡ newName F (F .node i)
     unfolding fileAt
@@ -116,12 +116,12 @@ parts-spec =
     Inv-loop
     μ-loop
     loop-holds
-    (λ c κs. (c .before .before .before .before .pre .0 .holds, c .loop-test .taken))
+    (λ c κs. (c .before .before .before .before .pre .0 .sized .holds, c .loop-test .taken))
     (λ c. search needs)
     (λ c. search needs)
-    (λ c. let h = c .before .before .before .before .before .before .before .before .pre .0 .nodes in omega (arith, there _ _ 0 0 0 _ _ (c .before .before .before .slave-at .ensures) (c .before .before .before .before .before .before .before .before .pre .0) (c .before .before .before .before .loop-test .taken)))
+    (λ c. let h = c .before .before .before .before .before .before .before .before .pre .0 .sized .nodes in omega (arith, there _ _ 0 0 0 _ _ (c .before .before .before .slave-at .ensures) (c .before .before .before .before .before .before .before .before .pre .0) (c .before .before .before .before .loop-test .taken)))
     (λ c κs. room (c .before .before))
-    (λ c. let i = c .before .before .before .before .before .before .before .before .before .before .loop in let e = i .inv .1 .last in let m = i .inv .1 .most in let h = c .before .before .before .before .before .before .before .before .before .before .before .before .before .pre .0 .slaves in let g = c .before .before .before .before .before .before .before .before .before .before .before .before .before .pre .2 in omega arith)
+    (λ c. let i = c .before .before .before .before .before .before .before .before .before .before .loop in let e = i .inv .1 .last in let m = i .inv .1 .most in let h = c .before .before .before .before .before .before .before .before .before .before .before .before .before .pre .0 .sized .slaves in let g = c .before .before .before .before .before .before .before .before .before .before .before .before .before .pre .2 in omega arith)
     (λ c. omega arith)
     (λ c. omega arith)
     loop-again

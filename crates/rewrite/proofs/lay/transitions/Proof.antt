@@ -58,13 +58,13 @@ transitions-spec =
     Inv-loop
     μ-loop
     loop-holds
-    (λ c κs. (c .before .before .before .before .pre .0 .holds, c .loop-test .taken))
+    (λ c κs. (c .before .before .before .before .pre .0 .sized .holds, c .loop-test .taken))
     (λ c. search needs)
-    (λ c. let h = c .before .before .before .before .before .pre .0 .charts in omega arith)
+    (λ c. let h = c .before .before .before .before .before .pre .0 .sized .charts in omega arith)
     chart-requires
     (λ c. search needs)
     (λ c.
-    let h = c .before .before .before .before .before .before .before .before .before .before .before .pre .0 .transitions in
+    let h = c .before .before .before .before .before .before .before .before .before .before .before .pre .0 .sized .transitions in
     let r = in-all _ _ _ _ (c .before .before .before .before .before .before .head-at .ensures) (c .before .before .before .before .before .before .before .before .loop .inv .1) (c .before .before .before .before .before .before .before .before .before .before .before .pre .0) (c .before .before .before .before .before .before .before .loop-test .taken) in omega arith)
     (λ c. omega arith)
     (λ c. omega arith)

@@ -45,17 +45,17 @@ returns-2 c = (none _ _ _ _ (c .before .before .before .before .before .node-at 
 returns-3 : tie.Need-returns-3
 returns-3 c =
     let m = c .before .slaves-of .ensures .1 in
-    let h = c .before .before .before .before .before .before .before .pre .0 .slaves in
+    let h = c .before .before .before .before .before .before .before .pre .0 .sized .slaves in
     (some _ _ _ _ (c .before .before .before .before .before .node-at .ensures) (c .before .before .before .if1 .left) _ (c .before .slaves-of .ensures .0) (c .if2 .left), omega arith)
 
 pub before-last-spec : {M : Type 1} → statement M
 before-last-spec =
     tie.close
     (tie.spec
-    (λ c κs. (c .before .pre .0 .holds, c .before .pre .1))
+    (λ c κs. (c .before .pre .0 .sized .holds, c .before .pre .1))
     returns
     (λ c. search needs)
     (λ c κs. c .before .before .before .before .before .pre .0)
-    (λ c. let m = c .before .slaves-of .ensures .1 in let h = c .before .before .before .before .before .before .before .pre .0 .slaves in omega arith)
+    (λ c. let m = c .before .slaves-of .ensures .1 in let h = c .before .before .before .before .before .before .before .pre .0 .sized .slaves in omega arith)
     returns-2
     returns-3)

@@ -45,11 +45,11 @@ in-all-spec =
     Inv-loop
     μ-loop
     loop-holds
-    (λ c κs. (c .before .before .before .pre .0 .holds, omega arith))
+    (λ c κs. (c .before .before .before .pre .0 .sized .holds, omega arith))
     (λ c. search needs)
-    (λ c. let h = c .before .before .before .before .pre .0 .charts in omega arith)
+    (λ c. let h = c .before .before .before .before .pre .0 .sized .charts in omega arith)
     (λ c κs. search needs)
-    (λ c. let h = c .before .before .before .before .before .before .pre .0 .charts in let m = c .in-chart .ensures .1 in omega arith)
+    (λ c. let h = c .before .before .before .before .before .before .pre .0 .sized .charts in let m = c .in-chart .ensures .1 in omega arith)
     (λ c. omega arith)
     (λ c. omega arith)
     loop-again

@@ -71,14 +71,14 @@ over-from-spec =
     Inv-loop
     μ-loop
     loop-holds
-    (λ c κs. (c .before .before .before .pre .0 .holds, c .loop-test .taken))
+    (λ c κs. (c .before .before .before .pre .0 .sized .holds, c .loop-test .taken))
     (λ c. search needs)
-    (λ c. let h = c .before .before .before .before .pre .0 .charts in omega arith)
+    (λ c. let h = c .before .before .before .before .pre .0 .sized .charts in omega arith)
     (λ c κs. search needs)
-    (λ c κs. (c .before .before .before .before .before .before .pre .0 .holds, room (c .before .before), rw (c .idle-count .ensures) (count-most _ 1)))
+    (λ c κs. (c .before .before .before .before .before .before .pre .0 .sized .holds, room (c .before .before), rw (c .idle-count .ensures) (count-most _ 1)))
     returns
     (λ c. search needs)
-    (λ c. let r = room (c .before .before .before .before .before) in let h = c .before .before .before .before .before .before .before .before .before .pre .0 .transitions in omega arith)
+    (λ c. let r = room (c .before .before .before .before .before) in let h = c .before .before .before .before .before .before .before .before .before .pre .0 .sized .transitions in omega arith)
     (λ c. omega arith)
     (λ c. omega arith)
     loop-again

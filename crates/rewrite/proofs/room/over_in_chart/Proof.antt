@@ -45,9 +45,9 @@ over-in-chart-spec =
     Inv-loop
     μ-loop
     loop-holds
-    (λ c κs. (c .before .before .before .pre .0 .holds, omega arith))
+    (λ c κs. (c .before .before .before .pre .0 .sized .holds, omega arith))
     (λ c. search needs)
-    (λ c. let h = c .before .before .before .before .pre .0 .charts in omega arith)
+    (λ c. let h = c .before .before .before .before .pre .0 .sized .charts in omega arith)
     (λ c κs. search needs)
     returns
     (λ c. omega arith)

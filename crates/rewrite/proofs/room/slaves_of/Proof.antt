@@ -46,7 +46,7 @@ slaves-of-spec =
     Inv-loop
     μ-loop
     loop-holds
-    (λ c κs. (c .before .before .before .pre .holds, omega arith))
+    (λ c κs. (c .before .before .before .pre .sized .holds, omega arith))
     (λ c. search needs)
     (λ c. omega arith)
     (λ c. omega arith)
