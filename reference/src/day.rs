@@ -22,7 +22,7 @@ fn try_day(input: &[u8]) -> Result<String, u8> {
     refuse_if(input.len() > DAY_INPUT, refusal::DAY_INPUT)?;
     let model = accept(input)?;
     let front = front(input, &model);
-    refuse_if(!front.len().is_multiple_of(SET_BYTES), refusal::DAY_FRONT)?;
+    refuse_if(front.len() % SET_BYTES != 0, refusal::DAY_FRONT)?;
     let rows = run_model(&model, &first_configuration(&model), &inputs(front));
     let lines = rows.iter().zip(1..).map(|(row, number)| line(number, row));
     Ok(lines.collect())

@@ -120,6 +120,15 @@ fn print_run(file: &[u8], config: &[u8], inputs: &[u64], rows: &mut [u8]) {
     end_line();
 }
 
+fn print_rewriting(file: &[u8], out: &mut [u8]) {
+    let w = engine::rewriting::rewriting(file, out);
+    print_refusal(b" rewrite ", w.refusal);
+    space();
+    io::print_decimal(STDOUT_FILENO, w.length as u64);
+    print_buffer(out);
+    end_line();
+}
+
 // A step's input; none is the empty set.
 fn first_of(inputs: &[u64]) -> u64 {
     if inputs.len() == 0 {
@@ -135,7 +144,8 @@ fn print_call(op: u8, file: &[u8], config: &[u8], inputs: &[u64], lent: &mut [u8
         1 => print_first(file, lent),
         2 => print_interface(file),
         3 => print_step(file, config, first_of(inputs), lent),
-        _ => print_run(file, config, inputs, lent),
+        4 => print_run(file, config, inputs, lent),
+        _ => print_rewriting(file, lent),
     }
 }
 

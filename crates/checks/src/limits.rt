@@ -52,3 +52,15 @@ pub const SHORT_BUFFER: u8 = 22;
 pub const NO_STEP: u8 = 23;
 
 pub const SHORT_ROWS: u8 = 27;
+
+pub const NO_FREE_SIGNAL: u8 = 40;
+
+pub const MANY_FROM_STATE: u8 = 41;
+
+pub const MANY_IN_CHART: u8 = 42;
+
+pub const MANY_IN_ALL: u8 = 43;
+
+pub const MANY_NODES: u8 = 44;
+
+pub const SHORT_OUT: u8 = 45;

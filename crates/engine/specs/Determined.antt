@@ -7,8 +7,10 @@ use lib.ListN.{length}
 use Rattle.meaning.specs.Meaning.{Set}
 use Rattle.meaning.specs.Check.{refusalOf}
 use Rattle.meaning.specs.Calls.{firstRefusal, firstBytes, inputOf, outputOf, stepOf, nextIn, runRefusal, runBytes}
+use Rattle.meaning.specs.Rewriting.{rewriteRefusal, rewriteLength, rewriteOut}
 use Rattle.engine.specs.Step.{steppedOf}
 use Rattle.engine.specs.declared.interface.Faces.{Faces}
+use Rattle.engine.specs.declared.rewriting.Rewritten.{Rewritten}
 use Rattle.engine.specs.declared.step.Stepped.{Stepped}
 
 -- what is equal to the same is equal
@@ -42,3 +44,8 @@ module _ (f : List ℕ) where
       → (r ≡ runRefusal f config (length inputs) (length b)) × (c ≡ runBytes f config inputs b)
       → (r′ ≡ runRefusal f config (length inputs) (length b)) × (c′ ≡ runBytes f config inputs b) → (r ≡ r′) × (c ≡ c′)
   run-determined config inputs b = both
+
+  pub rewriting-determined : (b : List ℕ) (r r′ : Rewritten) (c c′ : List ℕ)
+      → (r ≡ record { refusal = rewriteRefusal f (length b); length = rewriteLength f (length b) }) × (c ≡ rewriteOut f b)
+      → (r′ ≡ record { refusal = rewriteRefusal f (length b); length = rewriteLength f (length b) }) × (c′ ≡ rewriteOut f b) → (r ≡ r′) × (c ≡ c′)
+  rewriting-determined b = both

@@ -1,5 +1,6 @@
 // The public calls of the chart engine over files in bytes. None has a `requires`: what is wrong is refused by number.
 pub mod file;
 pub mod interface;
+pub mod rewriting;
 pub mod run;
 pub mod step;

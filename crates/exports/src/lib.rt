@@ -4,6 +4,7 @@ ghost use mathlib.Core.Path.{_≡_};
 ghost use lib.ListN.{length};
 ghost use Rattle.meaning.specs.Count.{one};
 ghost use Rattle.meaning.specs.Check.{refusalOf};
+ghost use Rattle.meaning.specs.Rewriting.{rewriteRefusal, rewriteLength, rewriteOut};
 ghost use Rattle.meaning.specs.Calls.{firstRefusal, firstBytes, inputOf, outputOf, stepOf, refusalIn, outputIn, markIn, nextIn, runRefusal, runBytes};
 
 #[no_mangle]
@@ -65,4 +66,15 @@ pub extern "C" fn mestecur_run(file: &[u8], config: &[u8], inputs: &[u64], rows:
     ensures { λ r. ⌜ now (rows .exit) ≡ runBytes (now (file .entry)) (now (config .entry)) (now (inputs .entry)) (now (rows .entry)) ⌝ }
 {
     engine::run::run(file, config, inputs, rows)
+}
+
+#[no_mangle]
+pub extern "C" fn mestecur_rewrite(file: &[u8], out: &mut [u8], size: &mut usize) -> u8
+    ensures { λ r. ⌜ r ≡ rewriteRefusal (now (file .entry)) (length (now (out .entry))) ⌝ }
+    ensures { λ r. ⌜ now (out .exit) ≡ rewriteOut (now (file .entry)) (now (out .entry)) ⌝ }
+    ensures { λ r. ⌜ now (size .exit) ≡ rewriteLength (now (file .entry)) (length (now (out .entry))) ⌝ }
+{
+    let w = engine::rewriting::rewriting(file, out);
+    *size = w.length;
+    w.refusal
 }

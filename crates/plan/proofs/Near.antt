@@ -1,5 +1,6 @@
 -- The walk down the nodes that notes each chart's nearest enclosing slave. Every byte that is written is the right one at its place, so that no
--- write spoils another. In order: a write (right-set); the slaves' nodes; the nodes that a node names; a node's chart; the walk (Walked).
+-- write spoils another. In order: a write (right-set); the slaves' nodes; the nodes that a node names; a node's chart; the walk (Walked); the charts of the
+-- nodes passed.
 -- Assumes nothing.
 use mathlib.Core.Path.{_≡_, refl, sym, ap, _∙_}
 use mathlib.Core.Bool.{Bool, true, false, false≢true}
@@ -20,7 +21,7 @@ use Rattle.meaning.specs.Laws.Bools.{same-refl, same→≡}
 use Rattle.meaning.specs.Laws.Trees.{Placed, Joined, Namer, left, right, inside, slave}
 use Rattle.meaning.specs.Laws.Names.{enc, kap, enc-slave, enc-last, placed, joined}
 use Rattle.wiring.specs.Near.{enc-below}
-use Rattle.plan.specs.Nearest.{masterBy, stateBy, Noted, NearestIn, numberOf, Right, Seeded, Seeds, Handed, Hands, Notes}
+use Rattle.plan.specs.Nearest.{masterBy, stateBy, Noted, NearestIn, numberOf, Right, Enclosers, Seeded, Seeds, Handed, Hands, Notes}
 use Rattle.plan.proofs.Wiring.{Is, IsSlave}
 
 -- two numbers are equal or not
@@ -197,21 +198,20 @@ module _ (F : File) (s : Sound F) where
 -- ── the walk ──
 
 -- the nodes from j on are walked
-pub record Walked (F : File) (j : ℕ) (l m : List ℕ) : Type 0 where
+pub record Walked (F : File) (j : ℕ) (l : List ℕ) : Type 0 where
   pub seeds : Seeded F l
   pub handed : (k : ℕ) → j ≤ k → k < F .nodes → Handed F k l
-  pub noted : (k : ℕ) → j ≤ k → k < F .nodes → F .kind k ≡ 0 → Noted F m (F .a k)
 
 module _ (F : File) (s : Sound F) where
   stands : Joined F
   stands = joined F (s .ordered) (s .rule10) (s .chart-there) (s .node-there)
 
-  pub walked-none : {j : ℕ} {l m : List ℕ} → j ≡ F .nodes → Seeded F l → Walked F j l m
-  walked-none e h = record { seeds = h; handed = λ k p q. absurd (omega arith); noted = λ k p q. absurd (omega arith) }
+  pub walked-none : {j : ℕ} {l : List ℕ} → j ≡ F .nodes → Seeded F l → Walked F j l
+  walked-none e h = record { seeds = h; handed = λ k p q. absurd (omega arith) }
 
   -- the next node is the last, a slave's, or named by a node that is walked
-  pub walked-right : {j : ℕ} {l m : List ℕ} → 0 < j → j ≤ F .nodes → Walked F j l m → Right F l (j - 1)
-  walked-right {j} {l} {m} p q h = alike (suc (j - 1)) (F .nodes) (h .seeds .last (j - 1)) (λ z. by (stands .named (j - 1) (omega arith)))
+  pub walked-right : {j : ℕ} {l : List ℕ} → 0 < j → j ≤ F .nodes → Walked F j l → Right F l (j - 1)
+  walked-right {j} {l} p q h = alike (suc (j - 1)) (F .nodes) (h .seeds .last (j - 1)) (λ z. by (stands .named (j - 1) (omega arith)))
     where
       moved : (k : ℕ) → k ≡ j - 1 → Right F l k → Right F l (j - 1)
       moved k e r = rw e at r
@@ -222,25 +222,35 @@ module _ (F : File) (s : Sound F) where
       by (inside k u e z) = let t = s .ordered .lower₂ k u e in moved (F .a k) z (h .handed k (omega arith) u .inside e)
       by (slave i u z) = moved (F .node i) z (h .seeds .slaves i u)
 
-  pub walked-more : {j : ℕ} {l l′ m m′ : List ℕ} → 0 < j → Walked F j l m → Notes F (j - 1) m m′ → Hands F (j - 1) l l′ → Walked F (j - 1) l′ m′
-  walked-more {j} {l} {l′} {m} {m′} p h f g =
+  pub walked-more : {j : ℕ} {l l′ : List ℕ} → 0 < j → Walked F j l → Hands F (j - 1) l l′ → Walked F (j - 1) l′
+  walked-more {j} {l} {l′} p h g =
       record {
         seeds = record { last = λ k e. g .stays k (h .seeds .last k e); slaves = λ i u. g .stays (F .node i) (h .seeds .slaves i u) };
         handed = λ k u v. alike k (j - 1) (λ z. ap-handed k z) (λ z. keep k (h .handed k (omega arith) v));
-        noted = λ k u v e. alike k (j - 1) (λ z. ap-noted k z e) (λ z. f .stays (F .a k) (s .chart-there k v e) (h .noted k (omega arith) v e));
       }
     where
       ap-handed : (k : ℕ) → k ≡ j - 1 → Handed F k l′
       ap-handed k z = rw z (g .handed)
 
-      ap-noted : (k : ℕ) → k ≡ j - 1 → F .kind k ≡ 0 → Noted F m′ (F .a k)
-      ap-noted k z = rw z (f .noted)
-
       keep : (k : ℕ) → Handed F k l → Handed F k l′
       keep k y = record { left = λ e. g .stays (F .a k) (y .left e); right = λ e. g .stays (F .b k) (y .right e); inside = λ e. g .stays (F .a k) (y .inside e) }
 
-  pub walked-done : {l m : List ℕ} → Walked F 0 l m → NearestIn F m
-  walked-done {l} {m} h c p = let u = stands .holder c p in let z : F .a (u .0) ≡ c = u .3 in let r : Noted F m (F .a (u .0)) = h .noted (u .0) (omega arith) (u .1) (u .2) in rw z at r
+  pub walked-done : {l : List ℕ} → Walked F 0 l → Enclosers F l
+  walked-done {l} h k p =
+      let r : Right F l (suc k - 1) = walked-right {j = suc k} (omega arith) p (record { seeds = h .seeds; handed = λ i u v. h .handed i (omega arith) v }) in
+      let e : suc k - 1 ≡ k = omega arith in rw e at r
+
+  -- ── the charts of the first j nodes ──
+
+  abbrev pub NotedTo : ℕ → List ℕ → Type 0
+  NotedTo j m = (k : ℕ) → k < j → F .kind k ≡ 0 → Noted F m (F .a k)
+
+  pub noted-more : (j : ℕ) (m m′ : List ℕ) → j < F .nodes → NotedTo j m → Notes F j m m′ → NotedTo (j + 1) m′
+  noted-more j m m′ p h f =
+      below-more (λ (k : ℕ). F .kind k ≡ 0 → Noted F m′ (F .a k)) j (λ k u e. f .stays (F .a k) (s .chart-there k (omega arith) e) (h k u e)) (f .noted)
+
+  pub noted-done : (j : ℕ) (m : List ℕ) → F .nodes ≤ j → NotedTo j m → NearestIn F m
+  noted-done j m q h c p = let u = stands .holder c p in let z : F .a (u .0) ≡ c = u .3 in let t = u .1 in let r : Noted F m (F .a (u .0)) = h (u .0) (omega arith) (u .2) in rw z at r
 
 -- ── a slave by the byte of a node ──
 

@@ -39,6 +39,10 @@ module _ (F : File) where
   abbrev pub Right : List ℕ → ℕ → Type 0
   Right l k = getD l k 0 ≡ numberOf (enc F k)
 
+  -- l has every node's
+  abbrev pub Enclosers : List ℕ → Type 0
+  Enclosers l = (k : ℕ) → k < F .nodes → Right l k
+
   -- m has the last node's and those of the slaves' nodes
   pub record Seeded (m : List ℕ) : Type 0 where
     pub last : (j : ℕ) → suc j ≡ F .nodes → Right m j

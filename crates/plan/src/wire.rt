@@ -8,7 +8,7 @@ ghost use Rattle.meaning.specs.File.{treeOf, fileAt};
 ghost use Rattle.wiring.specs.Wire.{own};
 ghost use Rattle.meaning.specs.Laws.Names.{enc};
 ghost use Rattle.plan.specs.Wire.{Row, Joins, Fed, Wirable, Wires, Whole};
-ghost use Rattle.plan.specs.Nearest.{Right, masterBy, stateBy, Seeds, Seeded, Hands, Notes, NearestIn};
+ghost use Rattle.plan.specs.Nearest.{Right, masterBy, stateBy, Seeds, Seeded, Hands, Enclosers, Notes, NearestIn};
 ghost use Rattle.plan.specs.Wired.{Wired};
 use layout::body::Shape;
 use layout::record::Slave;
@@ -252,16 +252,26 @@ fn note(n: Shape, body: &[u8], j: usize, near: &[u8], small: &mut [u8])
 }
 
 // From the last node down, so that a node's slave is known before the node is come to.
-fn walk(n: Shape, body: &[u8], near: &mut [u8], small: &mut [u8])
-    requires { ⌜ Wirable n (now body) × (length (now near) ≡ 64) × (length (now small) ≡ 96) × Seeded (fileAt n (now body)) (now near) ⌝ }
-    ensures { λ _. ⌜ NearestIn (fileAt n (now (body .entry))) (now (small .exit)) ⌝ }
+fn hand_down(n: Shape, body: &[u8], near: &mut [u8])
+    requires { ⌜ Wirable n (now body) × (length (now near) ≡ 64) × Seeded (fileAt n (now body)) (now near) ⌝ }
+    ensures { λ _. ⌜ Enclosers (fileAt n (now (body .entry))) (now (near .exit)) ⌝ }
 {
     let mut j = n.nodes;
     while 0 < j {
         j -= 1;
-        note(n, body, j, near, small);
         hand(n, body, j, near);
     }
+}
+
+// Of each node the number of its nearest enclosing slave, 255 for none.
+pub fn enclosers(n: Shape, body: &[u8]) -> [u8; 64]
+    requires { ⌜ Wirable n (now body) ⌝ }
+    ensures { λ r. ⌜ Enclosers (fileAt n (now (body .entry))) r ⌝ }
+{
+    let mut near = [NONE; 64];
+    seed(n, body, &mut near);
+    hand_down(n, body, &mut near);
+    near
 }
 
 // Of each chart the master and the state of its nearest enclosing slave, in a search's small numbers.
@@ -269,9 +279,13 @@ pub fn nearest(n: Shape, body: &[u8], small: &mut [u8])
     requires { ⌜ Wirable n (now body) × (length (now small) ≡ 96) ⌝ }
     ensures { λ _. ⌜ NearestIn (fileAt n (now (body .entry))) (now (small .exit)) ⌝ }
 {
-    let mut near = [NONE; 64];
-    seed(n, body, &mut near);
-    walk(n, body, &mut near, small);
+    let near = enclosers(n, body);
+    let nodes = n.nodes;
+    let mut j: usize = 0;
+    while j < nodes {
+        note(n, body, j, &near, small);
+        j += 1;
+    }
 }
 
 // Wires a file that passed its check: the feedback and `up` go into a search's masks, the nearest slaves into its small numbers. The result is

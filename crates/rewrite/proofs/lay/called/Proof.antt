@@ -1,0 +1,12 @@
+-- `lay::called` meets its contract. Assumes nothing.
+use mathlib.Core.Path.{refl}
+use Rattle.rewrite.specs.Records.{calledWith}
+use Rattle.rewrite.proofs.lay.called.Statement.{statement}
+use Rattle.rewrite.proofs.lay.called.Tie as tie
+
+returns : tie.Need-returns
+unfolding calledWith
+returns c = refl
+
+pub called-spec : {M : Type 1} → statement M
+called-spec = tie.close (tie.spec returns)

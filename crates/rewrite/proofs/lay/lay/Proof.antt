@@ -1,0 +1,145 @@
+-- `lay::lay` meets its contract: heads, transitions, nodes and the trailer, one behind another, are all bytes of the rewritten file. Assumes
+-- nothing.
+use mathlib.Core.Path.{_≡_, refl, sym, ap, ap₂, _∙_}
+use mathlib.Core.List.{List, _++_}
+use Prim.Native.Nat.{ℕ, _+_, _≤_, _<_}
+use native.Mathlib.Omega.{arith}
+use borrow.Author.Needs.{needs}
+use lib.ListN.{length}
+use lib.Seq.{sets, length-sets}
+use Rattle.layout.specs.Record.{headBytes, trailerBytes}
+use Rattle.layout.specs.Record.Laws.{length-trailer}
+use Rattle.layout.specs.declared.body.Shape.{Shape}
+use Rattle.meaning.specs.Numbers.{theEdition}
+use Rattle.meaning.specs.Calls.{laidOver}
+use Rattle.meaning.specs.File.{File, fileAt}
+use Rattle.meaning.specs.Rewriting.{rewrittenChart, madeFor, rewrite, inTurn, headFor, transitionsBytes, shapeIn, encode}
+use Rattle.rewrite.specs.Known.{Checked, Fits, Small}
+use Rattle.rewrite.specs.Put.{Room, Puts}
+use Rattle.rewrite.specs.Put.Laws.{puts-more, puts-one, puts-is, puts-over, puts-length, room-first, room-more, room-last}
+use Rattle.rewrite.specs.Records.{nodesBytes, trailerWith}
+use Rattle.rewrite.specs.Records.Laws.{encode-is}
+use Rattle.rewrite.proofs.lay.lay.Statement.{statement}
+use Rattle.rewrite.proofs.lay.lay.Tie as tie
+
+-- the four parts
+abbrev hs : File → List ℕ
+hs F = inTurn (F .charts) (λ c. headBytes (headFor (rewrittenChart F c)))
+
+abbrev ts : File → List ℕ
+ts F = inTurn (F .charts) (λ c. transitionsBytes (rewrittenChart F c .transitions))
+
+abbrev ns : File → List ℕ
+ns F = inTurn (F .nodes) (λ j. nodesBytes (madeFor F j))
+
+abbrev end : Shape → ℕ → List ℕ
+end m edition = trailerBytes (trailerWith m edition)
+
+-- m is the rewritten file's shape
+module _ (n : Shape) (b : List ℕ) (m : Shape) (edition : ℕ) (em : m ≡ shapeIn (rewrite (fileAt n b))) (ee : edition ≡ theEdition) where
+  abbrev F : File
+  F = fileAt n b
+
+  all-is : encode (rewrite F) ≡ hs F ++ (ts F ++ (ns F ++ end m edition))
+  all-is = encode-is F ∙ ap (λ (l : List ℕ). hs F ++ (ts F ++ (ns F ++ l))) (sym (ap₂ end em ee))
+
+  small : Checked n b → Fits F → Small m
+  unfolding shapeIn fileAt
+  small w f = let c = w .sized .charts in let t = f .total in let k = f .nodes in rw em (omega arith, omega arith, omega arith, omega arith)
+
+  module _ (out : List ℕ) (r : length (encode (rewrite F)) ≤ length out) where
+    room-all : Room (hs F ++ (ts F ++ (ns F ++ end m edition))) 0 out
+    room-all = let e = ap length all-is in omega arith
+
+    module _ (m₁ : List ℕ) (p₁ : ℕ) (h₁ : Puts (hs F) 0 out m₁ p₁) where
+      room₁ : Room (ts F ++ (ns F ++ end m edition)) p₁ m₁
+      room₁ = room-more (ts F ++ (ns F ++ end m edition)) h₁ room-all
+
+      module _ (m₂ : List ℕ) (p₂ : ℕ) (h₂ : Puts (ts F) p₁ m₁ m₂ p₂) where
+        room₂ : Room (ns F ++ end m edition) p₂ m₂
+        room₂ = room-more (ns F ++ end m edition) h₂ room₁
+
+        module _ (m₃ : List ℕ) (p₃ : ℕ) (h₃ : Puts (ns F) p₂ m₂ m₃ p₃) where
+          room₃ : p₃ + 12 ≤ length m₃
+          room₃ = room-last (end m edition) 12 (length-trailer (trailerWith m edition)) h₃ room₂
+
+          laid : (m₄ : List ℕ) → m₄ ≡ sets m₃ p₃ (end m edition) → m₄ ≡ laidOver (encode (rewrite F)) out
+          laid m₄ h₄ =
+              puts-over r (puts-is (sym all-is) (puts-more h₁ (puts-more h₂ (puts-more h₃ (puts-one (end m edition) 12 p₃ m₃ m₄ (length-trailer (trailerWith m edition)) h₄)))))
+
+          same : (m₄ : List ℕ) → m₄ ≡ sets m₃ p₃ (end m edition) → length m₄ ≡ length out
+          same m₄ h₄ = ap length h₄ ∙ length-sets m₃ p₃ (end m edition) ∙ puts-length h₃ ∙ puts-length h₂ ∙ puts-length h₁
+
+heads-requires : tie.Need-heads-requires
+unfolding fileAt
+heads-requires c κs =
+    let p = c .before .before .before .before .pre in
+    let a = c .before .before .before .before .args in
+    let F = fileAt (a .n) (a .body .now) in
+    (p .0, p .2, p .3, room-first (hs F) (ts F ++ (ns F ++ end (a .m) (a .edition))) 0 (a .out .now) (room-all (a .n) (a .body .now) (a .m) (a .edition) (p .4) (p .5) (a .out .now) (p .6)))
+
+transitions-requires : tie.Need-transitions-requires
+unfolding fileAt
+transitions-requires c κs =
+    let p = c .before .before .before .before .before .before .before .before .pre in
+    let a = c .before .before .before .before .before .before .before .before .args in
+    let F = fileAt (a .n) (a .body .now) in (
+      p .0,
+      p .1,
+      p .2,
+      room-first (ts F) (ns F ++ end (a .m) (a .edition)) _ (c .before .before .before .heads .last .1 .1 .1 .0)
+          (room₁ (a .n) (a .body .now) (a .m) (a .edition) (p .4) (p .5) (a .out .now) (p .6) (c .before .before .before .heads .last .1 .1 .1 .0) _ (c .before .before .before .heads .ensures)),
+    )
+
+nodes-requires : tie.Need-nodes-requires
+unfolding fileAt
+nodes-requires c κs =
+    let p = c .before .before .before .before .before .before .before .before .before .before .before .before .before .pre in
+    let a = c .before .before .before .before .before .before .before .before .before .before .before .before .before .args in
+    let F = fileAt (a .n) (a .body .now) in (
+      p .0,
+      p .1,
+      c .before .before .before .before .before .before .before .before .before .before .names .ensures,
+      p .3,
+      room-first (ns F) (end (a .m) (a .edition)) _ (c .before .before .before .before .transitions .last .1 .1 .1 .1 .0)
+          (room₂ (a .n) (a .body .now) (a .m) (a .edition) (p .4) (p .5) (a .out .now) (p .6) (c .before .before .before .before .before .before .before .before .heads .last .1 .1 .1 .0) _ (c .before .before .before .before .before .before .before .before .heads .ensures)
+          (c .before .before .before .before .transitions .last .1 .1 .1 .1 .0) _ (c .before .before .before .before .transitions .ensures)),
+    )
+
+trailer-requires : tie.Need-trailer-requires
+unfolding fileAt
+trailer-requires c κs =
+    let p = c .before .before .before .before .before .before .before .before .before .before .before .before .before .before .before .before .before .pre in
+    let a = c .before .before .before .before .before .before .before .before .before .before .before .before .before .before .before .before .before .args in (
+      small (a .n) (a .body .now) (a .m) (a .edition) (p .4) (p .5) (p .0) (p .3),
+      room₃ (a .n) (a .body .now) (a .m) (a .edition) (p .4) (p .5) (a .out .now) (p .6) (c .before .before .before .before .before .before .before .before .before .before .before .before .heads .last .1 .1 .1 .0) _ (c .before .before .before .before .before .before .before .before .before .before .before .before .heads .ensures)
+          (c .before .before .before .before .before .before .before .before .transitions .last .1 .1 .1 .1 .0) _ (c .before .before .before .before .before .before .before .before .transitions .ensures) (c .before .before .before .nodes .last .1 .1 .1 .1 .0) _ (c .before .before .before .nodes .ensures),
+    )
+
+returns : tie.Need-returns
+unfolding fileAt
+returns c =
+    let p = c .before .before .before .before .before .before .before .before .before .before .before .before .before .before .before .before .before .before .before .before .pre in
+    let a = c .before .before .before .before .before .before .before .before .before .before .before .before .before .before .before .before .before .before .before .before .args in
+    laid (a .n) (a .body .now) (a .m) (a .edition) (p .4) (p .5) (a .out .now) (p .6) (c .before .before .before .before .before .before .before .before .before .before .before .before .before .before .before .heads .last .1 .1 .1 .0) _ (c .before .before .before .before .before .before .before .before .before .before .before .before .before .before .before .heads .ensures)
+    (c .before .before .before .before .before .before .before .before .before .before .before .transitions .last .1 .1 .1 .1 .0) _ (c .before .before .before .before .before .before .before .before .before .before .before .transitions .ensures) (c .before .before .before .before .before .before .nodes .last .1 .1 .1 .1 .0) _ (c .before .before .before .before .before .before .nodes .ensures) _ (c .before .before .trailer .ensures)
+
+same-length : tie.Need-same-length
+unfolding fileAt
+same-length c =
+    let p = c .before .before .before .before .before .before .before .before .before .before .before .before .before .before .before .before .before .before .before .before .pre in
+    let a = c .before .before .before .before .before .before .before .before .before .before .before .before .before .before .before .before .before .before .before .before .args in
+    same (a .n) (a .body .now) (a .m) (a .edition) (p .4) (p .5) (a .out .now) (p .6) (c .before .before .before .before .before .before .before .before .before .before .before .before .before .before .before .heads .last .1 .1 .1 .0) _ (c .before .before .before .before .before .before .before .before .before .before .before .before .before .before .before .heads .ensures)
+    (c .before .before .before .before .before .before .before .before .before .before .before .transitions .last .1 .1 .1 .1 .0) _ (c .before .before .before .before .before .before .before .before .before .before .before .transitions .ensures) (c .before .before .before .before .before .before .nodes .last .1 .1 .1 .1 .0) _ (c .before .before .before .before .before .before .nodes .ensures) (c .before .before .trailer .last .1 .1 .0) (c .before .before .trailer .ensures)
+
+pub lay-spec : {M : Type 1} → statement M
+lay-spec =
+    tie.close
+    (tie.spec
+    (λ c κs. (c .before .before .pre .0, c .before .before .pre .3))
+    heads-requires
+    transitions-requires
+    nodes-requires
+    trailer-requires
+    same-length
+    returns)

@@ -1,0 +1,71 @@
+-- `lay::own` meets its contract. The loop's invariant: the own transitions passed are written, with their calls. Assumes nothing.
+use mathlib.Core.Path.{_≡_, refl, sym, ap, ap₂, _∙_}
+use mathlib.Core.List.{List}
+use Prim.Native.Nat.{ℕ, _+_, _-_, _≤_, _<_}
+use native.Mathlib.Omega.{arith}
+use borrow.Author.Needs.{needs}
+use lib.ListN.{length}
+use Rattle.layout.specs.Record.{transitionBytes}
+use Rattle.layout.specs.Record.Laws.{length-transition}
+use Rattle.layout.specs.Body.{transitionAt}
+use Rattle.layout.specs.declared.body.Shape.{Shape}
+use Rattle.layout.specs.declared.record.Transition.{Transition}
+use Rattle.meaning.specs.Meaning.{Set}
+use Rattle.meaning.specs.File.{fileAt}
+use Rattle.meaning.specs.Rewriting.{callsBy, inTurn}
+use Rattle.rewrite.specs.Put.{Puts}
+use Rattle.rewrite.specs.Put.Laws.{puts-start, puts-record, puts-done, puts-length, room-record}
+use Rattle.rewrite.specs.Records.{calledWith}
+use Rattle.rewrite.proofs.lay.own.Statement.{statement}
+use Rattle.rewrite.proofs.lay.own.Tie as tie
+
+abbrev new : Shape → List ℕ → Set → ℕ → ℕ → Transition
+new n b inner c k = calledWith inner (callsBy (fileAt n b) c (transitionAt n b k)) (transitionAt n b k)
+
+abbrev written : Shape → List ℕ → Set → ℕ → ℕ → ℕ → List ℕ
+written n b inner c start k = transitionBytes (new n b inner c (start + k))
+
+abbrev Inv-loop : tie.InvT-loop
+Inv-loop n body calls inner c start count out₀ at p₀ k₀ out p k = (k ≤ count) × Puts (inTurn k (written n body inner c start)) at out₀ out p
+
+abbrev μ-loop : tie.MeasureT-loop
+μ-loop n body calls inner c start count out₀ at p₀ k₀ out p k = count - k
+
+loop-holds : tie.Need-loop-holds Inv-loop μ-loop
+loop-holds c = (omega arith, puts-start _)
+
+room : (c : tie.In-loop Inv-loop μ-loop) → c .before .loop .p + 28 ≤ length (c .before .loop .out)
+room c =
+    let a = c .before .before .before .before .args in
+    room-record (written (a .n) (a .body .now) (a .inner) (a .c) (a .start)) 28 (length-transition _) (c .before .before .before .before .pre .3) (c .loop-test .taken) (c .before .loop .inv .1)
+
+loop-again : tie.Need-loop-again Inv-loop μ-loop
+loop-again c =
+    let i = c .before .before .before .before .before .before .before .before .loop in
+    let a = c .before .before .before .before .before .before .before .before .before .before .before .args in
+    let t = c .before .before .before .before .before .before .transition-at .ensures in
+    let e : c .before .before .before .before .called .result ≡ new (a .n) (a .body .now) (a .inner) (a .c) (a .start + i .k) =
+    c .before .before .before .before .called .ensures ∙ ap₂ (calledWith (a .inner)) (c .before .before .before .before .before .calls-by .ensures ∙ ap (callsBy (fileAt (a .n) (a .body .now)) (a .c)) t) t in
+    (omega arith, puts-record (written (a .n) (a .body .now) (a .inner) (a .c) (a .start)) 28 (length-transition _) (ap transitionBytes e) (i .inv .1) (c .before .before .write-transition .ensures))
+
+returns : tie.Need-returns Inv-loop μ-loop
+returns c = puts-done _ (omega arith) (c .before .loop .inv .1)
+
+pub own-spec : {M : Type 1} → statement M
+own-spec =
+    tie.close
+    (tie.spec
+    Inv-loop
+    μ-loop
+    loop-holds
+    (λ c. let h = c .before .before .before .before .pre .0 .sized .transitions in let s = c .before .before .before .before .pre .2 in omega arith)
+    (λ c κs. (c .before .before .before .before .pre .0 .sized .holds, (let s = c .before .before .before .before .pre .2 in omega arith)))
+    (λ c κs. (c .before .before .before .before .before .pre .0, c .before .before .before .before .before .pre .1))
+    (λ c κs. search needs)
+    (λ c κs. room (c .before .before .before .before))
+    (λ c. let r = room (c .before .before .before .before .before .before .before) in let e = puts-length (c .before .before .before .before .before .before .before .before .loop .inv .1) in omega (arith, c .before .before .before .before .before .before .before .before .before .before .before .good .1 .1 .1 .1 .1 .1 .1 .0 .0))
+    (λ c. omega arith)
+    (λ c. omega arith)
+    loop-again
+    (λ c. puts-length (c .before .loop .inv .1))
+    returns)

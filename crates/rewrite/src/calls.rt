@@ -1,0 +1,133 @@
+// Call signals: the signals that a file uses, and for each slave the lowest that is left.
+ghost use mathlib.Core.Path.{_≡_};
+ghost use mathlib.Core.Bool.{cond};
+ghost use Prim.Native.Nat.{_+_, _≤_};
+ghost use lib.Dec.{ltb};
+ghost use lib.ListN.{getD};
+ghost use Rattle.signals.specs.Mask.{_∪_};
+ghost use Rattle.layout.specs.Body.{Holds, from, transitionAt};
+ghost use Rattle.meaning.specs.Meaning.{guards, actions};
+ghost use Rattle.meaning.specs.Numbers.{mostSlaves};
+ghost use Rattle.meaning.specs.File.{fileAt};
+ghost use Rattle.meaning.specs.Rewriting.{unionUpTo, used};
+ghost use Rattle.rewrite.specs.Known.{Checked, Calling, CallsIn, InnerIn, Upward};
+use layout::body::Shape;
+use signals::Found;
+
+// The signals of `count` transitions from `start` on.
+fn used_by(n: Shape, body: &[u8], start: usize, count: usize) -> u64
+    requires { ⌜ Holds n (now body) × (start + count ≤ n .transitions) ⌝ }
+    ensures { λ r. ⌜ r ≡ guards (from (transitionAt n (now (body .entry))) start count) ∪ actions (from (transitionAt n (now (body .entry))) start count) ⌝ }
+{
+    let mut all: u64 = 0;
+    let mut k: usize = 0;
+    while k < count {
+        let t = layout::body::transition_at(n, body, start + k);
+        all = all | (t.needed | t.barred | t.action);
+        k += 1;
+    }
+    all
+}
+
+// The signals in the sets of charts.
+fn used_by_charts(n: Shape, body: &[u8]) -> u64
+    requires { ⌜ Checked n (now body) ⌝ }
+    ensures { λ r. ⌜ r ≡ unionUpTo (n .charts) (λ c. guards (fileAt n (now (body .entry)) .chart c .transitions) ∪ actions (fileAt n (now (body .entry)) .chart c .transitions) ∪ fileAt n (now (body .entry)) .chart c .feedback ∪ fileAt n (now (body .entry)) .chart c .extra) ⌝ }
+{
+    let mut all: u64 = 0;
+    let mut start: usize = 0;
+    let mut c: usize = 0;
+    while c < n.charts {
+        let h = layout::body::head_at(n, body, c);
+        let count = h.transitions as usize;
+        let own = used_by(n, body, start, count);
+        all = all | (own | h.feedback | h.extra);
+        start += count;
+        c += 1;
+    }
+    all
+}
+
+// The signals in the sets of nodes.
+fn used_by_nodes(n: Shape, body: &[u8]) -> u64
+    requires { ⌜ Checked n (now body) ⌝ }
+    ensures { λ r. ⌜ r ≡ unionUpTo (n .nodes) (λ j. fileAt n (now (body .entry)) .x j ∪ fileAt n (now (body .entry)) .y j) ⌝ }
+{
+    let mut all: u64 = 0;
+    let mut j: usize = 0;
+    while j < n.nodes {
+        let r = layout::body::node_at(n, body, j);
+        all = all | (r.x | r.y);
+        j += 1;
+    }
+    all
+}
+
+// All signals in the sets of the file.
+pub fn used(n: Shape, body: &[u8]) -> u64
+    requires { ⌜ Checked n (now body) ⌝ }
+    ensures { λ r. ⌜ r ≡ used (fileAt n (now (body .entry))) ⌝ }
+{
+    used_by_charts(n, body) | used_by_nodes(n, body)
+}
+
+// Of each slave the set of its call alone, if there are enough free signals.
+pub struct Calls {
+    pub enough: bool,
+    pub sets: [u64; 8],
+}
+
+// Each slave, in record order, gets the lowest number left.
+pub fn given(slaves: usize, used: u64) -> Calls
+    requires { ⌜ slaves ≤ 8 ⌝ }
+    ensures { λ r. ⌜ Calling used slaves r ⌝ }
+{
+    let mut sets = [0u64; 8];
+    let mut left = used;
+    let mut i: usize = 0;
+    while i < slaves {
+        let Found::At(s) = signals::lowest_free(left) else {
+            return Calls {
+                enough: false,
+                sets: sets,
+            };
+        };
+        sets[i] = signals::single(s);
+        left = signals::with(left, s);
+        i += 1;
+    }
+    Calls {
+        enough: true,
+        sets: sets,
+    }
+}
+
+// The call of slave i; none for a number that is no slave's.
+fn call_of(calls: &[u64; 8], slaves: usize, i: u8) -> u64
+    requires { ⌜ slaves ≤ mostSlaves ⌝ }
+    ensures { λ r. ⌜ r ≡ cond (ltb i slaves) (getD (now (calls .entry)) i 0) 0 ⌝ }
+{
+    let at = i as usize;
+    if at < slaves { calls[at] } else { 0 }
+}
+
+// Of each chart the call that it takes, that of its nearest enclosing slave.
+pub fn inner(n: Shape, body: &[u8], calls: &[u64; 8]) -> [u64; 8]
+    requires { ⌜ Checked n (now body) × CallsIn (fileAt n (now body)) (now calls) × Upward (fileAt n (now body)) ⌝ }
+    ensures { λ r. ⌜ InnerIn (fileAt n (now (body .entry))) r ⌝ }
+{
+    let near = plan::wire::enclosers(n, body);
+    let nodes = n.nodes;
+    let slaves = n.slaves;
+    let mut inner = [0u64; 8];
+    let mut j: usize = 0;
+    while j < nodes {
+        let node = layout::body::node_at(n, body, j);
+        let c = node.a as usize;
+        if node.kind == 0 {
+            inner[c] = call_of(calls, slaves, near[j]);
+        }
+        j += 1;
+    }
+    inner
+}

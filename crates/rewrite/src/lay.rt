@@ -1,0 +1,431 @@
+// The rewritten file in bytes, record behind record. Each function writes from a place on and gives the place behind what it wrote.
+ghost use mathlib.Core.Path.{_≡_};
+ghost use Prim.Native.Nat.{_+_, _≤_, _<_};
+ghost use lib.ListN.{length};
+ghost use Rattle.signals.specs.Mask.{_∪_};
+ghost use Rattle.layout.specs.Record.{headBytes, transitionBytes, nodeBytes, trailerBytes};
+ghost use Rattle.meaning.specs.Numbers.{theEdition, mostNodes};
+ghost use Rattle.meaning.specs.Calls.{laidOver};
+ghost use lib.Seq.{sets};
+ghost use Rattle.layout.specs.Body.{Holds, transitionAt};
+ghost use Rattle.meaning.specs.File.{fileAt};
+ghost use Rattle.meaning.specs.Rewriting.{callsBy, callsOf, count, madeFor, rewrite, rewrittenChart, headFor, inTurn, transitionsBytes, shapeIn, encode};
+ghost use Rattle.rewrite.specs.Known.{Checked, CallsIn, InnerIn, NamesIn, Fits, Takes, Stands, Master, Holder, Begins, Small};
+ghost use Rattle.rewrite.specs.Put.{Room, Puts};
+ghost use Rattle.rewrite.specs.Records.{calledWith, idleWith, partBytes, masterBytes, heldBytes, nodesBytes, trailerWith};
+use layout::body::Shape;
+use layout::record::Head;
+use layout::record::Node;
+use layout::record::Trailer;
+use layout::record::Transition;
+
+const HEAD: usize = 24;
+
+const TRANSITION: usize = 28;
+
+const NODE: usize = 20;
+
+// Each chart's head: more transitions, the rest as it was.
+fn heads(n: Shape, body: &[u8], inner: &[u64; 8], out: &mut [u8], at: usize) -> usize
+    requires { ⌜ Checked n (now body) × InnerIn (fileAt n (now body)) (now inner) × Fits (fileAt n (now body)) × Room (inTurn (n .charts) (λ c. headBytes (headFor (rewrittenChart (fileAt n (now body)) c)))) at (now out) ⌝ }
+    ensures { λ r. ⌜ Puts (inTurn (n .charts) (λ c. headBytes (headFor (rewrittenChart (fileAt n (now (body .entry))) c)))) at (now (out .entry)) (now (out .exit)) r ⌝ }
+{
+    let charts = n.charts;
+    let mut p = at;
+    let mut c: usize = 0;
+    while c < charts {
+        let h = layout::body::head_at(n, body, c);
+        let new = Head {
+            states: h.states,
+            initial: h.initial,
+            transitions: crate::room::in_chart(h, inner[c]) as u8,
+            feedback: h.feedback,
+            extra: h.extra,
+        };
+        layout::record::write_head(out, p, new);
+        p += HEAD;
+        c += 1;
+    }
+    p
+}
+
+// The calls that a transition of chart c adds: of each slave of c whose state it leaves or enters.
+fn calls_by(n: Shape, body: &[u8], calls: &[u64; 8], c: usize, t: Transition) -> u64
+    requires { ⌜ Checked n (now body) × CallsIn (fileAt n (now body)) (now calls) ⌝ }
+    ensures { λ r. ⌜ r ≡ callsBy (fileAt n (now (body .entry))) c t ⌝ }
+{
+    let slaves = n.slaves;
+    let mut all: u64 = 0;
+    let mut i: usize = 0;
+    while i < slaves {
+        let s = layout::body::slave_at(n, body, i);
+        if (s.chart as usize == c) & ((t.from == s.state) | (t.to == s.state)) {
+            all = all | calls[i];
+        }
+        i += 1;
+    }
+    all
+}
+
+// All calls of chart c.
+fn calls_of(n: Shape, body: &[u8], calls: &[u64; 8], c: usize) -> u64
+    requires { ⌜ Checked n (now body) × CallsIn (fileAt n (now body)) (now calls) ⌝ }
+    ensures { λ r. ⌜ r ≡ callsOf (fileAt n (now (body .entry))) c ⌝ }
+{
+    let slaves = n.slaves;
+    let mut all: u64 = 0;
+    let mut i: usize = 0;
+    while i < slaves {
+        let s = layout::body::slave_at(n, body, i);
+        if s.chart as usize == c {
+            all = all | calls[i];
+        }
+        i += 1;
+    }
+    all
+}
+
+// An own transition of a chart that takes the call `inner`.
+fn called(t: Transition, inner: u64, added: u64) -> Transition
+    ensures { λ r. ⌜ r ≡ calledWith inner added t ⌝ }
+{
+    Transition {
+        from: t.from,
+        to: t.to,
+        needed: t.needed | inner,
+        barred: t.barred,
+        action: t.action | added,
+    }
+}
+
+// The `count` own transitions of chart c, which begin at `start`.
+fn own(
+    n: Shape,
+    body: &[u8],
+    calls: &[u64; 8],
+    inner: u64,
+    c: usize,
+    start: usize,
+    count: usize,
+    out: &mut [u8],
+    at: usize,
+) -> usize
+    requires { ⌜ Checked n (now body) × CallsIn (fileAt n (now body)) (now calls) × (start + count ≤ n .transitions) × Room (inTurn count (λ k. transitionBytes (calledWith inner (callsBy (fileAt n (now body)) c (transitionAt n (now body) (start + k))) (transitionAt n (now body) (start + k))))) at (now out) ⌝ }
+    ensures { λ r. ⌜ Puts (inTurn count (λ k. transitionBytes (calledWith inner (callsBy (fileAt n (now (body .entry))) c (transitionAt n (now (body .entry)) (start + k))) (transitionAt n (now (body .entry)) (start + k))))) at (now (out .entry)) (now (out .exit)) r ⌝ }
+{
+    let mut p = at;
+    let mut k: usize = 0;
+    while k < count {
+        let t = layout::body::transition_at(n, body, start + k);
+        let new = called(t, inner, calls_by(n, body, calls, c, t));
+        layout::record::write_transition(out, p, new);
+        p += TRANSITION;
+        k += 1;
+    }
+    p
+}
+
+// `count` idle transitions, for each state rising, that bar the call `inner`.
+fn idles(inner: u64, count: u8, out: &mut [u8], at: usize) -> usize
+    requires { ⌜ Room (inTurn count (λ s. transitionBytes (idleWith inner s))) at (now out) ⌝ }
+    ensures { λ r. ⌜ Puts (inTurn count (λ s. transitionBytes (idleWith inner s))) at (now (out .entry)) (now (out .exit)) r ⌝ }
+{
+    let mut p = at;
+    let mut s: u8 = 0;
+    while s < count {
+        let new = Transition {
+            from: s,
+            to: s,
+            needed: 0,
+            barred: inner,
+            action: 0,
+        };
+        layout::record::write_transition(out, p, new);
+        p += TRANSITION;
+        s += 1;
+    }
+    p
+}
+
+// The transitions of chart c, whose head is h: own ones, which begin at `start`, then idle ones.
+fn chart(
+    n: Shape,
+    body: &[u8],
+    calls: &[u64; 8],
+    inner: u64,
+    c: usize,
+    h: Head,
+    start: usize,
+    out: &mut [u8],
+    at: usize,
+) -> usize
+    requires { ⌜ Checked n (now body) × CallsIn (fileAt n (now body)) (now calls) × Takes (fileAt n (now body)) c inner × Stands n (now body) c h start × Room (transitionsBytes (rewrittenChart (fileAt n (now body)) c .transitions)) at (now out) ⌝ }
+    ensures { λ r. ⌜ Puts (transitionsBytes (rewrittenChart (fileAt n (now (body .entry))) c .transitions)) at (now (out .entry)) (now (out .exit)) r ⌝ }
+{
+    let idle = crate::room::idle_count(inner, h.states as usize);
+    let p = own(
+        n,
+        body,
+        calls,
+        inner,
+        c,
+        start,
+        h.transitions as usize,
+        out,
+        at,
+    );
+    idles(inner, idle as u8, out, p)
+}
+
+// The transitions of all charts.
+fn transitions(
+    n: Shape,
+    body: &[u8],
+    calls: &[u64; 8],
+    inner: &[u64; 8],
+    out: &mut [u8],
+    at: usize,
+) -> usize
+    requires { ⌜ Checked n (now body) × CallsIn (fileAt n (now body)) (now calls) × InnerIn (fileAt n (now body)) (now inner) × Room (inTurn (n .charts) (λ c. transitionsBytes (rewrittenChart (fileAt n (now body)) c .transitions))) at (now out) ⌝ }
+    ensures { λ r. ⌜ Puts (inTurn (n .charts) (λ c. transitionsBytes (rewrittenChart (fileAt n (now (body .entry))) c .transitions))) at (now (out .entry)) (now (out .exit)) r ⌝ }
+{
+    let charts = n.charts;
+    let mut p = at;
+    let mut start: usize = 0;
+    let mut c: usize = 0;
+    while c < charts {
+        let h = layout::body::head_at(n, body, c);
+        p = chart(n, body, calls, inner[c], c, h, start, out, p);
+        start += h.transitions as usize;
+        c += 1;
+    }
+    p
+}
+
+// The names that nodes get.
+fn names(n: Shape, body: &[u8]) -> [u8; 64]
+    requires { ⌜ Checked n (now body) × Fits (fileAt n (now body)) ⌝ }
+    ensures { λ r. ⌜ NamesIn (fileAt n (now (body .entry))) r ⌝ }
+{
+    let nodes = n.nodes;
+    let mut names = [0u8; 64];
+    let mut first: usize = 0;
+    let mut j: usize = 0;
+    while j < nodes {
+        let name = first + crate::room::before_last(n, body, j);
+        names[j] = name as u8;
+        first = name + 1;
+        j += 1;
+    }
+    names
+}
+
+fn put_node(out: &mut [u8], at: usize, r: Node) -> usize
+    requires { ⌜ at + 20 ≤ length (now out) ⌝ }
+    ensures { λ p. ⌜ Puts (nodeBytes r) at (now (out .entry)) (now (out .exit)) p ⌝ }
+{
+    layout::record::write_node(out, at, r);
+    at + NODE
+}
+
+// The nodes that compose the slaves of chart c with it, one behind another; its own is node `first`.
+fn parts(
+    n: Shape,
+    body: &[u8],
+    names: &[u8; 64],
+    c: usize,
+    x: u64,
+    first: u8,
+    out: &mut [u8],
+    at: usize,
+) -> usize
+    requires { ⌜ Checked n (now body) × NamesIn (fileAt n (now body)) (now names) × (first ≤ mostNodes) × Room (inTurn (n .slaves) (partBytes (fileAt n (now body)) c first x)) at (now out) ⌝ }
+    ensures { λ r. ⌜ Puts (inTurn (n .slaves) (partBytes (fileAt n (now (body .entry))) c first x)) at (now (out .entry)) (now (out .exit)) r ⌝ }
+{
+    let slaves = n.slaves;
+    let mut p = at;
+    let mut made = first;
+    let mut i: usize = 0;
+    while i < slaves {
+        let s = layout::body::slave_at(n, body, i);
+        let node = s.node as usize;
+        if s.chart as usize == c {
+            let new = Node {
+                kind: 1,
+                a: made,
+                b: names[node],
+                x: x,
+                y: 0,
+            };
+            p = put_node(out, p, new);
+            made += 1;
+        }
+        i += 1;
+    }
+    p
+}
+
+// A master's nodes: its chart node, which is node `first`, one for each of its `slaves`, and a hidden one.
+fn master(
+    n: Shape,
+    body: &[u8],
+    calls: &[u64; 8],
+    names: &[u8; 64],
+    c: usize,
+    slaves: usize,
+    first: usize,
+    out: &mut [u8],
+    at: usize,
+) -> usize
+    requires { ⌜ Checked n (now body) × CallsIn (fileAt n (now body)) (now calls) × NamesIn (fileAt n (now body)) (now names) × Master (fileAt n (now body)) c slaves first × Room (masterBytes (fileAt n (now body)) c first slaves) at (now out) ⌝ }
+    ensures { λ r. ⌜ Puts (masterBytes (fileAt n (now (body .entry))) c first slaves) at (now (out .entry)) (now (out .exit)) r ⌝ }
+{
+    let hidden = calls_of(n, body, calls, c);
+    let h = layout::body::head_at(n, body, c);
+    let held = Node {
+        kind: 0,
+        a: c as u8,
+        b: 0,
+        x: 0,
+        y: 0,
+    };
+    let p = put_node(out, at, held);
+    let q = parts(n, body, names, c, h.feedback | hidden, first as u8, out, p);
+    let whole = Node {
+        kind: 2,
+        a: (first + slaves) as u8,
+        b: 0,
+        x: hidden,
+        y: hidden,
+    };
+    put_node(out, q, whole)
+}
+
+// The nodes that are made for a node that holds chart c; the first gets the name `first`.
+fn holder(
+    n: Shape,
+    body: &[u8],
+    calls: &[u64; 8],
+    names: &[u8; 64],
+    c: usize,
+    first: usize,
+    out: &mut [u8],
+    at: usize,
+) -> usize
+    requires { ⌜ Checked n (now body) × CallsIn (fileAt n (now body)) (now calls) × NamesIn (fileAt n (now body)) (now names) × Holder (fileAt n (now body)) c first × Room (heldBytes (fileAt n (now body)) c first (count (fileAt n (now body)) c (n .slaves))) at (now out) ⌝ }
+    ensures { λ r. ⌜ Puts (heldBytes (fileAt n (now (body .entry))) c first (count (fileAt n (now (body .entry))) c (n .slaves))) at (now (out .entry)) (now (out .exit)) r ⌝ }
+{
+    let slaves = crate::room::slaves_of(n, body, c);
+    if slaves == 0 {
+        let held = Node {
+            kind: 0,
+            a: c as u8,
+            b: 0,
+            x: 0,
+            y: 0,
+        };
+        return put_node(out, at, held);
+    }
+    master(n, body, calls, names, c, slaves, first, out, at)
+}
+
+// The nodes that are made for node j; the first gets the name `first`.
+fn node(
+    n: Shape,
+    body: &[u8],
+    calls: &[u64; 8],
+    names: &[u8; 64],
+    j: usize,
+    first: usize,
+    out: &mut [u8],
+    at: usize,
+) -> usize
+    requires { ⌜ Checked n (now body) × CallsIn (fileAt n (now body)) (now calls) × NamesIn (fileAt n (now body)) (now names) × Begins (fileAt n (now body)) j first × Room (nodesBytes (madeFor (fileAt n (now body)) j)) at (now out) ⌝ }
+    ensures { λ r. ⌜ Puts (nodesBytes (madeFor (fileAt n (now (body .entry))) j)) at (now (out .entry)) (now (out .exit)) r ⌝ }
+{
+    let r = layout::body::node_at(n, body, j);
+    let kind = r.kind;
+    let a = r.a as usize;
+    let b = r.b as usize;
+    if kind == 0 {
+        return holder(n, body, calls, names, a, first, out, at);
+    }
+    if kind == 1 {
+        let both = Node {
+            kind: 1,
+            a: names[a],
+            b: names[b],
+            x: r.x,
+            y: 0,
+        };
+        return put_node(out, at, both);
+    }
+    let hidden = Node {
+        kind: 2,
+        a: names[a],
+        b: 0,
+        x: r.x,
+        y: r.y,
+    };
+    put_node(out, at, hidden)
+}
+
+// The nodes that are made for all nodes, in the old order.
+fn nodes(
+    n: Shape,
+    body: &[u8],
+    calls: &[u64; 8],
+    names: &[u8; 64],
+    out: &mut [u8],
+    at: usize,
+) -> usize
+    requires { ⌜ Checked n (now body) × CallsIn (fileAt n (now body)) (now calls) × NamesIn (fileAt n (now body)) (now names) × Fits (fileAt n (now body)) × Room (inTurn (n .nodes) (λ j. nodesBytes (madeFor (fileAt n (now body)) j))) at (now out) ⌝ }
+    ensures { λ r. ⌜ Puts (inTurn (n .nodes) (λ j. nodesBytes (madeFor (fileAt n (now (body .entry))) j))) at (now (out .entry)) (now (out .exit)) r ⌝ }
+{
+    let nodes = n.nodes;
+    let mut p = at;
+    let mut first: usize = 0;
+    let mut j: usize = 0;
+    while j < nodes {
+        p = node(n, body, calls, names, j, first, out, p);
+        first = names[j] as usize + 1;
+        j += 1;
+    }
+    p
+}
+
+// The trailer of a body of the shape m, right behind it.
+fn trailer(m: Shape, edition: u8, out: &mut [u8], at: usize)
+    requires { ⌜ Small m × (at + 12 ≤ length (now out)) ⌝ }
+    ensures { λ _. ⌜ now (out .exit) ≡ sets (now (out .entry)) at (trailerBytes (trailerWith m edition)) ⌝ }
+{
+    let t = Trailer {
+        distance: layout::body::size(m) as u32,
+        charts: m.charts as u8,
+        slaves: m.slaves as u8,
+        nodes: m.nodes as u8,
+        edition: edition,
+        transitions: m.transitions as u16,
+    };
+    layout::record::write_trailer(out, at, t);
+}
+
+// The rewritten file, which has the shape m, over the front of `out`.
+pub fn lay(
+    n: Shape,
+    body: &[u8],
+    calls: &[u64; 8],
+    inner: &[u64; 8],
+    m: Shape,
+    edition: u8,
+    out: &mut [u8],
+)
+    requires { ⌜ Checked n (now body) × CallsIn (fileAt n (now body)) (now calls) × InnerIn (fileAt n (now body)) (now inner) × Fits (fileAt n (now body)) × (m ≡ shapeIn (rewrite (fileAt n (now body)))) × (edition ≡ theEdition) × (length (encode (rewrite (fileAt n (now body)))) ≤ length (now out)) ⌝ }
+    ensures { λ _. ⌜ now (out .exit) ≡ laidOver (encode (rewrite (fileAt n (now (body .entry))))) (now (out .entry)) ⌝ }
+{
+    let names = names(n, body);
+    let behind_heads = heads(n, body, inner, out, 0);
+    let behind_transitions = transitions(n, body, calls, inner, out, behind_heads);
+    let end = nodes(n, body, calls, &names, out, behind_transitions);
+    trailer(m, edition, out, end);
+}
