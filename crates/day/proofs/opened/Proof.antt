@@ -1,0 +1,55 @@
+-- `opened` meets its contract: the file's refusal, then 30, then neither. Assumes nothing.
+use mathlib.Core.Path.{_≡_, refl, sym, ap, _∙_}
+use mathlib.Core.Bool.{Bool, true, false, not}
+use mathlib.Core.List.{List, _++_}
+use Prim.Native.Nat.{ℕ, _+_, _*_, _-_, _/_, _%_, _≤_, _<_}
+use native.Mathlib.Omega.{arith}
+use borrow.Author.Needs.{needs}
+use lib.ListN.{length}
+use Rattle.meaning.specs.Check.{refusalOf}
+use Rattle.checks.specs.Open.{Stands}
+use Rattle.checks.specs.declared.opening.Opening.{Opening}
+use Rattle.line.specs.Line.{frontOf, dayRefusal}
+use Rattle.day.specs.Day.{Accepted, Opened}
+use Rattle.day.specs.Day.Laws.{by-file, by-front, by-none, front-is, charts-are, leads-of}
+use Rattle.day.specs.declared.Front.{Front}
+use Rattle.day.proofs.opened.Statement.{statement}
+use Rattle.day.proofs.opened.Tie as tie
+
+refuses : (f : List ℕ) (o : Front) (r : ℕ) → o .refusal ≡ r → (r ≡ 0 → ⊥) → r ≡ dayRefusal f → Opened f o
+refuses f o r e h p =
+    record { refusal = e ∙ p; accepted = λ z. absurd (h (sym e ∙ z)); inputs = λ z. absurd (h (sym e ∙ z)) }
+
+accepted : (c : tie.Else1) → refusalOf (c .before .before .before .args .input .now) ≡ 0
+accepted c = sym (c .before .opened .ensures .refusal) ∙ c .if1 .left
+
+stands : (c : tie.Else1) → Stands (c .before .before .before .args .input .now) (c .before .opened .result)
+stands c = c .before .opened .ensures .stands (c .if1 .left)
+
+returns : tie.Need-returns
+returns c =
+    let o = c .before .before in
+    let s = o .before .before in
+    refuses _ _ _ (c .refused .ensures) (c .before .if1 .taken) (by-file _ (s .pre) _ (o .opened .ensures .refusal) (c .before .if1 .taken))
+
+returns-2 : tie.Need-returns-2
+returns-2 c =
+    let e = c .before .before in
+    let s = e .before .before .before in
+    refuses _ _ _ (c .refused2 .ensures) (λ z. omega arith) (by-front _ (s .pre) (accepted e) (λ z. c .before .if2 .taken (ap (λ (k : ℕ). k % 8) (front-is _ (accepted e) _ (stands e)) ∙ z)))
+
+returns-3 : tie.Need-returns-3
+returns-3 c =
+    let e = c .before .before in
+    let s = e .before .before .before in
+    let w = stands e in
+    let q = front-is _ (accepted e) _ w in
+    record {
+      refusal = by-none _ (s .pre) (accepted e) (sym (ap (λ (k : ℕ). k % 8) q) ∙ c .before .if2 .left);
+      accepted = λ z. record { passes = accepted e; charts-is = charts-are _ _ w; few = w .sized .charts; within = omega (arith, w .order, w .end); leads = leads-of _ (accepted e) _ w };
+      inputs = λ z. ap (λ (k : ℕ). k / 8) q;
+    }
+
+pub opened-spec : {M : Type 1} → statement M
+opened-spec =
+    tie.close (tie.spec (λ c κs. search needs) (λ c κs. search needs) returns (λ c κs. search needs) returns-2 returns-3)

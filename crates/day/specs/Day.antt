@@ -1,0 +1,24 @@
+-- What the check of the day program's input tells it.
+use mathlib.Core.Path.{_≡_}
+use mathlib.Core.List.{List}
+use Prim.Native.Nat.{ℕ, _*_, _/_, _≤_}
+use lib.ListN.{length}
+use Rattle.meaning.specs.File.{fileOf}
+use Rattle.meaning.specs.Check.{refusalOf}
+use Rattle.meaning.specs.Laws.Runs.{Leads}
+use Rattle.line.specs.Line.{frontOf, dayRefusal}
+use Rattle.day.specs.declared.Front.{Front}
+pub mod Laws
+
+-- a file of this many charts that passed 1 to 11, with room for n inputs in front
+pub record Accepted (f : List ℕ) (charts n : ℕ) : Type 0 where
+  pub passes : refusalOf f ≡ 0
+  pub charts-is : charts ≡ fileOf f .charts
+  pub few : charts ≤ 8
+  pub within : 8 * n ≤ length f
+  pub leads : Leads (fileOf f)
+
+pub record Opened (f : List ℕ) (o : Front) : Type 0 where
+  pub refusal : o .refusal ≡ dayRefusal f
+  pub accepted : o .refusal ≡ 0 → Accepted f (o .charts) (o .inputs)
+  pub inputs : o .refusal ≡ 0 → o .inputs ≡ frontOf f / 8

@@ -1,0 +1,148 @@
+// The day program (document 01, "The day program"): it reads standard input, a chart file with inputs in front, and prints a line for each.
+ghost use mathlib.Core.Path.{_≡_};
+ghost use Prim.Native.Nat.{_+_, _*_, _≤_};
+ghost use lib.ListN.{length};
+ghost use Rattle.meaning.specs.File.{fileOf};
+ghost use Rattle.meaning.specs.Calls.{laidOver, initials, rowsOf};
+ghost use Rattle.line.specs.Line.{inputsOf, linesOf, dayOf};
+ghost use Rattle.day.specs.Day.{Opened, Accepted};
+use checks::limits;
+
+// Refusals of the program's own: a front that is no whole number of inputs, and an input that is too long.
+const ODD_FRONT: u8 = 30;
+
+const TOO_LONG: u8 = 31;
+
+// What the check of an input found: its refusal, and, if there is none, how many charts it has and how many inputs stand in front of them.
+struct Front {
+    refusal: u8,
+    charts: usize,
+    inputs: usize,
+}
+
+fn refused(r: u8) -> Front
+    ensures { λ o. ⌜ o .refusal ≡ r ⌝ }
+{
+    Front {
+        refusal: r,
+        charts: 0,
+        inputs: 0,
+    }
+}
+
+// 1 to 11, then 30.
+fn opened(input: &[u8]) -> Front
+    requires { ⌜ length (now input) ≤ 65536 ⌝ }
+    ensures { λ o. ⌜ Opened (now (input .entry)) o ⌝ }
+{
+    let o = checks::opening::opened(input);
+    let r = o.refusal;
+    if r != limits::ACCEPTED {
+        return refused(r);
+    }
+    let front = o.start;
+    if front % 8 != 0 {
+        return refused(ODD_FRONT);
+    }
+    let n = o.shape;
+    Front {
+        refusal: limits::ACCEPTED,
+        charts: n.charts,
+        inputs: front / 8,
+    }
+}
+
+// Room for what an input of 65,536 bytes can ask for: the inputs, their rows of at most 18 bytes, their lines of at most 128. Only the lengths are
+// promised, so that no proof looks at so many zeros.
+fn input_room() -> [u64; 8192]
+    ensures { λ r. ⌜ 8192 ≡ length r ⌝ }
+{
+    [0; 8192]
+}
+
+fn row_room() -> [u8; 147456]
+    ensures { λ r. ⌜ 147456 ≡ length r ⌝ }
+{
+    [0; 147456]
+}
+
+fn line_room() -> [u8; 1048576]
+    ensures { λ r. ⌜ 1048576 ≡ length r ⌝ }
+{
+    [0; 1048576]
+}
+
+// The first inputs of the front, as many as are asked for.
+fn read_inputs(input: &[u8], inputs: &mut [u64])
+    requires { ⌜ 8 * length (now inputs) ≤ length (now input) ⌝ }
+    ensures { λ _. ⌜ now (inputs .exit) ≡ inputsOf (length (now (inputs .entry))) (now (input .entry)) ⌝ }
+{
+    let n = inputs.len();
+    let mut i: usize = 0;
+    while i < n {
+        inputs[i] = layout::number::le64(input, 8 * i);
+        i += 1;
+    }
+}
+
+// The rows of all inputs, from the first configuration on.
+fn put_rows(input: &[u8], charts: usize, n: usize, rows: &mut [u8])
+    requires { ⌜ Accepted (now input) charts n × (n ≤ 8192) × (n * (10 + charts) ≤ length (now rows)) ⌝ }
+    ensures { λ _. ⌜ now (rows .exit) ≡ laidOver (rowsOf (fileOf (now (input .entry))) (initials (now (input .entry))) (inputsOf n (now (input .entry)))) (now (rows .entry)) ⌝ }
+{
+    let mut config = [0u8; 8];
+    engine::file::first(input, &mut config);
+    let mut inputs = input_room();
+    read_inputs(input, &mut inputs[..n]);
+    engine::run::run(input, &config[..charts], &inputs[..n], rows);
+}
+
+// The lines of n rows of w bytes each, at the front of `out`; returns their length.
+fn put_lines(rows: &[u8], w: usize, n: usize, out: &mut [u8]) -> usize
+    requires { ⌜ (10 ≤ w) × (w ≤ 26) × (n * w ≤ length (now rows)) × (128 * n ≤ length (now out)) ⌝ }
+    ensures { λ r. ⌜ (r ≡ length (linesOf w 1 n (now (rows .entry)))) × (now (out .exit) ≡ laidOver (linesOf w 1 n (now (rows .entry))) (now (out .entry))) ⌝ }
+{
+    let mut at: usize = 0;
+    let mut end: usize = 0;
+    let mut i: usize = 0;
+    while i < n {
+        let e = at + w;
+        let room = end + 128;
+        let number = i as u64 + 1;
+        end += line::line(number, &rows[at..e], &mut out[end..room]);
+        at = e;
+        i += 1;
+    }
+    end
+}
+
+// What is printed for an input that is not too long, at the front of `out`; returns its length.
+fn day(input: &[u8], out: &mut [u8]) -> usize
+    requires { ⌜ (length (now input) ≤ 65536) × (1048576 ≤ length (now out)) ⌝ }
+    ensures { λ r. ⌜ (r ≡ length (dayOf (now (input .entry)))) × (now (out .exit) ≡ laidOver (dayOf (now (input .entry))) (now (out .entry))) ⌝ }
+{
+    let o = opened(input);
+    let r = o.refusal;
+    if r != limits::ACCEPTED {
+        return line::refused_file(r, out);
+    }
+    let charts = o.charts;
+    let n = o.inputs;
+    let mut rows = row_room();
+    put_rows(input, charts, n, &mut rows);
+    put_lines(&rows, 10 + charts, n, out)
+}
+
+fn main() {
+    let mut input = [0u8; 65536];
+    let n = io::read_full(0, &mut input);
+    let mut more = [0u8; 1];
+    let mut out = line_room();
+    if io::read_full(0, &mut more) != 0 {
+        let len = line::refused_file(TOO_LONG, &mut out);
+        io::write_all(1, &out[..len]);
+        return;
+    }
+    let len = day(&input[..n], &mut out);
+    io::write_all(1, &out[..len]);
+}
