@@ -44,23 +44,23 @@ fed-more at d s u l m p f =
 
 -- the square m is l with f joined to its first n rows
 pub record Joined (n : ℕ) (l m : List ℕ) (f : ℕ → ℕ → ℕ) : Type 0 where
-  pub in-rows : (c d : ℕ) → c < n → d < 8 → getD m (8 * c + d) 0 ≡ getD l (8 * c + d) 0 ∪ f c d
+  pub in-rows : (c d : ℕ) → c < 8 → d < n → getD m (8 * d + c) 0 ≡ getD l (8 * d + c) 0 ∪ f c d
   pub rest : (k : ℕ) → 8 * n ≤ k → getD m k 0 ≡ getD l k 0
 
 pub joined-none : (l : List ℕ) (f : ℕ → ℕ → ℕ) → Joined 0 l l f
 joined-none l f = record { in-rows = λ c d p q. absurd (omega arith); rest = λ k p. refl }
 
 -- one row more, of feedback in x
-pub joined-more : (n x : ℕ) (a u l m m′ : List ℕ) → Joined n l m (λ c d. getD a c 0 ∩ getD u d 0 ∩ x) → Fed (8 * n) 8 (getD a n 0 ∩ x) u m m′
+pub joined-more : (n x : ℕ) (a u l m m′ : List ℕ) → Joined n l m (λ c d. getD a c 0 ∩ getD u d 0 ∩ x) → Fed (8 * n) 8 (getD u n 0 ∩ x) a m m′
     → Joined (n + 1) l m′ (λ c d. getD a c 0 ∩ getD u d 0 ∩ x)
 joined-more n x a u l m m′ h f =
     record {
       in-rows = λ c d p q.
-          below-more (λ (c : ℕ). getD m′ (8 * c + d) 0 ≡ getD l (8 * c + d) 0 ∪ getD a c 0 ∩ getD u d 0 ∩ x) n
-          (λ k z. f .below (8 * k + d) (omega arith) ∙ h .in-rows k d z q)
-          (f .in-row d q ∙ ap (λ (y : ℕ). y ∪ (getD a n 0 ∩ x ∩ getD u d 0)) (h .rest (8 * n + d) (omega arith))
-          ∙ sets (getD l (8 * n + d) 0 ∷ getD a n 0 ∷ getD u d 0 ∷ x ∷ []) [] (A ∪ₑ (B ∩ₑ D ∩ₑ C) ≐ A ∪ₑ B ∩ₑ C ∩ₑ D) tt)
-          c p;
+          below-more (λ (d : ℕ). getD m′ (8 * d + c) 0 ≡ getD l (8 * d + c) 0 ∪ getD a c 0 ∩ getD u d 0 ∩ x) n
+          (λ k z. f .below (8 * k + c) (omega arith) ∙ h .in-rows c k p z)
+          (f .in-row c p ∙ ap (λ (y : ℕ). y ∪ (getD u n 0 ∩ x ∩ getD a c 0)) (h .rest (8 * n + c) (omega arith))
+          ∙ sets (getD l (8 * n + c) 0 ∷ getD a c 0 ∷ getD u n 0 ∷ x ∷ []) [] (A ∪ₑ (C ∩ₑ D ∩ₑ B) ≐ A ∪ₑ B ∩ₑ C ∩ₑ D) tt)
+          d q;
       rest = λ k p. f .above k (omega arith) ∙ h .rest k (omega arith);
     }
 

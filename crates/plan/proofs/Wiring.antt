@@ -122,7 +122,7 @@ module _ {n : Shape} {b : List ℕ} (w : Wirable n b) {j : ℕ} (p : j < n .node
             ∙ sym (up₂ F (w .sound .ordered) j c p k);
         back-is = λ c d u v.
             h .back-is c d u v
-            ∙ ap (λ (s : Set). getD l (8 * c + d) 0 ∪ s) (ap (λ (k : ℕ). back (F .chart) (treeOf F k) c d) (is .a) ∙ sym (back₂ F (w .sound .ordered) j c d p k));
+            ∙ ap (λ (s : Set). getD l (8 * d + c) 0 ∪ s) (ap (λ (k : ℕ). back (F .chart) (treeOf F k) c d) (is .a) ∙ sym (back₂ F (w .sound .ordered) j c d p k));
       }
     where
       k : F .kind j ≡ 2
@@ -136,7 +136,7 @@ module _ {n : Shape} {b : List ℕ} (w : Wirable n b) {j : ℕ} (p : j < n .node
       record {
         down-is = od;
         up-is = ou;
-        back-is = λ c d u v. f c d u v ∙ rejoin c d u v ∙ ap (λ (s : Set). getD l (8 * c + d) 0 ∪ s) (sym (back₁ F (w .sound .ordered) j c d p k));
+        back-is = λ c d u v. f c d u v ∙ rejoin c d u v ∙ ap (λ (s : Set). getD l (8 * d + c) 0 ∪ s) (sym (back₁ F (w .sound .ordered) j c d p k));
       }
     where
       k : F .kind j ≡ 1
@@ -155,13 +155,13 @@ module _ {n : Shape} {b : List ℕ} (w : Wirable n b) {j : ℕ} (p : j < n .node
           ∙ sym (up₁ F (w .sound .ordered) j c p k)
 
       -- first the left part's, then the right part's, then that between them
-      rejoin : (c d : ℕ) → c < 8 → d < 8 → getD m (8 * c + d) 0 ∪ getD (o .down) c 0 ∩ getD (o .up) d 0 ∩ r .x
-          ≡ getD l (8 * c + d) 0 ∪ ((back (F .chart) (treeOf F (F .a j)) c d ∪ back (F .chart) (treeOf F (F .b j)) c d) ∪ down t c ∩ up t d ∩ F .x j)
+      rejoin : (c d : ℕ) → c < 8 → d < 8 → getD m (8 * d + c) 0 ∪ getD (o .down) c 0 ∩ getD (o .up) d 0 ∩ r .x
+          ≡ getD l (8 * d + c) 0 ∪ ((back (F .chart) (treeOf F (F .a j)) c d ∪ back (F .chart) (treeOf F (F .b j)) c d) ∪ down t c ∩ up t d ∩ F .x j)
       rejoin c d u v =
           ap₂ _∪_
-          (h′ .back-is c d u v ∙ ap₂ _∪_ (h .back-is c d u v ∙ ap (λ (k : ℕ). getD l (8 * c + d) 0 ∪ back (F .chart) (treeOf F k) c d) (is .a)) (ap (λ (k : ℕ). back (F .chart) (treeOf F k) c d) (is .b)))
+          (h′ .back-is c d u v ∙ ap₂ _∪_ (h .back-is c d u v ∙ ap (λ (k : ℕ). getD l (8 * d + c) 0 ∪ back (F .chart) (treeOf F k) c d) (is .a)) (ap (λ (k : ℕ). back (F .chart) (treeOf F k) c d) (is .b)))
           (ap₂ _∩_ (ap₂ _∩_ (od c u) (ou d v)) (is .x))
-          ∙ sets (getD l (8 * c + d) 0 ∷ back (F .chart) (treeOf F (F .a j)) c d ∷ back (F .chart) (treeOf F (F .b j)) c d ∷ (down t c ∩ up t d ∩ F .x j) ∷ []) []
+          ∙ sets (getD l (8 * d + c) 0 ∷ back (F .chart) (treeOf F (F .a j)) c d ∷ back (F .chart) (treeOf F (F .b j)) c d ∷ (down t c ∩ up t d ∩ F .x j) ∷ []) []
           (A ∪ₑ B ∪ₑ C ∪ₑ D ≐ A ∪ₑ (B ∪ₑ C ∪ₑ D)) tt
 
 -- ── a chart and its slaves ──
@@ -182,7 +182,7 @@ gathers-none F d l f g =
     record {
       down-is = λ c u. f c u ∙ sets (own d c ∷ []) [] (A ≐ A ∪ₑ ∅ₑ) tt;
       up-is = λ c u. g c u ∙ sets (own d c ∷ []) [] (A ≐ A ∪ₑ ∅ₑ) tt;
-      back-is = λ c e u v. sets (getD l (8 * c + e) 0 ∷ []) [] (A ≐ A ∪ₑ ∅ₑ) tt;
+      back-is = λ c e u v. sets (getD l (8 * e + c) 0 ∷ []) [] (A ≐ A ∪ₑ ∅ₑ) tt;
     }
 
 -- one slave record more
@@ -199,7 +199,7 @@ module _ {n : Shape} {b : List ℕ} (w : Wirable n b) {d i : ℕ} {l m : List �
       (record {
         down-is = λ c u. h .down-is c u ∙ ap (λ (ss : Slaves). own d c ∪ downs ss c) z;
         up-is = λ c u. h .up-is c u ∙ ap (λ (ss : Slaves). own d c ∪ ups ss c) z;
-        back-is = λ c e u v. h .back-is c e u v ∙ ap (λ (ss : Slaves). getD l (8 * c + e) 0 ∪ backs (G .chart) ss c e) z;
+        back-is = λ c e u v. h .back-is c e u v ∙ ap (λ (ss : Slaves). getD l (8 * e + c) 0 ∪ backs (G .chart) ss c e) z;
       })
     where
       z : mine G d i ≡ mine G d (suc i)
@@ -222,8 +222,8 @@ module _ {n : Shape} {b : List ℕ} (w : Wirable n b) {d i : ℕ} {l m : List �
         back-is = λ c e u v.
             g .back-is c e u v
             ∙ ap₂ _∪_ (h .back-is c e u v) (ap (λ (k : ℕ). back (G .chart) (treeOf G k) c e) (it .node))
-            ∙ assoc (getD l (8 * c + e) 0) (backs (G .chart) (mine G d i) c e) (back (G .chart) (treeOf G (G .node i)) c e)
-            ∙ ap (λ (s : Set). getD l (8 * c + e) 0 ∪ s) (sym (backs-step G (w .sound .ordered) d i c e z));
+            ∙ assoc (getD l (8 * e + c) 0) (backs (G .chart) (mine G d i) c e) (back (G .chart) (treeOf G (G .node i)) c e)
+            ∙ ap (λ (s : Set). getD l (8 * e + c) 0 ∪ s) (sym (backs-step G (w .sound .ordered) d i c e z));
       })
     where
       z : G .master i ≡ d
@@ -245,11 +245,11 @@ module _ {n : Shape} {b : List ℕ} (w : Wirable n b) {j : ℕ} (p : j < n .node
         up-is = qu;
         back-is = λ c d u v.
             f c d u v
-            ∙ ap₂ _∪_ (g .back-is c d u v ∙ ap (λ (k : ℕ). getD l (8 * c + d) 0 ∪ backs (H .chart) (mine H k (n .slaves)) c d) (is-node n b j e .a))
+            ∙ ap₂ _∪_ (g .back-is c d u v ∙ ap (λ (k : ℕ). getD l (8 * d + c) 0 ∪ backs (H .chart) (mine H k (n .slaves)) c d) (is-node n b j e .a))
             (ap₂ _∩_ (ap₂ _∩_ (qd c u) (qu d v)) (is-feedback n b (r .a) y ∙ ap (λ (k : ℕ). H .chart k .feedback) (is-node n b j e .a)))
-            ∙ sets (getD l (8 * c + d) 0 ∷ backs (H .chart) (mine H (H .a j) (n .slaves)) c d ∷ (down (treeOf H j) c ∩ up (treeOf H j) d ∩ H .chart (H .a j) .feedback) ∷ []) []
+            ∙ sets (getD l (8 * d + c) 0 ∷ backs (H .chart) (mine H (H .a j) (n .slaves)) c d ∷ (down (treeOf H j) c ∩ up (treeOf H j) d ∩ H .chart (H .a j) .feedback) ∷ []) []
             (A ∪ₑ B ∪ₑ C ≐ A ∪ₑ (B ∪ₑ C)) tt
-            ∙ ap (λ (s : Set). getD l (8 * c + d) 0 ∪ s) (sym (back₀ H (w .sound .ordered) j c d p k));
+            ∙ ap (λ (s : Set). getD l (8 * d + c) 0 ∪ s) (sym (back₀ H (w .sound .ordered) j c d p k));
       }
     where
       k : H .kind j ≡ 0
@@ -268,6 +268,6 @@ wires-whole F l m r e h =
     record {
       down-is = h .down-is;
       up-is = h .up-is;
-      back-is = λ c d u v. h .back-is c d u v ∙ ap (λ (s : Set). s ∪ back (F .chart) (wholeOf F) c d) (e (8 * c + d) (omega arith))
+      back-is = λ c d u v. h .back-is c d u v ∙ ap (λ (s : Set). s ∪ back (F .chart) (wholeOf F) c d) (e (8 * d + c) (omega arith))
           ∙ sets (back (F .chart) (wholeOf F) c d ∷ []) [] (∅ₑ ∪ₑ A ≐ A) tt;
     }

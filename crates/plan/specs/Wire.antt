@@ -19,7 +19,7 @@ Row l f = (c : ℕ) → c < 8 → getD l c 0 ≡ f c
 
 -- the square m is l with f joined to it
 abbrev pub Joins : List ℕ → List ℕ → (ℕ → ℕ → Set) → Type 0
-Joins l m f = (c d : ℕ) → c < 8 → d < 8 → getD m (8 * c + d) 0 ≡ getD l (8 * c + d) 0 ∪ f c d
+Joins l m f = (c d : ℕ) → c < 8 → d < 8 → getD m (8 * d + c) 0 ≡ getD l (8 * d + c) 0 ∪ f c d
 
 -- m is l with what is in s and in the row u joined to the n masks from `at` on
 pub record Fed (at n : ℕ) (s : Set) (u l m : List ℕ) : Type 0 where
@@ -42,4 +42,4 @@ pub record Wires (F : File) (t : Tree) (l m : List ℕ) (r : Rows) : Type 0 wher
 pub record Whole (F : File) (m : List ℕ) (r : Rows) : Type 0 where
   pub down-is : Row (r .down) (down (wholeOf F))
   pub up-is : Row (r .up) (up (wholeOf F))
-  pub back-is : (c d : ℕ) → c < 8 → d < 8 → getD m (8 * c + d) 0 ≡ back (F .chart) (wholeOf F) c d
+  pub back-is : (c d : ℕ) → c < 8 → d < 8 → getD m (8 * d + c) 0 ≡ back (F .chart) (wholeOf F) c d

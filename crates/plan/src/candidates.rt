@@ -88,7 +88,7 @@ fn others(masks: &[u64], charts: usize, may: [u64; 8], c: usize) -> u64
     let mut u: u64 = 0;
     let mut e: usize = 0;
     while e < charts {
-        u = u | rest[e] & masks[192 + (8 * c + e)];
+        u = u | rest[e] & masks[192 + (8 * e + c)];
         e += 1;
     }
     u
@@ -271,7 +271,7 @@ fn ahead_row(masks: &mut [u64], charts: usize, k: usize, u: u64)
 {
     let mut c: usize = 0;
     while c < charts {
-        masks[256 + (8 * k + c)] = u & masks[192 + (8 * c + k)] | masks[256 + (8 * (k + 1) + c)];
+        masks[256 + (8 * k + c)] = u & masks[192 + (8 * k + c)] | masks[256 + (8 * (k + 1) + c)];
         c += 1;
     }
 }

@@ -1,5 +1,5 @@
 // The wiring of a file: its tree folded into masks, once, so that a step looks at no tree. A row has a mask for each chart, a square one for
-// each two charts, that of c and d at 8 * c + d. What the masks are is in the crate wiring (Wire), and that a step may go by them too.
+// each two charts, what chart c gets of chart d at 8 * d + c. What the masks are is in the crate wiring (Wire), and that a step may go by them too.
 ghost use mathlib.Core.Path.{_≡_};
 ghost use Prim.Native.Nat.{ℕ, _+_, _*_, _≤_, _<_};
 ghost use lib.ListN.{length, getD};
@@ -98,15 +98,15 @@ fn hidden(a: Rows, x: u64, y: u64) -> Rows
     }
 }
 
-// Joins what is in m and a chart's `up` to that chart's mask, in the eight masks from `at` on.
-fn feed_row(back: &mut [u64], at: usize, m: u64, up: [u64; 8])
+// Joins what is in m and gets down to a chart to that chart's mask, in the eight masks from `at` on.
+fn feed_row(back: &mut [u64], at: usize, m: u64, down: [u64; 8])
     requires { ⌜ at + 8 ≤ length (now back) ⌝ }
-    ensures { λ _. ⌜ Fed at 8 m up (now (back .entry)) (now (back .exit)) ⌝ }
+    ensures { λ _. ⌜ Fed at 8 m down (now (back .entry)) (now (back .exit)) ⌝ }
 {
-    let mut d: usize = 0;
-    while d < 8 {
-        back[at + d] = back[at + d] | (m & up[d]);
-        d += 1;
+    let mut c: usize = 0;
+    while c < 8 {
+        back[at + c] = back[at + c] | (m & down[c]);
+        c += 1;
     }
 }
 
@@ -117,10 +117,10 @@ fn feed(back: &mut [u64], a: Rows, x: u64)
 {
     let down = a.down;
     let up = a.up;
-    let mut c: usize = 0;
-    while c < 8 {
-        feed_row(back, 8 * c, down[c] & x, up);
-        c += 1;
+    let mut d: usize = 0;
+    while d < 8 {
+        feed_row(back, 8 * d, up[d] & x, down);
+        d += 1;
     }
 }
 

@@ -18,7 +18,7 @@ module _ (m : List ℕ) where
 
   -- what chart c is offered of chart d's action
   abbrev pub backAt : ℕ → ℕ → ℕ
-  backAt c d = getD m (192 + (8 * c + d)) 0
+  backAt c d = getD m (192 + (8 * d + c)) 0
 
   -- what the charts from k on may still put in for chart c
   abbrev pub aheadAt : ℕ → ℕ → ℕ

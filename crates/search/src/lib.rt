@@ -55,7 +55,7 @@ fn lower(masks: &[u64], low: [u64; 8], action: u64, k: usize) -> [u64; 8]
     let mut lows = low;
     let mut c: usize = 0;
     while c < 8 {
-        lows[c] = lows[c] | action & masks[192 + (8 * c + k)];
+        lows[c] = lows[c] | action & masks[192 + (8 * k + c)];
         c += 1;
     }
     lows

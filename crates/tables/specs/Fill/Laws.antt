@@ -247,7 +247,7 @@ module _ (ts : ℕ → List Transition) (cfg : ℕ → ℕ) (N : ℕ) (lows m₀
   -- the wiring of chart c is the same in tables that agree on it
   others-same : (m m₁ : List ℕ) (may : ℕ → Set) (c : ℕ) → c < N → ((i : ℕ) → 192 ≤ i → i < 256 → getD m i 0 ≡ getD m₁ i 0) → othersAt m N may c ≡ othersAt m₁ N may c
   unfolding othersAt
-  others-same m m₁ may c l h = join-cong N _ _ (λ e r. ap (λ z. cond (same e c) 0 (may e) ∩ z) (h (192 + (8 * c + e)) (omega arith) (omega arith)))
+  others-same m m₁ may c l h = join-cong N _ _ (λ e r. ap (λ z. cond (same e c) 0 (may e) ∩ z) (h (192 + (8 * e + c)) (omega arith) (omega arith)))
 
   keep-same : (m m₁ : List ℕ) (c v : ℕ) → c < N → ((i : ℕ) → 192 ≤ i → i < 256 → getD m i 0 ≡ getD m₁ i 0) → keepAt ts cfg N lows m c v ≡ keepAt ts cfg N lows m₁ c v
   unfolding keepAt
@@ -341,7 +341,7 @@ row-next k w n m₀ m v a l e =
 -- what stands before and after row k is still there to make it
 pub row-value : (k : ℕ) (w : ℕ → Set) (c : ℕ) (m₀ m : List ℕ) (u : Set) → AheadRow k w c m₀ m → c < 8 → k < 8 → u ∩ backAt m c k ∪ aheadAt m (k + 1) c ≡ aheadBy m₀ k u c
 unfolding aheadBy
-row-value k w c m₀ m u a l r = ap₂ (λ x y. u ∩ x ∪ y) (a .below (192 + (8 * c + k)) (omega arith)) (ap (λ z. aheadAt m z c) (add-one k) ∙ a .above (256 + (8 * suc k + c)) (omega arith))
+row-value k w c m₀ m u a l r = ap₂ (λ x y. u ∩ x ∪ y) (a .below (192 + (8 * k + c)) (omega arith)) (ap (λ z. aheadAt m z c) (add-one k) ∙ a .above (256 + (8 * suc k + c)) (omega arith))
 
 module _ (N : ℕ) (few : N ≤ 8) (s m₀ : List ℕ) where
   -- nothing is left after the last chart
@@ -373,7 +373,7 @@ module _ (N : ℕ) (few : N ≤ 8) (s m₀ : List ℕ) where
       part c e = mayAt m₀ s e ∩ backAt m₀ c e
 
       go : (j c : ℕ) → k ≤ j → j ≤ N → c < N → (b : Bool) → same j k ≡ b → aheadAt m′ j c ≡ ahead (N - j) j (part c)
-      go j c p q x true y = rw (same→≡ j k y) (r .row c x ∙ ap₂ _∪_ (ap₂ _∩_ (e ∙ may-same m k (omega arith) f (a .below)) (a .below (192 + (8 * c + k)) (omega arith))) (a .rows (suc k) c (omega arith) (omega arith) x)
+      go j c p q x true y = rw (same→≡ j k y) (r .row c x ∙ ap₂ _∪_ (ap₂ _∩_ (e ∙ may-same m k (omega arith) f (a .below)) (a .below (192 + (8 * k + c)) (omega arith))) (a .rows (suc k) c (omega arith) (omega arith) x)
           ∙ sym (ap (λ n. ahead n k (part c)) (let h : N - k ≡ suc (N - suc k) = omega arith in h)))
       go j c p q x false y = let z : j ≢ k = λ o. false≢true (sym y ∙ rw o (same-refl k)) in r .above (256 + (8 * j + c)) (omega arith) ∙ a .rows j c (omega arith) q x
 
@@ -397,7 +397,7 @@ module _ (ts : ℕ → List Transition) (cfg : ℕ → ℕ) (N : ℕ) (lows m₀
             record { needed = a .below (8 * c + v) (omega arith); barred = a .below (64 + (8 * c + v)) (omega arith); action = a .below (128 + (8 * c + v)) (omega arith); to = refl }));
         counts = un .counts;
         ahead-at = λ k c p q. a .rows k c (omega arith) p q ∙ ahead-cong (N - k) k _ _ (λ e x. ap₂ _∩_ (sym (may-same N few s m m′ e (omega arith) (un .counts e (omega arith)) (a .below)))
-            (sym (a .below (192 + (8 * c + e)) (omega arith))));
+            (sym (a .below (192 + (8 * e + c)) (omega arith))));
         state-at = λ c l. un .rest (88 + c) (omega arith) ∙ st c l;
       }
 

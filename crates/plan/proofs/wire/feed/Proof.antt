@@ -1,4 +1,4 @@
--- `wire::feed` meets its contract: the rows below c are fed. Assumes nothing.
+-- `wire::feed` meets its contract: the rows below d are fed. Assumes nothing.
 use mathlib.Core.Path.{_≡_, refl, _∙_}
 use Prim.Native.Nat.{_-_, _≤_}
 use native.Mathlib.Omega.{arith}
@@ -9,10 +9,10 @@ use Rattle.plan.proofs.wire.feed.Statement.{statement}
 use Rattle.plan.proofs.wire.feed.Tie as tie
 
 abbrev Inv-loop : tie.InvT-loop
-Inv-loop back₀ x down up c₀ back c = (c ≤ 8) × (length back ≡ length back₀) × Joined c back₀ back (λ c d. getD down c 0 ∩ getD up d 0 ∩ x)
+Inv-loop back₀ x down up d₀ back d = (d ≤ 8) × (length back ≡ length back₀) × Joined d back₀ back (λ c d. getD down c 0 ∩ getD up d 0 ∩ x)
 
 abbrev μ-loop : tie.MeasureT-loop
-μ-loop back₀ x down up c₀ back c = 8 - c
+μ-loop back₀ x down up d₀ back d = 8 - d
 
 loop-holds : tie.Need-loop-holds Inv-loop μ-loop
 loop-holds c = (omega arith, refl, joined-none _ _)
@@ -27,7 +27,7 @@ loop-again c =
     )
 
 returns : tie.Need-returns Inv-loop μ-loop
-returns c k d p q = c .before .loop .inv .2 .in-rows k d (omega arith) q
+returns c k d p q = c .before .loop .inv .2 .in-rows k d p (omega arith)
 
 pub feed-spec : {M : Type 1} → statement M
 feed-spec =

@@ -34,7 +34,7 @@ returns c =
     record {
       down-is = w .ensures .down-is;
       up-is = λ d u. row-is (s .args .masks .now) (w .last .1 .1 .0) (r .last .0) (s .pre .1) (w .kept .1 .1 .0) (r .kept .0) d u ∙ r .ensures d u ∙ w .ensures .up-is d u;
-      back-is = λ a d u v. square-is (s .args .masks .now) (w .last .1 .1 .0) (r .last .0) (s .pre .1) (w .kept .1 .1 .0) (r .kept .0) (8 * a + d) (omega arith) ∙ w .ensures .back-is a d u v;
+      back-is = λ a d u v. square-is (s .args .masks .now) (w .last .1 .1 .0) (r .last .0) (s .pre .1) (w .kept .1 .1 .0) (r .kept .0) (8 * d + a) (omega arith) ∙ w .ensures .back-is a d u v;
       nearest-is = c .before .before .before .nearest .ensures;
     }
 
