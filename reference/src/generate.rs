@@ -681,7 +681,7 @@ pub fn rewrite_command(random: &mut Random, name: &str) -> Command {
 }
 
 /// Seldom leaves few signals free, or fills a state of a chart.
-fn crowd(random: &mut Random, model: &mut Model) {
+pub fn crowd(random: &mut Random, model: &mut Model) {
     let place = random.below(model.charts.len());
     let chart = &mut model.charts[place];
     match random.below(12) {

@@ -18,8 +18,9 @@
 //!
 //! What the comparison needs: [`command`] (one call as bytes, its answer as a line), [`cases`]
 //! (calls with a name and an answer written by hand), [`generate`] (random calls from fixed seeds),
-//! [`record`] (what is recorded of each kind) and [`draw`] (random calls of every kind). With the
-//! feature `engine` also `fuzz`, which holds the proved engine against this one.
+//! [`record`] (what is recorded of each kind), [`draw`] (random calls of every kind) and [`walk`]
+//! (random files with slaves, and all their configurations). With the feature `engine` also `fuzz`,
+//! which holds the proved engine against this one.
 
 pub mod cases;
 pub mod check;
@@ -39,6 +40,7 @@ pub mod rewriting;
 pub mod run;
 pub mod set;
 pub mod step;
+pub mod walk;
 
 pub use check::check;
 pub use day::day;

@@ -6,6 +6,9 @@
 //! - `reference day` reads the day program's input on standard input and prints what it prints.
 //! - `reference fuzz SEED COUNT`, with the feature `engine`, makes so many random calls here and in
 //!   the proved engine and compares; the first difference is printed with the call.
+//! - `reference same SEED COUNT`, with the feature `engine`, rewrites so many random files with slaves
+//!   here and in the proved engine, and compares the engine's steps of old and new file from every
+//!   configuration; prints how many of each kind were compared.
 
 use reference::command::decode_all;
 use reference::record::{commands, encode, lines, Kind};
@@ -13,7 +16,8 @@ use std::io::{Read, Write};
 use std::process::ExitCode;
 
 /// What can be said on the command line.
-const USE: &str = "use: reference record KIND COMMANDS LINES | show | day | fuzz SEED COUNT";
+const USE: &str =
+    "use: reference record KIND COMMANDS LINES | show | day | fuzz SEED COUNT | same SEED COUNT";
 
 fn main() -> ExitCode {
     let words: Vec<String> = std::env::args().skip(1).collect();
@@ -22,7 +26,7 @@ fn main() -> ExitCode {
         ["record", kind, calls, answers] => record(kind, calls, answers),
         ["show"] => show(),
         ["day"] => day(),
-        ["fuzz", seed, count] => fuzz(seed, count),
+        [command @ ("fuzz" | "same"), seed, count] => hold_engine(command, seed, count),
         _ => Err(USE.to_string()),
     };
     match done {
@@ -55,19 +59,25 @@ fn day() -> Result<(), String> {
     print(&reference::day(&standard_input()?))
 }
 
-/// Compares so many random calls with the proved engine.
+/// Holds the proved engine against this one on so many random calls or files.
 #[cfg(feature = "engine")]
-fn fuzz(seed: &str, count: &str) -> Result<(), String> {
+fn hold_engine(command: &str, seed: &str, count: &str) -> Result<(), String> {
     let seed: u64 = seed.parse().map_err(|_| USE)?;
     let count: usize = count.parse().map_err(|_| USE)?;
-    reference::fuzz::agree(seed, count)?;
-    print(format!("fuzz: {count} commands agree (seed {seed})\n").as_bytes())
+    let what = match command {
+        "fuzz" => {
+            reference::fuzz::agree(seed, count)?;
+            format!("{count} commands agree")
+        }
+        _ => reference::fuzz::same::agree(seed, count)?.to_string(),
+    };
+    print(format!("{command}: {what} (seed {seed})\n").as_bytes())
 }
 
 /// Without the engine there is nothing to compare with.
 #[cfg(not(feature = "engine"))]
-fn fuzz(_: &str, _: &str) -> Result<(), String> {
-    Err("fuzz: not built with the feature `engine`".to_string())
+fn hold_engine(command: &str, _: &str, _: &str) -> Result<(), String> {
+    Err(format!("{command}: not built with the feature `engine`"))
 }
 
 /// All of standard input.

@@ -3,10 +3,11 @@
 use reference::cases::charts::{d, p3};
 use reference::cases::damage::behind;
 use reference::check::accept;
-use reference::generate::{input, model, shape, Random};
+use reference::generate::{configuration, input, model, shape, Random, Shape};
 use reference::limits::*;
 use reference::model::{Model, Node};
 use reference::rewriting::{calls, rewrite_model};
+use reference::walk::{configurations, inputs, is_nested, with_slaves};
 use reference::{check, rewrite, run, step, Set};
 
 /// The rewritten file, if there is one.
@@ -81,34 +82,13 @@ fn a_file_without_slaves_stays_and_loses_its_front() {
     assert_eq!(rewritten(&behind(&[1; 13], file.clone())), Ok(file));
 }
 
-/// All configurations of a file.
-fn configurations(model: &Model) -> Vec<Vec<u8>> {
-    let mut all: Vec<Vec<u8>> = vec![vec![]];
-    for chart in &model.charts {
-        all = all
-            .into_iter()
-            .flat_map(|so_far| {
-                (0..chart.states).map(move |state| {
-                    let mut longer = so_far.clone();
-                    longer.push(state);
-                    longer
-                })
-            })
-            .collect();
-    }
-    all
-}
-
-/// A random file with slaves, few configurations and few transitions, and its shape's signals.
-fn small_with_slaves(random: &mut Random) -> (Model, reference::generate::Shape) {
+/// A random file with slaves that can be rewritten, with few configurations and few transitions.
+fn small_with_slaves(random: &mut Random) -> (Shape, Model) {
     loop {
-        let mut shape = shape(random, 6);
-        shape.states = shape.states.min(3);
-        let model = model(random, &shape);
+        let (shape, model) = with_slaves(random, 81);
         let transitions: usize = model.charts.iter().map(|c| c.transitions.len()).sum();
-        let few = configurations(&model).len() <= 81 && transitions <= 24;
-        if !model.slaves.is_empty() && few && rewritten(&model.file()).is_ok() {
-            return (model, shape);
+        if transitions <= 24 && rewritten(&model.file()).is_ok() {
+            return (shape, model);
         }
     }
 }
@@ -118,12 +98,12 @@ fn the_rewritten_file_steps_as_the_old_one() {
     let mut random = Random::new(5);
     let (mut given, mut refused, mut doubtful, mut nested) = (0, 0, 0, 0);
     for _ in 0..250 {
-        let (model, shape) = small_with_slaves(&mut random);
+        let (shape, model) = small_with_slaves(&mut random);
         let old = model.file();
         let new = rewritten(&old).unwrap();
         nested += usize::from(is_nested(&model));
         for at in configurations(&model) {
-            for input in several_inputs(&mut random, &shape, &model) {
+            for input in inputs(&mut random, &shape, &model) {
                 let mut old_next = vec![0xA5; at.len()];
                 let mut new_next = old_next.clone();
                 let old_answer = step(&old, &at, input, &mut old_next);
@@ -139,32 +119,14 @@ fn the_rewritten_file_steps_as_the_old_one() {
     assert!(given > 2_000 && refused > 2_000 && doubtful > 300 && nested > 40);
 }
 
-/// Whether a slave has a master inside.
-fn is_nested(model: &Model) -> bool {
-    let mut masters = model.slaves.iter().map(|slave| slave.chart);
-    masters.any(|master| model.nearest_slave(master).is_some())
-}
-
-/// No signal, all signals, the calls alone, and some random inputs.
-fn several_inputs(
-    random: &mut Random,
-    shape: &reference::generate::Shape,
-    model: &Model,
-) -> Vec<Set> {
-    let calls = Set::union(calls(model).unwrap().into_iter());
-    let mut inputs = vec![Set::EMPTY, Set::FULL, calls];
-    inputs.extend((0..3).map(|_| input(random, shape)));
-    inputs
-}
-
 #[test]
 fn the_rewritten_file_runs_as_the_old_one() {
     let mut random = Random::new(6);
     for _ in 0..150 {
-        let (model, shape) = small_with_slaves(&mut random);
+        let (shape, model) = small_with_slaves(&mut random);
         let old = model.file();
         let new = rewritten(&old).unwrap();
-        let at = reference::generate::configuration(&mut random, &model);
+        let at = configuration(&mut random, &model);
         let inputs: Vec<Set> = (0..10).map(|_| input(&mut random, &shape)).collect();
         let mut old_rows = vec![0xA5; 10 * (10 + at.len()) + 1];
         let mut new_rows = old_rows.clone();

@@ -3,25 +3,15 @@
 use reference::generate::{configuration, input, model, shape, Random};
 use reference::model::Model;
 use reference::step::{Outcome, Place, Situation};
+use reference::walk::every;
 
 /// Every choice there is, in order: for each chart none, then each of its transitions.
 fn all_choices(model: &Model) -> Vec<Vec<Place>> {
-    let mut choices: Vec<Vec<Place>> = vec![vec![]];
-    for chart in &model.charts {
-        let mut places: Vec<Place> = vec![None];
-        places.extend((0..chart.transitions.len()).map(Some));
-        choices = choices
-            .into_iter()
-            .flat_map(|choice| {
-                places.iter().map(move |&place| {
-                    let mut longer = choice.clone();
-                    longer.push(place);
-                    longer
-                })
-            })
-            .collect();
-    }
-    choices
+    let places = model.charts.iter().map(|chart| {
+        let taken = (0..chart.transitions.len()).map(Some);
+        [None].into_iter().chain(taken).collect()
+    });
+    every(places.collect())
 }
 
 /// The permitted ones of some choices, with what they lead to.

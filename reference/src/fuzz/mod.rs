@@ -2,6 +2,7 @@
 //! compared, refusal, answers and every lent byte.
 
 mod engine;
+pub mod same;
 
 use crate::command::{Command, Op};
 use crate::draw::Draw;

@@ -1,0 +1,235 @@
+//! Demand 3 over the proved engine: random files with slaves are rewritten by it and here, and then it
+//! answers for the old file and for the new one, from every configuration.
+
+use super::hex;
+use crate::cases::rewrite::rewritten_bytes;
+use crate::cases::run::rows_bytes;
+use crate::check::accept;
+use crate::command::FILL;
+use crate::generate::{configuration, crowd, front, input, Random, Shape};
+use crate::model::Model;
+use crate::set::Set;
+use crate::walk::{configurations, has_several, hides_inside, inputs, is_nested, with_slaves};
+use mestecur::{Refusal, Step};
+use std::fmt::{self, Debug, Display, Formatter};
+
+/// The most configurations of a file.
+const CONFIGURATIONS: usize = 4_096;
+/// The rows of a run.
+const ROWS: usize = 40;
+
+/// How much was compared.
+#[derive(Clone, PartialEq, Eq, Debug, Default)]
+pub struct Compared {
+    pub files: usize,
+    /// Of these the rewritten ones; the others are refused by both engines alike.
+    pub rewritten: usize,
+    /// Of the rewritten ones those with a slave inside a slave.
+    pub nested: usize,
+    /// Of the rewritten ones those with several slaves of one master.
+    pub several: usize,
+    /// Of the rewritten ones those with a hidden node inside a slave.
+    pub hiding: usize,
+    pub configurations: usize,
+    pub given: usize,
+    /// Of the steps given those marked no.
+    pub doubtful: usize,
+    pub refused: usize,
+    pub rows: usize,
+}
+
+impl Display for Compared {
+    fn fmt(&self, out: &mut Formatter) -> fmt::Result {
+        write!(
+            out,
+            "{} files with slaves, {} rewritten ({} nested, {} with several slaves of a master, \
+             {} hiding inside a slave); {} configurations, {} steps given ({} marked no), \
+             {} refused, {} rows of runs",
+            self.files,
+            self.rewritten,
+            self.nested,
+            self.several,
+            self.hiding,
+            self.configurations,
+            self.given,
+            self.doubtful,
+            self.refused,
+            self.rows
+        )
+    }
+}
+
+impl Compared {
+    /// Counts a rewritten file.
+    fn add_rewritten(&mut self, model: &Model) {
+        self.rewritten += 1;
+        self.nested += usize::from(is_nested(model));
+        self.several += usize::from(has_several(model));
+        self.hiding += usize::from(hides_inside(model));
+    }
+
+    /// Counts a step.
+    fn add_step(&mut self, answer: Result<Step, Refusal>) {
+        match answer {
+            Ok(step) => {
+                self.given += 1;
+                self.doubtful += usize::from(!step.mark);
+            }
+            Err(_) => self.refused += 1,
+        }
+    }
+
+    /// Whether so much was compared that it tells something: of the files most are rewritten, of those
+    /// not few are of each kind, and so of the steps.
+    fn tells(&self) -> bool {
+        let kinds = [self.nested, self.several, self.hiding];
+        let steps = self.given + self.refused;
+        self.rewritten > self.files / 2
+            && kinds.iter().all(|&files| files >= self.rewritten / 5)
+            && self.given.min(self.refused) >= steps / 5
+            && self.doubtful >= self.given / 50
+    }
+}
+
+/// Compares so many random files with slaves; the first difference, in words.
+pub fn agree(seed: u64, count: usize) -> Result<Compared, String> {
+    let mut random = Random::new(seed);
+    let mut compared = Compared::default();
+    for place in 0..count {
+        let (shape, mut model) = with_slaves(&mut random, CONFIGURATIONS);
+        crowd(&mut random, &mut model);
+        let old = [front(&mut random), model.file()].concat();
+        let done = compare(&mut random, &shape, &model, &old, &mut compared);
+        done.map_err(|what| format!("same: seed {seed}, file {place}: {what}\n{}", hex(&old)))?;
+    }
+    match compared.tells() {
+        true => Ok(compared),
+        false => Err(format!("same: too little to tell: {compared}")),
+    }
+}
+
+/// Rewrites a file by both engines; if it isn't refused, holds the new file against it.
+fn compare(
+    random: &mut Random,
+    shape: &Shape,
+    model: &Model,
+    old: &[u8],
+    compared: &mut Compared,
+) -> Result<(), String> {
+    compared.files += 1;
+    let Some(new) = rewritten(old, rewritten_bytes(model))? else {
+        return Ok(());
+    };
+    compared.add_rewritten(model);
+    let pair = Pair {
+        old,
+        new: &new,
+        charts: model.charts.len(),
+    };
+    pair.hold_file()?;
+    let inputs = inputs(random, shape, model);
+    for at in configurations(model) {
+        compared.configurations += 1;
+        for &input in &inputs {
+            compared.add_step(pair.hold_step(&at, input)?);
+        }
+    }
+    compared.rows += ROWS;
+    let inputs: Vec<Set> = (0..ROWS).map(|_| input(random, shape)).collect();
+    pair.hold_run(&configuration(random, model), &inputs)
+}
+
+/// The file that both engines rewrite a file into, in a buffer of the length that it needs; none if
+/// both refuse it alike.
+fn rewritten(old: &[u8], room: usize) -> Result<Option<Vec<u8>>, String> {
+    let mut new = vec![FILL; room];
+    let mut here = new.clone();
+    let answer = mestecur::rewrite(old, &mut new);
+    let expected = crate::rewrite(old, &mut here);
+    let told = (
+        answer.map_or_else(Refusal::number, |_| 0),
+        answer.unwrap_or(0),
+    );
+    if told != (expected.refusal, expected.length) || new != here {
+        return Err(format!("rewritten into {}, here {}", hex(&new), hex(&here)));
+    }
+    match answer {
+        Ok(length) if length != room => Err(format!("{length} bytes, not {room}")),
+        Ok(_) => Ok(Some(new)),
+        Err(_) => Ok(None),
+    }
+}
+
+/// A lent buffer after a call; shown in hex.
+#[derive(PartialEq)]
+struct Lent(Vec<u8>);
+
+impl Debug for Lent {
+    fn fmt(&self, out: &mut Formatter) -> fmt::Result {
+        out.write_str(&hex(&self.0))
+    }
+}
+
+/// A file with slaves, and the file that it was rewritten into.
+struct Pair<'a> {
+    old: &'a [u8],
+    new: &'a [u8],
+    charts: usize,
+}
+
+impl Pair<'_> {
+    /// The engine's answer for both files.
+    fn same<T: PartialEq + Debug>(
+        &self,
+        what: fmt::Arguments,
+        call: impl Fn(&[u8]) -> T,
+    ) -> Result<T, String> {
+        let (old, new) = (call(self.old), call(self.new));
+        if old == new {
+            Ok(old)
+        } else {
+            Err(format!("{what}: {old:?}, rewritten {new:?}"))
+        }
+    }
+
+    /// The new file passes, has no slaves and is rewritten into itself; first configuration and
+    /// interface are the old ones.
+    fn hold_file(&self) -> Result<(), String> {
+        let check = mestecur::check(self.new);
+        check.map_err(|refusal| format!("the new file: {refusal}"))?;
+        let slaves = accept(self.new).map(|model| model.slaves.len());
+        if slaves != Ok(0) {
+            return Err(format!("the new file has slaves: {slaves:?}"));
+        }
+        let _ = self.same(format_args!("interface"), mestecur::interface)?;
+        let _ = self.same(format_args!("first"), |file| {
+            let mut config = vec![FILL; self.charts + 1];
+            (mestecur::first(file, &mut config), Lent(config))
+        })?;
+        let _ = self.same(format_args!("rewriting"), |file| {
+            let mut out = vec![FILL; self.new.len()];
+            (mestecur::rewrite(file, &mut out), Lent(out))
+        })?;
+        Ok(())
+    }
+
+    /// The answer of a step, and all of its lent buffer, are those of the old file.
+    fn hold_step(&self, at: &[u8], input: Set) -> Result<Result<Step, Refusal>, String> {
+        let told = self.same(format_args!("step from {at:?} under {input:x?}"), |file| {
+            let mut next = vec![FILL; self.charts + 1];
+            let answer = mestecur::step(file, at, mestecur::Set(input.0), &mut next);
+            (answer, Lent(next))
+        })?;
+        Ok(told.0)
+    }
+
+    /// A run has the old file's rows.
+    fn hold_run(&self, at: &[u8], inputs: &[Set]) -> Result<(), String> {
+        let sets: Vec<mestecur::Set> = inputs.iter().map(|set| mestecur::Set(set.0)).collect();
+        let told = self.same(format_args!("run from {at:?} under {inputs:x?}"), |file| {
+            let mut rows = vec![FILL; rows_bytes(inputs.len(), self.charts) + 1];
+            (mestecur::run(file, at, &sets, &mut rows), Lent(rows))
+        })?;
+        told.0.map_err(|refusal| refusal.to_string())
+    }
+}

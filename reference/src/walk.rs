@@ -1,0 +1,78 @@
+//! Random files with slaves that are small enough to be walked through all their configurations, and
+//! what is offered to them on the way.
+
+use crate::generate::{input, model, shape, Random, Shape};
+use crate::interface::node_input;
+use crate::limits::CHARTS;
+use crate::model::{Model, Node, Slave};
+use crate::rewriting::calls;
+use crate::set::Set;
+
+/// A random file with slaves, and its shape; it has at most so many configurations.
+pub fn with_slaves(random: &mut Random, most: usize) -> (Shape, Model) {
+    loop {
+        let shape = shape(random, CHARTS);
+        let model = model(random, &shape);
+        let states = model.charts.iter().map(|c| usize::from(c.states));
+        if !model.slaves.is_empty() && states.product::<usize>() <= most {
+            return (shape, model);
+        }
+    }
+}
+
+/// Every configuration that passes 20 and 21, in order.
+pub fn configurations(model: &Model) -> Vec<Vec<u8>> {
+    let states = model.charts.iter().map(|chart| 0..chart.states);
+    every(states.map(Iterator::collect).collect())
+}
+
+/// Every list that has one of each list's values, in order.
+pub fn every<T: Clone>(lists: Vec<Vec<T>>) -> Vec<Vec<T>> {
+    let longer = |all: Vec<Vec<T>>, list: Vec<T>| {
+        let one = |begun: Vec<T>| {
+            let with = |value: &T| [&begun[..], &[value.clone()]].concat();
+            list.iter().map(with).collect::<Vec<Vec<T>>>()
+        };
+        all.into_iter().flat_map(one).collect()
+    };
+    lists.into_iter().fold(vec![vec![]], longer)
+}
+
+/// No signal, all of them, each of the interface alone, the calls that the rewriting would give, and
+/// three random inputs.
+pub fn inputs(random: &mut Random, shape: &Shape, model: &Model) -> Vec<Set> {
+    let interface = node_input(model, model.whole() as u8);
+    let calls = calls(model).unwrap_or_default();
+    let mut inputs = vec![Set::EMPTY, Set::FULL, Set::union(calls.into_iter())];
+    inputs.extend(interface.signals().map(Set::one));
+    inputs.extend((0..3).map(|_| input(random, shape)));
+    inputs
+}
+
+/// Whether a slave has a master inside.
+pub fn is_nested(model: &Model) -> bool {
+    let mut masters = model.slaves.iter().map(|slave| slave.chart);
+    masters.any(|master| model.nearest_slave(master).is_some())
+}
+
+/// Whether a slave has a hidden node inside.
+pub fn hides_inside(model: &Model) -> bool {
+    let mut slaves = model.slaves.iter();
+    slaves.any(|slave| has_hidden(model, slave.node))
+}
+
+/// Whether a node is hidden or has a hidden part.
+fn has_hidden(model: &Model, node: u8) -> bool {
+    let node = &model.nodes[usize::from(node)];
+    let mut parts = node.names().into_iter();
+    matches!(node, Node::Hidden { .. }) || parts.any(|part| has_hidden(model, part))
+}
+
+/// Whether a master has several slaves.
+pub fn has_several(model: &Model) -> bool {
+    let chart = |slave: &Slave| slave.chart;
+    model
+        .slaves
+        .windows(2)
+        .any(|two| chart(&two[0]) == chart(&two[1]))
+}
