@@ -1,6 +1,7 @@
 -- A statement of every transition of a list.
-use mathlib.Core.Path.{_≡_, subst}
-use mathlib.Core.List.{List, [], _∷_, _++_, map}
+use mathlib.Core.Path.{_≡_, sym, subst}
+use mathlib.Core.List.{List, [], _∷_, _++_, map, List·Memᴰ, List·Memᴰ·cases-cons, List·Memᴰ·not-nil}
+use mathlib.Core.Logic.{⊎-elim}
 use Prim.Native.Nat.{ℕ, zero, suc, _+_, _<_}
 use native.Mathlib.Nat.{add-zero}
 use native.Mathlib.Omega.{arith}
@@ -21,6 +22,10 @@ module _ (P : Transition → Type 0) where
   every-at [] k d l h = absurd (omega arith)
   every-at (t ∷ ts) zero d l h = h .0
   every-at (t ∷ ts) (suc k) d l h = every-at ts k d (omega arith) (h .1)
+
+  pub every-in : (ts : List Transition) (u : Transition) → Every P ts → List·Memᴰ u ts → P u
+  every-in [] u h m = absurd (List·Memᴰ·not-nil m)
+  every-in (t ∷ ts) u h m = ⊎-elim (λ e. subst P (sym e) (h .0)) (λ k. every-in ts u (h .1) k) (List·Memᴰ·cases-cons m)
 
   pub every-from : (f : ℕ → Transition) (k n : ℕ) → ((i : ℕ) → i < n → P (f (k + i))) → Every P (from f k n)
   unfolding from

@@ -8,38 +8,21 @@ use Prim.Native.Nat.{ℕ, zero, suc, _+_, _≤_, _<_}
 use native.Mathlib.Nat.{zero-add}
 use native.Mathlib.Omega.{arith}
 use lib.ListN.{length}
-use Rattle.signals.specs.Mask.{_∪_, _∩_}
+use Rattle.signals.specs.Mask.{_∩_}
 use Rattle.signals.specs.Decide.{sets, A, B, ∅ₑ, _∪ₑ_, _∩ₑ_, _≐_}
 use Rattle.layout.specs.declared.record.Transition.{Transition}
 use Rattle.meaning.specs.Meaning.{Set, same, Chart, Tree, Slaves, leaf, comp, hide, dec, nil, snoc, Move, nth, pick, after, inFaceChart, inFace, out, ok, permitted, upd, moves, nexts, Outcome, upto, outcome, search, outcomes, answer}
 use Rattle.meaning.specs.File.{Has}
 use Rattle.meaning.specs.Rewriting.{callIn, idle, called, chartWith}
-use Rattle.meaning.specs.Laws.Bools.{same-refl, same→≡, same-≢, not-true}
+use Rattle.meaning.specs.Laws.Bools.{same-refl, same→≡, not-true}
+use Rattle.meaning.specs.Laws.Choices.{upto-cong, upd-at, upd-off, search-empty}
 use Rattle.meaning.specs.Laws.Above.{Above}
 use Rattle.agreement.specs.Tree.{on, tree, touch, moveR}
 use Rattle.agreement.specs.Same.{At, Rw, Rws, old-cut, ok-t, out-t, face-t, face-old}
 use Rattle.agreement.specs.Active.{active, some?, ok-active, active-agree, Live, live}
-use Rattle.agreement.specs.Upto.{upto-cong, upto-first, merge}
+use Rattle.agreement.specs.Upto.{merge}
 use Rattle.agreement.specs.Charts.{place, idle-at, pick-moved, places, places-none, face-is, OldChart, old-pick, old-faceChart}
 use Rattle.agreement.specs.Fit.{Fit, FitS}
-
-abbrev pub Below : ℕ → (ℕ → ℕ) → (ℕ → ℕ) → Type 0
-Below c ch ch₂ = (i : ℕ) → i < c → ch₂ i ≡ ch i
-
-pub upd-at : (ch : ℕ → ℕ) (c v : ℕ) → upd ch c v c ≡ v
-unfolding upd
-upd-at ch c v = rw (same-refl c)
-
-pub upd-off : (ch : ℕ → ℕ) (c v i : ℕ) → i < c → upd ch c v i ≡ ch i
-unfolding upd
-upd-off ch c v i l = rw (same-≢ i c (λ e. omega arith))
-
-module _ (E : ℕ → Chart) (state : ℕ → ℕ) (cfg : ℕ → ℕ) (t : Tree) (inp : Set) (N : ℕ) where
-  pub search-empty : (n c : ℕ) (ch : ℕ → ℕ) → ((ch₂ : ℕ → ℕ) → Below c ch ch₂ → permitted E state cfg (moves E ch₂) t inp ≡ false) → search E state cfg t inp N n c ch ≡ []
-  unfolding search outcome upto
-  search-empty zero c ch h = rw (h ch (λ i l. refl))
-  search-empty (suc n) c ch h = upto-cong (length (E c .transitions)) _ (λ v. []) (λ v l. search-empty n (suc c) (upd ch c v)
-      (λ ch₂ b. h ch₂ (λ i l. b i (omega arith) ∙ upd-off ch c v i l))) ∙ upto-first (length (E c .transitions)) (λ v. []) (λ k l. refl)
 
 after-moved : (sig : ℕ → ℕ) (κ : Option ℕ) (T : Transition → Set) (s : ℕ) (m : Move) → after s (moveR sig κ T s m) ≡ after s m
 unfolding after moveR called idle

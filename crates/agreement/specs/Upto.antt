@@ -1,25 +1,16 @@
 -- Lists made one after another (`upto`), where some of them are empty.
-use mathlib.Core.Path.{_≡_, refl, sym, _∙_, ap, ap₂}
+use mathlib.Core.Path.{_≡_, refl, sym, _∙_, ap}
 use mathlib.Core.Bool.{Bool, true, false, false≢true}
 use mathlib.Core.Logic.{_≢_}
 use mathlib.Core.List.{List, [], _++_, append-nil}
-use Prim.Native.Nat.{ℕ, zero, suc, _+_, _≤_, _<_}
+use Prim.Native.Nat.{ℕ, zero, suc, _+_, _<_}
 use native.Mathlib.Nat.{add-suc, add-zero}
 use native.Mathlib.Omega.{arith}
 use Rattle.meaning.specs.Meaning.{same, upto}
 use Rattle.meaning.specs.Laws.Bools.{same-refl, same→≡}
+use Rattle.meaning.specs.Laws.Choices.{upto-cong, upto-first}
 
 module _ {A : Type 0} where
-  pub upto-cong : (m : ℕ) (f g : ℕ → List A) → ((v : ℕ) → v ≤ m → f v ≡ g v) → upto m f ≡ upto m g
-  unfolding upto
-  upto-cong zero f g h = h zero (omega arith)
-  upto-cong (suc m) f g h = ap₂ _++_ (upto-cong m f g (λ v l. h v (omega arith))) (h (suc m) (omega arith))
-
-  pub upto-first : (m : ℕ) (f : ℕ → List A) → ((k : ℕ) → k < m → f (suc k) ≡ []) → upto m f ≡ f zero
-  unfolding upto
-  upto-first zero f h = refl
-  upto-first (suc m) f h = rw (upto-first m f (λ k l. h k (omega arith)), h m (omega arith)) (append-nil (f zero))
-
   none-left : (m k : ℕ) (f : ℕ → List A) → ((q : ℕ) → q < k → f (suc (m + q)) ≡ []) → upto (m + k) f ≡ upto m f
   unfolding upto
   none-left m zero f h = ap (λ n. upto n f) (add-zero m)

@@ -1,6 +1,8 @@
--- Theorems on the meaning of chart files: tests (Bools), charts inside a tree (Above), the tree of a file by node kind (Trees), values of its nodes (Folds), the sets of a chart (Faces), and what rule 10
--- gives, that each node has one place in the whole (Names). Then the demands: the step in words (Demand2), the rows of a run (Runs), the table (Thirteen).
+-- Theorems on the meaning of chart files: tests (Bools), choices in order (Choices), charts inside a tree (Above), the tree of a file by node
+-- kind (Trees), values of its nodes (Folds), the sets of a chart (Faces), and what rule 10 gives, that each node has one place in the whole
+-- (Names). Then the demands: the step in words (Demand2), the rows of a run (Runs), the table (Thirteen).
 pub mod Bools
+pub mod Choices
 pub mod Above
 pub mod Trees
 pub mod Folds

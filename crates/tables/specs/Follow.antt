@@ -15,10 +15,11 @@ use Rattle.signals.specs.Decide.{sets, A, B, C, ∅ₑ, _∪ₑ_, _∩ₑ_, _�
 use Rattle.layout.specs.declared.record.Transition.{Transition}
 use Rattle.meaning.specs.Meaning.{Set, ∅, same, Chart, Tree, Move, nth, pick, actionOf, after, meets, upd, moves, nexts, out}
 use Rattle.meaning.specs.Calls.{made}
-use Rattle.meaning.specs.Laws.Bools.{same-refl, same→≡, same-≢, every}
+use Rattle.meaning.specs.Laws.Bools.{same-refl, same→≡, every}
+use Rattle.meaning.specs.Laws.Choices.{upd-at, upd-off, length-nexts, getD-nexts}
 use Rattle.wiring.specs.Wire.{join, down, up, back, offered, awakeBy, Small, out-wired}
 use Rattle.wiring.specs.Wired.{awake, awake-by, Stands, offer}
-use Rattle.wiring.specs.Dropped.{ahead, test, low, high, passes, upd-off, join-cong}
+use Rattle.wiring.specs.Dropped.{ahead, test, low, high, passes, join-cong}
 use Rattle.wiring.specs.Hunt.{awake-below, every-cong}
 use Rattle.search.specs.Table.{neededAt, barredAt, actionAt, backAt, aheadAt, upAt, toAt, countAt, masterAt, slaveStateAt, stateAt}
 use Rattle.search.specs.Hunt.{isAwake, wakes, taken, rested, passesAt, fineAt, outputAt}
@@ -42,17 +43,6 @@ getD-made (suc n) f i l = go (same i n) refl (getD-made n f i)
     go false e r = let z : i ≢ n = λ w. false≢true (sym e ∙ rw w (same-refl n)) in let h = length-made n f in
         List·getD-append (made n f) (f n ∷ []) 0 i (omega arith) ∙ r (omega arith)
 
-pub length-nexts : (cfg : ℕ → ℕ) (M : ℕ → Move) (c n : ℕ) → length (nexts cfg M c n) ≡ n
-unfolding nexts
-length-nexts cfg M c zero = refl
-length-nexts cfg M c (suc n) = ap suc (length-nexts cfg M (suc c) n)
-
-getD-nexts : (cfg : ℕ → ℕ) (M : ℕ → Move) (c n i : ℕ) → i < n → getD (nexts cfg M c n) i 0 ≡ after (cfg (i + c)) (M (i + c))
-unfolding nexts
-getD-nexts cfg M c zero i l = absurd (omega arith)
-getD-nexts cfg M c (suc n) zero l = ap (λ z. after (cfg z) (M z)) (let h : c ≡ zero + c = omega arith in h)
-getD-nexts cfg M c (suc n) (suc i) l = getD-nexts cfg M (suc c) n i (omega arith) ∙ ap (λ z. after (cfg z) (M z)) (let h : i + suc c ≡ suc i + c = omega arith in h)
-
 -- nothing comes from e on
 join-few : (k n : ℕ) (f : ℕ → Set) → n ≤ k → ((e : ℕ) → n ≤ e → f e ≡ ∅) → join k f ≡ join n f
 unfolding join
@@ -66,14 +56,10 @@ join-few (suc k) n f l h = go (same n (suc k)) refl (λ m. join-few k n f m h)
 
 -- ── a choice, one chart more settled ──
 
-upd-on : (ch : ℕ → ℕ) (c v : ℕ) → upd ch c v c ≡ v
-unfolding upd
-upd-on ch c v = rw (same-refl c)
-
 module _ (E : ℕ → Chart) (ch : ℕ → ℕ) (k v : ℕ) where
   pub moves-on : moves E (upd ch k v) k ≡ pick (E k .transitions) v
   unfolding moves
-  moves-on = ap (pick (E k .transitions)) (upd-on ch k v)
+  moves-on = ap (pick (E k .transitions)) (upd-at ch k v)
 
   pub moves-off : (d : ℕ) → d < k → moves E (upd ch k v) d ≡ moves E ch d
   unfolding moves
@@ -252,7 +238,7 @@ module _ (E : ℕ → Chart) (state : ℕ → ℕ) (cfg : ℕ → ℕ) (N : ℕ)
 
         go : (i : ℕ) → i < 8 → (b : Bool) → ltb i N ≡ b → getD (t .next) i 0 ≡ getD (front ++ zeros) i 0
         go i l true e = let r = ltb-true i N e in let q = size in shows-after cfg m s i (isAwake m s t i) (getD (t .choice) i 0) (getD (t .next) i 0) (moves E ch i) (f .shows i r)
-            ∙ sym (List·getD-append front zeros 0 i (omega arith) ∙ getD-nexts cfg (moves E ch) zero N i r ∙ ap (λ z. after (cfg z) (moves E ch z)) (let h : i + zero ≡ i = omega arith in h))
+            ∙ sym (List·getD-append front zeros 0 i (omega arith) ∙ getD-nexts cfg (moves E ch) zero N i r ∙ ap (λ z. after (cfg z) (moves E ch z)) (let h : zero + i ≡ i = omega arith in h))
         go i l false e = let r = ltb-false i N e in let q = size in f .still i r
             ∙ sym (ap (λ z. getD (front ++ zeros) z 0) (let h : i ≡ length front + (i - N) = omega arith in h) ∙ getD-append-add front zeros (i - N) 0 ∙ getD-replicate (8 - N) (i - N) 0 0 (omega arith))
 

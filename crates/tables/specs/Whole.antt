@@ -16,10 +16,11 @@ use Rattle.meaning.specs.Laws.Bools.{same-refl, same→≡, same-≢, every, ev
 use Rattle.meaning.specs.File.{File, wholeOf}
 use Rattle.meaning.specs.Laws.Trees.{Ordered, Rule11}
 use Rattle.meaning.specs.Laws.Names.{Rule10, kap}
+use Rattle.meaning.specs.Laws.Choices.{upto-first, length-nexts}
 use Rattle.wiring.specs.Uncut.{own-moves}
 use Rattle.wiring.specs.Wire.{join, down, offered, Small}
 use Rattle.wiring.specs.Wired.{awake, Stands, offer, ruled, permitted-wired}
-use Rattle.wiring.specs.Dropped.{test, may-bounds, open?, fits-open, Bounds, low, passes, upto-first}
+use Rattle.wiring.specs.Dropped.{test, may-bounds, open?, fits-open, Bounds, low, passes}
 use Rattle.wiring.specs.Hunt.{opens, fine, hunt, hunted-all, mayOf, may-of}
 use Rattle.wiring.specs.Filter.{lasts, kept}
 use Rattle.wiring.specs.Stand.{stands}
@@ -29,7 +30,7 @@ use Rattle.search.specs.Hunt.Laws.{among-each}
 use Rattle.search.specs.declared.Trail.{Trail}
 use Rattle.tables.specs.Filled.{Is, Listed, start, other, fails, again, fresh, mayAt, Rows, Candidates, beginning, answerOf}
 use Rattle.tables.specs.Padded.{Padded, padded-none, padded-one, padded-append, padded-nothing, padded-again, Sizes, found}
-use Rattle.tables.specs.Follow.{length-nexts, Follows, moves-on, wakes-is, taken-follows, rested-follows, fine-is, output-is, next-is}
+use Rattle.tables.specs.Follow.{Follows, moves-on, wakes-is, taken-follows, rested-follows, fine-is, output-is, next-is}
 
 taking : (q : ℕ) (ts : List Transition) (p : ℕ) → p < length ts → open? false q (nth ts p) ≡ false
 unfolding open? nth

@@ -2,17 +2,17 @@
 use mathlib.Core.Path.{_≡_, refl, sym, _∙_, ap, ap₂, subst, fun-ext}
 use mathlib.Core.Bool.{Bool, true, false, _&&_, _||_, not, cond, true≢false, false≢true}
 use mathlib.Core.Option.{Option, none, some}
-use mathlib.Core.List.{List, [], _∷_, _++_, append-nil}
+use mathlib.Core.List.{[], _∷_}
 use Prim.Native.Nat.{ℕ, zero, suc, _+_, _≤_, _<_}
 use native.Mathlib.Omega.{arith}
 use native.Mathlib.Nat.{add-suc, zero-add}
-use lib.ListN.{length}
 use lib.Dec.{eqb}
 use borrow.Author.Tests.{eqb-true, eq-eqb}
 use Rattle.signals.specs.Mask.{_∪_, _∩_, _∖_, within, apart, Within}
 use Rattle.signals.specs.Decide.{sets, A, B, C, D, E as Eₑ, F as Fₑ, ∅ₑ, _∪ₑ_, _∩ₑ_, _∖ₑ_, _≐_, _⊑_, _⊥ₑ_}
-use Rattle.meaning.specs.Meaning.{Set, ∅, same, Chart, Tree, Move, nth, pick, actionOf, permitted, upd, moves, upto, outcome, search}
-use Rattle.meaning.specs.Laws.Bools.{same-refl, same→≡, same-≢, every, every-intro, every-elim, and-l, and-r, and-i, bool-eq, not-true}
+use Rattle.meaning.specs.Meaning.{Set, ∅, same, Chart, Tree, Move, nth, pick, actionOf, permitted, moves, search}
+use Rattle.meaning.specs.Laws.Bools.{every, every-intro, every-elim, and-l, and-r, and-i, bool-eq, not-true}
+use Rattle.meaning.specs.Laws.Choices.{Below, search-empty}
 use Rattle.layout.specs.declared.record.Transition.{Transition}
 use Rattle.wiring.specs.Uncut.{own-moves}
 use Rattle.wiring.specs.Wire.{down, back, join, offered, fits, Small}
@@ -76,32 +76,6 @@ May E cfg may = (c v : ℕ) → (a : Bool) → open? a (cfg c) (pick (E c .trans
 -- no permitted choice puts out more
 abbrev pub Bounds : (ℕ → Chart) → (ℕ → ℕ) → (ℕ → ℕ) → ℕ → Tree → Set → (ℕ → Set) → Type 0
 Bounds E state cfg N t inp may = (ch : ℕ → ℕ) → permitted E state cfg (moves E ch) t inp ≡ true → (e : ℕ) → e < N → Within (actionOf (moves E ch e)) (may e)
-
-abbrev pub Below : ℕ → (ℕ → ℕ) → (ℕ → ℕ) → Type 0
-Below c ch ch₂ = (i : ℕ) → i < c → ch₂ i ≡ ch i
-
--- ── of the search (patterns/theory has these) ──
-module _ {A : Type 0} where
-  pub upto-cong : (m : ℕ) (f g : ℕ → List A) → ((v : ℕ) → v ≤ m → f v ≡ g v) → upto m f ≡ upto m g
-  unfolding upto
-  upto-cong zero f g h = h zero (omega arith)
-  upto-cong (suc m) f g h = ap₂ _++_ (upto-cong m f g (λ v l. h v (omega arith))) (h (suc m) (omega arith))
-
-  pub upto-first : (m : ℕ) (f : ℕ → List A) → ((k : ℕ) → k < m → f (suc k) ≡ []) → upto m f ≡ f zero
-  unfolding upto
-  upto-first zero f h = refl
-  upto-first (suc m) f h = rw (upto-first m f (λ k l. h k (omega arith)), h m (omega arith)) (append-nil (f zero))
-
-pub upd-off : (ch : ℕ → ℕ) (c v i : ℕ) → i < c → upd ch c v i ≡ ch i
-unfolding upd
-upd-off ch c v i l = rw (same-≢ i c (λ e. omega arith))
-
-module _ (E : ℕ → Chart) (state : ℕ → ℕ) (cfg : ℕ → ℕ) (t : Tree) (inp : Set) (N : ℕ) where
-  pub search-empty : (n c : ℕ) (ch : ℕ → ℕ) → ((ch₂ : ℕ → ℕ) → Below c ch ch₂ → permitted E state cfg (moves E ch₂) t inp ≡ false) → search E state cfg t inp N n c ch ≡ []
-  unfolding search outcome
-  search-empty zero c ch h = rw (h ch (λ i l. refl))
-  search-empty (suc n) c ch h = upto-cong (length (E c .transitions)) _ (λ v. []) (λ v l. search-empty n (suc c) (upd ch c v)
-      (λ ch₂ b. h ch₂ (λ i l. b i (omega arith) ∙ upd-off ch c v i l))) ∙ upto-first (length (E c .transitions)) (λ v. []) (λ k l. refl)
 
 pub join-cong : (k : ℕ) (f g : ℕ → Set) → ((e : ℕ) → e < k → f e ≡ g e) → join k f ≡ join k g
 unfolding join

@@ -10,12 +10,13 @@ use lib.ListN.{length}
 use Rattle.signals.specs.Mask.{_∪_, _∩_, _∖_, Within}
 use Rattle.signals.specs.Decide.{sets, A, B, C, D, ∅ₑ, _∪ₑ_, _∩ₑ_, _∖ₑ_, _≐_, _⊑_}
 use Rattle.meaning.specs.Meaning.{Set, ∅, same, Chart, Tree, Move, nth, pick, actionOf, out, nexts, permitted, upd, moves, upto, Outcome, outcome, search, meets}
-use Rattle.meaning.specs.Laws.Bools.{same-refl, same→≡, same-≢, every, every-intro, every-elim, and-l, and-r, and-i, not-true}
+use Rattle.meaning.specs.Laws.Bools.{same-refl, same→≡, every, every-intro, every-elim, and-l, and-r, and-i, not-true}
+use Rattle.meaning.specs.Laws.Choices.{upto-cong, upd-at, upd-off, Below, search-empty}
 use Rattle.layout.specs.declared.record.Transition.{Transition}
 use Rattle.wiring.specs.Uncut.{own-moves}
 use Rattle.wiring.specs.Wire.{Small, awakeBy, fits}
 use Rattle.wiring.specs.Wired.{awakeIn, awake, Stands, offer, ruled, permitted-wired}
-use Rattle.wiring.specs.Dropped.{open?, fits-open, May, Bounds, Below, passes, passes-last, passes-below, skip-dropped, search-empty, upto-cong, upd-off, test}
+use Rattle.wiring.specs.Dropped.{open?, fits-open, May, Bounds, passes, passes-last, passes-below, skip-dropped, test}
 
 pub every-cong : (n : ℕ) (f g : ℕ → Bool) → ((i : ℕ) → i < n → f i ≡ g i) → every n f ≡ every n g
 unfolding every
@@ -74,10 +75,7 @@ module _ (E : ℕ → Chart) (state : ℕ → ℕ) (cfg : ℕ → ℕ) (N : ℕ)
         ∙ every-elim N (ruled E state cfg N enc sc t inp (moves E ch₂)) (sym (permitted-wired E state cfg N enc sc t inp (moves E ch₂) s si (sa ch₂) (own-moves E ch₂)) ∙ p) k l))))
 
     skip-keep : (n k v : ℕ) (ch : ℕ → ℕ) → k < N → keep k v ≡ false → search E state cfg t inp N n (suc k) (upd ch k v) ≡ []
-    skip-keep n k v ch l h = search-empty E state cfg t inp N n (suc k) (upd ch k v) (λ ch₂ b. not-true (λ p. false≢true (sym h ∙ ap (keep k) (sym (b k (omega arith) ∙ at ch k v)) ∙ kept ch₂ p k l)))
-      where
-        at : (ch : ℕ → ℕ) (c v : ℕ) → upd ch c v c ≡ v
-        at ch c v = unfold upd in rw (same-refl c)
+    skip-keep n k v ch l h = search-empty E state cfg t inp N n (suc k) (upd ch k v) (λ ch₂ b. not-true (λ p. false≢true (sym h ∙ ap (keep k) (sym (b k (omega arith) ∙ upd-at ch k v)) ∙ kept ch₂ p k l)))
 
     -- all settled charts are open and pass
     abbrev Good : (ℕ → ℕ) → ℕ → ℕ → Type 0

@@ -3,21 +3,22 @@
 -- inactive part takes none (`inactive`); a signal outside the interface changes nothing (`outside`); the next configuration is valid (`valid-next`).
 use mathlib.Core.Path.{_≡_, refl, sym, _∙_, ap, ap₂, subst, fun-ext}
 use mathlib.Core.Bool.{Bool, true, false, _&&_, cond, true≢false, false≢true}
-use mathlib.Core.Option.{Option, none, some}
+use mathlib.Core.Option.{none, some}
 use mathlib.Core.Logic.{_⊎_, inl, inr}
 use mathlib.Core.List.{List, [], _∷_, _++_, List·Memᴰ, List·Memᴰ·head, List·Memᴰ·tail, List·Memᴰ·cases-cons, List·Memᴰ·not-nil, List·Memᴰ·append-cases, Memᴰ·append-left, Memᴰ·append-right}
 use Prim.Native.Nat.{ℕ, zero, suc, _+_, _≤_, _<_}
 use native.Mathlib.Decide.{decLt}
 use native.Mathlib.Omega.{arith}
 use lib.ListN.{length, getD}
-use native.Mathlib.Nat.{add-zero, zero-add}
+use native.Mathlib.Nat.{zero-add}
 use Rattle.layout.specs.declared.record.Transition.{Transition}
 use Rattle.signals.specs.Mask.{_∩_, _∖_}
 use Rattle.meaning.specs.Numbers.{noStep}
 use Rattle.meaning.specs.Meaning.{Set, same, Chart, Tree, Slaves, leaf, comp, hide, dec, nil, snoc, Move, nth, pick, after, out, okChart, ok, oks, permitted, inFace, upd, moves, nexts, Outcome, upto, outcome, search, outcomes, Answer, refused, given, eqList, agree, answer}
 use Rattle.meaning.specs.File.{Has, HasS}
 use Rattle.meaning.specs.Laws.Above.{live-either}
-use Rattle.meaning.specs.Laws.Bools.{same-refl, same→≡, same-≢, and-l, and-r, not-true}
+use Rattle.meaning.specs.Laws.Bools.{same-refl, same→≡, and-l, and-r}
+use Rattle.meaning.specs.Laws.Choices.{upd-at, upd-other, upd-off, Below, length-nexts, getD-nexts}
 
 -- ── lists one behind another ──
 module _ {A : Type 0} where
@@ -81,14 +82,6 @@ module _ {A : Type 0} where
 
 -- ── choices ──
 
-upd-at : (ch : ℕ → ℕ) (c v : ℕ) → upd ch c v c ≡ v
-unfolding upd
-upd-at ch c v = rw (same-refl c)
-
-upd-off : (ch : ℕ → ℕ) (c v i : ℕ) → (i ≡ c → ⊥) → upd ch c v i ≡ ch i
-unfolding upd
-upd-off ch c v i h = rw (same-≢ i c h)
-
 module _ (E : ℕ → Chart) (state : ℕ → ℕ) (cfg : ℕ → ℕ) (t : Tree) (inp : Set) (N : ℕ) where
   -- places of N charts: none, or one of the chart's transitions
   pub record Choice (ch : ℕ → ℕ) : Type 0 where
@@ -113,32 +106,29 @@ module _ (E : ℕ → Chart) (state : ℕ → ℕ) (cfg : ℕ → ℕ) (t : Tree
     pub lower : ch at < ch₂ at
     pub equal : (c : ℕ) → c < at → ch c ≡ ch₂ c
 
-  -- ch settles the charts below k alone; ch₂ goes on from it
+  -- ch settles the charts below k alone
   abbrev Begun : ℕ → (ℕ → ℕ) → Type 0
   Begun k ch = ((c : ℕ) → c < k → ch c ≤ length (E c .transitions)) × ((c : ℕ) → k ≤ c → ch c ≡ 0)
 
-  abbrev Goes-on : ℕ → (ℕ → ℕ) → (ℕ → ℕ) → Type 0
-  Goes-on k ch ch₂ = (c : ℕ) → c < k → ch₂ c ≡ ch c
-
   begun-more : (k v : ℕ) (ch : ℕ → ℕ) → Begun k ch → v ≤ length (E k .transitions) → Begun (suc k) (upd ch k v)
-  begun-more k v ch b l = (λ c m. go c m (decLt c k), λ c m. upd-off ch k v c (λ e. omega arith) ∙ b .1 c (omega arith))
+  begun-more k v ch b l = (λ c m. go c m (decLt c k), λ c m. upd-other ch k v c (λ e. omega arith) ∙ b .1 c (omega arith))
     where
       go : (c : ℕ) → c < suc k → Dec (c < k) → upd ch k v c ≤ length (E c .transitions)
-      go c m (yes d) = rw (upd-off ch k v c (λ e. omega arith)) (b .0 c d)
+      go c m (yes d) = rw (upd-off ch k v c d) (b .0 c d)
       go c m (no d) = let e : c ≡ k = omega arith in rw (e, upd-at) l
 
-  goes-on-more : (k : ℕ) (ch ch₂ : ℕ → ℕ) → Goes-on k ch ch₂ → Goes-on (suc k) (upd ch k (ch₂ k)) ch₂
+  goes-on-more : (k : ℕ) (ch ch₂ : ℕ → ℕ) → Below k ch ch₂ → Below (suc k) (upd ch k (ch₂ k)) ch₂
   goes-on-more k ch ch₂ g c m = go (decLt c k)
     where
       go : Dec (c < k) → ch₂ c ≡ upd ch k (ch₂ k) c
-      go (yes d) = g c d ∙ sym (upd-off ch k (ch₂ k) c (λ e. omega arith))
+      go (yes d) = g c d ∙ sym (upd-off ch k (ch₂ k) c d)
       go (no d) = let e : c ≡ k = omega arith in rw (e, upd-at)
 
-  goes-on-less : (k v : ℕ) (ch ch₂ : ℕ → ℕ) → Goes-on (suc k) (upd ch k v) ch₂ → Goes-on k ch ch₂
-  goes-on-less k v ch ch₂ g c m = g c (omega arith) ∙ upd-off ch k v c (λ e. omega arith)
+  goes-on-less : (k v : ℕ) (ch ch₂ : ℕ → ℕ) → Below (suc k) (upd ch k v) ch₂ → Below k ch ch₂
+  goes-on-less k v ch ch₂ g c m = g c (omega arith) ∙ upd-off ch k v c m
 
   -- all settled: there is but one choice
-  settled : (k : ℕ) (ch ch₂ : ℕ → ℕ) → k ≡ N → Begun k ch → Choice ch₂ → Goes-on k ch ch₂ → ch₂ ≡ ch
+  settled : (k : ℕ) (ch ch₂ : ℕ → ℕ) → k ≡ N → Begun k ch → Choice ch₂ → Below k ch ch₂ → ch₂ ≡ ch
   settled k ch ch₂ e b q g = fun-ext (λ c. go c (decLt c k))
     where
       go : (c : ℕ) → Dec (c < k) → ch₂ c ≡ ch c
@@ -149,7 +139,7 @@ module _ (E : ℕ → Chart) (state : ℕ → ℕ) (cfg : ℕ → ℕ) (t : Tree
   begun-all k ch e b = record { places = λ c l. b .0 c (omega arith); others = λ c l. b .1 c (omega arith) }
 
   -- ── each permitted choice has its outcome in the list ──
-  has : (n k : ℕ) (ch ch₂ : ℕ → ℕ) → n + k ≡ N → Begun k ch → Choice ch₂ → Goes-on k ch ch₂ → Permitted ch₂ → List·Memᴰ (by ch₂) (search E state cfg t inp N n k ch)
+  has : (n k : ℕ) (ch ch₂ : ℕ → ℕ) → n + k ≡ N → Begun k ch → Choice ch₂ → Below k ch ch₂ → Permitted ch₂ → List·Memᴰ (by ch₂) (search E state cfg t inp N n k ch)
   unfolding search outcome
   has zero k ch ch₂ e b q g p =
       subst (λ z. List·Memᴰ (by ch₂) (outcome E state cfg t inp N z)) (settled k ch ch₂ (omega arith) b q g) (rw p (List·Memᴰ·head refl))
@@ -161,7 +151,7 @@ module _ (E : ℕ → Chart) (state : ℕ → ℕ) (cfg : ℕ → ℕ) (t : Tree
   pub record From (k : ℕ) (ch : ℕ → ℕ) (x : Outcome) : Type 0 where
     pub choice : ℕ → ℕ
     pub chosen : Choice choice
-    pub goes-on : Goes-on k ch choice
+    pub goes-on : Below k ch choice
     pub permits : Permitted choice
     pub is : x ≡ by choice
 
@@ -184,7 +174,7 @@ module _ (E : ℕ → Chart) (state : ℕ → ℕ) (cfg : ℕ → ℕ) (t : Tree
   -- ── the list begins with the first ──
   pub record First (k : ℕ) (ch : ℕ → ℕ) (x : Outcome) : Type 0 where
     pub from : From k ch x
-    pub first : (ch₂ : ℕ → ℕ) → Choice ch₂ → Permitted ch₂ → Goes-on k ch ch₂ → Before ch₂ (from .choice) → ⊥
+    pub first : (ch₂ : ℕ → ℕ) → Choice ch₂ → Permitted ch₂ → Below k ch ch₂ → Before ch₂ (from .choice) → ⊥
 
   first-of : (n k : ℕ) (ch : ℕ → ℕ) (x : Outcome) (xs : List Outcome) → n + k ≡ N → Begun k ch → search E state cfg t inp N n k ch ≡ x ∷ xs → First k ch x
   unfolding search
@@ -203,7 +193,7 @@ module _ (E : ℕ → Chart) (state : ℕ → ℕ) (cfg : ℕ → ℕ) (t : Tree
       (has n (suc k) (upd ch k (ch₂ k)) ch₂ (omega arith) (begun-more k (ch₂ k) ch b (q .places k (omega arith))) q (goes-on-more k ch ch₂ g) p))))
     where
       earlier : (u : Heads (length (E k .transitions)) (λ v. search E state cfg t inp N n (suc k) (upd ch k v)) x) → First (suc k) (upd ch k (u .place)) x
-          → ((ch₂ : ℕ → ℕ) → Choice ch₂ → Permitted ch₂ → Goes-on k ch ch₂ → ch₂ k < u .place → ⊥) → First k ch x
+          → ((ch₂ : ℕ → ℕ) → Choice ch₂ → Permitted ch₂ → Below k ch ch₂ → ch₂ k < u .place → ⊥) → First k ch x
       earlier u r not-lower = record { from = f; first = λ ch₂ q p g w. go ch₂ q p g w (decLt (ch₂ k) (u .place)) (decLt (u .place) (ch₂ k)) }
         where
           f : From k ch x
@@ -212,9 +202,9 @@ module _ (E : ℕ → Chart) (state : ℕ → ℕ) (cfg : ℕ → ℕ) (t : Tree
           mine : r .from .choice k ≡ u .place
           mine = r .from .goes-on k (omega arith) ∙ upd-at ch k (u .place)
 
-          go : (ch₂ : ℕ → ℕ) → Choice ch₂ → Permitted ch₂ → Goes-on k ch ch₂ → Before ch₂ (r .from .choice) → Dec (ch₂ k < u .place) → Dec (u .place < ch₂ k) → ⊥
+          go : (ch₂ : ℕ → ℕ) → Choice ch₂ → Permitted ch₂ → Below k ch ch₂ → Before ch₂ (r .from .choice) → Dec (ch₂ k < u .place) → Dec (u .place < ch₂ k) → ⊥
           go ch₂ q p g w (yes l) m = not-lower ch₂ q p g l
-          go ch₂ q p g w (no l) (no m) = let z : ch₂ k ≡ u .place = omega arith in r .first ch₂ q p (subst (λ v. Goes-on (suc k) (upd ch k v) ch₂) z (goes-on-more k ch ch₂ g)) w
+          go ch₂ q p g w (no l) (no m) = let z : ch₂ k ≡ u .place = omega arith in r .first ch₂ q p (subst (λ v. Below (suc k) (upd ch k v) ch₂) z (goes-on-more k ch ch₂ g)) w
           go ch₂ q p g w (no l) (yes m) = apart (decLt k (w .at)) (decLt (w .at) k)
             where
               apart : Dec (k < w .at) → Dec (w .at < k) → ⊥
@@ -401,18 +391,6 @@ module _ (E : ℕ → Chart) (state : ℕ → ℕ) (cfg : ℕ → ℕ) (t : Tree
   outside = ap answer (outside-search N zero (λ c. zero))
 
 -- ── the next configuration is valid again ──
-pub length-nexts : (cfg : ℕ → ℕ) (M : ℕ → Move) (c n : ℕ) → length (nexts cfg M c n) ≡ n
-unfolding nexts
-length-nexts cfg M c zero = refl
-length-nexts cfg M c (suc n) = ap suc (length-nexts cfg M (suc c) n)
-
-pub getD-nexts : (cfg : ℕ → ℕ) (M : ℕ → Move) (c n i : ℕ) → i < n → getD (nexts cfg M c n) i 0 ≡ after (cfg (c + i)) (M (c + i))
-unfolding nexts
-getD-nexts cfg M c zero i l = absurd (omega arith)
-getD-nexts cfg M c (suc n) zero l = ap (λ z. after (cfg z) (M z)) (sym (add-zero c))
-getD-nexts cfg M c (suc n) (suc i) l =
-    getD-nexts cfg M (suc c) n i (omega arith) ∙ ap (λ z. after (cfg z) (M z)) (let e : suc c + i ≡ c + suc i = omega arith in e)
-
 nth-in : (ts : List Transition) (k s w : ℕ) → ((u : Transition) → List·Memᴰ u ts → u .to < w) → s < w → after s (nth ts k) < w
 unfolding nth after
 nth-in [] k s w h l = l

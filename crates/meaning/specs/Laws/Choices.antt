@@ -1,0 +1,67 @@
+-- Choices in order. In this order: lists one behind another (`upto`); a choice with one place more (`upd`), and which go on from it (`Below`); a
+-- beginning that has no permitted choice (`search-empty`); the states after a choice (`nexts`).
+use mathlib.Core.Path.{_≡_, refl, sym, _∙_, ap, ap₂}
+use mathlib.Core.Bool.{false}
+use mathlib.Core.List.{List, [], _++_, append-nil}
+use Prim.Native.Nat.{ℕ, zero, suc, _+_, _≤_, _<_}
+use native.Mathlib.Nat.{add-zero}
+use native.Mathlib.Omega.{arith}
+use lib.ListN.{length, getD}
+use Rattle.meaning.specs.Meaning.{Set, Chart, Tree, Move, after, permitted, upd, moves, nexts, upto, outcome, search}
+use Rattle.meaning.specs.Laws.Bools.{same-refl, same-≢}
+
+-- ── upto ──
+
+module _ {A : Type 0} where
+  pub upto-cong : (m : ℕ) (f g : ℕ → List A) → ((v : ℕ) → v ≤ m → f v ≡ g v) → upto m f ≡ upto m g
+  unfolding upto
+  upto-cong zero f g h = h zero (omega arith)
+  upto-cong (suc m) f g h = ap₂ _++_ (upto-cong m f g (λ v l. h v (omega arith))) (h (suc m) (omega arith))
+
+  -- all but the first are empty
+  pub upto-first : (m : ℕ) (f : ℕ → List A) → ((k : ℕ) → k < m → f (suc k) ≡ []) → upto m f ≡ f zero
+  unfolding upto
+  upto-first zero f h = refl
+  upto-first (suc m) f h = rw (upto-first m f (λ k l. h k (omega arith)), h m (omega arith)) (append-nil (f zero))
+
+-- ── upd ──
+
+pub upd-at : (ch : ℕ → ℕ) (c v : ℕ) → upd ch c v c ≡ v
+unfolding upd
+upd-at ch c v = rw (same-refl c)
+
+pub upd-other : (ch : ℕ → ℕ) (c v i : ℕ) → (i ≡ c → ⊥) → upd ch c v i ≡ ch i
+unfolding upd
+upd-other ch c v i h = rw (same-≢ i c h)
+
+-- a chart that was settled before
+pub upd-off : (ch : ℕ → ℕ) (c v i : ℕ) → i < c → upd ch c v i ≡ ch i
+upd-off ch c v i l = upd-other ch c v i (λ e. omega arith)
+
+-- ch₂ goes on from what ch gives the charts below c
+abbrev pub Below : ℕ → (ℕ → ℕ) → (ℕ → ℕ) → Type 0
+Below c ch ch₂ = (i : ℕ) → i < c → ch₂ i ≡ ch i
+
+-- ── search ──
+
+module _ (E : ℕ → Chart) (state : ℕ → ℕ) (cfg : ℕ → ℕ) (t : Tree) (inp : Set) (N : ℕ) where
+  pub search-empty : (n c : ℕ) (ch : ℕ → ℕ) → ((ch₂ : ℕ → ℕ) → Below c ch ch₂ → permitted E state cfg (moves E ch₂) t inp ≡ false)
+      → search E state cfg t inp N n c ch ≡ []
+  unfolding search outcome
+  search-empty zero c ch h = rw (h ch (λ i l. refl))
+  search-empty (suc n) c ch h = upto-cong (length (E c .transitions)) _ (λ v. []) (λ v l. search-empty n (suc c) (upd ch c v)
+      (λ ch₂ b. h ch₂ (λ i l. b i (omega arith) ∙ upd-off ch c v i l))) ∙ upto-first (length (E c .transitions)) (λ v. []) (λ k l. refl)
+
+-- ── nexts ──
+
+pub length-nexts : (cfg : ℕ → ℕ) (M : ℕ → Move) (c n : ℕ) → length (nexts cfg M c n) ≡ n
+unfolding nexts
+length-nexts cfg M c zero = refl
+length-nexts cfg M c (suc n) = ap suc (length-nexts cfg M (suc c) n)
+
+pub getD-nexts : (cfg : ℕ → ℕ) (M : ℕ → Move) (c n i : ℕ) → i < n → getD (nexts cfg M c n) i 0 ≡ after (cfg (c + i)) (M (c + i))
+unfolding nexts
+getD-nexts cfg M c zero i l = absurd (omega arith)
+getD-nexts cfg M c (suc n) zero l = ap (λ z. after (cfg z) (M z)) (sym (add-zero c))
+getD-nexts cfg M c (suc n) (suc i) l =
+    getD-nexts cfg M (suc c) n i (omega arith) ∙ ap (λ z. after (cfg z) (M z)) (let e : suc c + i ≡ c + suc i = omega arith in e)
