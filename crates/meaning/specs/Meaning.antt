@@ -1,7 +1,6 @@
 -- The meaning of a step (document 01, "The meaning of a step"; source document 003, sections 2.6 and 3), over a tree of parts.
 -- Here: charts and the tree; interfaces; what a choice puts out; when a choice is permitted; all choices in order; the step's answer.
 -- Laws are elsewhere: that interfaces cut nothing off and how the tree folds into masks in the crate wiring, the rewriting in agreement.
-use mathlib.Core.Path.{_≡_}
 use mathlib.Core.Bool.{Bool, true, false, _&&_, _||_, cond}
 use mathlib.Core.Option.{Option, none, some}
 use mathlib.Core.List.{List, [], _∷_, _++_}
@@ -10,6 +9,7 @@ use lib.Dec.{eqb}
 use lib.ListN.{length}
 use Rattle.signals.specs.Mask.{_∪_, _∩_, _∖_, within, apart}
 use Rattle.layout.specs.declared.record.Transition.{Transition}
+use Rattle.meaning.specs.Numbers.{noStep}
 
 -- a set of signals, as a mask; the empty set
 abbrev pub Set : Type 0
@@ -225,5 +225,5 @@ agree a (b ∷ bs) = (same (a .output) (b .output) && eqList (a .next) (b .next)
 
 -- 23: no permitted step
 unfoldable pub answer : List Outcome → Answer
-answer [] = refused 23
+answer [] = refused noStep
 answer (a ∷ as′) = given (a .output) (a .next) (agree a as′)

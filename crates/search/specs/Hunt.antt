@@ -6,6 +6,7 @@ use Prim.Native.Nat.{ℕ, zero, suc}
 use lib.Dec.{ltb}
 use lib.ListN.{getD, set, replicate}
 use Rattle.signals.specs.Mask.{_∪_, _∩_, within, apart}
+use Rattle.meaning.specs.Numbers.{noStep}
 use Rattle.meaning.specs.Meaning.{same, Outcome, eqList, Answer, refused, given}
 use Rattle.meaning.specs.Calls.{made}
 use Rattle.meaning.specs.Laws.Bools.{every}
@@ -100,6 +101,6 @@ over (o ∷ os) f = over os (settleOf o f)
 abbrev pub nothing : Found
 nothing = record { has = false; agree = false; output = 0; next = replicate 8 0 }
 
--- what was found, as the step's answer (23: no permitted step)
+-- what was found, as the step's answer
 abbrev pub answerIn : Found → Answer
-answerIn f = cond (f .has) (given (f .output) (f .next) (f .agree)) (refused 23)
+answerIn f = cond (f .has) (given (f .output) (f .next) (f .agree)) (refused noStep)

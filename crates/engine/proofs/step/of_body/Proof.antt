@@ -1,18 +1,18 @@
 -- `step::of_body` meets its contract: 20 and 21, then 22, then what was found, which answers the step. Assumes nothing.
-use mathlib.Core.Path.{_≡_, refl, sym, ap, _∙_}
+use mathlib.Core.Path.{_≡_, refl, sym, _∙_}
 use mathlib.Core.Bool.{Bool, true, false}
 use mathlib.Core.List.{List}
 use Prim.Native.Nat.{ℕ, _≤_, _<_}
 use native.Mathlib.Omega.{arith}
 use borrow.Author.Needs.{needs}
 use borrow.Author.Tests.{not-true, not-false}
-use lib.ListN.{length, getD, take}
-use Rattle.layout.specs.Body.{headAt}
+use lib.ListN.{take}
 use Rattle.layout.specs.declared.body.Shape.{Shape}
+use Rattle.meaning.specs.Numbers.{shortBuffer, noStep}
 use Rattle.meaning.specs.Meaning.{Set, Answer, refused, given}
 use Rattle.meaning.specs.File.{chartOf, fileAt}
 use Rattle.meaning.specs.Check.{firstOf}
-use Rattle.meaning.specs.Calls.{laidOver, nextIn, stepIn}
+use Rattle.meaning.specs.Calls.{laidOver, nextIn}
 use Rattle.search.specs.declared.Found.{Found}
 use Rattle.plan.specs.Candidates.{Ready}
 use Rattle.engine.specs.Step.{steppedOf, configTestsIn, stepAfter, Checked, Finds}
@@ -32,7 +32,7 @@ module _ (n : Shape) (b config : List ℕ) (i : Set) (room r : ℕ) (e : r ≡ f
 
   -- the configuration is accepted
   module _ (z : r ≡ 0) where
-    by-room : room < n .charts → stepAfter (fileAt n b) config i room ≡ refused 22
+    by-room : room < n .charts → stepAfter (fileAt n b) config i room ≡ refused shortBuffer
     unfolding fileAt
     by-room l = after-room (fileAt n b) config i room (sym e ∙ z) l
 
@@ -41,7 +41,7 @@ module _ (n : Shape) (b config : List ℕ) (i : Set) (room r : ℕ) (e : r ≡ f
     ready-here k = ready n b k config (let l = config-long (fileAt n b) config (sym e ∙ z) in omega arith) (config-valid (fileAt n b) config (sym e ∙ z))
 
     module _ (l : n .charts ≤ room) (f : Found) (h : Finds n b config i f) where
-      by-search : f .has ≡ false → stepAfter (fileAt n b) config i room ≡ refused 23
+      by-search : f .has ≡ false → stepAfter (fileAt n b) config i room ≡ refused noStep
       unfolding fileAt
       by-search q = after-step (fileAt n b) config i room (sym e ∙ z) l ∙ sym h ∙ answer-none (n .charts) f q
 
