@@ -1,6 +1,6 @@
 -- What the public calls answer (document 01), the rewriting aside: the first configuration, the interface, the step, the run. Each has one list
 -- of tests, in the order in which document 01 names them. A refusal leaves lent bytes as they were.
-use mathlib.Core.Bool.{Bool, true, false, cond}
+use mathlib.Core.Bool.{Bool, false, cond}
 use mathlib.Core.List.{List, [], _∷_, _++_}
 use Prim.Native.Nat.{ℕ, zero, suc, _+_, _*_}
 use lib.Dec.{ltb}
@@ -11,6 +11,7 @@ use Rattle.meaning.specs.Count.{anyUpTo, one}
 use Rattle.meaning.specs.Meaning.{Set, ∅, same, Answer, refused, given, inFace, outFace, outcomes, answer}
 use Rattle.meaning.specs.File.{File, wholeOf, fileOf}
 use Rattle.meaning.specs.Check.{Test, firstOf, fileTests, refusalOf, differ, notBelow}
+pub mod Laws
 
 -- f at 0, 1, .. n - 1
 unfoldable pub made : ℕ → (ℕ → ℕ) → List ℕ

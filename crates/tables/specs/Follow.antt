@@ -14,7 +14,7 @@ use Rattle.signals.specs.Mask.{_∪_, _∩_, _∖_, within, apart}
 use Rattle.signals.specs.Decide.{sets, A, B, C, ∅ₑ, _∪ₑ_, _∩ₑ_, _≐_}
 use Rattle.layout.specs.declared.record.Transition.{Transition}
 use Rattle.meaning.specs.Meaning.{Set, ∅, same, Chart, Tree, Move, nth, pick, actionOf, after, meets, upd, moves, nexts, out}
-use Rattle.meaning.specs.Calls.{made}
+use Rattle.meaning.specs.Calls.Laws.{getD-made}
 use Rattle.meaning.specs.Laws.Bools.{same-refl, same→≡, every}
 use Rattle.meaning.specs.Laws.Choices.{upd-at, upd-off, length-nexts, getD-nexts}
 use Rattle.wiring.specs.Wire.{join, down, up, back, offered, awakeBy, Small, out-wired}
@@ -27,21 +27,6 @@ use Rattle.search.specs.declared.Trail.{Trail}
 use Rattle.tables.specs.Filled.{Is, mayAt, Rows, Candidates}
 
 -- ── lists ──
-
-length-made : (n : ℕ) (f : ℕ → ℕ) → length (made n f) ≡ n
-unfolding made
-length-made zero f = refl
-length-made (suc n) f = length-append (made n f) (f n ∷ []) ∙ (let h = length-made n f in omega arith)
-
-getD-made : (n : ℕ) (f : ℕ → ℕ) (i : ℕ) → i < n → getD (made n f) i 0 ≡ f i
-unfolding made
-getD-made zero f i l = absurd (omega arith)
-getD-made (suc n) f i l = go (same i n) refl (getD-made n f i)
-  where
-    go : (b : Bool) → same i n ≡ b → (i < n → getD (made n f) i 0 ≡ f i) → getD (made n f ++ (f n ∷ [])) i 0 ≡ f i
-    go true e r = rw (same→≡ i n e) (ap (λ z. getD (made n f ++ (f n ∷ [])) z 0) (sym (length-made n f)) ∙ getD-append-seam (made n f) (f n) [] 0)
-    go false e r = let z : i ≢ n = λ w. false≢true (sym e ∙ rw w (same-refl n)) in let h = length-made n f in
-        List·getD-append (made n f) (f n ∷ []) 0 i (omega arith) ∙ r (omega arith)
 
 -- nothing comes from e on
 join-few : (k n : ℕ) (f : ℕ → Set) → n ≤ k → ((e : ℕ) → n ≤ e → f e ≡ ∅) → join k f ≡ join n f

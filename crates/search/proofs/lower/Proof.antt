@@ -9,14 +9,10 @@ use lib.ListN.{length, getD, drop, set, length-append, drop-of-length-le}
 use lib.Seq.{drop-cons, set-at, getD-at}
 use Rattle.signals.specs.Mask.{_∪_, _∩_}
 use Rattle.meaning.specs.Calls.{made}
+use Rattle.meaning.specs.Calls.Laws.{length-made}
 use Rattle.search.specs.Table.{backAt}
 use Rattle.search.proofs.lower.Statement.{statement}
 use Rattle.search.proofs.lower.Tie as tie
-
-length-made : (n : ℕ) (f : ℕ → ℕ) → length (made n f) ≡ n
-unfolding made
-length-made zero f = refl
-length-made (suc n) f = rw (length-append, length-made n f) (omega arith)
 
 -- an array b whose entries below i are computed from themselves, each by f: one entry more
 made-more : (b l : List ℕ) (f : ℕ → ℕ → ℕ) (i : ℕ) → i < length b → l ≡ made i (λ c. f c (getD b c 0)) ++ drop i b →

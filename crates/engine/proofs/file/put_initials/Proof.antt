@@ -1,13 +1,12 @@
 -- `file::put_initials` meets its contract. The charts passed have their initial states at the front of the buffer. Assumes nothing.
-use mathlib.Core.Path.{_≡_, refl, ap, _∙_}
+use mathlib.Core.Path.{_≡_, refl}
 use mathlib.Core.List.{_++_}
-use Prim.Native.Nat.{_+_, _-_, _≤_}
+use Prim.Native.Nat.{_-_, _≤_}
 use native.Mathlib.Omega.{arith}
 use lib.ListN.{length, drop, length-set}
 use Rattle.layout.specs.Body.{headAt}
-use Rattle.layout.specs.declared.record.Head.{Head}
 use Rattle.meaning.specs.Calls.{made}
-use Rattle.checks.proofs.Laws.{length-made, made-store}
+use Rattle.meaning.specs.Calls.Laws.{length-made, made-store}
 use Rattle.engine.proofs.file.put_initials.Statement.{statement}
 use Rattle.engine.proofs.file.put_initials.Tie as tie
 
