@@ -5,9 +5,9 @@ use mathlib.Core.Option.{none, some}
 use Prim.Native.Nat.{ℕ, _<_}
 use Rattle.meaning.specs.Meaning.{Set, same, Chart, Tree, Slaves, leaf, comp, hide, dec, nil, snoc, Move, actionOf, inFaceChart, inFace, out, outs, okChart, meets, ok, oks}
 use Rattle.signals.specs.Mask.{_∪_, _∩_, _∖_}
-use Rattle.meaning.specs.Laws.Bools.{same→≡, and-l, and-r}
+use Rattle.meaning.specs.Laws.Bools.{or-elim, same→≡, and-l, and-r}
 use Rattle.meaning.specs.File.{Has, HasS}
-use Rattle.meaning.specs.Laws.Above.{Above, AboveS, live-either}
+use Rattle.meaning.specs.Laws.Above.{Above, AboveS}
 use Rattle.agreement.specs.Tree.{tree, nest, calls}
 
 module _ (state : ℕ → ℕ) (cfg : ℕ → ℕ) (M : ℕ → Move) where
@@ -93,7 +93,7 @@ module _ (sig : ℕ → ℕ) (fbOf : ℕ → Set) (E : ℕ → Chart) (state : �
 
     pub live : (t : Tree) (o : Set) → Has t c ≡ true → ok E state cfg M (tree sig fbOf t) true o ≡ true → Live (cfg c) (M c)
     live (leaf d) o h k = rw (same→≡ c d h) (okChart-live (E d .feedback) o (cfg d) (M d) k)
-    live (comp p q x) o h k = live-either (Has p c) (Has q c) _ (λ e. live p (z ∩ inFace E (tree sig fbOf p)) e (and-l _ _ k))
+    live (comp p q x) o h k = or-elim (Has p c) (Has q c) _ (λ e. live p (z ∩ inFace E (tree sig fbOf p)) e (and-l _ _ k))
         (λ e. live q (z ∩ inFace E (tree sig fbOf q)) e (and-r (ok E state cfg M (tree sig fbOf p) true (z ∩ inFace E (tree sig fbOf p))) _ k)) h
       where
         z : Set
@@ -102,8 +102,8 @@ module _ (sig : ℕ → ℕ) (fbOf : ℕ → Set) (E : ℕ → Chart) (state : �
     live (dec d ss) o h k = live-s ss d (fbOf d ∪ calls sig ss) (o ∖ calls sig ss) h k
 
     live-s : (ss : Slaves) (d : ℕ) (x o : Set) → (same c d || HasS ss c) ≡ true → ok E state cfg M (nest sig fbOf ss d x) true o ≡ true → Live (cfg c) (M c)
-    live-s nil d x o h k = live-either (same c d) false _ (λ e. rw (same→≡ c d e) (okChart-live (E d .feedback) o (cfg d) (M d) k)) (λ e. absurd (false≢true e)) h
-    live-s (snoc ss i t) d x o h k = live-either (Has t c) (same c d || HasS ss c) _
+    live-s nil d x o h k = or-elim (same c d) false _ (λ e. rw (same→≡ c d e) (okChart-live (E d .feedback) o (cfg d) (M d) k)) (λ e. absurd (false≢true e)) h
+    live-s (snoc ss i t) d x o h k = or-elim (Has t c) (same c d || HasS ss c) _
         (λ e. live t (z ∩ inFace E (tree sig fbOf t)) e (and-r (ok E state cfg M (nest sig fbOf ss d x) true (z ∩ inFace E (nest sig fbOf ss d x))) _ k))
         (λ e. live-s ss d x (z ∩ inFace E (nest sig fbOf ss d x)) e (and-l _ _ k)) (turn (same c d) (Has t c) (HasS ss c) h)
       where

@@ -19,7 +19,7 @@ use Rattle.layout.specs.declared.record.Transition.{Transition}
 use Rattle.layout.specs.declared.record.Node.{Node}
 use Rattle.meaning.specs.Numbers.{theEdition, mostCharts, mostSlaves, mostNodes, mostTransitions, mostStates, mostInChart, mostFromState}
 use Rattle.meaning.specs.Count.{anyUpTo, tally, one}
-use Rattle.meaning.specs.Count.Laws.{any-all, any-never}
+use Rattle.meaning.specs.Count.Laws.{any-all, any-never, tally-cong, tally-front}
 use Rattle.meaning.specs.Meaning.{same}
 use Rattle.meaning.specs.File.{File, endOf, trailer, bodyOf, shapeOf, fileAt, fileOf}
 use Rattle.meaning.specs.Check.{differ, notBelow, counts?, distance?, nonzero, zeros?, chart?, charts?, ends?, leaving, transitions?, slaves?, nodeOfKind?, nodes?, names, named, held, naming?, inside?, refusalOf}
@@ -30,7 +30,6 @@ use Rattle.meaning.specs.Laws.Names.{Rule10}
 use Rattle.agreement.specs.Every.{every-at}
 use Rattle.agreement.specs.Laid.{orderedR, start-mono, start-suc}
 use Rattle.agreement.specs.Recheck.{rule10R}
-use Rattle.agreement.specs.Sums.{tally-cong, tally-front}
 use Rattle.agreement.specs.Step.{Rewritten}
 use Rattle.agreement.specs.Encoded.{noTransition, Fits, nodeIn, head-there, some-transition-there, node-there, head-is, start-is, transition-is, node-is, chart-back, trailerFor, length-encode, end-is, trailer-there, trailer-is, body-is, shape-is, file-is}
 use Rattle.agreement.specs.Reads.{reads-back, tree-same}

@@ -3,7 +3,7 @@
 use mathlib.Core.Path.{_≡_, refl, sym, _∙_, ap, ap₂}
 use mathlib.Core.Bool.{Bool, true, false, cond}
 use mathlib.Core.List.{List, [], _∷_, _++_, append-assoc}
-use Prim.Native.Nat.{ℕ, zero, suc, _+_, _*_, _-_, _≤_, _<_}
+use Prim.Native.Nat.{ℕ, _+_, _*_, _-_, _≤_, _<_}
 use native.Mathlib.Omega.{arith}
 use borrow.Author.Tests.{ltb-false}
 use lib.Dec.{ltb, lit<}
@@ -16,15 +16,16 @@ use Rattle.meaning.specs.Count.Laws.{any-never, any-cong}
 use Rattle.meaning.specs.Meaning.{Set, ∅, same, refused, given}
 use Rattle.meaning.specs.File.{endOf, trailer, bodyOf, shapeOf, chartOf, fileAt, fileOf}
 use Rattle.meaning.specs.Numbers.{mostTransitions, mostNodes, wrongLength, badState, shortBuffer, shortRows}
-use Rattle.meaning.specs.Check.Laws.{firstOf-passes, Passed, passed, call-passed, counted, charted}
+use Rattle.meaning.specs.Check.Laws.{below, firstOf-passes, Passed, passed, call-passed, counted, charted}
 use Rattle.meaning.specs.Check.{Test, firstOf, differ, notBelow, fileTests, refusalOf}
 use Rattle.meaning.specs.Calls.{made, laidOver, firstRefusal, initials, firstBytes, inputOf, outputOf, configTests, stepRefusal, stepIn, stepOf, runRefusal, rowsOf, runBytes}
+use Rattle.meaning.specs.Calls.Laws.{made-cong}
 use Rattle.meaning.specs.Rewriting.{chartWith, rewrittenChart, rewriteTests, rewriteBytes, rewriteRefusal, rewrite, rewriteLength, shapeIn}
 use Rattle.meaning.specs.Laws.Bools.{same-refl, same→≡}
 use Rattle.agreement.specs.Step.{Valid, Rewritten, step-is}
 use Rattle.agreement.specs.Run.{run-is}
 use Rattle.agreement.specs.Faces.{input-is, output-is}
-use Rattle.agreement.specs.Passed.{front, in-front, below, ended, smalls, body-bytes, ready}
+use Rattle.agreement.specs.Passed.{front, in-front, ended, smalls, body-bytes, ready}
 use Rattle.agreement.specs.New.{Regular}
 use Rattle.agreement.specs.Plain.{plain-same}
 use Rattle.agreement.specs.Written.{encode-again}
@@ -65,11 +66,6 @@ regular f ab p = record {
 }
 
 -- ── the promises ──
-
-made-same : (n : ℕ) (g h : ℕ → ℕ) → ((i : ℕ) → i < n → g i ≡ h i) → made n g ≡ made n h
-unfolding made
-made-same zero g h e = refl
-made-same (suc n) g h e = ap₂ (λ xs x. xs ++ (x ∷ [])) (made-same n g h (λ i l. e i (omega arith))) (e n (omega arith))
 
 module _ (f : List ℕ) (ab : AllBytes f) (room : ℕ) (ok : rewriteRefusal f room ≡ 0) where
   abbrev f′ : List ℕ
@@ -122,7 +118,7 @@ module _ (f : List ℕ) (ab : AllBytes f) (room : ℕ) (ok : rewriteRefusal f ro
   pub same-first : (buffer : List ℕ) → firstBytes f′ buffer ≡ firstBytes f buffer
   unfolding firstBytes initials rewrittenChart chartWith
   same-first buffer = ap₂ (λ n xs. cond (same n 0) (laidOver xs buffer) buffer) (same-first-refusal (length buffer))
-      (ap (λ n. made n (λ c. fileOf f′ .chart c .initial)) (r .charts) ∙ made-same (fileOf f .charts) _ _ (λ c l. ap (λ C. C .initial) (r .chart c l)))
+      (ap (λ n. made n (λ c. fileOf f′ .chart c .initial)) (r .charts) ∙ made-cong (fileOf f .charts) _ _ (λ c l. ap (λ C. C .initial) (r .chart c l)))
 
   -- the interface
   pub same-input : inputOf f′ ≡ inputOf f

@@ -11,13 +11,12 @@ use lib.Seq.{getD-append-add, getD-at}
 use Rattle.meaning.specs.Meaning.{Set, ∅, same}
 use Rattle.signals.specs.Mask.{_∪_}
 use Rattle.layout.specs.declared.record.Node.{Node}
-use Rattle.meaning.specs.Laws.Bools.{same-refl, same→≡}
+use Rattle.meaning.specs.Laws.Bools.{same-refl, same→≡, same→≢}
 use Rattle.meaning.specs.Rewriting.{callsOf, count, before, start, newName, composed, madeBy, madeFor, laid, newNode, rewrite}
 use Rattle.meaning.specs.File.{File}
 use Rattle.meaning.specs.Laws.Trees.{Ordered}
 use Rattle.meaning.specs.Count.{one, tally}
-use Rattle.agreement.specs.Renamed.{NodesR}
-use Rattle.agreement.specs.Sums.{count-less}
+use Rattle.agreement.specs.Renamed.{count-less, NodesR}
 
 -- what stands past the last node
 abbrev pub noNode : Node
@@ -41,7 +40,7 @@ module _ (F : File) where
     where
       go : (b : Bool) → same j (suc n) ≡ b → (j ≤ n → start F j ≤ start F n) → start F j ≤ start F (suc n)
       go true e r = rw (same→≡ j (suc n) e) (omega arith)
-      go false e r = let z : j ≢ suc n = λ w. false≢true (sym e ∙ rw w (same-refl (suc n))) in let y = r (omega arith) in let u = start-suc n in omega arith
+      go false e r = let z : j ≢ suc n = same→≢ j (suc n) e in let y = r (omega arith) in let u = start-suc n in omega arith
 
   pub inside : (n j q : ℕ) → j < n → q < width j → start F j + q < start F n
   inside n j q l h = let a = start-mono n (suc j) l in let u = start-suc j in omega arith
@@ -90,7 +89,7 @@ module _ (F : File) where
     where
       go : (d : Bool) → same j n ≡ d → (j < n → getD (laid F n) (start F j + q) noNode ≡ getD (madeFor F j) q noNode) → getD (laid F n ++ madeFor F n) (start F j + q) noNode ≡ getD (madeFor F j) q noNode
       go true e r = rw (same→≡ j n e) (ap (λ z. getD (laid F n ++ madeFor F n) (z + q) noNode) (sym (laid-length n)) ∙ getD-append-add (laid F n) (madeFor F n) q noNode)
-      go false e r = let z : j ≢ n = λ w. false≢true (sym e ∙ rw w (same-refl n)) in let m : j < n = omega arith in
+      go false e r = let z : j ≢ n = same→≢ j n e in let m : j < n = omega arith in
           List·getD-append (laid F n) (madeFor F n) noNode (start F j + q) (let a = inside n j q m h in let b = laid-length n in omega arith) ∙ r m
 
   part-at : (c at k i : ℕ) → i < k → F .master i ≡ c → getD (composed F c at k) (count F c i) noNode
@@ -108,10 +107,10 @@ module _ (F : File) where
       go : (d : Bool) → same (F .master k) c ≡ d → (f : Bool) → same i k ≡ f → (i < k → getD (composed F c at k) (count F c i) noNode ≡ nd i)
           → getD (cond d (composed F c at k ++ (nd k ∷ [])) (composed F c at k)) (count F c i) noNode ≡ nd i
       go true p true q r = rw (same→≡ i k q) (getD-at (composed F c at k) (nd k) [] noNode (count F c k) (parts-length c at k))
-      go true p false q r = let z : i ≢ k = λ w. false≢true (sym q ∙ rw w (same-refl k)) in let h : i < k = omega arith in
+      go true p false q r = let z : i ≢ k = same→≢ i k q in let h : i < k = omega arith in
           List·getD-append (composed F c at k) (nd k ∷ []) noNode (count F c i) (let a = parts-length c at k in let b = less h in omega arith) ∙ r h
       go false p true q r = absurd (false≢true (sym p ∙ ap (λ z. same (F .master z) c) (sym (same→≡ i k q)) ∙ ap (λ z. same z c) e ∙ same-refl c))
-      go false p false q r = let z : i ≢ k = λ w. false≢true (sym q ∙ rw w (same-refl k)) in r (omega arith)
+      go false p false q r = let z : i ≢ k = same→≢ i k q in r (omega arith)
 
 module _ (F : File) where
   block-is : (j k s : ℕ) → F .kind j ≡ k → count F (F .a j) (F .slaves) ≡ s → madeFor F j ≡ madeBy F k s j

@@ -14,7 +14,7 @@ use Rattle.layout.specs.declared.record.Transition.{Transition}
 use Rattle.meaning.specs.Meaning.{Set, same, Chart, Tree, Slaves, leaf, comp, hide, dec, nil, snoc, Move, nth, pick, after, inFaceChart, inFace, out, ok, permitted, upd, moves, nexts, Outcome, upto, outcome, search, outcomes, answer}
 use Rattle.meaning.specs.File.{Has}
 use Rattle.meaning.specs.Rewriting.{callIn, idle, called, chartWith}
-use Rattle.meaning.specs.Laws.Bools.{same-refl, same→≡, not-true}
+use Rattle.meaning.specs.Laws.Bools.{same→≡, same→≢, not-true}
 use Rattle.meaning.specs.Laws.Choices.{upto-cong, upd-at, upd-off, search-empty}
 use Rattle.meaning.specs.Laws.Above.{Above}
 use Rattle.agreement.specs.Tree.{on, tree, touch, moveR}
@@ -107,7 +107,7 @@ module _ (sig state : ℕ → ℕ) (inj : (i j : ℕ) → sig i ≡ sig j → i 
       go : (d : Bool) → same i c ≡ d → (upd ch c v i ≤ length (E i .transitions)) × (upd ch′ c p i ≡ place (kap i) (length (E i .transitions)) (cfg i) (upd ch c v i))
       go true e = let q : i ≡ c = same→≡ i c e in
           rw q (subst (λ w. w ≤ length (E c .transitions)) (sym (upd-at ch c v)) l, upd-at ch′ c p ∙ ap (place (kap c) (length (E c .transitions)) (cfg c)) (sym (upd-at ch c v)))
-      go false e = let q : i ≢ c = λ w. false≢true (sym e ∙ rw w (same-refl c)) in
+      go false e = let q : i ≢ c = same→≢ i c e in
           let k : i < c = omega arith in
           rw (upd-off ch c v i k, upd-off ch′ c p i k) (g i k)
 

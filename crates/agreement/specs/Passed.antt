@@ -1,5 +1,5 @@
--- What a file is that passes 1 to 11, as far as the rewriting assumes it: tests in front of others; a test that is false; transitions between
--- states; sets of 64 signals; all that the theorem on steps assumes (`ready`).
+-- What a file is that passes 1 to 11, as far as the rewriting assumes it: tests in front of others; transitions between states;
+-- sets of 64 signals; all that the theorem on steps assumes (`ready`).
 use mathlib.Core.Path.{_≡_, sym, _∙_, ap, subst}
 use mathlib.Core.Bool.{false}
 use mathlib.Core.List.{List, [], _∷_, _++_, append-nil}
@@ -7,8 +7,8 @@ use mathlib.Core.Logic.{⊎-elim}
 use Prim.Native.Nat.{ℕ, _+_, _-_, _^_, _<_}
 use native.Mathlib.Omega.{arith}
 use native.Mathlib.Decide.{decLt}
-use borrow.Author.Tests.{le-ltb, ltb-true, not-false}
-use lib.Dec.{ltb, lit<}
+use borrow.Author.Tests.{le-ltb}
+use lib.Dec.{lit<}
 use lib.ListN.{length, getD, take, List·getD-eq-default, length-take}
 use lib.Seq.{getD-take}
 use Rattle.signals.specs.Mask.{_∪_}
@@ -21,13 +21,12 @@ use Rattle.layout.specs.declared.body.Shape.{Shape}
 use Rattle.layout.specs.declared.record.Transition.{Transition}
 use Rattle.meaning.specs.Count.{anyUpTo}
 use Rattle.meaning.specs.Count.Laws.{or-left, or-right, any-never}
-use Rattle.meaning.specs.Meaning.{same, guards, actions}
+use Rattle.meaning.specs.Meaning.{guards, actions}
 use Rattle.meaning.specs.File.{endOf, trailer, bodyOf, shapeOf, chartOf, fileAt, fileOf}
-use Rattle.meaning.specs.Check.{Test, firstOf, differ, notBelow, ends?, transitions?, fileTests, refusalOf}
+use Rattle.meaning.specs.Check.{Test, firstOf, notBelow, ends?, transitions?, fileTests, refusalOf}
 use Rattle.meaning.specs.Check.Nodes.{sound}
-use Rattle.meaning.specs.Check.Laws.{Numbered, Passes, firstOf-[], firstOf-passes, firstOf-++, firstOf-before, Passed, numbered, counted, charted, eq-or-not}
+use Rattle.meaning.specs.Check.Laws.{below, Numbered, Passes, firstOf-[], firstOf-passes, firstOf-++, firstOf-before, Passed, numbered, counted, charted, eq-or-not}
 use Rattle.meaning.specs.Rewriting.{used}
-use Rattle.meaning.specs.Laws.Bools.{same→≡}
 use Rattle.agreement.specs.Every.{Every, every-from, every-imp}
 use Rattle.agreement.specs.Encoded.{Small}
 use Rattle.agreement.specs.Free.{union-small}
@@ -52,14 +51,6 @@ in-front f us e = let p = front (fileTests f) us (numbered f) e in (all-pass (fi
 pub passes : (f : List ℕ) → Passed f → refusalOf f ≡ 0
 unfolding refusalOf fileTests fileOf
 passes f p = all-pass (fileTests f) (le-ltb (length f) 12 (p .long), (p .edition, (p .counts, (p .distance, (p .zeros, (p .charts, (p .transitions, (p .slaves, (p .nodes, (p .naming, (p .inside, tt)))))))))))
-
--- ── a test that is false ──
-
-pub below : (m n : ℕ) → notBelow m n ≡ false → m < n
-below m n h = ltb-true m n (not-false (ltb m n) h)
-
-pub alike : (m n : ℕ) → differ m n ≡ false → m ≡ n
-alike m n h = same→≡ m n (not-false (same m n) h)
 
 module _ (f : List ℕ) (p : Passed f) where
   abbrev n : Shape

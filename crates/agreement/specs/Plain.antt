@@ -1,9 +1,9 @@
 -- A file without slaves rewrites to itself: record by record, so byte by byte.
 use mathlib.Core.Path.{_≡_, refl, sym, _∙_, ap, ap₂}
-use mathlib.Core.Bool.{true, false, _&&_, _||_, cond, true≢false}
+use mathlib.Core.Bool.{false, _&&_, _||_, cond, true≢false}
 use mathlib.Core.Option.{Option, none, some}
 use mathlib.Core.List.{List, [], _∷_, _++_, map, append-nil}
-use Prim.Native.Nat.{ℕ, zero, suc, _+_, _-_, _<_}
+use Prim.Native.Nat.{ℕ, zero, suc, _<_}
 use native.Mathlib.Omega.{arith}
 use lib.ListN.{length}
 use Rattle.signals.specs.Mask.{_∪_, single}
@@ -13,7 +13,7 @@ use Rattle.layout.specs.Record.{trailerBytes, headBytes, slaveBytes, nodeBytes}
 use Rattle.layout.specs.declared.record.Transition.{Transition}
 use Rattle.meaning.specs.Numbers.{theEdition}
 use Rattle.meaning.specs.Count.{tally}
-use Rattle.meaning.specs.Count.Laws.{or-left, or-right, any-never}
+use Rattle.meaning.specs.Count.Laws.{or-left, or-right, any-never, tally-cong}
 use Rattle.meaning.specs.Meaning.{Set, ∅}
 use Rattle.meaning.specs.File.{File}
 use Rattle.meaning.specs.Check.{nodeOfKind?, nodes?, notBelow, differ}
@@ -22,9 +22,8 @@ use Rattle.meaning.specs.Laws.Names.{kap}
 use Rattle.agreement.specs.Encoded.{slaveIn, nodeIn}
 use Rattle.agreement.specs.Laid.{comp-node, hide-node, base-node}
 use Rattle.agreement.specs.New.{kap-below}
-use Rattle.agreement.specs.Passed.{alike}
+use Rattle.meaning.specs.Check.Laws.{alike}
 use Rattle.agreement.specs.Reads.{Reads}
-use Rattle.agreement.specs.Sums.{tally-cong}
 use Rattle.agreement.specs.Step.{Ready, nearest-is}
 
 module _ (F : File) (rd : Ready F) (none-there : F .slaves ≡ 0) where

@@ -1,6 +1,6 @@
 -- The rewritten file passes rule 10: each chart is held once, each node but the last named once. The names of all new nodes are summed node by node.
 use mathlib.Core.Path.{_≡_, refl, sym, _∙_, ap, ap₂, subst}
-use mathlib.Core.Bool.{Bool, true, false, _&&_, cond, false≢true}
+use mathlib.Core.Bool.{Bool, true, false, _&&_, cond}
 use mathlib.Core.Option.{none}
 use mathlib.Core.Logic.{_≢_}
 use mathlib.Core.List.{List, [], _∷_, _++_}
@@ -11,14 +11,15 @@ use native.Mathlib.Decide.{decLt}
 use lib.ListN.{length, getD}
 use Rattle.meaning.specs.Meaning.{Set, ∅, same}
 use Rattle.signals.specs.Mask.{_∪_}
-use Rattle.meaning.specs.Laws.Bools.{same-refl, same→≡, same-≢, bool-eq}
+use Rattle.meaning.specs.Laws.Bools.{same-refl, same→≡, same-comm, same→≢, same-≢, bool-eq}
 use Rattle.meaning.specs.File.{File}
 use Rattle.meaning.specs.Laws.Trees.{Ordered}
 use Rattle.meaning.specs.Count.{one, tally}
-use Rattle.meaning.specs.Laws.Names.{tally-ge, Rule10}
+use Rattle.meaning.specs.Count.Laws.{tally-cong, tally-zero, tally-add, tally-swap, tally-front, tally-only, tally-ge}
+use Rattle.meaning.specs.Laws.Names.{Rule10}
 use Rattle.meaning.specs.Check.{names, named, held}
 use Rattle.meaning.specs.Rewriting.{callsOf, count, before, start, newName, composed, madeBy, madeFor, laid, newNode, rewrite}
-use Rattle.agreement.specs.Sums.{tally-cong, tally-zero, tally-add, tally-swap, tally-front, tally-only, count-less}
+use Rattle.agreement.specs.Renamed.{count-less}
 use Rattle.agreement.specs.Laid.{noNode, widthOf, width, start-suc, start-mono, last-width, laid-length}
 use Rattle.layout.specs.declared.record.Node.{Node}
 
@@ -226,9 +227,6 @@ module _ (F : File) (w : Ordered F) (r : Rule10 F) (there : (i : ℕ) → i < F 
           let h : one (same (suc (suc k)) 1 && same (F .b j) j₀) ≡ 0 = ap (λ z. one (z && same (F .b j) j₀)) (same-≢ (suc (suc k)) 1 (λ z. omega arith)) in
           let i : one (same (suc (suc k)) 2 && same (F .a j) j₀) ≡ one (same (F .a j) j₀) = ap (λ z. one (z && same (F .a j) j₀)) (ap (λ z. same z 2) two ∙ same-refl 2) in omega arith
 
-  same-sym : (a b : ℕ) → same a b ≡ same b a
-  same-sym a b = bool-eq (same a b) (same b a) (λ e. rw (same→≡ a b e) (same-refl b)) (λ e. rw (same→≡ b a e) (same-refl a))
-
   -- a renamed node is named as often as before
   named-ren : (j₀ : ℕ) → named (rewrite F) (newName F j₀) ≡ named F j₀
   unfolding named names nm held
@@ -261,7 +259,7 @@ module _ (F : File) (w : Ordered F) (r : Rule10 F) (there : (i : ℕ) → i < F 
 
       single-holder : (i : ℕ) → i < F .slaves → (x : Bool) → same (F .node i) j₀ ≡ x → tally (F .nodes) (λ j. B i j) ≡ one x
       single-holder i l true e = tally-cong (F .nodes) (λ j. B i j) (λ j. one (same (F .kind j) 0 && same (F .a j) (F .master i)))
-          (λ j m. rw (e, same-sym (F .master i) (F .a j)) (law (same (F .kind j) 0) (same (F .a j) (F .master i)))) ∙ held-is (F .master i) (there i l .1)
+          (λ j m. rw (e, same-comm (F .master i) (F .a j)) (law (same (F .kind j) 0) (same (F .a j) (F .master i)))) ∙ held-is (F .master i) (there i l .1)
       single-holder i l false e = tally-zero (F .nodes) (λ j. B i j) (λ j m. rw e (law0 (same (F .kind j) 0) (same (F .master i) (F .a j))))
 
   -- ── the nodes before the last that is made for a node ──
@@ -284,7 +282,7 @@ module _ (F : File) (w : Ordered F) (r : Rule10 F) (there : (i : ℕ) → i < F 
       go : (d : Bool) → same (F .master k) c ≡ d → (x : Bool) → same (count F c k) q ≡ x → (q < count F c k → tally k (λ i. one (same (F .master i) c && same (count F c i) q)) ≡ 1)
           → one (d && x) + tally k (λ i. one (same (F .master i) c && same (count F c i) q)) ≡ 1
       go true p true z r = let a = same→≡ (count F c k) q z in let b = none-with c q k (omega arith) in omega arith
-      go true p false z r = let a : count F c k ≢ q = λ u. false≢true (sym z ∙ rw u (same-refl q)) in let b : one (same (F .master k) c) ≡ 1 = ap one p in let d = bits in let f = r (omega arith) in omega arith
+      go true p false z r = let a : count F c k ≢ q = same→≢ (count F c k) q z in let b : one (same (F .master k) c) ≡ 1 = ap one p in let d = bits in let f = r (omega arith) in omega arith
       go false p x z r = let b : one (same (F .master k) c) ≡ 0 = ap one p in let d = bits in let f = r (omega arith) in omega arith
 
   nm-parts-in : (p c at k : ℕ) → ((x : ℕ) → p ≢ newName F x) → sumL (nm p) (composed F c at k) ≡ tally k (λ i. one (same (F .master i) c && same (at + count F c i) p))

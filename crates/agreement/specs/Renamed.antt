@@ -10,12 +10,19 @@ use Rattle.signals.specs.Mask.{_∪_, single}
 use Rattle.signals.specs.Decide.{sets, A, ∅ₑ, _∪ₑ_, _≐_}
 use Rattle.layout.specs.declared.record.Transition.{Transition}
 use Rattle.meaning.specs.Laws.Bools.{same→≡}
-use Rattle.agreement.specs.Sums.{tally-mono}
 use Rattle.agreement.specs.Tree.{calls, tree, nest, touch}
 use Rattle.meaning.specs.Rewriting.{unionUpTo, call, callsBy, callsOf, isOf, touches, count, start, newName}
 use Rattle.meaning.specs.File.{File, whole, gather, treeOf}
 use Rattle.meaning.specs.Laws.Trees.{Ordered, tree₀, tree₁, tree₂}
 use Rattle.meaning.specs.Count.{one, tally}
+use Rattle.meaning.specs.Count.Laws.{tally-plus}
+
+-- of the slaves of a chart, fewer come before one of them than before a later record
+pub count-less : (F : File) (c i k : ℕ) → i < k → same (F .master i) c ≡ true → count F c i < count F c k
+count-less F c i k l e =
+    let h = tally-plus k (λ i. one (same (F .master i) c)) i l in
+    let b : one (same (F .master i) c) ≡ 1 = ap one e in
+    omega arith
 
 module _ (F : File) where
   -- chart c's slaves with their trees
@@ -132,16 +139,13 @@ module _ (F F′ : File) (w : Ordered F) (w′ : Ordered F′) (nr : NodesR F F�
       go : (d : Bool) → same (F .master k) c ≡ d → treeOf F′ (start F j + count F c k) ≡ nest (call F) fbs rest c (X j)
           → treeOf F′ (start F j + (one d + count F c k)) ≡ nest (call F) fbs (cond d (snoc rest k (treeOf F (F .node k))) rest) c (X j)
       go true p r = let q = same→≡ (F .master k) c p in
-          let h : suc (count F c k) ≤ count F c (F .slaves) = le in
+          let h = count-less F c k (F .slaves) m p in
           ap (λ z. treeOf F′ (start F j + z)) step
           ∙ tree₁ F′ w′ (start F j + suc (count F c k)) (omega arith) (nr .part-kind j k l e m q)
           ∙ rw (nr .part-a j k l e m q, nr .part-b j k l e m q, nr .part-x j k l e m q, r, ih (F .node k) (w .lower₀ j l e k m q))
         where
           step : 1 + count F c k ≡ suc (count F c k)
           step = omega arith
-
-          le : suc (count F c k) ≤ count F c (F .slaves)
-          le = let a = tally-mono (F .slaves) (suc k) (λ i. one (same (F .master i) c)) m in let b : one (same (F .master k) c) ≡ 1 = ap one p in omega arith
       go false p r = ap (λ z. treeOf F′ (start F j + z)) (zero-add (count F c k)) ∙ r
 
   pub tree-ren : (f j : ℕ) → j < f → j < F .nodes → treeOf F′ (newName F j) ≡ tree (call F) fbs (treeOf F j)

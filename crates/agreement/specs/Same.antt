@@ -12,7 +12,7 @@ use Rattle.signals.specs.Decide.{sets, A, B, C, D, E as Eₑ, F as Fₑ, G as G
 use Rattle.layout.specs.declared.record.Transition.{Transition}
 use Rattle.meaning.specs.Meaning.{Set, ∅, same, Chart, Tree, Slaves, leaf, comp, hide, dec, nil, snoc, Move, actionOf, after, inFaceChart, inFace, inFaces, out, outs, okChart, meets, ok, oks}
 use Rattle.meaning.specs.Rewriting.{callIn, called, idle}
-use Rattle.meaning.specs.Laws.Bools.{same-refl, same→≡, same-≢, and-l, and-i, and-cong, not-true}
+use Rattle.meaning.specs.Laws.Bools.{or-l, or-r, same-refl, same→≡, same→≢, same-≢, and-l, and-i, and-cong, not-true}
 use Rattle.agreement.specs.Tree.{calls, on, tree, nest, touch, moveR}
 
 -- ── sets without calls ──
@@ -368,7 +368,7 @@ module _ (sig state : ℕ → ℕ) (inj : (i j : ℕ) → sig i ≡ sig j → i 
       go : (b : Bool) → same j i ≡ b → single (sig j) ∩ T ≡ cond (In j ss && hits t j) (single (sig j)) ∅
           → single (sig j) ∩ (T ∪ cond (hits t i) (single (sig i)) ∅) ≡ cond ((In j ss || b) && hits t j) (single (sig j)) ∅
       go true e r = let q = same→≡ j i e in rw q (own-call (In i ss) (hits t i) (rw q at r))
-      go false e r = other-call (hits t i) (sig-apart sig inj j i (λ q. false≢true (sym e ∙ rw q (same-refl j)))) ∙ r ∙ ap (λ n. cond (n && hits t j) (single (sig j)) ∅) (sym (or-false (In j ss)))
+      go false e r = other-call (hits t i) (sig-apart sig inj j i (λ q. same→≢ j i e (sym q))) ∙ r ∙ ap (λ n. cond (n && hits t j) (single (sig j)) ∅) (sym (or-false (In j ss)))
 
   -- a permitted move makes a slave's call exactly if the slave is active
   made-at : (ss : Slaves) (F : Set) (a : Bool) (o : Set) (s : ℕ) (m : Move) → okChart F a o s m ≡ true → (j : ℕ) → In j ss ≡ true
@@ -470,14 +470,6 @@ module _ (sig state : ℕ → ℕ) (inj : (i j : ℕ) → sig i ≡ sig j → i 
         (ap (okR (tree sig fbs t)) cut
         ∙ ok-t t (some i) (f (state i)) (zo ∩ inFace E t) (r .2) (old-cut sig zo (inFace E t) (face-old t (some i) (r .2))) tt)
       where
-        or-l : (a b : Bool) → a ≡ true → (a || b) ≡ true
-        or-l true b e = refl
-        or-l false b e = absurd (false≢true e)
-
-        or-r : (a b : Bool) → b ≡ true → (a || b) ≡ true
-        or-r true b e = refl
-        or-r false b e = e
-
         oi : Old sig (inFace E t)
         oi = face-old t (some i) (r .2)
 

@@ -1,13 +1,13 @@
 -- Lists made one after another (`upto`), where some of them are empty.
 use mathlib.Core.Path.{_≡_, refl, sym, _∙_, ap}
-use mathlib.Core.Bool.{Bool, true, false, false≢true}
+use mathlib.Core.Bool.{Bool, true, false}
 use mathlib.Core.Logic.{_≢_}
 use mathlib.Core.List.{List, [], _++_, append-nil}
 use Prim.Native.Nat.{ℕ, zero, suc, _+_, _<_}
 use native.Mathlib.Nat.{add-suc, add-zero}
 use native.Mathlib.Omega.{arith}
 use Rattle.meaning.specs.Meaning.{same, upto}
-use Rattle.meaning.specs.Laws.Bools.{same-refl, same→≡}
+use Rattle.meaning.specs.Laws.Bools.{same→≡, same→≢}
 use Rattle.meaning.specs.Laws.Choices.{upto-cong, upto-first}
 
 module _ {A : Type 0} where
@@ -23,7 +23,7 @@ module _ {A : Type 0} where
     where
       go : (b : Bool) → same s k ≡ b → (s < k → upto (m + k) f ≡ upto m f ++ f (suc (m + s))) → upto (m + k) f ++ f (suc (m + k)) ≡ upto m f ++ f (suc (m + s))
       go true e rec = let p : s ≡ k = same→≡ s k e in rw (p, none-left m k f (λ q l. h q (omega arith) (λ e. omega arith)))
-      go false e rec = let p : s ≢ k = λ q. false≢true (sym e ∙ rw q (same-refl k)) in
+      go false e rec = let p : s ≢ k = same→≢ s k e in
           rw (rec (omega arith), h k (omega arith) (λ e. p (sym e))) (append-nil (upto m f ++ f (suc (m + s))))
 
   -- the first of f moves behind the others: no matter, if either it or they are empty

@@ -23,8 +23,8 @@ use Rattle.meaning.specs.Count.Laws.{or-left, or-right, any-never}
 use Rattle.meaning.specs.File.{File, endOf, trailer, bodyOf, shapeOf, chartOf, fileAt, fileOf}
 use Rattle.meaning.specs.Check.{differ, nonzero, zeros?, distance?}
 use Rattle.meaning.specs.Rewriting.{inTurn, headFor, transitionsBytes, transitionsIn, shapeIn, bodyBytes, encode}
-use Rattle.meaning.specs.Check.Laws.{Passed, summed}
-use Rattle.agreement.specs.Passed.{alike, body-bytes}
+use Rattle.meaning.specs.Check.Laws.{alike, Passed, summed}
+use Rattle.agreement.specs.Passed.{body-bytes}
 
 -- ── numbers ──
 

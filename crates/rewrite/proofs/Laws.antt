@@ -43,10 +43,6 @@ union-left k f {all} h e = sets (all ∷ []) [] (A ≐ A ∪ₑ ∅ₑ) tt ∙ u
 
 -- ── a chart's transitions ──
 
-pub start-none : (n : Shape) (b : List ℕ) → 0 ≡ startOf n b 0
-unfolding startOf
-start-none n b = refl
-
 -- h is the head of chart c, whose transitions begin at s
 module _ (n : Shape) (b : List ℕ) (c s : ℕ) {h : Head} (eh : h ≡ headAt n b c) (es : s ≡ startOf n b c) where
   pub in-all : Checked n b → c < n .charts → s + h .transitions ≤ n .transitions

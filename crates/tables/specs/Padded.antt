@@ -9,7 +9,8 @@ use lib.ListN.{length, take, replicate}
 use lib.Seq.{take-at}
 use Rattle.meaning.specs.Meaning.{same, Outcome, eqList, agree, Answer, given, answer}
 use Rattle.search.specs.Hunt.{over, nothing}
-use Rattle.search.specs.Hunt.Laws.{eqList-refl, Alike, alike-refl, alike-path, alike-sym, alike-trans, alike-append, alike-answer, Among, alike-drop, answer-over}
+use Rattle.meaning.specs.Laws.Choices.{eqList-refl}
+use Rattle.search.specs.Hunt.Laws.{Alike, alike-refl, alike-path, alike-sym, alike-trans, alike-append, alike-answer, Among, alike-drop, answer-over}
 use Rattle.tables.specs.Filled.{answerOf, trimmed}
 
 -- ── outcomes of 8 states ──

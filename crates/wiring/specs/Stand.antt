@@ -6,12 +6,13 @@ use mathlib.Core.Logic.{_≢_, _⊎_, inl, inr}
 use Prim.Native.Nat.{ℕ, zero, suc, _+_, _≤_, _<_}
 use native.Mathlib.Omega.{arith}
 use Rattle.meaning.specs.Meaning.{Set, same, Chart, Tree, Slaves, leaf, comp, hide, dec, nil, snoc}
-use Rattle.meaning.specs.Laws.Bools.{same-refl, same→≡, same-≢, and-l, and-r, and-i, not-true}
+use Rattle.meaning.specs.Laws.Bools.{or-elim, or-l, same-refl, same→≡, same-≢, and-l, and-r, and-i, not-true}
 use Rattle.meaning.specs.File.{Has, HasS, File, whole, gather, treeOf}
-use Rattle.meaning.specs.Laws.Above.{Above, AboveS, live-either}
+use Rattle.meaning.specs.Laws.Above.{Above, AboveS}
 use Rattle.meaning.specs.Laws.Trees.{Ordered, Placed, Joined, Rule11, tree₀, tree₁, tree₂, all-there, above-node}
-use Rattle.meaning.specs.Laws.Names.{Rule10, bySlave, byNode, enc, kap, tally-ge, find, find-one, at-most, by-slave, by-node, names-a₁, names-b₁, names-a₂, hold-one, placed, joined, enc-last, up}
+use Rattle.meaning.specs.Laws.Names.{Rule10, bySlave, byNode, enc, kap, find, find-one, at-most, by-slave, by-node, names-a₁, names-b₁, names-a₂, hold-one, placed, joined, enc-last, up}
 use Rattle.meaning.specs.Count.{one, tally}
+use Rattle.meaning.specs.Count.Laws.{tally-ge}
 use Rattle.meaning.specs.Check.{names, named}
 use Rattle.wiring.specs.Wire.{Held, Helds, Enc, Encs}
 use Rattle.wiring.specs.Wired.{Stands}
@@ -87,15 +88,11 @@ gather-in sc g c (suc k) d h = go (same (sc k) c) refl h (gather-in sc g c k d)
     go : (b : Bool) → same (sc k) c ≡ b → HasS (cond b (snoc (gather sc g c k) k (g k)) (gather sc g c k)) d ≡ true
         → (HasS (gather sc g c k) d ≡ true → (i : ℕ) × (i < k) × (sc i ≡ c) × (Has (g i) d ≡ true)) → (i : ℕ) × (i < suc k) × (sc i ≡ c) × (Has (g i) d ≡ true)
     go false e h r = lift (r h)
-    go true e h r = live-either (Has (g k) d) (HasS (gather sc g c k) d) _ (λ p. (k, omega arith, same→≡ (sc k) c e, p)) (λ p. lift (r p)) h
+    go true e h r = or-elim (Has (g k) d) (HasS (gather sc g c k) d) _ (λ p. (k, omega arith, same→≡ (sc k) c e, p)) (λ p. lift (r p)) h
 
 whole-in : (c : ℕ) (ss : Slaves) (d : ℕ) → Has (whole c ss) d ≡ true → (same d c || HasS ss d) ≡ true
 unfolding Has
-whole-in c nil d h = or-l (same d c) h
-  where
-    or-l : (a : Bool) → a ≡ true → (a || false) ≡ true
-    or-l true e = refl
-    or-l false e = e
+whole-in c nil d h = or-l (same d c) false h
 whole-in c (snoc ss i t) d h = h
 
 and-none : (a b : Bool) → (a ≡ true → b ≡ true → ⊥) → (a && b) ≡ false
@@ -114,12 +111,12 @@ module _ (F : File) (w : Ordered F) (par hold : ℕ → ℕ) (ti : Tidy F par ho
       rise i e a u = subst (λ z. Up par (hold c) z) e (more u (rw e a))
 
       go : (k : ℕ) → F .kind j ≡ k → ((i : ℕ) → i < j → Has (treeOf F i) c ≡ true → Up par (hold c) i) → Up par (hold c) j
-      go zero e ih = live-either (same c (F .a j)) (HasS (gather (F .master) (λ i. treeOf F (F .node i)) (F .a j) (F .slaves)) c) _
+      go zero e ih = or-elim (same c (F .a j)) (HasS (gather (F .master) (λ i. treeOf F (F .node i)) (F .a j) (F .slaves)) c) _
           (λ q. subst (λ z. Up par (hold c) z) (ap hold (same→≡ c (F .a j) q) ∙ ti .holds j l e .0) here)
           (λ q. let u = gather-in (F .master) (λ i. treeOf F (F .node i)) (F .a j) (F .slaves) c q in
           let a = w .lower₀ j l e (u .0) (u .1) (u .2) in rise (F .node (u .0)) (ti .par₀ j l e (u .0) (u .1) (u .2)) a (ih (F .node (u .0)) a (u .3)))
           (whole-in (F .a j) (gather (F .master) (λ i. treeOf F (F .node i)) (F .a j) (F .slaves)) c (rw (tree₀ F w j l e) at h))
-      go (suc zero) e ih = let a = w .lower₁ j l e in let b = ti .par₁ j l e in live-either (Has (treeOf F (F .a j)) c) (Has (treeOf F (F .b j)) c) _
+      go (suc zero) e ih = let a = w .lower₁ j l e in let b = ti .par₁ j l e in or-elim (Has (treeOf F (F .a j)) c) (Has (treeOf F (F .b j)) c) _
           (λ q. rise (F .a j) (b .0) (a .0) (ih (F .a j) (a .0) q)) (λ q. rise (F .b j) (b .1) (a .1) (ih (F .b j) (a .1) q)) (rw (tree₁ F w j l e) at h)
       go (suc (suc k)) e ih = let e₂ : F .kind j ≡ 2 = (let h = w .kinds j l in omega arith) in let a = w .lower₂ j l e₂ in
           rise (F .a j) (ti .par₂ j l e₂) a (ih (F .a j) a (rw (tree₂ F w j l e₂) at h))
@@ -204,13 +201,13 @@ module _ (encC : ℕ → Option ℕ) (sc : ℕ → ℕ) where
 
     low-tree : (t : Tree) (κ : Option ℕ) → Enc encC sc t κ → Above t → (c : ℕ) → Has t c ≡ true → (encC c ≡ κ) ⊎ Lower c
     low-tree (leaf d) κ k v c h = inl (ap encC (same→≡ c d h) ∙ k)
-    low-tree (comp l r x) κ k v c h = live-either (Has l c) (Has r c) _ (λ e. low-tree l κ (k .0) (v .0) c e) (λ e. low-tree r κ (k .1) (v .1) c e) h
+    low-tree (comp l r x) κ k v c h = or-elim (Has l c) (Has r c) _ (λ e. low-tree l κ (k .0) (v .0) c e) (λ e. low-tree r κ (k .1) (v .1) c e) h
     low-tree (hide l x y) κ k v c h = low-tree l κ k v c h
-    low-tree (dec d ss) κ k v c h = live-either (same c d) (HasS ss c) _ (λ e. inl (ap encC (same→≡ c d e) ∙ k .0)) (λ e. inr (low-slaves ss d (k .1) (v .1) c e (v .0 c e))) h
+    low-tree (dec d ss) κ k v c h = or-elim (same c d) (HasS ss c) _ (λ e. inl (ap encC (same→≡ c d e) ∙ k .0)) (λ e. inr (low-slaves ss d (k .1) (v .1) c e (v .0 c e))) h
 
     low-slaves : (ss : Slaves) (d : ℕ) → Encs encC sc ss d → AboveS ss → (c : ℕ) → HasS ss c ≡ true → d < c → Lower c
     low-slaves nil d k v c h l = absurd (false≢true h)
-    low-slaves (snoc ss i t) d k v c h l = live-either (Has t c) (HasS ss c) _ (λ e. go (low-tree t (some i) (k .2) (v .1) c e)) (λ e. low-slaves ss d (k .0) (v .0) c e l) h
+    low-slaves (snoc ss i t) d k v c h l = or-elim (Has t c) (HasS ss c) _ (λ e. go (low-tree t (some i) (k .2) (v .1) c e)) (λ e. low-slaves ss d (k .0) (v .0) c e l) h
       where
         go : ((encC c ≡ some i) ⊎ Lower c) → Lower c
         go (inl e) = (i, e, (let z = k .1 in omega arith))

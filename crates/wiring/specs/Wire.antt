@@ -10,7 +10,8 @@ use Prim.Native.Nat.{_^_, _-_}
 use Rattle.signals.specs.Mask.{_∪_, _∩_, _∖_, within, apart}
 use Rattle.signals.specs.Decide.{sets, A, B, C, D, E as Eₑ, F as Fₑ, G as Gₑ, H as Hₑ, ∅ₑ, _∪ₑ_, _∩ₑ_, _∖ₑ_, _≐_, _⊑_}
 use Rattle.meaning.specs.Meaning.{Set, ∅, same, Chart, Tree, Slaves, leaf, comp, hide, dec, nil, snoc, Move, actionOf, after, inFaceChart, inFace, out, outs, okChart, meets, permitted}
-use Rattle.meaning.specs.Laws.Bools.{same-refl, same→≡, same-≢, and-l, and-r, and-i, not-true}
+use Rattle.meaning.specs.Count.Laws.{or-left, or-right}
+use Rattle.meaning.specs.Laws.Bools.{and-second, or-l, or-r, same-refl, same→≡, same→≢, same-≢}
 use Rattle.layout.specs.declared.record.Transition.{Transition}
 use Rattle.meaning.specs.File.{Has, HasS}
 use Rattle.wiring.specs.Uncut.{okU, oksU, Within, permitted-uncut}
@@ -175,7 +176,7 @@ join-own (suc k) act d s l = go (same k d) refl (λ m. join-own k act d s m)
     go true p rec = let q : k ≡ d = same→≡ k d p in
         sets (join k (λ e. act e ∩ own d e) ∷ act k ∷ own d k ∷ full ∷ act d ∷ []) (A ≐ ∅ₑ ∷ C ≐ D ∷ B ≐ Eₑ ∷ Eₑ ∩ₑ D ≐ Eₑ ∷ []) (A ∪ₑ B ∩ₑ C ≐ Eₑ) tt
         (join-none k act (own d) (λ e l. own-off d e (same-≢ e d (λ z. omega arith)))) (ap (own d) q ∙ own-on d) (ap act q) s
-    go false p rec = let z : k ≢ d = λ w. false≢true (sym p ∙ rw w (same-refl d)) in
+    go false p rec = let z : k ≢ d = same→≢ k d p in
         sets (join k (λ e. act e ∩ own d e) ∷ act k ∷ own d k ∷ act d ∷ []) (A ≐ D ∷ C ≐ ∅ₑ ∷ []) (A ∪ₑ B ∩ₑ C ≐ D) tt (rec (omega arith)) (own-off d k p)
 
 join-small : (N : ℕ) (act y : ℕ → Set) → ((e : ℕ) → Small (act e)) → Small (join N (λ e. act e ∩ y e))
@@ -190,26 +191,6 @@ feed N act b y z a x = ap (λ j. z ∩ a ∪ j) (join-feed N act b y a x)
     ∙ sets (z ∷ a ∷ x ∷ join N (λ e. act e ∩ b e) ∷ join N (λ e. act e ∩ y e) ∷ []) [] (A ∩ₑ B ∪ₑ (D ∪ₑ Eₑ ∩ₑ C ∩ₑ B) ≐ (A ∪ₑ Eₑ ∩ₑ C) ∩ₑ B ∪ₑ D) tt
 
 -- ── a chart that is not in the tree has no part in the rows ──
-or-l : (a b : Bool) → (a || b) ≡ false → a ≡ false
-or-l true b h = h
-or-l false b h = refl
-
-or-r : (a b : Bool) → (a || b) ≡ false → b ≡ false
-or-r true b h = absurd (true≢false h)
-or-r false b h = h
-
-or-l′ : (a b : Bool) → a ≡ true → (a || b) ≡ true
-or-l′ true b h = refl
-or-l′ false b h = absurd (false≢true h)
-
-or-r′ : (a b : Bool) → b ≡ true → (a || b) ≡ true
-or-r′ true b h = refl
-or-r′ false b h = h
-
-apart-l : (a b : Bool) → (a && b) ≡ false → a ≡ true → b ≡ false
-apart-l true b h e = h
-apart-l false b h e = absurd (false≢true e)
-
 apart-r : (a b : Bool) → (a && b) ≡ false → b ≡ true → a ≡ false
 apart-r true b h e = absurd (true≢false (sym e ∙ h))
 apart-r false b h e = refl
@@ -219,13 +200,13 @@ mutual
 
   down-off : (t : Tree) (c : ℕ) → Has t c ≡ false → down t c ≡ ∅
   down-off (leaf d) c h = own-off d c h
-  down-off (comp l r x) c h = none-or (down-off l c (or-l (Has l c) (Has r c) h)) (down-off r c (or-r (Has l c) (Has r c) h))
+  down-off (comp l r x) c h = none-or (down-off l c (or-left (Has l c) (Has r c) h)) (down-off r c (or-right (Has l c) (Has r c) h))
   down-off (hide l x y) c h = none-less x (down-off l c h)
-  down-off (dec d ss) c h = none-or (own-off d c (or-l (same c d) (HasS ss c) h)) (downs-off ss c (or-r (same c d) (HasS ss c) h))
+  down-off (dec d ss) c h = none-or (own-off d c (or-left (same c d) (HasS ss c) h)) (downs-off ss c (or-right (same c d) (HasS ss c) h))
 
   downs-off : (ss : Slaves) (c : ℕ) → HasS ss c ≡ false → downs ss c ≡ ∅
   downs-off nil c h = refl
-  downs-off (snoc ss i t) c h = none-or (downs-off ss c (or-r (Has t c) (HasS ss c) h)) (down-off t c (or-l (Has t c) (HasS ss c) h))
+  downs-off (snoc ss i t) c h = none-or (downs-off ss c (or-right (Has t c) (HasS ss c) h)) (down-off t c (or-left (Has t c) (HasS ss c) h))
 
 module _ (E : ℕ → Chart) where
   mutual
@@ -233,14 +214,14 @@ module _ (E : ℕ → Chart) where
 
     back-off : (t : Tree) (c : ℕ) → Has t c ≡ false → (e : ℕ) → back E t c e ≡ ∅
     back-off (leaf d) c h e = none-cut (own d e) (E d .feedback) (own-off d c h)
-    back-off (comp l r x) c h e = none-or (none-or (back-off l c (or-l (Has l c) (Has r c) h) e) (back-off r c (or-r (Has l c) (Has r c) h) e))
+    back-off (comp l r x) c h e = none-or (none-or (back-off l c (or-left (Has l c) (Has r c) h) e) (back-off r c (or-right (Has l c) (Has r c) h) e))
         (none-cut (up l e ∪ up r e) x (down-off (comp l r x) c h))
     back-off (hide l x y) c h e = back-off l c h e
-    back-off (dec d ss) c h e = none-or (backs-off ss c (or-r (same c d) (HasS ss c) h) e) (none-cut (own d e ∪ ups ss e) (E d .feedback) (down-off (dec d ss) c h))
+    back-off (dec d ss) c h e = none-or (backs-off ss c (or-right (same c d) (HasS ss c) h) e) (none-cut (own d e ∪ ups ss e) (E d .feedback) (down-off (dec d ss) c h))
 
     backs-off : (ss : Slaves) (c : ℕ) → HasS ss c ≡ false → (e : ℕ) → backs E ss c e ≡ ∅
     backs-off nil c h e = refl
-    backs-off (snoc ss i t) c h e = none-or (backs-off ss c (or-r (Has t c) (HasS ss c) h) e) (back-off t c (or-l (Has t c) (HasS ss c) h) e)
+    backs-off (snoc ss i t) c h e = none-or (backs-off ss c (or-right (Has t c) (HasS ss c) h) e) (back-off t c (or-left (Has t c) (HasS ss c) h) e)
 
 -- ── every chart of a tree ──
 mutual
@@ -248,13 +229,13 @@ mutual
 
   each-cong : (t : Tree) (f g : ℕ → Bool) → ((c : ℕ) → Has t c ≡ true → f c ≡ g c) → each t f ≡ each t g
   each-cong (leaf d) f g h = h d (same-refl d)
-  each-cong (comp l r x) f g h = ap₂ _&&_ (each-cong l f g (λ c k. h c (or-l′ (Has l c) (Has r c) k))) (each-cong r f g (λ c k. h c (or-r′ (Has l c) (Has r c) k)))
+  each-cong (comp l r x) f g h = ap₂ _&&_ (each-cong l f g (λ c k. h c (or-l (Has l c) (Has r c) k))) (each-cong r f g (λ c k. h c (or-r (Has l c) (Has r c) k)))
   each-cong (hide l x y) f g h = each-cong l f g h
-  each-cong (dec d ss) f g h = ap₂ _&&_ (h d (or-l′ (same d d) (HasS ss d) (same-refl d))) (eachs-cong ss f g (λ c k. h c (or-r′ (same c d) (HasS ss c) k)))
+  each-cong (dec d ss) f g h = ap₂ _&&_ (h d (or-l (same d d) (HasS ss d) (same-refl d))) (eachs-cong ss f g (λ c k. h c (or-r (same c d) (HasS ss c) k)))
 
   eachs-cong : (ss : Slaves) (f g : ℕ → Bool) → ((c : ℕ) → HasS ss c ≡ true → f c ≡ g c) → eachs ss f ≡ eachs ss g
   eachs-cong nil f g h = refl
-  eachs-cong (snoc ss i t) f g h = ap₂ _&&_ (eachs-cong ss f g (λ c k. h c (or-r′ (Has t c) (HasS ss c) k))) (each-cong t f g (λ c k. h c (or-l′ (Has t c) (HasS ss c) k)))
+  eachs-cong (snoc ss i t) f g h = ap₂ _&&_ (eachs-cong ss f g (λ c k. h c (or-r (Has t c) (HasS ss c) k))) (each-cong t f g (λ c k. h c (or-l (Has t c) (HasS ss c) k)))
 
 -- ── the output ──
 module _ (N : ℕ) (M : ℕ → Move) (small : (e : ℕ) → Small (actionOf (M e))) where
@@ -334,7 +315,7 @@ module _ (E : ℕ → Chart) (state : ℕ → ℕ) (cfg : ℕ → ℕ) (M : ℕ 
         (e ∙ ap (awakeBy sc state cfg M act) (sym k) ∙ sym (awake d h)) (sym (leaf-part N (λ e. actionOf (M e)) d z (E d .feedback) sm (small d) h))
     wired (comp l r x) κ a z sm h k e = ap₂ _&&_
         (wired l κ a z′ sm′ (h .0) (k .0) e ∙ sym (each-cong l (ruleAt z (down (comp l r x)) (back E (comp l r x))) (ruleAt z′ (down l) (back E l)) (λ c m. ap-fits c _ _
-        (fed c ∙ fst-part N (λ e. actionOf (M e)) z′ (down l c) (down r c) (back E l c) (back E r c) (down-off r c (apart-l (Has l c) (Has r c) (h .2 c) m)) (back-off E r c (apart-l (Has l c) (Has r c) (h .2 c) m))))))
+        (fed c ∙ fst-part N (λ e. actionOf (M e)) z′ (down l c) (down r c) (back E l c) (back E r c) (down-off r c (and-second (Has l c) (Has r c) (h .2 c) m)) (back-off E r c (and-second (Has l c) (Has r c) (h .2 c) m))))))
         (wired r κ a z′ sm′ (h .1) (k .1) e ∙ sym (each-cong r (ruleAt z (down (comp l r x)) (back E (comp l r x))) (ruleAt z′ (down r) (back E r)) (λ c m. ap-fits c _ _
         (fed c ∙ snd-part N (λ e. actionOf (M e)) z′ (down l c) (down r c) (back E l c) (back E r c) (down-off l c (apart-r (Has l c) (Has r c) (h .2 c) m)) (back-off E l c (apart-r (Has l c) (Has r c) (h .2 c) m))))))
       where
@@ -382,4 +363,4 @@ module _ (E : ℕ → Chart) (state : ℕ → ℕ) (cfg : ℕ → ℕ) (M : ℕ 
         (fst-part N (λ e. actionOf (M e)) z (downs ss c) (down t c) (backs E ss c) (back E t c) (down-off t c (apart-r (Has t c) (HasS ss c) (h .2 c) m)) (back-off E t c (apart-r (Has t c) (HasS ss c) (h .2 c) m))))))
         (wired t (some i) (f (state i)) z sm (h .1) (k .2) (e (state i) ∙ ap (λ c. act c && meets (cfg c) (M c) (state i)) (sym (k .1)))
         ∙ sym (each-cong t (ruleAt z (downs (snoc ss i t)) (backs E (snoc ss i t))) (ruleAt z (down t) (back E t)) (λ c m. ap-fits c _ _
-        (snd-part N (λ e. actionOf (M e)) z (downs ss c) (down t c) (backs E ss c) (back E t c) (downs-off ss c (apart-l (Has t c) (HasS ss c) (h .2 c) m)) (backs-off E ss c (apart-l (Has t c) (HasS ss c) (h .2 c) m))))))
+        (snd-part N (λ e. actionOf (M e)) z (downs ss c) (down t c) (backs E ss c) (back E t c) (downs-off ss c (and-second (Has t c) (HasS ss c) (h .2 c) m)) (backs-off E ss c (and-second (Has t c) (HasS ss c) (h .2 c) m))))))

@@ -5,10 +5,9 @@ use mathlib.Core.Option.{Option, none, some}
 use Prim.Native.Nat.{ℕ, zero, suc, _+_, _≤_, _<_}
 use native.Mathlib.Omega.{arith}
 use Rattle.meaning.specs.Meaning.{Set, ∅, same, Chart, Tree, Slaves, leaf, comp, hide, dec, nil, snoc, Move, actionOf, inFaceChart, inFace, out, meets, permitted}
-use Rattle.meaning.specs.Laws.Bools.{same-refl, same→≡, every, every-intro, every-elim, and-l, and-r, and-i, bool-eq}
+use Rattle.meaning.specs.Laws.Bools.{or-elim, same-refl, same→≡, every, every-intro, every-elim, and-l, and-r, and-i, bool-eq}
 use Rattle.layout.specs.declared.record.Transition.{Transition}
 use Rattle.meaning.specs.File.{Has, HasS}
-use Rattle.meaning.specs.Laws.Above.{live-either}
 use Rattle.wiring.specs.Uncut.{Within, okU, permitted-uncut}
 use Rattle.wiring.specs.Wire.{down, up, back, offered, fits, each, eachs, Held, Helds, Enc, awakeBy, ruleAt, wired, Small}
 
@@ -17,13 +16,13 @@ mutual
 
   each-elim : (t : Tree) (f : ℕ → Bool) → each t f ≡ true → (c : ℕ) → Has t c ≡ true → f c ≡ true
   each-elim (leaf d) f h c k = rw (same→≡ c d k) h
-  each-elim (comp l r x) f h c k = live-either (Has l c) (Has r c) _ (λ e. each-elim l f (and-l _ _ h) c e) (λ e. each-elim r f (and-r (each l f) _ h) c e) k
+  each-elim (comp l r x) f h c k = or-elim (Has l c) (Has r c) _ (λ e. each-elim l f (and-l _ _ h) c e) (λ e. each-elim r f (and-r (each l f) _ h) c e) k
   each-elim (hide l x y) f h c k = each-elim l f h c k
-  each-elim (dec d ss) f h c k = live-either (same c d) (HasS ss c) _ (λ e. rw (same→≡ c d e) (and-l _ _ h)) (λ e. eachs-elim ss f (and-r (f d) _ h) c e) k
+  each-elim (dec d ss) f h c k = or-elim (same c d) (HasS ss c) _ (λ e. rw (same→≡ c d e) (and-l _ _ h)) (λ e. eachs-elim ss f (and-r (f d) _ h) c e) k
 
   eachs-elim : (ss : Slaves) (f : ℕ → Bool) → eachs ss f ≡ true → (c : ℕ) → HasS ss c ≡ true → f c ≡ true
   eachs-elim nil f h c k = absurd (false≢true k)
-  eachs-elim (snoc ss i t) f h c k = live-either (Has t c) (HasS ss c) _ (λ e. each-elim t f (and-r (eachs ss f) _ h) c e) (λ e. eachs-elim ss f (and-l _ _ h) c e) k
+  eachs-elim (snoc ss i t) f h c k = or-elim (Has t c) (HasS ss c) _ (λ e. each-elim t f (and-r (eachs ss f) _ h) c e) (λ e. eachs-elim ss f (and-l _ _ h) c e) k
 
 mutual
   unfolding each

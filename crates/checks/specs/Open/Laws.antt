@@ -1,10 +1,9 @@
 -- Laws of the check's groups: how the groups make `refusalOf`, and what a trailer that passes says of the body.
 use mathlib.Core.Path.{_≡_, refl, sym, ap, ap₂, _∙_}
-use mathlib.Core.Bool.{false}
 use mathlib.Core.List.{List, _∷_, _++_}
-use Prim.Native.Nat.{ℕ, _+_, _-_, _≤_, _<_}
+use Prim.Native.Nat.{ℕ, _-_, _≤_, _<_}
 use native.Mathlib.Omega.{arith}
-use borrow.Author.Tests.{lt-ltb, le-ltb, ltb-false, eqb-true, not-false}
+use borrow.Author.Tests.{lt-ltb, le-ltb, ltb-false}
 use lib.Dec.{lit<}
 use lib.ListN.{length, take, drop, length-drop}
 use lib.Seq.{length-take-le}
@@ -13,10 +12,9 @@ use Rattle.layout.specs.declared.body.Shape.{Shape}
 use Rattle.layout.specs.declared.record.Trailer.{Trailer}
 use Rattle.meaning.specs.Numbers.{tooShort}
 use Rattle.meaning.specs.Count.Laws.{or-left, or-right}
-use Rattle.meaning.specs.Meaning.{same}
 use Rattle.meaning.specs.File.{endOf, trailer, bodyOf, shapeOf}
 use Rattle.meaning.specs.Check.{firstOf, differ, distance?, bodyTests, fileTests, refusalOf}
-use Rattle.meaning.specs.Check.Laws.{firstOf-here, firstOf-next, Passes, firstOf-passes, firstOf-++, firstOf-before, passed, counted, summed}
+use Rattle.meaning.specs.Check.Laws.{alike, firstOf-here, firstOf-next, Passes, firstOf-passes, firstOf-++, firstOf-before, passed, counted, summed}
 use Rattle.checks.specs.Known.{Sized}
 use Rattle.checks.specs.Open.{trailerTests, zeroTest, Opens}
 
@@ -48,8 +46,7 @@ module _ (f : List ℕ) (t : Trailer) (is : t ≡ trailer f) (long : 12 ≤ leng
     within = ltb-false (endOf f) (t .distance) (or-right (differ (t .distance) (sizeOf (shapeOf t))) _ (passes .1 .1 .0))
 
     distance-is : t .distance ≡ sizeOf (shapeOf t)
-    unfolding same
-    distance-is = eqb-true _ _ (not-false _ (or-left (differ (t .distance) (sizeOf (shapeOf t))) _ (passes .1 .1 .0)))
+    distance-is = alike _ _ (or-left (differ (t .distance) (sizeOf (shapeOf t))) _ (passes .1 .1 .0))
 
     pub body-is : take (endOf f - (endOf f - t .distance)) (drop (endOf f - t .distance) f) ≡ bodyOf f
     unfolding bodyOf

@@ -1,14 +1,14 @@
 -- Laws of the walk of 7: its table counts (`Counts`), and what it asks of a transition is `badAt` (`next?`).
 use mathlib.Core.Path.{_≡_, refl, sym, ap, subst, _∙_}
-use mathlib.Core.Bool.{Bool, true, false, _||_, not}
+use mathlib.Core.Bool.{true, false, not}
 use mathlib.Core.List.{List}
 use mathlib.Core.Logic.{⊎-elim}
 use Prim.Native.Nat.{ℕ, suc, _+_, _≤_, _<_}
 use native.Mathlib.Numerals.{add-one}
 use native.Mathlib.Omega.{arith}
-use borrow.Author.Tests.{lt-ltb, le-ltb, ltb-true, ltb-false, not-false}
+use borrow.Author.Tests.{lt-ltb, le-ltb, ltb-true, ltb-false}
 use lib.Dec.{ltb}
-use lib.ListN.{length, getD, replicate, length-set, getD-replicate}
+use lib.ListN.{getD, replicate, length-set, getD-replicate}
 use lib.Seq.{getD-set-same, getD-set-other}
 use Rattle.layout.specs.Body.{headAt}
 use Rattle.layout.specs.declared.body.Shape.{Shape}
@@ -16,7 +16,7 @@ use Rattle.layout.specs.declared.record.Transition.{Transition}
 use Rattle.meaning.specs.Numbers.{mostStates, mostFromState}
 use Rattle.meaning.specs.Check.{notBelow, inChart, ends?, leaving}
 use Rattle.meaning.specs.Count.Laws.{or-left}
-use Rattle.meaning.specs.Check.Laws.{decided, eq-or-not, badAt, leaving-none, leaving-own, leaving-other}
+use Rattle.meaning.specs.Check.Laws.{below, decided, eq-or-not, badAt, leaving-none, leaving-own, leaving-other}
 use Rattle.checks.specs.Walk.{next?, counted, Counts}
 
 module _ (n : Shape) (b : List ℕ) (c : ℕ) where
@@ -54,7 +54,7 @@ module _ (n : Shape) (b : List ℕ) (c : ℕ) where
 
   ends-in : (k : ℕ) → ends? n b c k ≡ false → inChart n b c k .from < headAt n b c .states
   unfolding ends?
-  ends-in k e = ltb-true _ _ (not-false _ (or-left _ (notBelow (inChart n b c k .to) (headAt n b c .states)) e))
+  ends-in k e = below _ _ (or-left _ (notBelow (inChart n b c k .to) (headAt n b c .states)) e)
 
   -- not below 8 before it is over 8 with it
   over : (x m : ℕ) → not (ltb x m) ≡ ltb m (suc x)

@@ -18,8 +18,9 @@ use Rattle.meaning.specs.Meaning.{same}
 use Rattle.meaning.specs.File.{File, trailer, endOf, shapeOf, bodyOf, chartOf, fileAt, fileOf}
 use Rattle.meaning.specs.Check.{Test, firstOf, fileTests, refusalOf, differ, notBelow, distance?}
 use Rattle.meaning.specs.Count.Laws.{or-left, any-all}
-use Rattle.meaning.specs.Check.Laws.{firstOf-here, firstOf-next, firstOf-[], call-refused, call-passed, passed, charted}
-use Rattle.meaning.specs.Calls.{made, laidOver, firstRefusal, initials, firstBytes, rowsOf, runBytes}
+use Rattle.meaning.specs.Check.Laws.{alike, firstOf-here, firstOf-next, firstOf-[], call-refused, call-passed, passed, charted}
+use Rattle.meaning.specs.Calls.{laidOver, firstRefusal, initials, firstBytes, rowsOf, runBytes}
+use Rattle.meaning.specs.Calls.Laws.{length-made, getD-made}
 use Rattle.meaning.specs.Laws.Runs.{Leads, Valid, rows-all}
 use Rattle.checks.specs.Open.{Stands}
 use Rattle.checks.specs.declared.opening.Opening.{Opening}
@@ -86,8 +87,8 @@ module _ (f : List ℕ) where
 -- the body of a file that passed stands behind the front
 module _ (f : List ℕ) (a : refusalOf f ≡ 0) (o : Opening) (s : Stands f o) where
   distance-is : trailer f .distance ≡ sizeOf (shapeOf (trailer f))
-  unfolding distance? same
-  distance-is = eqb-true _ _ (not-false _ (or-left _ _ (passed f a .distance)))
+  unfolding distance?
+  distance-is = alike _ _ (or-left _ _ (passed f a .distance))
 
   pub front-is : o .start ≡ frontOf f
   unfolding frontOf
@@ -107,20 +108,6 @@ leads-of f a o s =
     leads (shapeOf (trailer f)) (bodyOf f) (checked f (shapeOf (trailer f)) (bodyOf f) a refl refl (rw (s .shape) at (s .sized)) (rw (s .shape) at (s .summed)))
 
 -- ── the first configuration ──
-
-length-made : (n : ℕ) (g : ℕ → ℕ) → length (made n g) ≡ n
-unfolding made
-length-made zero g = refl
-length-made (suc n) g = rw (length-append, length-made n g) (omega arith)
-
-getD-made : (n : ℕ) (g : ℕ → ℕ) (i : ℕ) → i < n → getD (made n g) i 0 ≡ g i
-unfolding made
-getD-made zero g i l = absurd (omega arith)
-getD-made (suc n) g i l = go (decLt i n) (getD-made n g i)
-  where
-    go : Dec (i < n) → (i < n → getD (made n g) i 0 ≡ g i) → getD (made n g ++ (g n ∷ [])) i 0 ≡ g i
-    go (yes b) r = List·getD-append (made n g) (g n ∷ []) 0 i (rw (length-made n g) b) ∙ r b
-    go (no b) r = let e : i ≡ n = omega arith in rw e (getD-at (made n g) (g n) [] 0 n (length-made n g))
 
 module _ (f : List ℕ) (a : refusalOf f ≡ 0) where
   pub initials-valid : Valid (fileOf f) (initials f)

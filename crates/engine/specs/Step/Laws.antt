@@ -1,50 +1,42 @@
 -- Laws of the step, in this order: a call's list behind 1 to 11; what a checked body and a valid configuration give the choosing of candidates; the
 -- tables after it; what the search over them answers; what was found, as an answer; the next configuration.
-use mathlib.Core.Path.{_≡_, refl, sym, ap, ap₂, _∙_, subst}
-use mathlib.Core.Bool.{Bool, true, false, cond}
-use mathlib.Core.Option.{Option, none, some}
-use mathlib.Core.List.{List, [], _∷_, _++_, append-assoc, List·Memᴰ, List·Memᴰ·cases-cons, List·Memᴰ·not-nil}
-use mathlib.Core.Logic.{_⊎_, inl, inr}
-use Prim.Native.Nat.{ℕ, zero, suc, _+_, _*_, _-_, _^_, _≤_, _<_}
+use mathlib.Core.Path.{_≡_, refl, ap, _∙_}
+use mathlib.Core.Bool.{true, false}
+use mathlib.Core.List.{List, [], _∷_, _++_, append-assoc}
+use Prim.Native.Nat.{ℕ, _+_, _*_, _^_, _≤_, _<_}
 use native.Mathlib.Omega.{arith}
-use borrow.Author.Tests.{ne-eqb, lt-ltb, le-ltb, ltb-true, ltb-false, not-false}
+use borrow.Author.Tests.{ne-eqb, lt-ltb, le-ltb, ltb-false}
 use lib.Dec.{ltb, lit<}
 use lib.ListN.{length, getD, take}
 use Rattle.signals.specs.Mask.{_∩_}
 use Rattle.signals.specs.All.{cut-all}
 use Rattle.layout.specs.Le.{AllBytes}
-use Rattle.layout.specs.Body.{headAt, transitionAt, startOf, from, transitionsOf}
-use Rattle.layout.specs.Body.Laws.{transitionAt-fits}
+use Rattle.layout.specs.Body.{headAt, startOf}
 use Rattle.layout.specs.declared.body.Shape.{Shape}
-use Rattle.layout.specs.declared.record.Transition.{Transition}
 use Rattle.meaning.specs.Numbers.{shortBuffer, noStep, mostFromState}
 use Rattle.meaning.specs.Count.{anyUpTo}
-use Rattle.meaning.specs.Count.Laws.{or-left, or-right, any-never}
-use Rattle.meaning.specs.Meaning.{Set, same, Move, nth, pick, actionOf, moves, Answer, refused, given}
+use Rattle.meaning.specs.Count.Laws.{or-right, any-never}
+use Rattle.meaning.specs.Meaning.{Set, same, Answer, refused, given}
 use Rattle.meaning.specs.File.{File, trailer, shapeOf, bodyOf, chartOf, fileAt, fileOf, wholeOf}
-use Rattle.meaning.specs.Check.{Test, firstOf, fileTests, refusalOf, differ, notBelow, ends?, leaving, transitions?}
-use Rattle.meaning.specs.Check.Laws.{call-refused, call-passed, passed, Passes, firstOf-passes, firstOf-++, firstOf-before, firstOf-here, firstOf-next, firstOf-[]}
-use Rattle.meaning.specs.Laws.Bools.{same→≡}
-use Rattle.meaning.specs.Check.Nodes.{Sound, sound}
+use Rattle.meaning.specs.Check.{Test, firstOf, fileTests, refusalOf, notBelow, ends?, leaving, transitions?}
+use Rattle.meaning.specs.Check.Laws.{below, alike, call-refused, call-passed, passed, Passes, firstOf-passes, firstOf-++, firstOf-before, firstOf-here, firstOf-next, firstOf-[]}
+use Rattle.meaning.specs.Check.Nodes.{sound}
 use Rattle.meaning.specs.Calls.{configTests, stepRefusal, stepIn, stepOf, nextIn}
-use Rattle.meaning.specs.Laws.Demand2.{valid-next}
 use Rattle.meaning.specs.Laws.Names.{kap}
 use Rattle.wiring.specs.Wire.{Small, full, down}
-use Rattle.search.specs.Hunt.{hunts, over, nothing, answerIn}
+use Rattle.search.specs.Hunt.{hunts, over, nothing}
 use Rattle.search.specs.declared.Found.{Found}
 use Rattle.tables.specs.Filled.{Rows, beginning, answerOf, trimmed}
 use Rattle.tables.specs.Fill.{stuck}
 use Rattle.tables.specs.Step.{step-found, step-stuck}
 use Rattle.checks.specs.Known.{Sized}
-use Rattle.checks.specs.Open.{Stands}
-use Rattle.checks.specs.declared.opening.Opening.{Opening}
 use Rattle.plan.specs.Wire.{Row, Wirable}
 use Rattle.plan.specs.Nearest.{masterBy, stateBy}
 use Rattle.plan.specs.Wired.{Wired}
 use Rattle.plan.specs.Candidates.{Ready, Chooses}
 use Rattle.plan.specs.Candidates.Laws.{actions-small}
 use Rattle.engine.specs.declared.step.Stepped.{Stepped}
-use Rattle.engine.specs.Step.{steppedOf, configTestsIn, refusalAfter, stepAfter, Checked, Prepared, Finds}
+use Rattle.engine.specs.Step.{steppedOf, configTestsIn, refusalAfter, stepAfter, Checked, Prepared}
 
 -- ── behind 1 to 11 ──
 
@@ -76,11 +68,11 @@ module _ (F : File) (config : List ℕ) where
 
   pub config-long : firstOf (configTestsIn F config) ≡ 0 → length config ≡ F .charts
   unfolding configTestsIn
-  config-long h = same→≡ _ _ (not-false _ (config-passes h .0))
+  config-long h = alike _ _ (config-passes h .0)
 
   pub config-valid : firstOf (configTestsIn F config) ≡ 0 → (c : ℕ) → c < F .charts → getD config c 0 < F .chart c .states
   unfolding configTestsIn
-  config-valid h c l = ltb-true _ _ (not-false _ (any-never (F .charts) _ (config-passes h .1 .0) c l))
+  config-valid h c l = below _ _ (any-never (F .charts) _ (config-passes h .1 .0) c l)
 
   module _ (i : Set) (room : ℕ) where
     -- 22
@@ -134,7 +126,7 @@ module _ (n : Shape) (b : List ℕ) (k : Checked n b) where
 
 pub valid-config : (n : Shape) (b config : List ℕ) → anyUpTo (n .charts) (λ c. notBelow (getD config c 0) (headAt n b c .states)) ≡ false
     → (c : ℕ) → c < n .charts → getD config c 0 < headAt n b c .states
-valid-config n b config h c l = ltb-true _ _ (not-false _ (any-never (n .charts) _ h c l))
+valid-config n b config h c l = below _ _ (any-never (n .charts) _ h c l)
 
 -- ── the tables after candidates are chosen ──
 

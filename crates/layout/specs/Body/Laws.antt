@@ -30,6 +30,10 @@ module _ {A : Type 0} (f : ℕ → A) where
 -- ---- startOf
 
 module _ (n : Shape) (b : List ℕ) where
+  pub startOf-none : startOf n b 0 ≡ 0
+  unfolding startOf
+  startOf-none = refl
+
   pub startOf-next : (c : ℕ) → startOf n b (c + 1) ≡ startOf n b c + headAt n b c .transitions
   unfolding startOf
   startOf-next c = rw add-one

@@ -1,15 +1,13 @@
--- Laws of the file check, grouped under what they speak of: the first refusal that applies (`firstOf`); what a file that is not refused meets
--- (`refusalOf`); what 3 gives (`counts?`); where a chart's transitions stand (`startOf`); what 6 gives (`charts?`); that over 8 transitions from one
--- state are found as a walk goes (`transitions?`). Those of 8 to 11 are in Check/Nodes.antt.
-use mathlib.Core.Path.{_≡_, refl, sym, ap, ap₂, _∙_}
-use mathlib.Core.Bool.{Bool, true, false, _||_, not, cond}
+-- Laws of the file check, grouped under what they speak of: a test that is false; the first refusal that applies (`firstOf`); what a file that is
+-- not refused meets (`refusalOf`); what 3 gives (`counts?`); what 6 gives (`charts?`); that over 8 transitions from one state are found as a walk
+-- goes (`transitions?`). Those of 8 to 11 are in Check/Nodes.antt.
+use mathlib.Core.Path.{_≡_, refl, sym, _∙_}
+use mathlib.Core.Bool.{Bool, true, false, _||_}
 use mathlib.Core.List.{List, [], _∷_, _++_}
 use mathlib.Core.Logic.{_⊎_, inl, inr, ⊎-elim}
 use Prim.Native.Nat.{ℕ, zero, suc, _+_, _≤_, _<_}
-use native.Mathlib.Nat.{le-refl, eq-or-lt-of-le}
-use native.Mathlib.Numerals.{add-one}
 use native.Mathlib.Omega.{arith}
-use borrow.Author.Tests.{lt-ltb, le-ltb, ltb-true, ltb-false, eq-eqb, ne-eqb, eqb-true, eqb-false, not-false}
+use borrow.Author.Tests.{le-ltb, ltb-true, ltb-false, eq-eqb, ne-eqb, eqb-true, eqb-false, not-false}
 use lib.Dec.{ltb, eqb, lit<}
 use lib.ListN.{length}
 use Rattle.layout.specs.Body.{headAt, startOf}
@@ -17,10 +15,11 @@ use Rattle.layout.specs.declared.body.Shape.{Shape}
 use Rattle.layout.specs.declared.record.Trailer.{Trailer}
 use Rattle.meaning.specs.Numbers.{theEdition, mostCharts, mostSlaves, mostNodes, mostTransitions, mostStates, mostInChart, mostFromState}
 use Rattle.meaning.specs.Count.{anyUpTo, tally, one}
-use Rattle.meaning.specs.Count.Laws.{below-suc, or-left, or-right, or-three, or-four, any-at, any-never, any-all, any-cong}
+use Rattle.meaning.specs.Count.Laws.{or-left, or-right, or-three, or-four, any-never, any-all, any-cong, tally-mono}
 use Rattle.meaning.specs.Meaning.{same}
-use Rattle.meaning.specs.File.{endOf, trailer, bodyOf, shapeOf, fileAt, fileOf}
-use Rattle.meaning.specs.Check.{Test, firstOf, differ, notBelow, counts?, distance?, nonzero, zeros?, chart?, charts?, inChart, ends?, leaving, transitions?, slaves?, nodes?, naming?, inside?, bodyTests, fileTests, refusalOf}
+use Rattle.meaning.specs.Laws.Bools.{same→≡}
+use Rattle.meaning.specs.File.{endOf, trailer, bodyOf, shapeOf, fileOf}
+use Rattle.meaning.specs.Check.{Test, firstOf, differ, notBelow, counts?, distance?, nonzero, zeros?, chart?, charts?, inChart, ends?, leaving, transitions?, slaves?, nodes?, naming?, inside?, fileTests, refusalOf}
 
 -- ── Bool ──
 
@@ -36,6 +35,14 @@ both-pass : (a b : Bool) → (a ≡ false → b ≡ false) → (b ≡ false → 
 both-pass true true h g = refl
 both-pass true false h g = g refl
 both-pass false b h g = sym (h refl)
+
+-- ── a test that is false ──
+
+pub below : (m n : ℕ) → notBelow m n ≡ false → m < n
+below m n h = ltb-true m n (not-false (ltb m n) h)
+
+pub alike : (m n : ℕ) → differ m n ≡ false → m ≡ n
+alike m n h = same→≡ m n (not-false (same m n) h)
 
 -- ── firstOf ──
 
@@ -169,27 +176,6 @@ counted t h =
       transitions = ltb-false mostTransitions (t .transitions) (p .3);
     }
 
--- ── startOf ──
-
-module _ (n : Shape) (b : List ℕ) where
-  pub start-none : startOf n b 0 ≡ 0
-  unfolding startOf
-  start-none = refl
-
-  pub start-more : (c : ℕ) → startOf n b (c + 1) ≡ startOf n b c + headAt n b c .transitions
-  unfolding startOf
-  start-more c = rw add-one
-
-  -- the transitions of chart c stand among those of the charts below d
-  pub start-in : (d c : ℕ) → c < d → startOf n b c + headAt n b c .transitions ≤ startOf n b d
-  unfolding startOf
-  start-in zero c h = absurd (omega arith)
-  start-in (suc d) c h =
-      ⊎-elim
-      (λ q. rw q (le-refl _))
-      (λ l. omega (arith, start-in d c l))
-      (below-suc c d h)
-
 -- ── charts? ──
 
 -- a chart that is in order
@@ -210,7 +196,7 @@ module _ (n : Shape) (b : List ℕ) where
       record {
         some-state = s .0;
         states = s .1;
-        initial = ltb-true (r .initial) (r .states) (not-false _ (p .1));
+        initial = below (r .initial) (r .states) (p .1);
         transitions = ltb-false mostInChart (r .transitions) (p .2);
       }
 
@@ -219,19 +205,13 @@ module _ (n : Shape) (b : List ℕ) where
   charted h c l = chart-passed c (any-never (n .charts) (chart? n b) (or-left _ _ h) c l)
 
   pub summed : charts? n b ≡ false → startOf n b (n .charts) ≡ n .transitions
-  unfolding charts? same
-  summed h = eqb-true (startOf n b (n .charts)) (n .transitions) (not-false _ (or-right (anyUpTo (n .charts) (chart? n b)) _ h))
+  unfolding charts?
+  summed h = alike (startOf n b (n .charts)) (n .transitions) (or-right (anyUpTo (n .charts) (chart? n b)) _ h)
 
 -- ── transitions? ──
 
 pub eq-or-not : (a b : ℕ) → (a ≡ b) ⊎ (a ≡ b → ⊥)
 eq-or-not a b = ⊎-elim (λ e. inl (eqb-true a b e)) (λ e. inr (eqb-false a b e)) (decided (eqb a b))
-
-tally-mono : (k m : ℕ) (f : ℕ → ℕ) → k ≤ m → tally k f ≤ tally m f
-unfolding tally
-tally-mono k zero f h = let e : k ≡ 0 = omega arith in rw e (le-refl _)
-tally-mono k (suc m) f h =
-    ⊎-elim (λ q. rw q (le-refl _)) (λ l. omega (arith, tally-mono k m f (omega arith))) (eq-or-lt-of-le h)
 
 module _ (n : Shape) (b : List ℕ) (c : ℕ) where
   abbrev fromAt : ℕ → ℕ
@@ -288,7 +268,7 @@ module _ (n : Shape) (b : List ℕ) (c : ℕ) where
       any-all k badAt
       (λ u l.
       let e : ends? n b c u ≡ false = any-never k (ends? n b c) (or-left _ _ h) u l in
-      let r = ltb-true _ _ (not-false _ (or-left _ _ e)) in
+      let r = below _ _ (or-left _ _ e) in
       let m : ltb mostFromState (leaving n b c (fromAt u) k) ≡ false =
       any-never (headAt n b c .states) _ (or-right (anyUpTo k (ends? n b c)) _ h) (fromAt u) r in
       or-both e

@@ -1,33 +1,18 @@
--- What a file is once refusals 8 to 11 do not apply: the assumptions of the wiring and of the step. In this order: a test that is false, part by
--- part; what 8, 9 and 10 give; that the charts of a tree are below the file's number of them; what 11 gives; all of it in one record (`sound`).
+-- What a file is once refusals 8 to 11 do not apply: the assumptions of the wiring and of the step. In this order:
+-- what 8, 9 and 10 give; that the charts of a tree are below the file's number of them; what 11 gives; all of it in one record (`sound`).
 use mathlib.Core.Path.{_≡_, refl, sym, _∙_, ap}
 use mathlib.Core.Bool.{Bool, true, false, _&&_, not, cond, true≢false, false≢true}
 use Prim.Native.Nat.{ℕ, zero, suc, _≤_, _<_}
 use native.Mathlib.Omega.{arith}
-use borrow.Author.Tests.{ltb-true, not-false}
-use lib.Dec.{ltb}
 use Rattle.meaning.specs.Count.{anyUpTo}
 use Rattle.meaning.specs.Count.Laws.{or-left, or-three, or-four, any-never}
 use Rattle.meaning.specs.Meaning.{same, Slaves, nil, snoc}
 use Rattle.meaning.specs.File.{File, treeOf, gather, whole, Has, HasS}
 use Rattle.meaning.specs.Check.{notBelow, differ, inOrder, slave?, slaves?, nodeOfKind?, nodes?, holds, named, held, naming?, inside?}
-use Rattle.meaning.specs.Laws.Bools.{same-refl, same→≡, same-≢, and-i}
-use Rattle.meaning.specs.Laws.Above.{live-either}
+use Rattle.meaning.specs.Check.Laws.{below, alike}
+use Rattle.meaning.specs.Laws.Bools.{or-elim, same-refl, same→≡, same-≢, and-i, and-second}
 use Rattle.meaning.specs.Laws.Trees.{Ordered, Rule11, tree₀, tree₁, tree₂}
 use Rattle.meaning.specs.Laws.Names.{Rule10}
-
--- ── a test that is false ──
-
-below : (m n : ℕ) → notBelow m n ≡ false → m < n
-below m n h = ltb-true m n (not-false (ltb m n) h)
-
-alike : (m n : ℕ) → differ m n ≡ false → m ≡ n
-alike m n h = same→≡ m n (not-false (same m n) h)
-
--- where the first part of an `&&` holds, the second does not
-and-second : (a b : Bool) → (a && b) ≡ false → a ≡ true → b ≡ false
-and-second true b h e = h
-and-second false b h e = absurd (false≢true e)
 
 -- the tree of each node is made of lower nodes and of the file's charts
 pub record Treed (F : File) : Type 0 where
@@ -133,13 +118,13 @@ module _ (F : File) (w : Treed F) where
       rest = gather (F .master) (λ i. treeOf F (F .node i)) c k
 
       go : (b : Bool) → same (F .master k) c ≡ b → (HasS rest d ≡ true → d < F .charts) → HasS (cond b (snoc rest k (treeOf F (F .node k))) rest) d ≡ true → d < F .charts
-      go true e r g = live-either (Has (treeOf F (F .node k)) d) (HasS rest d) (d < F .charts) (ih k (omega arith) (same→≡ (F .master k) c e)) r g
+      go true e r g = or-elim (Has (treeOf F (F .node k)) d) (HasS rest d) (d < F .charts) (ih k (omega arith) (same→≡ (F .master k) c e)) r g
       go false e r g = r g
 
   whole-charts : (c : ℕ) (ss : Slaves) (d : ℕ) → c < F .charts → (HasS ss d ≡ true → d < F .charts) → Has (whole c ss) d ≡ true → d < F .charts
   unfolding Has
   whole-charts c nil d l f h = rw (same→≡ d c h) l
-  whole-charts c (snoc ss i t) d l f h = live-either (same d c) (HasS (snoc ss i t) d) (d < F .charts) (λ e. rw (same→≡ d c e) l) f h
+  whole-charts c (snoc ss i t) d l f h = or-elim (same d c) (HasS (snoc ss i t) d) (d < F .charts) (λ e. rw (same→≡ d c e) l) f h
 
   charts-below : (f j d : ℕ) → j < f → j < F .nodes → Has (treeOf F j) d ≡ true → d < F .charts
   unfolding Has
@@ -150,7 +135,7 @@ module _ (F : File) (w : Treed F) where
       go zero e ih = whole-charts (F .a j) (gather (F .master) (λ i. treeOf F (F .node i)) (F .a j) (F .slaves)) d (w .chart-there j l e)
           (slaves-charts (F .a j) (F .slaves) d (λ i m q. ih (F .node i) (w .ordered .lower₀ j l e i m q))) (rw (tree₀ F (w .ordered) j l e) at h)
       go (suc zero) e ih = let u = w .ordered .lower₁ j l e in
-          live-either (Has (treeOf F (F .a j)) d) (Has (treeOf F (F .b j)) d) (d < F .charts) (ih (F .a j) (u .0)) (ih (F .b j) (u .1)) (rw (tree₁ F (w .ordered) j l e) at h)
+          or-elim (Has (treeOf F (F .a j)) d) (Has (treeOf F (F .b j)) d) (d < F .charts) (ih (F .a j) (u .0)) (ih (F .b j) (u .1)) (rw (tree₁ F (w .ordered) j l e) at h)
       go (suc (suc k)) e ih = let e₂ : F .kind j ≡ 2 = (let m = w .ordered .kinds j l in omega arith) in
           ih (F .a j) (w .ordered .lower₂ j l e₂) (rw (tree₂ F (w .ordered) j l e₂) at h)
 

@@ -1,29 +1,29 @@
 -- Laws of tests: Bool connectives by cases; equal numbers; a test of all numbers below a limit (`every`).
-use mathlib.Core.Path.{_≡_, refl, sym, _∙_, ap, ap₂, subst, fun-ext}
-use mathlib.Core.Bool.{Bool, true, false, _&&_, _||_, not, cond, Bool·beq, true≢false, false≢true}
-use mathlib.Core.Logic.{_⊎_, inl, inr, _≢_}
-use Prim.Native.Nat.{ℕ, zero, suc, _+_, _≤_, _<_}
+use mathlib.Core.Path.{_≡_, refl, sym, _∙_, ap}
+use mathlib.Core.Bool.{Bool, true, false, _&&_, _||_, not, true≢false, false≢true}
+use mathlib.Core.Logic.{_≢_}
+use Prim.Native.Nat.{ℕ, zero, suc, _<_}
 use native.Mathlib.Omega.{arith}
 use lib.Dec.{T, eqb, eqb→eq, eqb-refl}
 use Rattle.meaning.specs.Meaning.{same}
 
 -- ── Bool ──
 
+pub and-l : (a b : Bool) → (a && b) ≡ true → a ≡ true
+and-l true b h = refl
+and-l false b h = absurd (false≢true h)
+
+pub and-r : (a b : Bool) → (a && b) ≡ true → b ≡ true
+and-r true b h = h
+and-r false b h = absurd (false≢true h)
+
 -- both values
 abbrev pub both : (Bool → Bool) → Bool
 both f = f true && f false
 
 pub inst : (f : Bool → Bool) → both f ≡ true → (b : Bool) → f b ≡ true
-inst f h true = left (f true) (f false) h
-  where
-    left : (a b : Bool) → (a && b) ≡ true → a ≡ true
-    left true b h = refl
-    left false b h = absurd (false≢true h)
-inst f h false = right (f true) (f false) h
-  where
-    right : (a b : Bool) → (a && b) ≡ true → b ≡ true
-    right true b h = h
-    right false b h = absurd (false≢true h)
+inst f h true = and-l (f true) (f false) h
+inst f h false = and-r (f true) (f false) h
 
 abbrev pub iff : Bool → Bool → Bool
 iff true b = b
@@ -47,17 +47,14 @@ pub false→iff : {a : Bool} → a ≡ false → not a ≡ true
 false→iff {a = true} e = absurd (true≢false e)
 false→iff {a = false} e = refl
 
-pub and-l : (a b : Bool) → (a && b) ≡ true → a ≡ true
-and-l true b h = refl
-and-l false b h = absurd (false≢true h)
-
-pub and-r : (a b : Bool) → (a && b) ≡ true → b ≡ true
-and-r true b h = h
-and-r false b h = absurd (false≢true h)
-
 pub and-i : {a b : Bool} → a ≡ true → b ≡ true → (a && b) ≡ true
 and-i {a = true} h e = e
 and-i {a = false} h e = absurd (false≢true h)
+
+-- where the first part holds, the second does not
+pub and-second : (a b : Bool) → (a && b) ≡ false → a ≡ true → b ≡ false
+and-second true b h e = h
+and-second false b h e = absurd (false≢true e)
 
 -- the second part is compared only where the first holds
 pub and-cong : (a a′ b b′ : Bool) → a ≡ a′ → (a′ ≡ true → b ≡ b′) → (a && b) ≡ (a′ && b′)
@@ -65,6 +62,18 @@ and-cong true true b b′ p q = q refl
 and-cong true false b b′ p q = absurd (true≢false p)
 and-cong false true b b′ p q = absurd (false≢true p)
 and-cong false false b b′ p q = refl
+
+pub or-l : (a b : Bool) → a ≡ true → (a || b) ≡ true
+or-l true b e = refl
+or-l false b e = absurd (false≢true e)
+
+pub or-r : (a b : Bool) → b ≡ true → (a || b) ≡ true
+or-r true b e = refl
+or-r false b e = e
+
+pub or-elim : (a b : Bool) (P : Type 0) → (a ≡ true → P) → (b ≡ true → P) → (a || b) ≡ true → P
+or-elim true b P f g h = f refl
+or-elim false b P f g h = g h
 
 pub bool-eq : (a b : Bool) → (a ≡ true → b ≡ true) → (b ≡ true → a ≡ true) → a ≡ b
 bool-eq true true f g = refl
@@ -97,6 +106,12 @@ same→≡ m n e = eqb→eq m n (≡→T (eqb m n) e)
 pub same-≢ : (m n : ℕ) → (m ≡ n → ⊥) → same m n ≡ false
 same-≢ m n h = not-true (λ e. h (same→≡ m n e))
 
+pub same→≢ : (m n : ℕ) → same m n ≡ false → m ≢ n
+same→≢ m n e q = false≢true (sym e ∙ rw q (same-refl n))
+
+pub same-comm : (m n : ℕ) → same m n ≡ same n m
+same-comm m n = bool-eq _ _ (λ e. rw (same→≡ m n e) (same-refl n)) (λ e. rw (same→≡ n m e) (same-refl m))
+
 pub differs : (m n : ℕ) → (m ≡ n → ⊥) → not (same m n) ≡ true
 differs m n h = ap not (same-≢ m n h)
 
@@ -121,4 +136,4 @@ every-elim (suc n) f h i l = go (same i n) refl (λ l′. every-elim n f (and-r 
   where
     go : (b : Bool) → same i n ≡ b → (i < n → f i ≡ true) → f i ≡ true
     go true e rec = rw (same→≡ i n e) (and-l (f n) (every n f) h)
-    go false e rec = rec (let ne : i ≢ n = λ q. false≢true (sym e ∙ rw q (same-refl n)) in omega arith)
+    go false e rec = rec (let ne = same→≢ i n e in omega arith)

@@ -1,14 +1,14 @@
 -- Choices in order. In this order: lists one behind another (`upto`); a choice with one place more (`upd`), and which go on from it (`Below`); a
--- beginning that has no permitted choice (`search-empty`); the states after a choice (`nexts`).
+-- beginning that has no permitted choice (`search-empty`); the states after a choice (`nexts`), and equal ones (`eqList`).
 use mathlib.Core.Path.{_≡_, refl, sym, _∙_, ap, ap₂}
-use mathlib.Core.Bool.{false}
-use mathlib.Core.List.{List, [], _++_, append-nil}
+use mathlib.Core.Bool.{true, false, false≢true}
+use mathlib.Core.List.{List, [], _∷_, _++_, append-nil}
 use Prim.Native.Nat.{ℕ, zero, suc, _+_, _≤_, _<_}
 use native.Mathlib.Nat.{add-zero}
 use native.Mathlib.Omega.{arith}
 use lib.ListN.{length, getD}
-use Rattle.meaning.specs.Meaning.{Set, Chart, Tree, Move, after, permitted, upd, moves, nexts, upto, outcome, search}
-use Rattle.meaning.specs.Laws.Bools.{same-refl, same-≢}
+use Rattle.meaning.specs.Meaning.{Set, same, Chart, Tree, Move, after, permitted, upd, moves, nexts, upto, outcome, search, eqList}
+use Rattle.meaning.specs.Laws.Bools.{and-l, and-r, same-refl, same→≡, same-≢}
 
 -- ── upto ──
 
@@ -65,3 +65,17 @@ getD-nexts cfg M c zero i l = absurd (omega arith)
 getD-nexts cfg M c (suc n) zero l = ap (λ z. after (cfg z) (M z)) (sym (add-zero c))
 getD-nexts cfg M c (suc n) (suc i) l =
     getD-nexts cfg M (suc c) n i (omega arith) ∙ ap (λ z. after (cfg z) (M z)) (let e : suc c + i ≡ c + suc i = omega arith in e)
+
+-- ── eqList ──
+
+pub eqList→≡ : (l m : List ℕ) → eqList l m ≡ true → l ≡ m
+unfolding eqList
+eqList→≡ [] [] e = refl
+eqList→≡ [] (y ∷ ys) e = absurd (false≢true e)
+eqList→≡ (x ∷ xs) [] e = absurd (false≢true e)
+eqList→≡ (x ∷ xs) (y ∷ ys) e = ap₂ (λ a l. a ∷ l) (same→≡ x y (and-l _ _ e)) (eqList→≡ xs ys (and-r (same x y) _ e))
+
+pub eqList-refl : (l : List ℕ) → eqList l l ≡ true
+unfolding eqList
+eqList-refl [] = refl
+eqList-refl (x ∷ xs) = rw (same-refl x) (eqList-refl xs)

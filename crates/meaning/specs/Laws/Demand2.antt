@@ -16,9 +16,8 @@ use Rattle.signals.specs.Mask.{_∩_, _∖_}
 use Rattle.meaning.specs.Numbers.{noStep}
 use Rattle.meaning.specs.Meaning.{Set, same, Chart, Tree, Slaves, leaf, comp, hide, dec, nil, snoc, Move, nth, pick, after, out, okChart, ok, oks, permitted, inFace, upd, moves, nexts, Outcome, upto, outcome, search, outcomes, Answer, refused, given, eqList, agree, answer}
 use Rattle.meaning.specs.File.{Has, HasS}
-use Rattle.meaning.specs.Laws.Above.{live-either}
-use Rattle.meaning.specs.Laws.Bools.{same-refl, same→≡, and-l, and-r}
-use Rattle.meaning.specs.Laws.Choices.{upd-at, upd-other, upd-off, Below, length-nexts, getD-nexts}
+use Rattle.meaning.specs.Laws.Bools.{or-elim, same-refl, same→≡, and-l, and-r}
+use Rattle.meaning.specs.Laws.Choices.{upd-at, upd-other, upd-off, Below, length-nexts, getD-nexts, eqList→≡, eqList-refl}
 
 -- ── lists one behind another ──
 module _ {A : Type 0} where
@@ -275,24 +274,12 @@ module _ (E : ℕ → Chart) (state : ℕ → ℕ) (cfg : ℕ → ℕ) (t : Tree
 
 -- ── the mark ──
 
-eqList-eq : (l m : List ℕ) → eqList l m ≡ true → l ≡ m
-unfolding eqList
-eqList-eq [] [] e = refl
-eqList-eq [] (y ∷ ys) e = absurd (false≢true e)
-eqList-eq (x ∷ xs) [] e = absurd (false≢true e)
-eqList-eq (x ∷ xs) (y ∷ ys) e = ap₂ (λ a l. a ∷ l) (same→≡ x y (and-l _ _ e)) (eqList-eq xs ys (and-r (same x y) _ e))
-
-pub eqList-refl : (l : List ℕ) → eqList l l ≡ true
-unfolding eqList
-eqList-refl [] = refl
-eqList-refl (x ∷ xs) = rw (same-refl x) (eqList-refl xs)
-
 -- two outcomes agree
 abbrev agrees : Outcome → Outcome → Bool
 agrees a b = same (a .output) (b .output) && eqList (a .next) (b .next)
 
 agrees-eq : (a b : Outcome) → agrees a b ≡ true → (b .output ≡ a .output) × (b .next ≡ a .next)
-agrees-eq a b e = (sym (same→≡ (a .output) (b .output) (and-l _ _ e)), sym (eqList-eq (a .next) (b .next) (and-r (same (a .output) (b .output)) _ e)))
+agrees-eq a b e = (sym (same→≡ (a .output) (b .output) (and-l _ _ e)), sym (eqList→≡ (a .next) (b .next) (and-r (same (a .output) (b .output)) _ e)))
 
 agrees-self : (a b : Outcome) → b .output ≡ a .output → b .next ≡ a .next → agrees a b ≡ true
 agrees-self a b p q = rw (p, q, same-refl (a .output)) (eqList-refl (a .next))
@@ -368,16 +355,16 @@ module _ (E : ℕ → Chart) (state : ℕ → ℕ) (cfg : ℕ → ℕ) (M : ℕ 
 
     pub inactive : (t : Tree) (o : Set) → ok E state cfg M t false o ≡ true → (c : ℕ) → Has t c ≡ true → M c ≡ none
     inactive (leaf d) o h c k = ap M (same→≡ c d k) ∙ chart-inactive (E d .feedback) o (cfg d) (M d) h
-    inactive (comp l r x) o h c k = live-either (Has l c) (Has r c) _ (λ e. inactive l _ (and-l _ _ h) c e) (λ e. inactive r _ (and-r (ok E state cfg M l false _) _ h) c e) k
+    inactive (comp l r x) o h c k = or-elim (Has l c) (Has r c) _ (λ e. inactive l _ (and-l _ _ h) c e) (λ e. inactive r _ (and-r (ok E state cfg M l false _) _ h) c e) k
     inactive (hide l x y) o h c k = inactive l (o ∖ x) h c k
     inactive (dec d ss) o h c k =
-        live-either (same c d) (HasS ss c) _ (λ e. ap M (same→≡ c d e) ∙ chart-inactive (E d .feedback) _ (cfg d) (M d) (and-l _ _ h))
+        or-elim (same c d) (HasS ss c) _ (λ e. ap M (same→≡ c d e) ∙ chart-inactive (E d .feedback) _ (cfg d) (M d) (and-l _ _ h))
         (λ e. inactive-slaves ss _ (and-r (okChart (E d .feedback) false _ (cfg d) (M d)) _ h) c e) k
 
     pub inactive-slaves : (ss : Slaves) (z : Set) → oks E state cfg M ss (λ q. false) z ≡ true → (c : ℕ) → HasS ss c ≡ true → M c ≡ none
     inactive-slaves nil z h c k = absurd (false≢true k)
     inactive-slaves (snoc ss i t) z h c k =
-        live-either (Has t c) (HasS ss c) _ (λ e. inactive t _ (and-r (oks E state cfg M ss (λ q. false) z) _ h) c e) (λ e. inactive-slaves ss z (and-l _ _ h) c e) k
+        or-elim (Has t c) (HasS ss c) _ (λ e. inactive t _ (and-r (oks E state cfg M ss (λ q. false) z) _ h) c e) (λ e. inactive-slaves ss z (and-l _ _ h) c e) k
 
 -- ── a signal outside the interface changes nothing ──
 module _ (E : ℕ → Chart) (state : ℕ → ℕ) (cfg : ℕ → ℕ) (t : Tree) (i j : Set) (N : ℕ) (alike : i ∩ inFace E t ≡ j ∩ inFace E t) where

@@ -14,8 +14,8 @@ use Rattle.signals.specs.Mask.Laws.{bit-union, bit-none, bit-single}
 use Rattle.signals.specs.Decide.{sets, A, B, C, ∅ₑ, _∪ₑ_, _∖ₑ_, _≐_}
 use Rattle.meaning.specs.Meaning.{Set, ∅, same, Chart, Tree, Slaves, leaf, comp, hide, dec, nil, snoc, inFaceChart, inFace, inFaces, actions, outFace, outFaces}
 use Rattle.meaning.specs.File.{File, treeOf, gather, whole, Has, HasS}
-use Rattle.meaning.specs.Laws.Bools.{bool-eq, same-refl, same→≡, same-≢}
-use Rattle.meaning.specs.Laws.Trees.{Ordered, tree₀, tree₁, tree₂, or-left, or-right}
+use Rattle.meaning.specs.Laws.Bools.{or-l, or-r, bool-eq, same-refl, same→≡, same-≢}
+use Rattle.meaning.specs.Laws.Trees.{Ordered, tree₀, tree₁, tree₂}
 
 -- ── the fold ──
 
@@ -105,13 +105,13 @@ module _ (own own′ : ℕ → Set) (off : Set → Set → Set) where
 
     pub fold-own : (t : Tree) → ((c : ℕ) → Has t c ≡ true → own c ≡ own′ c) → fold own off t ≡ fold own′ off t
     fold-own (leaf c) h = h c (same-refl c)
-    fold-own (comp p q x) h = ap₂ _∪_ (fold-own p (λ c e. h c (or-left (Has p c) (Has q c) e))) (fold-own q (λ c e. h c (or-right (Has p c) (Has q c) e)))
+    fold-own (comp p q x) h = ap₂ _∪_ (fold-own p (λ c e. h c (or-l (Has p c) (Has q c) e))) (fold-own q (λ c e. h c (or-r (Has p c) (Has q c) e)))
     fold-own (hide p x y) h = ap (λ z. z ∖ off x y) (fold-own p h)
-    fold-own (dec d ss) h = ap₂ _∪_ (h d (or-left (same d d) (HasS ss d) (same-refl d))) (folds-own ss (λ c e. h c (or-right (same c d) (HasS ss c) e)))
+    fold-own (dec d ss) h = ap₂ _∪_ (h d (or-l (same d d) (HasS ss d) (same-refl d))) (folds-own ss (λ c e. h c (or-r (same c d) (HasS ss c) e)))
 
     folds-own : (ss : Slaves) → ((c : ℕ) → HasS ss c ≡ true → own c ≡ own′ c) → folds own off ss ≡ folds own′ off ss
     folds-own nil h = refl
-    folds-own (snoc ss i t) h = ap₂ _∪_ (folds-own ss (λ c e. h c (or-right (Has t c) (HasS ss c) e))) (fold-own t (λ c e. h c (or-left (Has t c) (HasS ss c) e)))
+    folds-own (snoc ss i t) h = ap₂ _∪_ (folds-own ss (λ c e. h c (or-r (Has t c) (HasS ss c) e))) (fold-own t (λ c e. h c (or-l (Has t c) (HasS ss c) e)))
 
 -- ── the three ──
 

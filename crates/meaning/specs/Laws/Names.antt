@@ -1,47 +1,17 @@
 -- Rule 10: every node but the last is named exactly once. So each node has one place in the whole.
-use mathlib.Core.Path.{_≡_, refl, sym, _∙_, ap, ap₂, subst, subst₂, fun-ext}
-use mathlib.Core.Bool.{Bool, true, false, _&&_, _||_, not, cond, true≢false, false≢true}
+use mathlib.Core.Path.{_≡_, refl, sym, _∙_, ap, ap₂}
+use mathlib.Core.Bool.{Bool, true, false, _&&_, not, cond, true≢false, false≢true}
 use mathlib.Core.Option.{Option, none, some}
 use mathlib.Core.Logic.{_≢_}
 use Prim.Native.Nat.{ℕ, zero, suc, _+_, _≤_, _<_}
 use native.Mathlib.Omega.{arith}
 use Rattle.meaning.specs.Count.{tally, one}
+use Rattle.meaning.specs.Count.Laws.{tally-ge, tally-two, tally-find}
 use Rattle.meaning.specs.Check.{names, named, held}
-use Rattle.meaning.specs.Meaning.{Set, same}
-use Rattle.meaning.specs.Laws.Bools.{same-refl, same→≡, same-≢, and-l, and-r, and-i, not-true}
+use Rattle.meaning.specs.Meaning.{same}
+use Rattle.meaning.specs.Laws.Bools.{same-refl, same→≡, same-≢, same→≢, and-l, and-r, and-i}
 use Rattle.meaning.specs.File.{File}
-use Rattle.meaning.specs.Laws.Trees.{Ordered, Placed, Joined, Namer, left, right, inside, slave, or-left, or-right}
-
--- ── counting and finding ──
-pub tally-ge : (n : ℕ) (f : ℕ → ℕ) (i : ℕ) → i < n → f i ≤ tally n f
-unfolding tally
-tally-ge zero f i l = absurd (omega arith)
-tally-ge (suc n) f i l = go (same i n) refl (λ h. tally-ge n f i h)
-  where
-    go : (b : Bool) → same i n ≡ b → (i < n → f i ≤ tally n f) → f i ≤ f n + tally n f
-    go true e r = rw (same→≡ i n e) (omega arith)
-    go false e r = let z : i ≢ n = λ w. false≢true (sym e ∙ rw w (same-refl n)) in let y = r (omega arith) in omega arith
-
-pub tally-two : (n : ℕ) (f : ℕ → ℕ) (i j : ℕ) → i < n → j < n → i ≢ j → f i + f j ≤ tally n f
-unfolding tally
-tally-two zero f i j l m d = absurd (omega arith)
-tally-two (suc n) f i j l m d = go (same i n) (same j n) refl refl (λ h k. tally-two n f i j h k d)
-  where
-    go : (a b : Bool) → same i n ≡ a → same j n ≡ b → (i < n → j < n → f i + f j ≤ tally n f) → f i + f j ≤ f n + tally n f
-    go true true p q r = absurd (d (same→≡ i n p ∙ sym (same→≡ j n q)))
-    go true false p q r = let z : j ≢ n = λ w. false≢true (sym q ∙ rw w (same-refl n)) in let y = tally-ge n f j (omega arith) in rw (same→≡ i n p) (omega arith)
-    go false true p q r = let z : i ≢ n = λ w. false≢true (sym p ∙ rw w (same-refl n)) in let y = tally-ge n f i (omega arith) in rw (same→≡ j n q) (omega arith)
-    go false false p q r = let z : i ≢ n = λ w. false≢true (sym p ∙ rw w (same-refl n)) in let z′ : j ≢ n = λ w. false≢true (sym q ∙ rw w (same-refl n)) in
-        let y = r (omega arith) (omega arith) in omega arith
-
-pub tally-find : (n : ℕ) (f : ℕ → ℕ) → 0 < tally n f → (i : ℕ) × (i < n) × (0 < f i)
-unfolding tally
-tally-find zero f h = absurd (omega arith)
-tally-find (suc n) f h = go (f n) refl (λ p. tally-find n f p)
-  where
-    go : (x : ℕ) → f n ≡ x → (0 < tally n f → (i : ℕ) × (i < n) × (0 < f i)) → (i : ℕ) × (i < suc n) × (0 < f i)
-    go zero e r = let u = r (omega arith) in (u .0, (let h = u .1 in omega arith), u .2)
-    go (suc x) e r = (n, omega arith, omega arith)
+use Rattle.meaning.specs.Laws.Trees.{Ordered, Placed, Joined, Namer, left, right, inside, slave}
 
 abbrev pub up : Option ℕ → Option ℕ → (ℕ → Option ℕ) → Option ℕ
 up (some i) b r = some i
@@ -107,7 +77,7 @@ module _ (F : File) (w : Ordered F) (r : Rule10 F) where
     where
       go : (b : Bool) → same (suc j) (F .nodes) ≡ b → named F j ≤ 1
       go true e = let h = r .named-last j (same→≡ _ _ e) in omega arith
-      go false e = let z : suc j ≢ F .nodes = λ q. false≢true (sym e ∙ rw q (same-refl (F .nodes))) in let h = r .named-once j (omega arith) in omega arith
+      go false e = let z : suc j ≢ F .nodes = same→≢ (suc j) (F .nodes) e in let h = r .named-once j (omega arith) in omega arith
 
   pub by-slave : (i j : ℕ) → j < F .nodes → i < F .slaves → F .node i ≡ j → bySlave F j ≡ some i
   unfolding named
@@ -115,7 +85,7 @@ module _ (F : File) (w : Ordered F) (r : Rule10 F) where
     where
       go : (k : ℕ) → k < F .slaves → same (F .node k) j ≡ true → (b : Bool) → same k i ≡ b → k ≡ i
       go k n q true h = same→≡ k i h
-      go k n q false h = let z : k ≢ i = λ x. false≢true (sym h ∙ rw x (same-refl i)) in
+      go k n q false h = let z : k ≢ i = same→≢ k i h in
           let t = tally-two (F .slaves) (λ i. one (same (F .node i) j)) k i n m z in
           let a : one (same (F .node k) j) ≡ 1 = rw q in
           let b : one (same (F .node i) j) ≡ 1 = ap one (ap (λ z. same z j) e ∙ same-refl j) in
@@ -135,7 +105,7 @@ module _ (F : File) (w : Ordered F) (r : Rule10 F) where
 
       one : (k′ : ℕ) → k′ < F .nodes → not (same (names F k′ j) 0) ≡ true → (b : Bool) → same k′ k ≡ b → k′ ≡ k
       one k′ n q true h = same→≡ k′ k h
-      one k′ n q false h = let z : k′ ≢ k = λ x. false≢true (sym h ∙ rw x (same-refl k)) in
+      one k′ n q false h = let z : k′ ≢ k = same→≢ k′ k h in
           let t = tally-two (F .nodes) (λ k. names F k j) k′ k n m z in let c = at-most j l in
           let y : names F k′ j ≢ 0 = λ u. false≢true (sym (ap not (ap (λ v. same v 0) u ∙ same-refl 0)) ∙ q) in absurd (omega arith)
 
@@ -221,7 +191,7 @@ module _ (F : File) (w : Ordered F) (r : Rule10 F) where
 
       go : (k : ℕ) → k < F .nodes → (same (F .kind k) 0 && same (F .a k) (F .a j)) ≡ true → (b : Bool) → same k j ≡ b → k ≡ j
       go k n q true h = same→≡ k j h
-      go k n q false h = let z : k ≢ j = λ x. false≢true (sym h ∙ rw x (same-refl j)) in
+      go k n q false h = let z : k ≢ j = same→≢ k j h in
           let t = tally-two (F .nodes) (λ k. one (same (F .kind k) 0 && same (F .a k) (F .a j))) k j n l z in
           let a : one (same (F .kind k) 0 && same (F .a k) (F .a j)) ≡ 1 = ap one q in
           let b : one (same (F .kind j) 0 && same (F .a j) (F .a j)) ≡ 1 = ap one own in

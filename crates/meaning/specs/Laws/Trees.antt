@@ -1,13 +1,13 @@
 -- The tree of a file: nodes, charts and slaves by number.
-use mathlib.Core.Path.{_≡_, refl, sym, _∙_, ap, ap₂, subst, subst₂, fun-ext}
-use mathlib.Core.Bool.{Bool, true, false, _&&_, _||_, not, cond, true≢false, false≢true}
-use mathlib.Core.Option.{Option, none, some}
+use mathlib.Core.Path.{_≡_, refl, sym, _∙_, ap}
+use mathlib.Core.Bool.{Bool, true, false, _||_, cond, false≢true}
+use mathlib.Core.Option.{Option, some}
 use mathlib.Core.Logic.{_≢_}
 use Prim.Native.Nat.{ℕ, zero, suc, _+_, _≤_, _<_}
 use native.Mathlib.Omega.{arith}
 use Rattle.meaning.specs.File.{File, byKind, whole, gather, build, treeOf}
-use Rattle.meaning.specs.Meaning.{Set, same, Chart, Tree, Slaves, leaf, comp, hide, dec, nil, snoc}
-use Rattle.meaning.specs.Laws.Bools.{same-refl, same→≡, same-≢}
+use Rattle.meaning.specs.Meaning.{same, Tree, Slaves, comp, hide, nil, snoc}
+use Rattle.meaning.specs.Laws.Bools.{or-l, or-r, same-refl, same→≡, same→≢}
 use Rattle.meaning.specs.File.{Has, HasS}
 use Rattle.meaning.specs.Laws.Above.{Above, AboveS}
 
@@ -79,14 +79,6 @@ pub record Joined (F : File) : Type 0 where
   pub named : (j : ℕ) → suc j < F .nodes → Namer F j
   pub master : (i : ℕ) → i < F .slaves → F .master i < F .charts
 
-pub or-left : (a b : Bool) → a ≡ true → (a || b) ≡ true
-or-left true b e = refl
-or-left false b e = absurd (false≢true e)
-
-pub or-right : (a b : Bool) → b ≡ true → (a || b) ≡ true
-or-right true b e = refl
-or-right false b e = e
-
 pub gather-has : (sc : ℕ → ℕ) (g : ℕ → Tree) (c k d i : ℕ) → i < k → sc i ≡ c → Has (g i) d ≡ true → HasS (gather sc g c k) d ≡ true
 unfolding gather Has
 gather-has sc g c zero d i l e h = absurd (omega arith)
@@ -96,26 +88,26 @@ gather-has sc g c (suc k) d i l e h = go (same i k) refl (same (sc k) c) refl (�
     rest = gather sc g c k
 
     go : (b : Bool) → same i k ≡ b → (a : Bool) → same (sc k) c ≡ a → (i < k → HasS rest d ≡ true) → HasS (cond a (snoc rest k (g k)) rest) d ≡ true
-    go true p true q r = let z : i ≡ k = same→≡ i k p in or-left (Has (g k) d) (HasS rest d) (rw z at h)
+    go true p true q r = let z : i ≡ k = same→≡ i k p in or-l (Has (g k) d) (HasS rest d) (rw z at h)
     go true p false q r = let z : i ≡ k = same→≡ i k p in absurd (false≢true (sym q ∙ rw (sym (ap sc z) ∙ e) (same-refl c)))
-    go false p true q r = let z : i ≢ k = λ w. false≢true (sym p ∙ rw w (same-refl k)) in or-right (Has (g k) d) (HasS rest d) (r (omega arith))
-    go false p false q r = let z : i ≢ k = λ w. false≢true (sym p ∙ rw w (same-refl k)) in r (omega arith)
+    go false p true q r = let z : i ≢ k = same→≢ i k p in or-r (Has (g k) d) (HasS rest d) (r (omega arith))
+    go false p false q r = let z : i ≢ k = same→≢ i k p in r (omega arith)
 
 pub whole-own : (c : ℕ) (ss : Slaves) → Has (whole c ss) c ≡ true
 unfolding Has
 whole-own c nil = same-refl c
-whole-own c (snoc ss i t) = or-left (same c c) (HasS (snoc ss i t) c) (same-refl c)
+whole-own c (snoc ss i t) = or-l (same c c) (HasS (snoc ss i t) c) (same-refl c)
 
 pub whole-has : (c : ℕ) (ss : Slaves) (d : ℕ) → HasS ss d ≡ true → Has (whole c ss) d ≡ true
 unfolding Has
 whole-has c nil d h = absurd (false≢true h)
-whole-has c (snoc ss i t) d h = or-right (same d c) (HasS (snoc ss i t) d) h
+whole-has c (snoc ss i t) d h = or-r (same d c) (HasS (snoc ss i t) d) h
 
 module _ (F : File) (w : Ordered F) (jn : Joined F) where
   pub rise : (j d : ℕ) → Namer F j → Has (treeOf F j) d ≡ true → (k : ℕ) × (j < k) × (k < F .nodes) × (Has (treeOf F k) d ≡ true)
   unfolding Has
-  rise j d (left k l e p) h = (k, rw p at (w .lower₁ k l e .0), l, rw (tree₁ F w k l e, p) (or-left (Has (treeOf F j) d) (Has (treeOf F (F .b k)) d) h))
-  rise j d (right k l e p) h = (k, rw p at (w .lower₁ k l e .1), l, rw (tree₁ F w k l e, p) (or-right (Has (treeOf F (F .a k)) d) (Has (treeOf F j) d) h))
+  rise j d (left k l e p) h = (k, rw p at (w .lower₁ k l e .0), l, rw (tree₁ F w k l e, p) (or-l (Has (treeOf F j) d) (Has (treeOf F (F .b k)) d) h))
+  rise j d (right k l e p) h = (k, rw p at (w .lower₁ k l e .1), l, rw (tree₁ F w k l e, p) (or-r (Has (treeOf F (F .a k)) d) (Has (treeOf F j) d) h))
   rise j d (inside k l e p) h = (k, rw p at (w .lower₂ k l e), l, rw (tree₂ F w k l e, p) h)
   rise j d (slave i l p) h = let m = jn .holder (F .master i) (jn .master i l) in (
     m .0,
@@ -130,7 +122,7 @@ module _ (F : File) (w : Ordered F) (jn : Joined F) where
     where
       go : (x : Bool) → same j last ≡ x → ((k : ℕ) → j < k → k < F .nodes → Has (treeOf F k) d ≡ true → Has (treeOf F last) d ≡ true) → Has (treeOf F last) d ≡ true
       go true p rec = rw (same→≡ j last p) at h
-      go false p rec = let z : j ≢ last = λ w. false≢true (sym p ∙ rw w (same-refl last)) in let u = rise j d (jn .named j (omega arith)) h in rec (u .0) (u .1) (u .2) (u .3)
+      go false p rec = let z : j ≢ last = same→≢ j last p in let u = rise j d (jn .named j (omega arith)) h in rec (u .0) (u .1) (u .2) (u .3)
 
   pub all-there : (last c : ℕ) → suc last ≡ F .nodes → c < F .charts → Has (treeOf F last) c ≡ true
   all-there last c e l = let m = jn .holder c l in

@@ -10,7 +10,8 @@ use native.Mathlib.Nat.{eq-or-lt-of-le}
 use native.Mathlib.Numerals.{add-one}
 use native.Mathlib.Omega.{arith}
 use Rattle.meaning.specs.Meaning.{same, Outcome, eqList, agree, given, answer}
-use Rattle.meaning.specs.Laws.Bools.{same-refl, same→≡, and-l, and-r, bool-eq}
+use Rattle.meaning.specs.Laws.Bools.{same-refl, same→≡, same-comm, and-l, and-r, bool-eq}
+use Rattle.meaning.specs.Laws.Choices.{eqList-refl}
 use Rattle.search.specs.Hunt.{each, pickFound, settleOf, over, nothing, answerIn}
 use Rattle.search.specs.declared.Found.{Found}
 
@@ -73,9 +74,6 @@ equal a b = same (a .output) (b .output) && eqList (a .next) (b .next)
 -- the first outcome found
 abbrev pub firstIn : Found → Outcome
 firstIn f = record { output = f .output; next = f .next }
-
-same-comm : (m n : ℕ) → same m n ≡ same n m
-same-comm m n = bool-eq _ _ (λ e. rw (same→≡ m n e) (same-refl n)) (λ e. rw (same→≡ n m e) (same-refl m))
 
 eqList-comm : (cs ds : List ℕ) → eqList cs ds ≡ eqList ds cs
 unfolding eqList
@@ -172,11 +170,6 @@ alike-append {xs} {ys} {zs} {ws} p q =
       first = head-append xs zs ∙ ap₂ orElse (p .first) (q .first) ∙ sym (head-append ys ws);
       agrees = λ a. agree-append a xs zs ∙ ap₂ _&&_ (p .agrees a) (q .agrees a) ∙ sym (agree-append a ys ws);
     }
-
-pub eqList-refl : (cs : List ℕ) → eqList cs cs ≡ true
-unfolding eqList
-eqList-refl [] = refl
-eqList-refl (c ∷ cs) = rw (same-refl c) (eqList-refl cs)
 
 equal-refl : (a : Outcome) → equal a a ≡ true
 equal-refl a = rw (same-refl (a .output)) (eqList-refl (a .next))

@@ -2,7 +2,7 @@
 use mathlib.Core.Path.{_≡_, sym, ap, _∙_}
 use mathlib.Core.Bool.{false, not}
 use mathlib.Core.List.{List}
-use Prim.Native.Nat.{ℕ, _+_, _*_, _-_, _≤_}
+use Prim.Native.Nat.{ℕ, _*_, _-_, _≤_}
 use native.Mathlib.Omega.{arith}
 use borrow.Author.Needs.{needs}
 use lib.Dec.{eqb}
@@ -13,7 +13,7 @@ use Rattle.meaning.specs.Meaning.{same}
 use Rattle.meaning.specs.Count.{anyUpTo}
 use Rattle.meaning.specs.Count.Laws.{any-none, any-more, any-at}
 use Rattle.meaning.specs.Check.{chart?, charts?}
-use Rattle.meaning.specs.Check.Laws.{start-none, start-more}
+use Rattle.layout.specs.Body.Laws.{startOf-none, startOf-next}
 use Rattle.checks.proofs.charts.bad_charts.Statement.{statement}
 use Rattle.checks.proofs.charts.bad_charts.Tie as tie
 
@@ -24,7 +24,7 @@ abbrev μ-loop : tie.MeasureT-loop
 μ-loop n body charts sum₀ c₀ sum c = charts - c
 
 loop-holds : tie.Need-loop-holds Inv-loop μ-loop
-loop-holds c = (omega arith, omega arith, sym (start-none _ _), any-none _)
+loop-holds c = (omega arith, omega arith, sym (startOf-none _ _), any-none _)
 
 -- what the code asks of the chart is `chart?`
 asked : (c : tie.After-bad-chart Inv-loop μ-loop) → c .bad-chart .result ≡ chart? (c .before .before .before .before .before .args .n) (c .before .before .before .before .before .args .body .now) (c .before .before .before .loop .c)
@@ -39,7 +39,7 @@ loop-again : tie.Need-loop-again Inv-loop μ-loop
 loop-again c =
     let l = c .before .before .before .before .before .loop in
     let a = c .before .before .before .before .before .before .before .args in
-    (omega arith, omega arith, omega (arith, start-more (a .n) (a .body .now) (l .c), ap (λ (h : Head). h .transitions) (c .before .before .before .head-at .ensures)), any-more _ _ (l .inv .3) (sym (asked (c .before .before)) ∙ c .before .if1 .left))
+    (omega arith, omega arith, omega (arith, startOf-next (a .n) (a .body .now) (l .c), ap (λ (h : Head). h .transitions) (c .before .before .before .head-at .ensures)), any-more _ _ (l .inv .3) (sym (asked (c .before .before)) ∙ c .before .if1 .left))
 
 -- with all charts passed, the sum decides
 summed : (n : Shape) (b : List ℕ) (c sum : ℕ) → c ≡ n .charts → sum ≡ startOf n b c → anyUpTo c (chart? n b) ≡ false → not (eqb sum (n .transitions)) ≡ charts? n b

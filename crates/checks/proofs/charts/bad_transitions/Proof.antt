@@ -1,19 +1,18 @@
 -- `charts::bad_transitions` meets its contract. The charts passed are good, and so are the transitions passed of the present chart, of which `left`
 -- counts how many left each state. Assumes nothing.
 use mathlib.Core.Path.{_≡_, refl, sym, ap, _∙_}
-use mathlib.Core.Bool.{Bool, true, false}
-use mathlib.Core.Logic.{⊎-elim}
-use Prim.Native.Nat.{ℕ, _+_, _-_, _≤_, _<_}
+use mathlib.Core.Bool.{false}
+use Prim.Native.Nat.{_+_, _-_, _≤_, _<_}
 use native.Mathlib.Omega.{arith}
-use borrow.Author.Needs.{needs}
 use Rattle.layout.specs.Body.{headAt, transitionAt, startOf}
 use Rattle.layout.specs.declared.record.Head.{Head}
 use Rattle.meaning.specs.Numbers.{mostStates}
 use Rattle.meaning.specs.Count.{anyUpTo}
 use Rattle.meaning.specs.Count.Laws.{any-none, any-more, any-at}
-use Rattle.meaning.specs.Check.{inChart, transitions?}
-use Rattle.meaning.specs.Check.Laws.{start-none, start-more, start-in, charted, summed, badAt, transitions-walked}
-use Rattle.checks.specs.Walk.{next?, counted, Counts}
+use Rattle.meaning.specs.Check.{inChart}
+use Rattle.layout.specs.Body.Laws.{startOf-none, startOf-next, startOf-mono}
+use Rattle.meaning.specs.Check.Laws.{charted, summed, badAt, transitions-walked}
+use Rattle.checks.specs.Walk.{Counts}
 use Rattle.checks.specs.Walk.Laws.{counts-none, counts-more, next-is, from-in}
 use Rattle.checks.proofs.charts.bad_transitions.Statement.{statement}
 use Rattle.checks.proofs.charts.bad_transitions.Tie as tie
@@ -33,7 +32,7 @@ abbrev μ-scan : tie.MeasureT-scan
 μ-scan n body charts found₀ at₀ c₀ found at c = charts - c
 
 scan-holds : tie.Need-scan-holds Inv-loop μ-loop Inv-scan μ-scan
-scan-holds c = (omega arith, sym (start-none _ _), refl, any-none _)
+scan-holds c = (omega arith, sym (startOf-none _ _), refl, any-none _)
 
 head-at-requires : tie.Need-head-at-requires Inv-loop μ-loop Inv-scan μ-scan
 head-at-requires c κs = (c .before .before .before .pre .0 .holds, c .scan-test .taken)
@@ -48,7 +47,7 @@ within c =
     let h = ap (λ (r : Head). r .transitions) (c .before .before .head-at .ensures) in
     omega (
       arith,
-      start-in (a .n) (a .body .now) (a .n .charts) (c .before .before .before .before .scan .c) (c .before .before .before .scan-test .taken),
+      startOf-mono (a .n) (a .body .now) (c .before .before .before .before .scan .c) (a .n .charts) (c .before .before .before .scan-test .taken),
       summed (a .n) (a .body .now) (c .before .before .before .before .before .before .pre .1),
     )
 
@@ -89,7 +88,7 @@ scan-again c =
     let a = c .before .before .before .before .before .before .args in
     let h = ap (λ (r : Head). r .transitions) (c .before .before .head-at .ensures) in
     let e : c .before .loop .t ≡ headAt (a .n) (a .body .now) (s .c) .transitions = omega arith in
-    (omega arith, omega (arith, start-more (a .n) (a .body .now) (s .c)), i .2, any-more _ _ (s .inv .3) (rw e at (i .3)))
+    (omega arith, omega (arith, startOf-next (a .n) (a .body .now) (s .c)), i .2, any-more _ _ (s .inv .3) (rw e at (i .3)))
 
 returns : tie.Need-returns Inv-loop μ-loop Inv-scan μ-scan
 returns c =

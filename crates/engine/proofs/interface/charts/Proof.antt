@@ -13,7 +13,7 @@ use Rattle.layout.specs.declared.record.Head.{Head}
 use Rattle.meaning.specs.Numbers.{mostCharts}
 use Rattle.meaning.specs.Meaning.{guards, actions, inFaceChart}
 use Rattle.meaning.specs.File.{fileAt, chartOf}
-use Rattle.meaning.specs.Check.Laws.{start-none, start-more, start-in}
+use Rattle.layout.specs.Body.Laws.{startOf-none, startOf-next, startOf-mono}
 use Rattle.checks.specs.Known.{Summed}
 use Rattle.engine.specs.Faces.{OwnOf}
 use Rattle.checks.specs.Parts.Laws.{fill-more}
@@ -23,10 +23,10 @@ use Rattle.engine.proofs.interface.charts.Tie as tie
 -- h is the head of chart c, whose transitions begin at s
 module _ (n : Shape) (b : List ℕ) (c s : ℕ) (h : Head) (eh : h ≡ headAt n b c) (es : s ≡ startOf n b c) where
   room : Summed n b → c < n .charts → s + h .transitions ≤ n .transitions
-  room m l = rw (es, eh) (omega (arith, start-in n b (n .charts) c l))
+  room m l = rw (es, eh) (omega (arith, startOf-mono n b c (n .charts) l))
 
   next : s + h .transitions ≡ startOf n b (c + 1)
-  next = ap₂ (λ (s : ℕ) (h : Head). s + h .transitions) es eh ∙ sym (start-more n b c)
+  next = ap₂ (λ (s : ℕ) (h : Head). s + h .transitions) es eh ∙ sym (startOf-next n b c)
 
   input-is : (v : ℕ) → v ≡ guards (from (transitionAt n b) s (h .transitions)) ∪ h .extra → v ≡ inFaceChart (fileAt n b .chart c)
   unfolding inFaceChart fileAt chartOf transitionsOf
@@ -45,7 +45,7 @@ abbrev μ-loop : tie.MeasureT-loop
 
 loop-holds : tie.Need-loop-holds Inv-loop μ-loop
 loop-holds c =
-    (omega arith, refl, refl, sym (start-none _ _), record { input-at = λ k h. absurd (omega arith); output-at = λ k h. absurd (omega arith) })
+    (omega arith, refl, refl, sym (startOf-none _ _), record { input-at = λ k h. absurd (omega arith); output-at = λ k h. absurd (omega arith) })
 
 -- a chart's transitions are there
 fits : (c : tie.After-head-at Inv-loop μ-loop) → c .before .before .before .loop .start + c .head-at .result .transitions ≤ c .before .before .before .before .before .args .n .transitions

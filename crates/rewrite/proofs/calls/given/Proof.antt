@@ -1,12 +1,11 @@
 -- `calls::given` meets its contract. The loop's invariant: each slave passed has its number, and the others are those that `left` lacks.
 -- Assumes nothing.
-use mathlib.Core.Path.{_≡_, refl, sym, ap, ap₂, _∙_}
-use mathlib.Core.Bool.{Bool, true, false, not, _||_, cond, true≢false, false≢true}
+use mathlib.Core.Path.{_≡_, refl, sym, ap, _∙_}
+use mathlib.Core.Bool.{Bool, true, false, not, _||_, cond, false≢true}
 use mathlib.Core.List.{List, [], _∷_, _++_}
 use mathlib.Core.Logic.{⊎-elim}
 use Prim.Native.Nat.{ℕ, zero, suc, _+_, _-_, _^_, _≤_, _<_}
 use native.Mathlib.Nat.{add-zero}
-use native.Mathlib.Numerals.{add-one}
 use native.Mathlib.Omega.{arith}
 use borrow.Author.Count.{below-more}
 use borrow.Author.Needs.{needs}
@@ -20,6 +19,7 @@ use Rattle.signals.specs.Lowest.{IsLowestFree}
 use Rattle.signals.specs.declared.Found.the-variants.{At, Nothing}
 use Rattle.meaning.specs.Numbers.{mostSignals}
 use Rattle.meaning.specs.Count.Laws.{below-suc}
+use Rattle.meaning.specs.Laws.Bools.{or-r}
 use Rattle.meaning.specs.Rewriting.{lacking}
 use Rattle.rewrite.specs.Known.{Calling}
 use Rattle.rewrite.proofs.calls.given.Statement.{statement}
@@ -36,16 +36,12 @@ lacks-none s (suc n) h = rw (h n (omega arith)) (lacks-none s n (λ k l. h k (om
 bit-with : (s m k : ℕ) → bit (s ∪ single m) k ≡ (bit s k || bit (single m) k)
 bit-with s m k = bit-union k s (single m)
 
-or-true : (a : Bool) → (a || true) ≡ true
-or-true true = refl
-or-true false = refl
-
 or-false : (a : Bool) → (a || false) ≡ a
 or-false true = refl
 or-false false = refl
 
 bit-own : (s m : ℕ) → bit (s ∪ single m) m ≡ true
-bit-own s m = bit-with s m m ∙ ap (λ (b : Bool). bit s m || b) (bit-single m m ∙ eq-eqb m m refl) ∙ or-true (bit s m)
+bit-own s m = bit-with s m m ∙ ap (λ (b : Bool). bit s m || b) (bit-single m m ∙ eq-eqb m m refl) ∙ or-r (bit s m) true refl
 
 bit-other : (s m k : ℕ) → (m ≡ k → ⊥) → bit (s ∪ single m) k ≡ bit s k
 bit-other s m k h = bit-with s m k ∙ ap (λ (b : Bool). bit s k || b) (bit-single m k ∙ ne-eqb m k h) ∙ or-false (bit s k)

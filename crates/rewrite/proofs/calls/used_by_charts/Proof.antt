@@ -1,19 +1,20 @@
 -- `calls::used_by_charts` meets its contract. The loop's invariant: the sets of the charts passed are joined, and `start` is where the next one's
 -- transitions begin. Assumes nothing.
-use mathlib.Core.Path.{_≡_, refl, sym, ap, ap₂, _∙_}
+use mathlib.Core.Path.{_≡_, sym, ap, ap₂, _∙_}
 use mathlib.Core.List.{List}
-use Prim.Native.Nat.{ℕ, _+_, _≤_, _<_, _-_}
+use Prim.Native.Nat.{ℕ, _+_, _≤_, _-_}
 use native.Mathlib.Omega.{arith}
 use borrow.Author.Needs.{needs}
 use Rattle.signals.specs.Mask.{_∪_}
 use Rattle.layout.specs.Body.{headAt, startOf, from, transitionAt}
+use Rattle.layout.specs.Body.Laws.{startOf-none}
 use Rattle.layout.specs.declared.body.Shape.{Shape}
 use Rattle.layout.specs.declared.record.Head.{Head}
 use Rattle.layout.specs.declared.record.Transition.{Transition}
 use Rattle.meaning.specs.Meaning.{Set, guards, actions}
 use Rattle.meaning.specs.File.{fileAt, chartOf}
 use Rattle.meaning.specs.Rewriting.{unionUpTo}
-use Rattle.rewrite.proofs.Laws.{union-none, union-more, start-none, start-next, in-all, own-are}
+use Rattle.rewrite.proofs.Laws.{union-none, union-more, start-next, in-all, own-are}
 use Rattle.rewrite.proofs.calls.used_by_charts.Statement.{statement}
 use Rattle.rewrite.proofs.calls.used_by_charts.Tie as tie
 
@@ -37,7 +38,7 @@ abbrev μ-loop : tie.MeasureT-loop
 μ-loop n body all₀ start₀ c₀ all start c = n .charts - c
 
 loop-holds : tie.Need-loop-holds Inv-loop μ-loop
-loop-holds c = (omega arith, start-none _ _, union-none _)
+loop-holds c = (omega arith, sym (startOf-none _ _), union-none _)
 
 room : (c : tie.After-struct-known2 Inv-loop μ-loop) → c .before .before .before .before .loop .start + c .before .head-at .result .transitions ≤ c .before .before .before .before .before .before .args .n .transitions
 room c = in-all _ _ _ _ (c .before .head-at .ensures) (c .before .before .before .before .loop .inv .1) (c .before .before .before .before .before .before .pre) (c .before .before .if1 .taken)

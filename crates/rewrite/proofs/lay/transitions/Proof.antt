@@ -1,19 +1,18 @@
 -- `lay::transitions` meets its contract. The loop's invariant: the transitions of the charts passed are written, and `start` is where the next one's
 -- begin. Assumes nothing.
-use mathlib.Core.Path.{_≡_, refl, sym, ap, _∙_}
+use mathlib.Core.Path.{_≡_, sym}
 use mathlib.Core.List.{List}
-use Prim.Native.Nat.{ℕ, _+_, _-_, _≤_, _<_}
+use Prim.Native.Nat.{ℕ, _-_, _≤_}
 use native.Mathlib.Omega.{arith}
 use borrow.Author.Needs.{needs}
-use lib.ListN.{length}
 use Rattle.layout.specs.Body.{startOf}
+use Rattle.layout.specs.Body.Laws.{startOf-none}
 use Rattle.layout.specs.declared.body.Shape.{Shape}
 use Rattle.meaning.specs.File.{fileAt}
 use Rattle.meaning.specs.Rewriting.{rewrittenChart, inTurn, transitionsBytes}
-use Rattle.rewrite.specs.Known.{Stands}
 use Rattle.rewrite.specs.Put.{Puts}
 use Rattle.rewrite.specs.Put.Laws.{puts-start, puts-next, puts-done, puts-length, room-next}
-use Rattle.rewrite.proofs.Laws.{start-none, start-next, in-all}
+use Rattle.rewrite.proofs.Laws.{start-next, in-all}
 use Rattle.rewrite.proofs.lay.transitions.Statement.{statement}
 use Rattle.rewrite.proofs.lay.transitions.Tie as tie
 
@@ -27,7 +26,7 @@ abbrev μ-loop : tie.MeasureT-loop
 μ-loop n body calls inner out₀ at charts p₀ start₀ c₀ out p start c = charts - c
 
 loop-holds : tie.Need-loop-holds Inv-loop μ-loop
-loop-holds c = (omega arith, start-none _ _, puts-start _)
+loop-holds c = (omega arith, sym (startOf-none _ _), puts-start _)
 
 chart-requires : tie.Need-chart-requires Inv-loop μ-loop
 unfolding fileAt

@@ -1,24 +1,24 @@
 -- `room::over_from` meets its contract. The loop's invariant: no chart passed has a state with over `most` out, and `start` is where the next one's
 -- transitions begin. Assumes nothing.
-use mathlib.Core.Path.{_≡_, refl, sym, ap, ap₂, _∙_}
-use mathlib.Core.Bool.{Bool, true, false}
+use mathlib.Core.Path.{_≡_, sym, ap, ap₂, _∙_}
+use mathlib.Core.Bool.{Bool, false}
 use mathlib.Core.List.{List}
-use Prim.Native.Nat.{ℕ, _+_, _-_, _≤_, _<_}
+use Prim.Native.Nat.{ℕ, _+_, _-_, _≤_}
 use native.Mathlib.Omega.{arith}
 use borrow.Author.Needs.{needs}
 use lib.Dec.{ltb}
 use Rattle.layout.specs.Body.{headAt, transitionAt, startOf, from}
+use Rattle.layout.specs.Body.Laws.{startOf-none}
 use Rattle.layout.specs.declared.body.Shape.{Shape}
 use Rattle.layout.specs.declared.record.Head.{Head}
 use Rattle.layout.specs.declared.record.Transition.{Transition}
 use Rattle.meaning.specs.Count.{anyUpTo}
 use Rattle.meaning.specs.Count.Laws.{any-none, any-more, any-at, any-done, any-cong}
-use Rattle.meaning.specs.Meaning.{Set}
 use Rattle.meaning.specs.File.{fileAt, chartOf}
 use Rattle.meaning.specs.Rewriting.{call, callIn, nearestSlave, chartWith, rewrittenChart, leavingIn}
 use Rattle.rewrite.specs.Records.{idleCount}
 use Rattle.rewrite.specs.Records.Laws.{leaving-is, count-most}
-use Rattle.rewrite.proofs.Laws.{start-none, start-next, in-all, own-are}
+use Rattle.rewrite.proofs.Laws.{start-next, in-all, own-are}
 use Rattle.rewrite.proofs.room.over_from.Statement.{statement}
 use Rattle.rewrite.proofs.room.over_from.Tie as tie
 
@@ -41,7 +41,7 @@ abbrev μ-loop : tie.MeasureT-loop
 μ-loop n body inner most charts start₀ c₀ start c = charts - c
 
 loop-holds : tie.Need-loop-holds Inv-loop μ-loop
-loop-holds c = (omega arith, start-none _ _, any-none _)
+loop-holds c = (omega arith, sym (startOf-none _ _), any-none _)
 
 room : (c : tie.After-head-at Inv-loop μ-loop) → c .before .before .loop .start + c .head-at .result .transitions ≤ c .before .before .before .before .args .n .transitions
 room c = in-all _ _ _ _ (c .head-at .ensures) (c .before .before .loop .inv .1) (c .before .before .before .before .pre .0) (c .before .loop-test .taken)
