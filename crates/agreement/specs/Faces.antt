@@ -2,13 +2,13 @@
 use mathlib.Core.Path.{_≡_, refl, _∙_, ap, ap₂, subst₂}
 use mathlib.Core.Option.{Option, none, some}
 use mathlib.Core.List.{List, [], _∷_, _++_, map}
-use Prim.Native.Nat.{ℕ, zero, suc, _+_, _<_}
+use Prim.Native.Nat.{ℕ, zero, suc, _<_}
 use Rattle.signals.specs.Mask.{_∪_, _∖_}
 use Rattle.signals.specs.Decide.{sets, A, B, C, D, ∅ₑ, _∪ₑ_, _∖ₑ_, _≐_, _⊑_, _⊥ₑ_}
 use Rattle.layout.specs.declared.record.Transition.{Transition}
 use Rattle.meaning.specs.Meaning.{Set, ∅, Chart, Tree, Slaves, leaf, comp, hide, dec, nil, snoc, Move, actions, inFaceChart, inFace, outFace, outFaces}
 use Rattle.meaning.specs.File.{File, wholeOf}
-use Rattle.meaning.specs.Rewriting.{call, callIn, idle, idles, called, chartWith, rewrite}
+use Rattle.meaning.specs.Rewriting.{call, callIn, idle, idles, called, chartWith}
 use Rattle.meaning.specs.Laws.Names.{kap}
 use Rattle.agreement.specs.Tree.{calls, tree, nest, touch, moveR}
 use Rattle.agreement.specs.Same.{Old, At, Rw, Rws, old-none, old-join, old-less, calls-old, touch-calls, face-t}
@@ -16,7 +16,7 @@ use Rattle.agreement.specs.Charts.{OldTs, OldChart, face-is, old-faceCha
 use Rattle.agreement.specs.Fit.{Fit, FitS}
 use Rattle.agreement.specs.Free.{call-inj, old-chart}
 use Rattle.agreement.specs.Renamed.{slavesOf}
-use Rattle.agreement.specs.Step.{Ready, Rewritten, rewritten, whole-is, fits, chart-is}
+use Rattle.agreement.specs.Step.{Ready, Rewritten, whole-is, fits, chart-is}
 
 -- ── actions ──
 
@@ -142,10 +142,3 @@ module _ (F : File) (rd : Ready F) (F′ : File) (r : Rewritten F F′) where
   pub output-is : outFace (F′ .chart) (wholeOf F′) ≡ outFace (F .chart) (wholeOf F)
   output-is = ap (outFace (F′ .chart)) (whole-is F rd F′ r)
       ∙ out-t (call F) (F .state) (kap F) (slavesOf F) (F .charts) (F .chart) (F′ .chart) (old-chart F (rd .small)) (chart-is F rd F′ r) (wholeOf F) none (fits F rd)
-
-module _ (F : File) (rd : Ready F) where
-  pub same-input : inFace (rewrite F .chart) (wholeOf (rewrite F)) ≡ inFace (F .chart) (wholeOf F)
-  same-input = input-is F rd (rewrite F) (rewritten F)
-
-  pub same-output : outFace (rewrite F .chart) (wholeOf (rewrite F)) ≡ outFace (F .chart) (wholeOf F)
-  same-output = output-is F rd (rewrite F) (rewritten F)

@@ -3,7 +3,7 @@
 use mathlib.Core.Path.{_≡_, refl, sym, _∙_, ap, ap₂}
 use mathlib.Core.Bool.{Bool, true, false, _||_, cond, true≢false}
 use mathlib.Core.List.{List, [], _∷_, _++_}
-use Prim.Native.Nat.{ℕ, zero, suc, _+_, _-_, _^_, _≤_, _<_}
+use Prim.Native.Nat.{ℕ, zero, suc, _+_, _^_, _<_}
 use native.Mathlib.Omega.{arith}
 use native.Mathlib.Decide.{decLt}
 use borrow.Author.Tests.{eq-eqb, ne-eqb}
@@ -12,7 +12,6 @@ use lib.ListN.{length, getD, length-append, List·getD-append, List·getD-eq-def
 use lib.Seq.{getD-at}
 use Rattle.signals.specs.Mask.{_∪_, _∖_, bit, single}
 use Rattle.signals.specs.Mask.Laws.{bit-single, bit-none, bit-union, within-at, bit-high, union-lt, single-apart}
-use Rattle.signals.specs.All.{bit-all}
 use Rattle.signals.specs.Decide.{Claim, sets, A, B, C, D, E as Eₑ, _∪ₑ_, _⊑_, _⊥ₑ_}
 use Rattle.layout.specs.declared.record.Transition.{Transition}
 use Rattle.meaning.specs.Meaning.{Set, ∅, guards, actions}
@@ -21,7 +20,7 @@ use Rattle.meaning.specs.Count.Laws.{below-suc, or-left, or-right}
 use Rattle.meaning.specs.Rewriting.{unionUpTo, lacking, used, free, call}
 use Rattle.agreement.specs.Same.{Old}
 use Rattle.agreement.specs.Charts.{OldTs, OldChart}
-use mathlib.Core.Logic.{_⊎_, ⊎-elim}
+use mathlib.Core.Logic.{⊎-elim}
 
 -- ── unionUpTo ──
 
@@ -169,24 +168,6 @@ module _ (F : File) where
       go (yes a) b = absurd (let q = not-taken i m e in let u = call-lowest i l m a (q .0) in q .1 (u .0) (u .1) (u .2))
       go (no a) (yes b) = absurd (true≢false (sym (h (call F i) b) ∙ call-free i l))
       go (no a) (no b) = omega arith
-
-  -- a signal that is not taken: there is a free number for slave i
-  pub call-there : (i m : ℕ) → m < 64 → bit (taken i) m ≡ false → i < length (free F)
-  unfolding call free
-  call-there i m l e = let q = not-taken i m e in let u = lacking-all (used F) 64 m l (q .0) in
-      go (u .0) (u .1) (u .2 (64 + u .0)) (q .1) (decLt (u .0) i)
-    where
-      go : (j : ℕ) → j < length (lacking (used F) 64) → getD (lacking (used F) 64) j (64 + j) ≡ m → ((k : ℕ) → k < i → getD (lacking (used F) 64) k (64 + k) ≡ m → ⊥) → Dec (j < i) → i < length (lacking (used F) 64)
-      go j l′ z no-one (yes a) = absurd (no-one j a z)
-      go j l′ z no-one (no a) = omega arith
-
-  -- all are taken: there is none
-  pub call-gone : (i : ℕ) → taken i ≡ 2 ^ 64 - 1 → length (free F) ≤ i
-  call-gone i e = go (decLt i (length (free F)))
-    where
-      go : Dec (i < length (free F)) → length (free F) ≤ i
-      go (yes l) = absurd (true≢false (sym (bit-all 64 (call F i) (call-small i l)) ∙ ap (λ z. bit z (call F i)) (sym e) ∙ call-free i l))
-      go (no l) = omega arith
 
   module _ (small : used F < 2 ^ 64) where
     call-unused : (i : ℕ) → bit (used F) (call F i) ≡ false

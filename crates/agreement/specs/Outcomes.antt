@@ -11,7 +11,7 @@ use lib.ListN.{length}
 use Rattle.signals.specs.Mask.{_∩_}
 use Rattle.signals.specs.Decide.{sets, A, B, ∅ₑ, _∪ₑ_, _∩ₑ_, _≐_}
 use Rattle.layout.specs.declared.record.Transition.{Transition}
-use Rattle.meaning.specs.Meaning.{Set, same, Chart, Tree, Slaves, leaf, comp, hide, dec, nil, snoc, Move, nth, pick, after, inFaceChart, inFace, out, ok, permitted, upd, moves, nexts, Outcome, upto, outcome, search, outcomes, answer}
+use Rattle.meaning.specs.Meaning.{Set, same, Chart, Tree, Slaves, leaf, comp, hide, dec, nil, snoc, Move, nth, pick, after, inFaceChart, inFace, out, ok, permitted, upd, moves, nexts, Outcome, upto, outcome, search, outcomes}
 use Rattle.meaning.specs.File.{Has}
 use Rattle.meaning.specs.Rewriting.{callIn, idle, called, chartWith}
 use Rattle.meaning.specs.Laws.Bools.{same→≡, same→≢, not-true}
@@ -162,6 +162,3 @@ module _ (sig state : ℕ → ℕ) (inj : (i j : ℕ) → sig i ≡ sig j → i 
   pub same-outcomes : outcomes E′ state cfg (tree sig fbs t) inp N ≡ outcomes E state cfg t inp N
   unfolding outcomes
   same-outcomes = same-search N zero (λ c. zero) (λ c. zero) (zero-add N) (λ i l. absurd (omega arith))
-
-  pub same-answer : answer (outcomes E′ state cfg (tree sig fbs t) inp N) ≡ answer (outcomes E state cfg t inp N)
-  same-answer = ap answer same-outcomes

@@ -6,10 +6,9 @@ use lib.ListN.{getD}
 use Rattle.meaning.specs.Meaning.{Set, Answer, refused, given}
 use Rattle.meaning.specs.File.{File, wholeOf}
 use Rattle.meaning.specs.Calls.{stepIn, afterStep, rowOf, rowsOf}
-use Rattle.meaning.specs.Rewriting.{rewrite}
 use Rattle.meaning.specs.Laws.Demand2.{valid-next}
 use Rattle.agreement.specs.Every.{every-in}
-use Rattle.agreement.specs.Step.{Ready, Valid, Rewritten, rewritten, step-is}
+use Rattle.agreement.specs.Step.{Ready, Valid, Rewritten, step-is}
 
 module _ (F : File) (rd : Ready F) where
   -- a step leads to a valid configuration
@@ -30,6 +29,3 @@ module _ (F : File) (rd : Ready F) where
   run-is F′ r (i ∷ is) config v =
       ap (λ z. rowOf z config ++ rowsOf F′ (afterStep z config) is) (step-is F rd F′ r config v i)
       ∙ ap (λ z. rowOf (stepIn F config i) config ++ z) (run-is F′ r is (afterStep (stepIn F config i) config) (step-valid config i v))
-
-  pub same-run : (inputs : List Set) (config : List ℕ) → Valid F config → rowsOf (rewrite F) config inputs ≡ rowsOf F config inputs
-  same-run = run-is (rewrite F) (rewritten F)

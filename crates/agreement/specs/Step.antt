@@ -121,6 +121,3 @@ module _ (F : File) (rd : Ready F) where
 
         T : Tree
         T = tree (call F) (λ c. F .chart c .feedback) (wholeOf F)
-
-  pub same-step : (config : List ℕ) → Valid F config → (inp : Set) → stepIn (rewrite F) config inp ≡ stepIn F config inp
-  same-step = step-is (rewrite F) (rewritten F)

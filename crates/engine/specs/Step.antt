@@ -1,7 +1,7 @@
 -- What the step's functions ask and leave. A step of a body that passed 1 to 11 (`stepAfter`) is what document 01's list goes on with; the search
 -- over the tables of a wired file answers it (`Prepared`, `Finds`).
 use mathlib.Core.Path.{_≡_}
-use mathlib.Core.Bool.{Bool, false, cond}
+use mathlib.Core.Bool.{false, cond}
 use mathlib.Core.List.{List, [], _∷_, _++_}
 use Prim.Native.Nat.{ℕ}
 use lib.Dec.{ltb}

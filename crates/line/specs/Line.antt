@@ -1,5 +1,5 @@
 -- What the day program prints (document 01, "The day program"): numbers in digits, fields, the line of a row, the whole output. Laws are in Line/Laws.antt; document 01's whole case is in Line/Example.antt.
-use mathlib.Core.Bool.{Bool, true, false, cond}
+use mathlib.Core.Bool.{cond}
 use mathlib.Core.List.{List, [], _∷_, _++_, map}
 use Prim.Native.Nat.{ℕ, zero, suc, _+_, _-_, _/_, _%_}
 use lib.Dec.{ltb}
@@ -9,7 +9,7 @@ use Rattle.layout.specs.Le.{le}
 use Rattle.meaning.specs.Numbers.{mostInput, tooLong, oddFront}
 use Rattle.meaning.specs.Meaning.{Set, same}
 use Rattle.meaning.specs.File.{fileOf, endOf, trailer}
-use Rattle.meaning.specs.Check.{Test, firstOf, fileTests, differ}
+use Rattle.meaning.specs.Check.{firstOf, fileTests, differ}
 use Rattle.meaning.specs.Calls.{initials, rowsOf}
 use Rattle.line.specs.Ascii.{ascii}
 pub mod Laws

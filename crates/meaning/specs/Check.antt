@@ -1,7 +1,7 @@
 -- The file check: refusals 1 to 11 of document 01, each beside its sentence, in the table's order. A test is true where its refusal applies.
-use mathlib.Core.Bool.{Bool, true, false, _&&_, _||_, not, cond}
+use mathlib.Core.Bool.{Bool, true, _&&_, _||_, not, cond}
 use mathlib.Core.List.{List, [], _∷_}
-use Prim.Native.Nat.{ℕ, zero, suc, _+_, _*_, _-_}
+use Prim.Native.Nat.{ℕ, zero, suc, _+_, _*_}
 use lib.Dec.{ltb}
 use lib.ListN.{length, getD}
 use Rattle.layout.specs.Body.{sizeOf, transitionsFrom, slavesFrom, nodesFrom, headAt, transitionAt, startOf}
@@ -11,7 +11,7 @@ use Rattle.layout.specs.declared.record.Transition.{Transition}
 use Rattle.meaning.specs.Numbers.{theEdition, mostCharts, mostSlaves, mostNodes, mostTransitions, mostStates, mostInChart, mostFromState, tooShort, otherEdition, badCounts, badDistance, notZero, badChart, badTransition, badSlave, badNode, badNaming, badInside}
 use Rattle.meaning.specs.Count.{anyUpTo, tally, one}
 use Rattle.meaning.specs.Meaning.{same}
-use Rattle.meaning.specs.File.{File, treeOf, Has, endOf, trailer, bodyOf, shapeOf, fileAt, fileOf}
+use Rattle.meaning.specs.File.{File, treeOf, Has, endOf, trailer, bodyOf, shapeOf, fileAt}
 pub mod Laws
 pub mod Nodes
 

@@ -1,5 +1,5 @@
 -- A chart file (document 01, "The file"): its records by number, the tree that its nodes make, and the file that bytes hold.
-use mathlib.Core.Bool.{Bool, true, false, _||_, cond}
+use mathlib.Core.Bool.{Bool, false, _||_, cond}
 use mathlib.Core.List.{List}
 use Prim.Native.Nat.{ℕ, zero, suc, _-_}
 use lib.ListN.{length, take, drop}

@@ -1,6 +1,6 @@
 -- The records of the rewritten file as code makes them, from sets that tables hold. In this order: idle transitions; a chart's
 -- transitions; nodes; the trailer. That these are the records of the rewriting is in Records/Laws.antt.
-use mathlib.Core.Bool.{Bool, cond}
+use mathlib.Core.Bool.{cond}
 use mathlib.Core.List.{List, [], _∷_, _++_}
 use Prim.Native.Nat.{ℕ, zero, suc, _+_}
 use Rattle.signals.specs.Mask.{_∪_}

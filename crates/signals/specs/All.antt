@@ -1,23 +1,20 @@
 -- What `sets` gives at once: the ways in which code writes a removal, and the set of all signals.
 use mathlib.Core.Path.{_≡_, sym, ap, _∙_}
-use mathlib.Core.List.{List, [], _∷_}
-use Prim.Native.Nat.{ℕ, _+_, _-_, _^_, _≤_, _<_}
+use mathlib.Core.List.{[], _∷_}
+use Prim.Native.Nat.{ℕ, _+_, _-_, _^_, _<_}
 use native.Mathlib.Nat.{mod-eq-of-lt}
 use native.Mathlib.Omega.{arith}
-use lib.Bits.{bitAnd, bitXor, or-disjoint, and-mask, and-comm}
+use lib.Bits.{or-disjoint, and-mask, and-comm}
 use lib.Pow.{pow-lt}
 use mathlib.Core.Bool.{true}
-use Rattle.signals.specs.Mask.{_∪_, _∩_, _∖_, bit, single}
+use Rattle.signals.specs.Mask.{_∩_, _∖_, bit, single}
 use Rattle.signals.specs.Mask.Laws.{within-single}
-use Rattle.signals.specs.Decide.{sets, A, B, C, ∅ₑ, _∪ₑ_, _∩ₑ_, _∖ₑ_, _≐_, _⊑_, _⊥ₑ_}
+use Rattle.signals.specs.Decide.{sets, A, B, C, ∅ₑ, _∪ₑ_, _∩ₑ_, _∖ₑ_, _≐_, _⊑_}
 
 pub less-sum : (a b : ℕ) → a ∖ b + a ∩ b ≡ a
 less-sum a b =
     sym (or-disjoint (a ∖ b) (a ∩ b) (sets (a ∷ b ∷ []) [] ((A ∖ₑ B) ∩ₑ (A ∩ₑ B) ≐ ∅ₑ) tt))
     ∙ sets (a ∷ b ∷ []) [] (A ∖ₑ B ∪ₑ A ∩ₑ B ≐ A) tt
-
-pub less-le : (a b : ℕ) → a ∖ b ≤ a
-less-le a b = omega (arith, less-sum a b)
 
 -- `a - (a & b)`
 pub less-sub : (a b : ℕ) → a - a ∩ b ≡ a ∖ b

@@ -1,17 +1,17 @@
 -- The tree of a file that rules 9 to 11 allow: no chart stands in it twice, each chart's nearest slave is known, and masters are lower.
-use mathlib.Core.Path.{_≡_, refl, sym, _∙_, ap, ap₂, subst, fun-ext}
-use mathlib.Core.Bool.{Bool, true, false, _&&_, _||_, not, cond, true≢false, false≢true}
+use mathlib.Core.Path.{_≡_, refl, sym, _∙_, ap, ap₂, subst}
+use mathlib.Core.Bool.{Bool, true, false, _&&_, _||_, cond, false≢true}
 use mathlib.Core.Option.{Option, none, some}
 use mathlib.Core.Logic.{_≢_, _⊎_, inl, inr}
-use Prim.Native.Nat.{ℕ, zero, suc, _+_, _≤_, _<_}
+use Prim.Native.Nat.{ℕ, zero, suc, _≤_, _<_}
 use native.Mathlib.Omega.{arith}
-use Rattle.meaning.specs.Meaning.{Set, same, Chart, Tree, Slaves, leaf, comp, hide, dec, nil, snoc}
-use Rattle.meaning.specs.Laws.Bools.{or-elim, or-l, same-refl, same→≡, same-≢, and-l, and-r, and-i, not-true}
+use Rattle.meaning.specs.Meaning.{same, Tree, Slaves, leaf, comp, hide, dec, nil, snoc}
+use Rattle.meaning.specs.Laws.Bools.{or-elim, or-l, same-refl, same→≡, and-i, not-true}
 use Rattle.meaning.specs.File.{Has, HasS, File, whole, gather, treeOf}
 use Rattle.meaning.specs.Laws.Above.{Above, AboveS}
-use Rattle.meaning.specs.Laws.Trees.{Ordered, Placed, Joined, Rule11, tree₀, tree₁, tree₂, all-there, above-node}
-use Rattle.meaning.specs.Laws.Names.{Rule10, bySlave, byNode, enc, kap, find, find-one, at-most, by-slave, by-node, names-a₁, names-b₁, names-a₂, hold-one, placed, joined, enc-last, up}
-use Rattle.meaning.specs.Count.{one, tally}
+use Rattle.meaning.specs.Laws.Trees.{Ordered, Placed, Rule11, tree₀, tree₁, tree₂, all-there, above-node}
+use Rattle.meaning.specs.Laws.Names.{Rule10, bySlave, byNode, enc, kap, find, at-most, by-slave, by-node, names-a₁, names-b₁, names-a₂, hold-one, placed, joined, enc-last}
+use Rattle.meaning.specs.Count.{one}
 use Rattle.meaning.specs.Count.Laws.{tally-ge}
 use Rattle.meaning.specs.Check.{names, named}
 use Rattle.wiring.specs.Wire.{Held, Helds, Enc, Encs}

@@ -1,13 +1,13 @@
 -- The step without the cuts to interfaces: they change nothing, for a chart looks at its guard signals alone.
 -- Assumes of each move only that it is one of its chart's transitions (or that its guard signals are in the chart's interface).
-use mathlib.Core.Path.{_≡_, refl, sym, _∙_, ap, ap₂, subst, fun-ext}
-use mathlib.Core.Bool.{Bool, true, false, _&&_, _||_, not, cond, true≢false, false≢true}
-use mathlib.Core.Option.{Option, none, some}
+use mathlib.Core.Path.{_≡_, refl, sym, _∙_, ap, ap₂}
+use mathlib.Core.Bool.{Bool, true, false, _&&_}
+use mathlib.Core.Option.{none, some}
 use mathlib.Core.List.{List, [], _∷_}
-use Prim.Native.Nat.{ℕ, zero, suc, _+_, _≤_, _<_}
-use Rattle.signals.specs.Mask.{_∪_, _∩_, _∖_, within, apart}
-use Rattle.signals.specs.Decide.{sets, A, B, C, D, E as Eₑ, ∅ₑ, _∪ₑ_, _∩ₑ_, _∖ₑ_, _≐_, _⊑_}
-use Rattle.meaning.specs.Meaning.{Set, ∅, same, Chart, Tree, Slaves, leaf, comp, hide, dec, nil, snoc, Move, nth, pick, moves, guards, actionOf, after, inFaceChart, inFace, inFaces, out, outs, okChart, meets, ok, oks, permitted}
+use Prim.Native.Nat.{ℕ, zero, suc}
+use Rattle.signals.specs.Mask.{_∪_, _∩_, _∖_}
+use Rattle.signals.specs.Decide.{sets, A, B, C, D, E as Eₑ, _∪ₑ_, _∩ₑ_, _∖ₑ_, _≐_, _⊑_}
+use Rattle.meaning.specs.Meaning.{Set, same, Chart, Tree, Slaves, leaf, comp, hide, dec, nil, snoc, Move, nth, pick, moves, guards, actionOf, inFaceChart, inFace, inFaces, out, outs, okChart, meets, ok, oks, permitted}
 use Rattle.layout.specs.declared.record.Transition.{Transition}
 use lib.Dec.{eqb}
 

@@ -1,20 +1,19 @@
 -- A tree folded into masks: what of the offered set and of each chart's action reaches each chart, and the output.
 use mathlib.Core.Path.{_≡_, refl, sym, _∙_, ap, ap₂, subst, fun-ext}
-use mathlib.Core.Bool.{Bool, true, false, _&&_, _||_, not, cond, true≢false, false≢true}
+use mathlib.Core.Bool.{Bool, true, false, _&&_, cond, true≢false}
 use mathlib.Core.Option.{Option, none, some}
-use Prim.Native.Nat.{ℕ, zero, suc, _+_, _≤_, _<_}
+use Prim.Native.Nat.{ℕ, zero, suc, _<_}
 use native.Mathlib.Omega.{arith}
 use mathlib.Core.Logic.{_≢_}
-use mathlib.Core.List.{List, [], _∷_}
+use mathlib.Core.List.{[], _∷_}
 use Prim.Native.Nat.{_^_, _-_}
 use Rattle.signals.specs.Mask.{_∪_, _∩_, _∖_, within, apart}
-use Rattle.signals.specs.Decide.{sets, A, B, C, D, E as Eₑ, F as Fₑ, G as Gₑ, H as Hₑ, ∅ₑ, _∪ₑ_, _∩ₑ_, _∖ₑ_, _≐_, _⊑_}
-use Rattle.meaning.specs.Meaning.{Set, ∅, same, Chart, Tree, Slaves, leaf, comp, hide, dec, nil, snoc, Move, actionOf, after, inFaceChart, inFace, out, outs, okChart, meets, permitted}
+use Rattle.signals.specs.Decide.{sets, A, B, C, D, E as Eₑ, F as Fₑ, G as Gₑ, ∅ₑ, _∪ₑ_, _∩ₑ_, _∖ₑ_, _≐_}
+use Rattle.meaning.specs.Meaning.{Set, ∅, same, Chart, Tree, Slaves, leaf, comp, hide, dec, nil, snoc, Move, actionOf, out, outs, okChart, meets}
 use Rattle.meaning.specs.Count.Laws.{or-left, or-right}
 use Rattle.meaning.specs.Laws.Bools.{and-second, or-l, or-r, same-refl, same→≡, same→≢, same-≢}
-use Rattle.layout.specs.declared.record.Transition.{Transition}
 use Rattle.meaning.specs.File.{Has, HasS}
-use Rattle.wiring.specs.Uncut.{okU, oksU, Within, permitted-uncut}
+use Rattle.wiring.specs.Uncut.{okU, oksU}
 
 -- ── the wiring ──
 -- the 64 signals

@@ -1,15 +1,14 @@
 -- The step by the wiring: a choice is permitted exactly if each chart's rule holds under its row.
-use mathlib.Core.Path.{_≡_, refl, sym, _∙_, ap, ap₂, subst, fun-ext}
-use mathlib.Core.Bool.{Bool, true, false, _&&_, _||_, not, cond, true≢false, false≢true}
+use mathlib.Core.Path.{_≡_, refl, _∙_, ap}
+use mathlib.Core.Bool.{Bool, true, false, _&&_, false≢true}
 use mathlib.Core.Option.{Option, none, some}
-use Prim.Native.Nat.{ℕ, zero, suc, _+_, _≤_, _<_}
+use Prim.Native.Nat.{ℕ, zero, suc, _<_}
 use native.Mathlib.Omega.{arith}
-use Rattle.meaning.specs.Meaning.{Set, ∅, same, Chart, Tree, Slaves, leaf, comp, hide, dec, nil, snoc, Move, actionOf, inFaceChart, inFace, out, meets, permitted}
-use Rattle.meaning.specs.Laws.Bools.{or-elim, same-refl, same→≡, every, every-intro, every-elim, and-l, and-r, and-i, bool-eq}
-use Rattle.layout.specs.declared.record.Transition.{Transition}
+use Rattle.meaning.specs.Meaning.{Set, same, Chart, Tree, Slaves, leaf, comp, hide, dec, nil, snoc, Move, actionOf, inFaceChart, meets, permitted}
+use Rattle.meaning.specs.Laws.Bools.{or-elim, same→≡, every, every-intro, every-elim, and-l, and-r, and-i, bool-eq}
 use Rattle.meaning.specs.File.{Has, HasS}
-use Rattle.wiring.specs.Uncut.{Within, okU, permitted-uncut}
-use Rattle.wiring.specs.Wire.{down, up, back, offered, fits, each, eachs, Held, Helds, Enc, awakeBy, ruleAt, wired, Small}
+use Rattle.wiring.specs.Uncut.{Within, permitted-uncut}
+use Rattle.wiring.specs.Wire.{down, back, offered, fits, each, eachs, Held, Helds, Enc, awakeBy, wired, Small}
 
 mutual
   unfolding each Has

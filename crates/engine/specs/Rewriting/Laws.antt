@@ -1,7 +1,7 @@
 -- Laws of the rewriting behind 1 to 11, in this order: a file that is refused, and one that passed; a refusal of 40 to 45; what 41 to 44 give; the
 -- result's size; what the call answers.
 use mathlib.Core.Path.{_≡_, refl, sym, ap, _∙_}
-use mathlib.Core.Bool.{Bool, true, false, not, cond}
+use mathlib.Core.Bool.{true, false}
 use mathlib.Core.List.{List, [], _∷_, _++_, append-assoc}
 use Prim.Native.Nat.{ℕ, _+_, _≤_, _<_}
 use native.Mathlib.Omega.{arith}
@@ -14,14 +14,13 @@ use Rattle.layout.specs.Record.Laws.{length-trailer}
 use Rattle.layout.specs.declared.record.Trailer.{Trailer}
 use Rattle.layout.specs.declared.body.Shape.{Shape}
 use Rattle.meaning.specs.Numbers.{theEdition, mostCharts, mostInChart, mostTransitions, mostNodes, noFreeSignal, shortOut}
-use Rattle.meaning.specs.Count.{anyUpTo}
 use Rattle.meaning.specs.Count.Laws.{any-never}
 use Rattle.meaning.specs.Meaning.{same}
 use Rattle.meaning.specs.File.{File, fileOf}
 use Rattle.meaning.specs.Check.{Test, firstOf, fileTests, refusalOf}
 use Rattle.meaning.specs.Check.Laws.{firstOf-here, firstOf-next, firstOf-[], firstOf-++, firstOf-before, Passes, firstOf-passes, call-refused, call-passed}
 use Rattle.meaning.specs.Calls.{laidOver}
-use Rattle.meaning.specs.Rewriting.{free, rewrittenChart, start, rewrite, noFree?, fromState?, inChart?, transitionsIn, rewriteTests, shapeIn, bodyBytes, encode, rewriteBytes, rewriteRefusal, rewriteLength, rewriteOut}
+use Rattle.meaning.specs.Rewriting.{free, rewrittenChart, start, rewrite, noFree?, inChart?, transitionsIn, rewriteTests, shapeIn, bodyBytes, encode, rewriteBytes, rewriteRefusal, rewriteLength, rewriteOut}
 use Rattle.agreement.specs.Encoded.{length-body}
 use Rattle.rewrite.specs.Known.{Fits}
 use Rattle.engine.specs.declared.rewriting.Rewritten.{Rewritten}

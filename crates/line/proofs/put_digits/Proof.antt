@@ -1,13 +1,12 @@
 -- `line::put_digits` meets its contract. The loop's invariant: with the n - i lowest digits of what is left written over the buffer, all is
 -- written. Assumes nothing.
 use mathlib.Core.Path.{_≡_, refl, sym, ap, _∙_}
-use mathlib.Core.List.{List, [], _∷_, _++_}
+use mathlib.Core.List.{List, [], _∷_}
 use Prim.Native.Nat.{ℕ, suc, _+_, _-_, _/_, _%_, _≤_, _<_}
 use native.Mathlib.Nat.{sub-zero, mod-lt}
-use native.Mathlib.Numerals.{add-one}
 use native.Mathlib.Omega.{arith}
 use lib.ListN.{length, set, length-set}
-use lib.Seq.{sets, set-comm, length-sets}
+use lib.Seq.{sets, set-comm}
 use Rattle.layout.specs.Le.Laws.{sets-append}
 use Rattle.line.specs.Line.{digit, digits}
 use Rattle.line.specs.Line.Laws.{length-digits}

@@ -1,7 +1,7 @@
 -- `line::width` meets its contract. The loop's invariant: what is left has as many digits as are not counted yet, its last one counted before.
 -- Assumes nothing.
 use mathlib.Core.Path.{_≡_}
-use Prim.Native.Nat.{suc, _+_, _≤_}
+use Prim.Native.Nat.{suc, _+_}
 use native.Mathlib.Omega.{arith}
 use Rattle.line.specs.Line.{width}
 use Rattle.line.specs.Line.Laws.{width-one, width-suc, width-le}

@@ -1,12 +1,12 @@
 -- Laws of Put and Room, in this order: one part after another; a byte; a buffer keeps its length; what is written at 0 lies over the buffer; room
 -- for a first part, and for what follows it.
-use mathlib.Core.Path.{_≡_, refl, sym, ap, _∙_}
+use mathlib.Core.Path.{_≡_, refl, sym, _∙_}
 use mathlib.Core.List.{List, [], _∷_, _++_}
 use Prim.Native.Nat.{ℕ, _+_, _≤_}
 use native.Mathlib.Nat.{add-assoc, zero-add}
 use native.Mathlib.Omega.{arith}
-use lib.ListN.{length, length-append, drop, take, set}
-use lib.Seq.{sets, sets-eq, length-sets}
+use lib.ListN.{length, length-append, set}
+use lib.Seq.{sets-eq, length-sets}
 use Rattle.layout.specs.Le.Laws.{sets-append}
 use Rattle.meaning.specs.Calls.{laidOver}
 use Rattle.line.specs.Put.{Put, Room}

@@ -17,36 +17,6 @@ pub and-r : (a b : Bool) → (a && b) ≡ true → b ≡ true
 and-r true b h = h
 and-r false b h = absurd (false≢true h)
 
--- both values
-abbrev pub both : (Bool → Bool) → Bool
-both f = f true && f false
-
-pub inst : (f : Bool → Bool) → both f ≡ true → (b : Bool) → f b ≡ true
-inst f h true = and-l (f true) (f false) h
-inst f h false = and-r (f true) (f false) h
-
-abbrev pub iff : Bool → Bool → Bool
-iff true b = b
-iff false b = not b
-
-abbrev pub imp : Bool → Bool → Bool
-imp true b = b
-imp false b = true
-
-pub iff→≡ : (a b : Bool) → iff a b ≡ true → a ≡ b
-iff→≡ true true h = refl
-iff→≡ true false h = absurd (false≢true h)
-iff→≡ false true h = absurd (false≢true h)
-iff→≡ false false h = refl
-
-pub imp-use : {a b : Bool} → imp a b ≡ true → a ≡ true → b ≡ true
-imp-use {a = true} h e = h
-imp-use {a = false} h e = absurd (false≢true e)
-
-pub false→iff : {a : Bool} → a ≡ false → not a ≡ true
-false→iff {a = true} e = absurd (true≢false e)
-false→iff {a = false} e = refl
-
 pub and-i : {a b : Bool} → a ≡ true → b ≡ true → (a && b) ≡ true
 and-i {a = true} h e = e
 and-i {a = false} h e = absurd (false≢true h)

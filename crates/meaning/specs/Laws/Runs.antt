@@ -1,7 +1,6 @@
 -- Laws of the run (document 01, "Run."), in this order: each configuration is valid again (`valid-after`); a row's length; no row is ever missing
 -- (`rows-all`); row k is the step from the configuration that the k inputs before it leave (`row-at`).
-use mathlib.Core.Path.{_≡_, refl, sym, ap, _∙_}
-use mathlib.Core.Bool.{Bool}
+use mathlib.Core.Path.{_≡_, refl, ap}
 use mathlib.Core.List.{List, [], _∷_, _++_, List·Memᴰ}
 use Prim.Native.Nat.{ℕ, zero, suc, _+_, _*_, _≤_, _<_}
 use native.Mathlib.Nat.{suc-mul}

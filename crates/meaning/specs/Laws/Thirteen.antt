@@ -2,7 +2,7 @@
 use mathlib.Core.Path.{_≡_, refl}
 use mathlib.Core.Bool.{Bool, true, false}
 use mathlib.Core.List.{List, [], _∷_, _++_}
-use Prim.Native.Nat.{ℕ, zero, suc, _+_, _^_}
+use Prim.Native.Nat.{ℕ}
 use lib.ListN.{length}
 use Rattle.signals.specs.Mask.{_∪_, single}
 use Rattle.layout.specs.Le.{le, bytes}

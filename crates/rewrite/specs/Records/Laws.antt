@@ -11,7 +11,7 @@ use native.Mathlib.Nat.{one-le-pow, add-zero, zero-add}
 use native.Mathlib.Omega.{arith}
 use borrow.Author.Tests.{ne-eqb}
 use lib.Dec.{lit<}
-use lib.ListN.{length, getD, length-append}
+use lib.ListN.{length, getD}
 use Rattle.signals.specs.Mask.{_∪_, single}
 use Rattle.layout.specs.Record.{trailerBytes, headBytes, transitionBytes, nodeBytes}
 use Rattle.layout.specs.Body.{from}
@@ -19,7 +19,7 @@ use Rattle.layout.specs.declared.record.Transition.{Transition}
 use Rattle.layout.specs.declared.record.Node.{Node}
 use Rattle.meaning.specs.Numbers.{theEdition}
 use Rattle.meaning.specs.Count.{one}
-use Rattle.meaning.specs.Meaning.{Set, ∅, same, Chart}
+use Rattle.meaning.specs.Meaning.{Set, same, Chart}
 use Rattle.meaning.specs.File.{File}
 use Rattle.meaning.specs.Check.Laws.{eq-or-not}
 use Rattle.meaning.specs.Laws.Bools.{same-refl, same-≢}

@@ -1,17 +1,17 @@
 -- Laws of sets as masks, in this order: the digits of a number; a digit of each operation; sets with the same signals are equal; the set of one
 -- signal; sets below a limit; inclusion signal by signal; removal as code may write it. Identities of sets are proved by `sets` of Decide.antt.
-use mathlib.Core.Path.{_≡_, refl, sym, ap, ap₂, _∙_, subst}
+use mathlib.Core.Path.{_≡_, refl, sym, ap, ap₂, _∙_}
 use mathlib.Core.Bool.{Bool, true, false, not, _&&_, _||_, Bool·beq, true≢false, false≢true}
-use Prim.Native.Nat.{ℕ, zero, suc, _+_, _-_, _*_, _/_, _%_, _^_, _≤_, _<_, zero-le, suc-le-suc, min, max}
-use native.Mathlib.Nat.{mod-lt, le-of-suc-le-suc, not-suc-le-zero, div-add-mod', div-div-eq-div-mul, pow-succ', div-one, pow-zero, pow-suc, le-refl, zero-div, mul-mod-left, mul-div-cancel, div-eq-of-lt, lt-of-lt-of-le, mod-eq-of-lt}
-use lib.Dec.{T, eqb, eqb→eq, eqb-refl, lit<, eqb·zero-suc, eqb·suc-zero, eqb·suc-suc}
+use Prim.Native.Nat.{ℕ, zero, suc, _+_, _*_, _/_, _%_, _^_, _≤_, _<_, zero-le, suc-le-suc, min, max}
+use native.Mathlib.Nat.{mod-lt, le-of-suc-le-suc, not-suc-le-zero, div-add-mod', div-div-eq-div-mul, pow-succ', div-one, pow-suc, zero-div, mul-mod-left, mul-div-cancel, div-eq-of-lt, lt-of-lt-of-le}
+use lib.Dec.{eqb, lit<, eqb·zero-suc, eqb·suc-zero, eqb·suc-suc}
 use borrow.Author.Tests.{eqb-true, eq-eqb}
 use native.Mathlib.Decide.{decLt}
 use native.Mathlib.Omega.{arith}
-use lib.Pow.{pow-mono, pow-lt}
-use lib.Arith.{bin-ind, digits-div, digits-mod, lt-one}
-use lib.Bits.{bitAnd, bitOr, bitXor, and-step, or-step, xor-step, differ, or-lt, and-le-l, and-mask}
-use Rattle.signals.specs.Mask.{_∪_, _∩_, _∖_, bit, single, Within, within, Apart, apart}
+use lib.Pow.{pow-mono}
+use lib.Arith.{bin-ind, digits-div, digits-mod}
+use lib.Bits.{bitAnd, bitOr, bitXor, and-step, or-step, xor-step, differ, or-lt}
+use Rattle.signals.specs.Mask.{_∪_, _∩_, _∖_, bit, single, Within, Apart}
 
 -- ---- the digits of a number
 unfoldable pub odd : ℕ → Bool
@@ -62,9 +62,6 @@ bit-union = bit-op bitOr max _||_ or-step (two (λ (x y : ℕ). max x y < 2) (li
 bit-xor : (n a b : ℕ) → bit (bitXor a b) n ≡ not (Bool·beq (bit a n) (bit b n))
 bit-xor = bit-op bitXor differ (λ x y. not (Bool·beq x y)) xor-step (two (λ (x y : ℕ). differ x y < 2) (lit< tt) (lit< tt) (lit< tt) (lit< tt))
     (two (λ (x y : ℕ). eqb (differ x y) 1 ≡ not (Bool·beq (eqb x 1) (eqb y 1))) refl refl refl refl)
-
-abbrev but : Bool → Bool → Bool
-but x y = x && not y
 
 xor-but : (x y : Bool) → not (Bool·beq x (x && y)) ≡ (x && not y)
 xor-but true true = refl
@@ -130,9 +127,6 @@ ext-below k a b ha hb h = ext a b (λ n. go n (decLt n k))
 
 pub union-lt : (k a b : ℕ) → a < 2 ^ k → b < 2 ^ k → a ∪ b < 2 ^ k
 union-lt = or-lt
-
-pub cut-le : (a b : ℕ) → a ∩ b ≤ a
-cut-le = and-le-l
 
 -- ---- inclusion, signal by signal
 and-not : (x y : Bool) → x ≡ true → (x && not y) ≡ false → y ≡ true

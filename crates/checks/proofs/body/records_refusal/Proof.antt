@@ -1,6 +1,5 @@
 -- `body::records_refusal` meets its contract: 6 to 8 in order, then 9 to 11. Assumes nothing.
-use mathlib.Core.Path.{_≡_, sym, _∙_}
-use borrow.Author.Needs.{needs}
+use mathlib.Core.Path.{sym, _∙_}
 use Rattle.meaning.specs.Check.Laws.{firstOf-here, firstOf-next}
 use Rattle.checks.proofs.body.records_refusal.Statement.{statement}
 use Rattle.checks.proofs.body.records_refusal.Tie as tie

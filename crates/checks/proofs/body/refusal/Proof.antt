@@ -1,5 +1,5 @@
 -- `body::refusal` meets its contract: 5, then 6 to 11. Assumes nothing.
-use mathlib.Core.Path.{_≡_, sym, ap₂, _∙_}
+use mathlib.Core.Path.{sym, ap₂, _∙_}
 use mathlib.Core.Bool.{_||_}
 use borrow.Author.Needs.{needs}
 use Rattle.meaning.specs.Check.Laws.{firstOf-here, firstOf-next}

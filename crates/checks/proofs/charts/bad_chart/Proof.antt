@@ -2,8 +2,6 @@ use mathlib.Core.Path.{refl}
 use Rattle.meaning.specs.Meaning.{same}
 use Rattle.checks.proofs.charts.bad_chart.Statement.{statement}
 use Rattle.checks.proofs.charts.bad_chart.Tie as tie
-use Rattle.checks.proofs.charts.bad_chart.Reads as reads
-use Rattle.checks.proofs.charts.bad_chart.Lts as lts
 
 -- src/charts.rt:12:1
 returns : tie.Need-returns

@@ -2,7 +2,6 @@
 use mathlib.Core.Path.{_≡_, sym, _∙_}
 use native.Mathlib.Omega.{arith}
 use borrow.Author.Needs.{needs}
-use lib.ListN.{length}
 use Rattle.meaning.specs.File.{endOf, trailer}
 use Rattle.meaning.specs.Check.{firstOf}
 use Rattle.checks.specs.Open.{trailerTests}

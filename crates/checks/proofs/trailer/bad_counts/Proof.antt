@@ -3,8 +3,6 @@ use Rattle.meaning.specs.Meaning.{same}
 use Rattle.meaning.specs.Check.{counts?}
 use Rattle.checks.proofs.trailer.bad_counts.Statement.{statement}
 use Rattle.checks.proofs.trailer.bad_counts.Tie as tie
-use Rattle.checks.proofs.trailer.bad_counts.Reads as reads
-use Rattle.checks.proofs.trailer.bad_counts.Lts as lts
 
 -- src/trailer.rt:25:1
 returns : tie.Need-returns

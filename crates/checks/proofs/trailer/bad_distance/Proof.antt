@@ -1,5 +1,4 @@
 -- `trailer::bad_distance` meets its contract: the size is that of the trailer's shape. Assumes nothing.
-use mathlib.Core.Path.{ap}
 use native.Mathlib.Omega.{arith}
 use borrow.Author.Needs.{needs}
 use Rattle.meaning.specs.Meaning.{same}

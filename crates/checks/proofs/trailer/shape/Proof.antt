@@ -3,8 +3,6 @@ use Rattle.meaning.specs.File.{shapeOf}
 use borrow.Author.Needs.{needs}
 use Rattle.checks.proofs.trailer.shape.Statement.{statement}
 use Rattle.checks.proofs.trailer.shape.Tie as tie
-use Rattle.checks.proofs.trailer.shape.Reads as reads
-use Rattle.checks.proofs.trailer.shape.Lts as lts
 
 -- src/trailer.rt:17:17
 cast-t2 : tie.Need-cast-t2

@@ -1,5 +1,4 @@
 -- `zeros::bad_zeros` meets its contract: the four kinds of records one after another. Assumes nothing.
-use mathlib.Core.Path.{_≡_, refl, ap, _∙_}
 use native.Mathlib.Nat.{zero-add}
 use borrow.Author.Needs.{needs}
 use Rattle.meaning.specs.Check.{zeros?}

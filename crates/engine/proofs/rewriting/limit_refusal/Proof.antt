@@ -1,15 +1,13 @@
 -- `rewriting::limit_refusal` meets its contract: 41 to 44, in order. Assumes nothing.
 use mathlib.Core.Path.{_≡_, sym, ap, _∙_}
 use mathlib.Core.Bool.{true, false}
-use Prim.Native.Nat.{ℕ, _≤_, _<_}
-use native.Mathlib.Omega.{arith}
+use Prim.Native.Nat.{_≤_, _<_}
 use borrow.Author.Needs.{needs}
 use borrow.Author.Tests.{lt-ltb, le-ltb}
 use lib.Dec.{ltb}
 use Rattle.layout.specs.declared.body.Shape.{Shape}
 use Rattle.meaning.specs.Numbers.{mostTransitions, mostNodes}
 use Rattle.meaning.specs.File.{File, fileAt}
-use Rattle.meaning.specs.Check.{firstOf}
 use Rattle.meaning.specs.Check.Laws.{firstOf-here, firstOf-next, firstOf-[]}
 use Rattle.meaning.specs.Rewriting.{rewrite, fromState?, inChart?, transitionsIn, shapeIn}
 use Rattle.engine.specs.Rewriting.{limitTests}

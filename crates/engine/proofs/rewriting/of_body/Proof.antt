@@ -1,17 +1,15 @@
 -- `rewriting::of_body` meets its contract: 40 to 45 in order, then the rewritten file over the front of the buffer. Assumes nothing.
 use mathlib.Core.Path.{_≡_, refl, sym, ap, _∙_}
-use mathlib.Core.Bool.{Bool, true, false, not}
-use mathlib.Core.List.{List}
-use Prim.Native.Nat.{ℕ, _+_, _≤_, _<_}
+use mathlib.Core.Bool.{true, false, not}
+use Prim.Native.Nat.{ℕ, _+_, _<_}
 use native.Mathlib.Omega.{arith}
 use borrow.Author.Needs.{needs}
 use borrow.Author.Tests.{not-true, not-false}
 use lib.Dec.{ltb}
 use lib.ListN.{length}
-use Rattle.layout.specs.declared.body.Shape.{Shape}
 use Rattle.meaning.specs.File.{File, fileAt}
 use Rattle.meaning.specs.Check.{firstOf}
-use Rattle.meaning.specs.Rewriting.{used, free, call, rewrite, shapeIn, encode}
+use Rattle.meaning.specs.Rewriting.{used, free, call, rewrite, encode}
 use Rattle.rewrite.specs.Known.{Calling, CallsIn, Fits}
 use Rattle.rewrite.specs.declared.calls.Calls.{Calls}
 use Rattle.engine.specs.Rewriting.{limitTests}

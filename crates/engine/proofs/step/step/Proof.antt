@@ -1,5 +1,5 @@
 -- `step::step` meets its contract: the file's refusal, or the step of its body. Assumes nothing.
-use mathlib.Core.Path.{_≡_, sym, ap, _∙_}
+use mathlib.Core.Path.{_≡_, sym, _∙_}
 use mathlib.Core.List.{List}
 use Prim.Native.Nat.{ℕ}
 use native.Mathlib.Omega.{arith}
@@ -7,11 +7,11 @@ use borrow.Author.Needs.{needs}
 use lib.ListN.{length}
 use Rattle.layout.specs.declared.body.Shape.{Shape}
 use Rattle.meaning.specs.Meaning.{Set, refused}
-use Rattle.meaning.specs.File.{trailer, shapeOf, bodyOf, fileAt, fileOf}
+use Rattle.meaning.specs.File.{trailer, shapeOf, bodyOf, fileAt}
 use Rattle.meaning.specs.Check.{refusalOf}
 use Rattle.meaning.specs.Calls.{stepOf, nextIn}
 use Rattle.checks.specs.Open.{Stands}
-use Rattle.engine.specs.Step.{steppedOf, stepAfter, Checked}
+use Rattle.engine.specs.Step.{steppedOf, stepAfter}
 use Rattle.engine.specs.Step.Laws.{step-refused, step-passed, checked, file-is, refuses}
 use Rattle.engine.specs.declared.step.Stepped.{Stepped}
 use Rattle.engine.proofs.step.step.Statement.{statement}

@@ -1,7 +1,7 @@
 -- `calls::inner` meets its contract. A chart takes the call of the slave that the node which holds it stands in. The loop's invariant: the charts
 -- of the nodes passed have theirs. Assumes nothing.
 use mathlib.Core.Path.{_≡_, refl, sym, ap, _∙_}
-use mathlib.Core.Bool.{Bool, cond}
+use mathlib.Core.Bool.{cond}
 use mathlib.Core.List.{List}
 use mathlib.Core.Logic.{⊎-elim}
 use mathlib.Core.Option.{Option, none, some}
@@ -17,11 +17,9 @@ use Rattle.layout.specs.Body.{nodeAt}
 use Rattle.layout.specs.declared.body.Shape.{Shape}
 use Rattle.layout.specs.declared.record.Node.{Node}
 use Rattle.meaning.specs.Numbers.{mostSlaves}
-use Rattle.meaning.specs.Meaning.{Set}
 use Rattle.meaning.specs.File.{File, fileAt}
 use Rattle.meaning.specs.Check.Nodes.{Sound}
 use Rattle.meaning.specs.Check.Laws.{eq-or-not}
-use Rattle.meaning.specs.Laws.Trees.{Joined, Placed}
 use Rattle.meaning.specs.Laws.Names.{enc, kap, placed, joined}
 use Rattle.meaning.specs.Rewriting.{call, callIn}
 use Rattle.wiring.specs.Near.{enc-below}

@@ -5,7 +5,7 @@ use Prim.Native.Nat.{ℕ, _+_, _≤_, _-_}
 use native.Mathlib.Omega.{arith}
 use borrow.Author.Needs.{needs}
 use Rattle.signals.specs.Mask.{_∪_}
-use Rattle.signals.specs.Decide.{sets, A, B, C, D, E, ∅ₑ, _∪ₑ_, _≐_}
+use Rattle.signals.specs.Decide.{sets, A, B, C, D, E, _∪ₑ_, _≐_}
 use Rattle.layout.specs.Body.{from, transitionAt}
 use Rattle.layout.specs.declared.body.Shape.{Shape}
 use Rattle.layout.specs.declared.record.Transition.{Transition}

@@ -1,8 +1,7 @@
 -- `calls::used_by_nodes` meets its contract. The loop's invariant: the sets of the nodes passed are joined. Assumes nothing.
-use mathlib.Core.Path.{_≡_, sym, ap, ap₂, _∙_}
-use Prim.Native.Nat.{ℕ, _+_, _≤_, _-_}
+use mathlib.Core.Path.{_≡_, ap₂, _∙_}
+use Prim.Native.Nat.{ℕ, _≤_, _-_}
 use native.Mathlib.Omega.{arith}
-use borrow.Author.Needs.{needs}
 use Rattle.signals.specs.Mask.{_∪_}
 use Rattle.layout.specs.declared.record.Node.{Node}
 use Rattle.meaning.specs.File.{fileAt}

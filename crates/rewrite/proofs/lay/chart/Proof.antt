@@ -1,11 +1,11 @@
 -- `lay::chart` meets its contract: the rewritten chart's transitions are the own ones, with their calls, and the idle ones. Assumes nothing.
-use mathlib.Core.Path.{_≡_, refl, sym, ap, ap₂, _∙_}
+use mathlib.Core.Path.{_≡_, sym, ap, _∙_}
 use mathlib.Core.List.{List, _++_}
-use Prim.Native.Nat.{ℕ, _+_, _≤_, _<_}
+use Prim.Native.Nat.{ℕ, _+_, _<_}
 use native.Mathlib.Omega.{arith}
 use borrow.Author.Needs.{needs}
 use Rattle.layout.specs.Record.{transitionBytes}
-use Rattle.layout.specs.Body.{headAt, transitionAt}
+use Rattle.layout.specs.Body.{transitionAt}
 use Rattle.layout.specs.declared.body.Shape.{Shape}
 use Rattle.layout.specs.declared.record.Head.{Head}
 use Rattle.meaning.specs.Meaning.{Set}

@@ -1,10 +1,8 @@
 -- `lay::holder` meets its contract, by whether the chart has slaves. Assumes nothing.
-use mathlib.Core.Path.{_≡_, refl, sym, ap, _∙_}
+use mathlib.Core.Path.{_≡_, sym, ap, _∙_}
 use mathlib.Core.List.{List}
-use Prim.Native.Nat.{ℕ, _+_, _≤_, _<_}
+use Prim.Native.Nat.{ℕ}
 use native.Mathlib.Omega.{arith}
-use borrow.Author.Needs.{needs}
-use lib.ListN.{length}
 use Rattle.layout.specs.Record.{nodeBytes}
 use Rattle.layout.specs.Record.Laws.{length-node}
 use Rattle.meaning.specs.File.{File, fileAt}

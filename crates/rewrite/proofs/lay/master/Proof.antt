@@ -1,10 +1,8 @@
 -- `lay::master` meets its contract: the three parts of `masterBytes`, one behind another. Assumes nothing.
-use mathlib.Core.Path.{_≡_, refl, sym, ap, ap₂, _∙_}
+use mathlib.Core.Path.{_≡_, sym}
 use mathlib.Core.List.{List, _++_}
-use Prim.Native.Nat.{ℕ, _+_, _≤_, _<_}
+use Prim.Native.Nat.{ℕ, _+_}
 use native.Mathlib.Omega.{arith}
-use borrow.Author.Needs.{needs}
-use lib.ListN.{length}
 use Rattle.signals.specs.Mask.{_∪_}
 use Rattle.layout.specs.Record.{nodeBytes}
 use Rattle.layout.specs.Record.Laws.{length-node}

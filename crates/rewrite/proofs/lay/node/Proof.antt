@@ -1,18 +1,17 @@
 -- `lay::node` meets its contract, by the node's kind. Assumes nothing.
-use mathlib.Core.Path.{_≡_, refl, sym, ap, ap₂, _∙_}
+use mathlib.Core.Path.{_≡_, refl, sym, ap, _∙_}
 use mathlib.Core.List.{List}
-use Prim.Native.Nat.{ℕ, zero, suc, _+_, _≤_, _<_}
+use Prim.Native.Nat.{ℕ, zero, suc, _≤_, _<_}
 use native.Mathlib.Omega.{arith}
 use borrow.Author.Needs.{needs}
-use lib.ListN.{length, getD}
+use lib.ListN.{getD}
 use Rattle.layout.specs.Record.{nodeBytes}
 use Rattle.layout.specs.Record.Laws.{length-node}
 use Rattle.layout.specs.Body.{nodeAt}
 use Rattle.layout.specs.declared.body.Shape.{Shape}
 use Rattle.layout.specs.declared.record.Node.{Node}
-use Rattle.meaning.specs.Numbers.{mostNodes}
 use Rattle.meaning.specs.File.{File, fileAt}
-use Rattle.meaning.specs.Rewriting.{count, before, start, newName, madeFor}
+use Rattle.meaning.specs.Rewriting.{count, before, newName, madeFor}
 use Rattle.agreement.specs.Laid.{ren-inside}
 use Rattle.rewrite.specs.Known.{Checked, NamesIn, Holder, Begins}
 use Rattle.rewrite.specs.Put.{Room}

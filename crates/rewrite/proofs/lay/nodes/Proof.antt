@@ -1,14 +1,13 @@
 -- `lay::nodes` meets its contract. The loop's invariant: the nodes for the nodes passed are written, and `first` is the next one's name. Assumes
 -- nothing.
-use mathlib.Core.Path.{_≡_, refl, sym, ap, _∙_}
+use mathlib.Core.Path.{_≡_, ap, _∙_}
 use mathlib.Core.List.{List}
 use Prim.Native.Nat.{ℕ, _+_, _-_, _≤_, _<_}
 use native.Mathlib.Omega.{arith}
-use borrow.Author.Needs.{needs}
-use lib.ListN.{length, getD}
+use lib.ListN.{getD}
 use Rattle.layout.specs.declared.body.Shape.{Shape}
 use Rattle.meaning.specs.File.{fileAt}
-use Rattle.meaning.specs.Rewriting.{start, newName, madeFor, inTurn}
+use Rattle.meaning.specs.Rewriting.{start, madeFor, inTurn}
 use Rattle.agreement.specs.Laid.{ren-inside}
 use Rattle.rewrite.specs.Put.{Puts}
 use Rattle.rewrite.specs.Put.Laws.{puts-start, puts-next, puts-done, puts-length, room-next}

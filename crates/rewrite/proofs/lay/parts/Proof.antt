@@ -1,7 +1,6 @@
 -- `lay::parts` meets its contract. The loop's invariant: the nodes for the slaves passed are written, and `made` is the last one's name. Assumes
 -- nothing.
-use mathlib.Core.Path.{_≡_, refl, sym, ap, _∙_}
-use mathlib.Core.Bool.{Bool, cond}
+use mathlib.Core.Path.{_≡_, sym, ap, _∙_}
 use mathlib.Core.List.{List, []}
 use mathlib.Core.Logic.{⊎-elim}
 use Prim.Native.Nat.{ℕ, _+_, _-_, _≤_, _<_}
@@ -16,7 +15,6 @@ use Rattle.layout.specs.declared.body.Shape.{Shape}
 use Rattle.layout.specs.declared.record.Slave.{Slave}
 use Rattle.layout.specs.declared.record.Node.{Node}
 use Rattle.meaning.specs.Count.Laws.{tally-none}
-use Rattle.meaning.specs.Meaning.{Set}
 use Rattle.meaning.specs.File.{File, fileAt}
 use Rattle.meaning.specs.Rewriting.{count, newName, inTurn}
 use Rattle.rewrite.specs.Known.{Checked, NamesIn}

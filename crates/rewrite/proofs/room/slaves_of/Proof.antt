@@ -1,13 +1,9 @@
 -- `room::slaves_of` meets its contract. The loop's invariant: of the slaves passed the chart's are counted. Assumes nothing.
 use mathlib.Core.Path.{_≡_, sym, ap, _∙_}
-use mathlib.Core.List.{List}
 use mathlib.Core.Logic.{⊎-elim}
-use Prim.Native.Nat.{ℕ, _+_, _-_, _≤_, _<_}
+use Prim.Native.Nat.{ℕ, _+_, _-_, _≤_}
 use native.Mathlib.Omega.{arith}
 use borrow.Author.Needs.{needs}
-use Rattle.layout.specs.Body.{slaveAt}
-use Rattle.layout.specs.declared.body.Shape.{Shape}
-use Rattle.layout.specs.declared.record.Slave.{Slave}
 use Rattle.meaning.specs.Count.Laws.{tally-none}
 use Rattle.meaning.specs.File.{fileAt}
 use Rattle.meaning.specs.Rewriting.{count}
