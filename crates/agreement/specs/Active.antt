@@ -22,6 +22,7 @@ module _ (state : ℕ → ℕ) (cfg : ℕ → ℕ) (M : ℕ → Move) where
     actives nil f c = false
     actives (snoc ss i t) f c = cond (Has t c) (active t (f (state i)) c) (actives ss f c)
 
+-- a move takes a transition
 unfoldable pub some? : Move → Bool
 some? none = false
 some? (some t) = true

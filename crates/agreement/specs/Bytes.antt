@@ -25,6 +25,7 @@ use Rattle.agreement.specs.Again.{Given, fits}
 
 -- ── lists ──
 
+-- a list of bytes, byte by byte
 data Bytes : List ℕ → Type 0 where
   end : Bytes []
   byte : {x : ℕ} {s : List ℕ} → x < 256 → Bytes s → Bytes (x ∷ s)

@@ -16,13 +16,14 @@ use Rattle.meaning.specs.Count.Laws.{any-never, any-cong}
 use Rattle.meaning.specs.Meaning.{Set, ∅, same, refused, given}
 use Rattle.meaning.specs.File.{endOf, trailer, bodyOf, shapeOf, chartOf, fileAt, fileOf}
 use Rattle.meaning.specs.Numbers.{mostTransitions, mostNodes, wrongLength, badState, shortBuffer, shortRows}
-use Rattle.meaning.specs.Check.Laws.{below, firstOf-passes, Passed, passed, call-passed, counted, charted}
+use Rattle.meaning.specs.Check.Laws.{below, alike, firstOf-passes, Passed, passed, call-passed, counted, charted}
 use Rattle.meaning.specs.Check.{Test, firstOf, differ, notBelow, fileTests, refusalOf}
 use Rattle.meaning.specs.Calls.{made, laidOver, firstRefusal, initials, firstBytes, inputOf, outputOf, configTests, stepRefusal, stepIn, stepOf, runRefusal, rowsOf, runBytes}
 use Rattle.meaning.specs.Calls.Laws.{made-cong}
 use Rattle.meaning.specs.Rewriting.{chartWith, rewrittenChart, rewriteTests, rewriteBytes, rewriteRefusal, rewrite, rewriteLength, shapeIn}
 use Rattle.meaning.specs.Laws.Bools.{same-refl, same→≡}
-use Rattle.agreement.specs.Step.{Valid, Rewritten, step-is}
+use Rattle.meaning.specs.Laws.Runs.{Valid}
+use Rattle.agreement.specs.Step.{Rewritten, step-is}
 use Rattle.agreement.specs.Run.{run-is}
 use Rattle.agreement.specs.Faces.{input-is, output-is}
 use Rattle.agreement.specs.Passed.{front, in-front, ended, smalls, body-bytes, ready}
@@ -35,6 +36,7 @@ use Rattle.agreement.specs.Encoded.{length-encode, end-is, trailer-is}
 
 -- ── what a call that is not refused has ──
 
+-- the file passes, 40 to 44 do not apply, and the result has room
 pub record Allowed (f : List ℕ) (room : ℕ) : Type 0 where
   pub checked : refusalOf f ≡ 0
   pub given : Given (fileOf f)
@@ -138,8 +140,12 @@ module _ (f : List ℕ) (ab : AllBytes f) (room : ℕ) (ok : rewriteRefusal f ro
 
   valid : (config : List ℕ) (us : List Test) → firstOf (configTests f config ++ us) ≡ 0 → Valid (fileOf f) config
   unfolding configTests
-  valid config us e c l = let q = front (configTests f config) us (lit< tt, (lit< tt, tt)) e in
-      below _ _ (any-never (fileOf f .charts) (λ c. notBelow (getD config c 0) (fileOf f .chart c .states)) (q .0 .1 .0) c l)
+  valid config us e =
+      let q = front (configTests f config) us (lit< tt, (lit< tt, tt)) e in
+      record {
+        long = alike _ _ (q .0 .0);
+        states = λ c l. below _ _ (any-never (fileOf f .charts) (λ c. notBelow (getD config c 0) (fileOf f .chart c .states)) (q .0 .1 .0) c l);
+      }
 
   -- a call whose tests are 1 to 11, 20, 21 and one more: its refusal, and what it answers
   module _ (config : List ℕ) (u u′ : Test) (us : u′ ≡ u) where

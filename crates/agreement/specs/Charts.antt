@@ -86,6 +86,7 @@ module _ (sig : ℕ → ℕ) where
       go (suc m) l = ap (λ z. z ∪ C .extra) (guards-own κ T (C .transitions) (idles sig κ zero (suc m)) (guards-idles κ zero m))
           ∙ sets (guards (C .transitions) ∷ callIn sig κ ∷ C .extra ∷ []) [] ((A ∪ₑ B) ∪ₑ Cₑ ≐ (A ∪ₑ Cₑ) ∪ₑ B) tt
 
+  -- transitions, and a chart, whose sets have no call
   abbrev pub OldTs : List Transition → Type 0
   OldTs = Every (λ t. OldMove sig (some t))
 

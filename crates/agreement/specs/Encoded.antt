@@ -44,6 +44,7 @@ module _ (w : ℕ) (f : ℕ → List ℕ) (h : (i : ℕ) → length (f i) ≡ w)
 
 -- ── transitions in turn ──
 
+-- what stands past the last transition of a list
 abbrev pub noTransition : Transition
 noTransition = record { from = 0; to = 0; needed = ∅; barred = ∅; action = ∅ }
 
@@ -105,6 +106,7 @@ module _ (ts : ℕ → List Transition) where
 abbrev pub Small : Transition → Type 0
 Small t = (t .needed < 256 ^ 8) × (t .barred < 256 ^ 8) × (t .action < 256 ^ 8)
 
+-- what a file written into bytes is asked for: numbers and sets within their widths
 pub record Fits (F : File) : Type 0 where
   pub heads : (c : ℕ) → c < F .charts → (F .chart c .feedback < 256 ^ 8) × (F .chart c .extra < 256 ^ 8)
   pub lists : (c : ℕ) → c < F .charts → Every Small (F .chart c .transitions)
@@ -113,6 +115,7 @@ pub record Fits (F : File) : Type 0 where
   pub total : transitionsIn F < 256 ^ 2
 
 module _ (F : File) where
+  -- records by number, and a chart's transitions
   abbrev pub slaveIn : ℕ → Slave
   slaveIn i = record { chart = F .master i; state = F .state i; node = F .node i }
 

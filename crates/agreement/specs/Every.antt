@@ -1,4 +1,4 @@
--- A statement of every transition of a list.
+-- A statement of every transition of a list: of two lists, of one in it, of those by number, of those changed one by one.
 use mathlib.Core.Path.{_≡_, sym, subst}
 use mathlib.Core.List.{List, [], _∷_, _++_, map, List·Memᴰ, List·Memᴰ·cases-cons, List·Memᴰ·not-nil}
 use mathlib.Core.Logic.{⊎-elim}
@@ -9,6 +9,7 @@ use lib.ListN.{length, getD}
 use Rattle.layout.specs.Body.{from}
 use Rattle.layout.specs.declared.record.Transition.{Transition}
 
+-- P holds of each
 abbrev pub Every : (Transition → Type 0) → List Transition → Type 0
 Every P [] = Unit {0}
 Every P (t ∷ ts) = P t × Every P ts

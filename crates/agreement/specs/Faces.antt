@@ -15,7 +15,7 @@ use Rattle.agreement.specs.Same.{Old, At, Rw, Rws, old-none, old-join, o
 use Rattle.agreement.specs.Charts.{OldTs, OldChart, face-is, old-faceChart}
 use Rattle.agreement.specs.Fit.{Fit, FitS}
 use Rattle.agreement.specs.Free.{call-inj, old-chart}
-use Rattle.agreement.specs.Renamed.{slavesOf}
+use Rattle.agreement.specs.Fit.{slavesOf}
 use Rattle.agreement.specs.Step.{Ready, Rewritten, whole-is, fits, chart-is}
 
 -- ── actions ──

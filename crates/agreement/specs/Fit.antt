@@ -26,10 +26,14 @@ module _ (sig : ℕ → ℕ) (kap : ℕ → Option ℕ) (slv : ℕ → Slaves) (
 
 -- ── in a file ──
 
+-- chart c's slaves with their trees
+abbrev pub slavesOf : File → ℕ → Slaves
+slavesOf F c = gather (F .master) (λ i. treeOf F (F .node i)) c (F .slaves)
+
 module _ (F : File) (w : Ordered F) (enc kap : ℕ → Option ℕ) (pl : Placed F enc kap) (sig : ℕ → ℕ)
     (hid : (j : ℕ) → j < F .nodes → F .kind j ≡ 2 → Old sig (F .x j)) where
-  abbrev pub slv : ℕ → Slaves
-  slv c = gather (F .master) (λ i. treeOf F (F .node i)) c (F .slaves)
+  abbrev slv : ℕ → Slaves
+  slv = slavesOf F
 
   fit-whole : (c : ℕ) (κ : Option ℕ) (ss : Slaves) → c < F .charts → kap c ≡ κ → slv c ≡ ss → FitS sig kap slv (F .charts) ss κ → Fit sig kap slv (F .charts) (whole c ss) κ
   fit-whole c κ nil l p q f = (l, p, q)

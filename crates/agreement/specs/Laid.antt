@@ -1,4 +1,5 @@
--- The nodes of the rewritten file, laid down in order.
+-- The nodes of the rewritten file, laid down in order. In this order: how many are made for each node, and where they begin; what stands at a place;
+-- so they are nodes as Renamed asks for (`nodesR`); each names lower ones (`orderedR`).
 use mathlib.Core.Path.{_≡_, refl, sym, _∙_, ap, ap₂, subst, subst₂}
 use mathlib.Core.Bool.{Bool, true, false, cond, false≢true}
 use mathlib.Core.Logic.{_≢_}
@@ -27,6 +28,7 @@ module _ (F : File) where
   abbrev pub widthOf : ℕ → ℕ → ℕ
   widthOf k s = suc (before F k s)
 
+  -- the same of node j
   abbrev pub width : ℕ → ℕ
   width j = widthOf (F .kind j) (count F (F .a j) (F .slaves))
 
@@ -208,6 +210,7 @@ module _ (F : File) where
       at j e h (suc s) f = ren-is j 0 (suc s) e f
 
 -- ── the new nodes name lower ones ──
+-- a node numbered p, and a list of nodes numbered from p on
 abbrev Low : ℕ → Node → Type 0
 Low p n = (n .kind ≡ 1 → (n .a < p) × (n .b < p)) × (n .kind ≡ 2 → n .a < p) × (n .kind ≤ 2)
 

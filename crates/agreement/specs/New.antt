@@ -60,6 +60,7 @@ kap-below F c i e = go (find (F .nodes) (λ k. same (F .kind k) 0 && same (F .a 
 module _ (F : File) (rg : Regular F) (room : noFree? F ≡ false) where
   -- ── calls ──
 
+  -- a slave, if any, that is one of the file's
   abbrev pub Inside : Option ℕ → Type 0
   Inside none = Unit {0}
   Inside (some i) = i < F .slaves

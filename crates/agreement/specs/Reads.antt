@@ -11,6 +11,7 @@ use Rattle.meaning.specs.Laws.Bools.{same→≡}
 use Rattle.meaning.specs.Laws.Trees.{Ordered}
 use Rattle.agreement.specs.Encoded.{Fits, slaveIn, nodeIn, chart-back, slave-is, node-is}
 
+-- G has all that is read of F
 pub record Reads (F G : File) : Type 0 where
   pub charts : G .charts ≡ F .charts
   pub chart : (c : ℕ) → c < F .charts → G .chart c ≡ F .chart c

@@ -1,4 +1,5 @@
--- The nodes of the rewritten file give the rewritten tree.
+-- The nodes of the rewritten file give the rewritten tree (`tree-ren`), whatever file holds them: what is asked of it is in NodesR. That those laid
+-- down are such is in Laid.
 use mathlib.Core.Path.{_≡_, refl, sym, _∙_, ap}
 use mathlib.Core.Bool.{Bool, true, false, _&&_, cond}
 use mathlib.Core.List.{[], _∷_}
@@ -11,6 +12,7 @@ use Rattle.signals.specs.Decide.{sets, A, ∅ₑ, _∪ₑ_, _≐_}
 use Rattle.layout.specs.declared.record.Transition.{Transition}
 use Rattle.meaning.specs.Laws.Bools.{same→≡}
 use Rattle.agreement.specs.Tree.{calls, tree, nest, touch}
+use Rattle.agreement.specs.Fit.{slavesOf}
 use Rattle.meaning.specs.Rewriting.{unionUpTo, call, callsBy, callsOf, isOf, touches, count, start, newName}
 use Rattle.meaning.specs.File.{File, whole, gather, treeOf}
 use Rattle.meaning.specs.Laws.Trees.{Ordered, tree₀, tree₁, tree₂}
@@ -25,12 +27,8 @@ count-less F c i k l e =
     omega arith
 
 module _ (F : File) where
-  -- chart c's slaves with their trees
-  abbrev pub slavesOf : ℕ → Slaves
-  slavesOf c = gather (F .master) (λ i. treeOf F (F .node i)) c (F .slaves)
-
   -- the calls over its slaves are the calls by the records
-  pub calls-of : (c : ℕ) → calls (call F) (slavesOf c) ≡ callsOf F c
+  pub calls-of : (c : ℕ) → calls (call F) (slavesOf F c) ≡ callsOf F c
   unfolding callsOf unionUpTo gather calls
   calls-of c = up (F .slaves)
     where
@@ -45,7 +43,7 @@ module _ (F : File) where
           split true = refl
           split false = sets (calls (call F) ss ∷ []) [] (A ≐ A ∪ₑ ∅ₑ) tt
 
-  pub touch-of : (c : ℕ) (t : Transition) → touch (call F) (F .state) (slavesOf c) t ≡ callsBy F c t
+  pub touch-of : (c : ℕ) (t : Transition) → touch (call F) (F .state) (slavesOf F c) t ≡ callsBy F c t
   unfolding callsBy unionUpTo gather touch
   touch-of c t = up (F .slaves)
     where
@@ -115,6 +113,7 @@ module _ (F F′ : File) (w : Ordered F) (w′ : Ordered F′) (nr : NodesR F F�
   abbrev fbs : ℕ → Set
   fbs c = F .chart c .feedback
 
+  -- the feedback of the nodes composed for node j
   abbrev X : ℕ → Set
   X j = F .chart (F .a j) .feedback ∪ callsOf F (F .a j)
 

@@ -22,6 +22,7 @@ module _ (sig : ℕ → ℕ) where
   abbrev pub Old : Set → Type 0
   Old s = (i : ℕ) → single (sig i) ∩ s ≡ ∅
 
+  -- a move whose sets have no call
   abbrev pub OldMove : Move → Type 0
   OldMove none = Unit {0}
   OldMove (some t) = Old (t .needed) × Old (t .barred) × Old (t .action)
@@ -103,6 +104,7 @@ pub record At (sig state : ℕ → ℕ) (cfg : ℕ → ℕ) (E E′ : ℕ → Ch
   pub old-face : Old sig (inFaceChart (E c))
   pub old-move : OldMove sig (M c)
 
+-- there is a slave
 abbrev pub Some : Slaves → Type 0
 Some nil = ⊥
 Some (snoc ss i t) = Unit {0}

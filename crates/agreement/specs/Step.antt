@@ -1,4 +1,5 @@
--- The rewritten file steps as the file does, from each configuration and for each input; so its runs are the same, and its interfaces.
+-- The rewritten file steps as the file does, from each valid configuration and for each input (`step-is`). What is asked of the file is in Ready;
+-- its runs are in Run, its interfaces in Faces.
 use mathlib.Core.Path.{_≡_, refl, sym, _∙_, ap, ap₂, subst, fun-ext}
 use mathlib.Core.Bool.{true, _&&_}
 use mathlib.Core.Option.{none}
@@ -12,14 +13,15 @@ use Rattle.meaning.specs.File.{File, treeOf, wholeOf, Has}
 use Rattle.meaning.specs.Calls.{stepIn}
 use Rattle.meaning.specs.Rewriting.{used, call, chartWith, nearestSlave, rewrittenChart, start, newName, rewrite}
 use Rattle.meaning.specs.Check.Nodes.{Sound}
+use Rattle.meaning.specs.Laws.Runs.{Valid}
 use Rattle.meaning.specs.Laws.Trees.{above-node, all-there}
 use Rattle.meaning.specs.Laws.Names.{enc, kap, placed, joined, enc-last}
 use Rattle.agreement.specs.Every.{Every}
 use Rattle.agreement.specs.Tree.{calls, tree, nest, touch}
-use Rattle.agreement.specs.Fit.{Fit, fit-node, nearest-fit}
+use Rattle.agreement.specs.Fit.{slavesOf, Fit, fit-node, nearest-fit}
 use Rattle.agreement.specs.Outcomes.{same-outcomes}
 use Rattle.agreement.specs.Free.{call-inj, old-chart, old-x}
-use Rattle.agreement.specs.Renamed.{slavesOf, touch-of, tree-ren}
+use Rattle.agreement.specs.Renamed.{touch-of, tree-ren}
 use Rattle.agreement.specs.Laid.{nodesR, orderedR, start-suc}
 
 -- ── a rewritten tree has no slaves, so their states do not matter ──
@@ -54,10 +56,6 @@ pub record Ready (F : File) : Type 0 where
   pub ends : (c : ℕ) → c < F .charts → Every (λ t. t .to < F .chart c .states) (F .chart c .transitions)
   -- its sets are of 64 signals
   pub small : used F < 2 ^ 64
-
--- a configuration of its charts' states
-abbrev pub Valid : File → List ℕ → Type 0
-Valid F config = (c : ℕ) → c < F .charts → getD config c 0 < F .chart c .states
 
 -- a file that is the rewriting of F as far as it is read
 pub record Rewritten (F F′ : File) : Type 0 where
@@ -114,7 +112,7 @@ module _ (F : File) (rd : Ready F) where
         (free-search (F′ .chart) (F′ .state) (F .state) cfg T inp (F .charts)
         (λ M. free-t (call F) fbs (F′ .chart) (F′ .state) (F .state) cfg M (wholeOf F) (inp ∩ inFace (F′ .chart) T)) (F .charts) zero (λ c. zero)
         ∙ same-outcomes (call F) (F .state) (call-inj F) (kap F) (slavesOf F) (F .charts) (F .chart) (F′ .chart) cfg (wholeOf F) inp chart-is fits
-        (above-node F (s .ordered) (s .rule11) (F .nodes) last (let h = is-last in omega arith) (let h = is-last in omega arith)) has (old-chart F (rd .small)) v))
+        (above-node F (s .ordered) (s .rule11) (F .nodes) last (let h = is-last in omega arith) (let h = is-last in omega arith)) has (old-chart F (rd .small)) (v .states)))
       where
         cfg : ℕ → ℕ
         cfg c = getD config c 0

@@ -10,6 +10,7 @@ use Rattle.meaning.specs.Rewriting.{callIn, called, idle}
 
 -- sig: the call signal of each slave; state: its state
 module _ (sig : ℕ → ℕ) where
+  -- the calls of the slaves
   unfoldable pub calls : Slaves → Set
   calls nil = ∅
   calls (snoc ss i t) = calls ss ∪ single (sig i)

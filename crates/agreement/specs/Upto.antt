@@ -1,4 +1,5 @@
--- Lists made one after another (`upto`), where some of them are empty.
+-- Lists made one after another (`upto`), where some of them are empty: what becomes of a chart's outcomes when its idle transitions stand behind
+-- its own (`merge`).
 use mathlib.Core.Path.{_≡_, refl, sym, _∙_, ap}
 use mathlib.Core.Bool.{Bool, true, false}
 use mathlib.Core.Logic.{_≢_}

@@ -19,6 +19,7 @@ use Rattle.wiring.specs.Wired.{Stands}
 
 -- ── the way up from a node ──
 module _ (par : ℕ → ℕ) where
+  -- j is reached from h
   data Up (h : ℕ) : ℕ → Type 0 where
     here : Up h h
     more : {j : ℕ} → Up h j → j < par j → Up h (par j)
@@ -216,6 +217,7 @@ module _ (encC : ℕ → Option ℕ) (sc : ℕ → ℕ) where
 -- ── rules 10 and 11 give all this ──
 module _ (F : File) (w : Ordered F) (r : Rule10 F) (r11 : Rule11 F)
     (chart-there : (j : ℕ) → j < F .nodes → F .kind j ≡ 0 → F .a j < F .charts) (node-there : (i : ℕ) → i < F .slaves → (F .node i < F .nodes) × (F .master i < F .charts)) where
+  -- the node that holds chart c, and the one that names node j, or whose chart has it as a slave's
   abbrev orZero : Option ℕ → ℕ
   orZero none = zero
   orZero (some k) = k

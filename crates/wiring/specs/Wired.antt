@@ -41,6 +41,7 @@ each-every N t f h has = bool-eq _ _ (λ e. every-intro N f (λ c l. each-elim t
 
 -- ── activity, from the masters, which are lower ──
 module _ (enc : ℕ → Option ℕ) (sc state cfg : ℕ → ℕ) (M : ℕ → Move) where
+  -- looking at most so many masters up
   unfoldable pub awakeIn : ℕ → ℕ → Bool
   awakeIn zero c = false
   awakeIn (suc f) c = awakeBy sc state cfg M (awakeIn f) (enc c)
@@ -80,6 +81,7 @@ module _ (E : ℕ → Chart) (state : ℕ → ℕ) (cfg : ℕ → ℕ) (N : ℕ)
   unfoldable pub offer : (ℕ → Move) → ℕ → ℕ → Set
   offer M k c = offered k (λ e. actionOf (M e)) inp (down t c) (back E t c)
 
+  -- chart c's rule holds under its row
   unfoldable pub ruled : (ℕ → Move) → ℕ → Bool
   ruled M c = fits (awake enc sc state cfg M c) (offer M N c) (cfg c) (M c)
 

@@ -87,6 +87,7 @@ module _ (E : ℕ → Chart) (state : ℕ → ℕ) (cfg : ℕ → ℕ) (t : Tree
     pub places : (c : ℕ) → c < N → ch c ≤ length (E c .transitions)
     pub others : (c : ℕ) → N ≤ c → ch c ≡ 0
 
+  -- a choice is permitted; what it puts out; where it leads; both
   abbrev pub Permitted : (ℕ → ℕ) → Type 0
   Permitted ch = permitted E state cfg (moves E ch) t inp ≡ true
 

@@ -53,6 +53,7 @@ module _ (master : ℕ → ℕ) (v : ℕ → Set) (c a : ℕ) where
   unfolding joins
   join-other i e = rw (add-one, same-≢ (master i) c e)
 
+-- one of three, by a node's kind
 abbrev pub setByKind : ℕ → Set → Set → Set → Set
 setByKind zero p q r = p
 setByKind (suc zero) p q r = q

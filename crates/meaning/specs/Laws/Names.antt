@@ -13,11 +13,13 @@ use Rattle.meaning.specs.Laws.Bools.{same-refl, same→≡, same-≢, sa
 use Rattle.meaning.specs.File.{File}
 use Rattle.meaning.specs.Laws.Trees.{Ordered, Placed, Joined, Namer, left, right, inside, slave}
 
+-- a slave, if there is one; else what r says of a node, if there is one
 abbrev pub up : Option ℕ → Option ℕ → (ℕ → Option ℕ) → Option ℕ
 up (some i) b r = some i
 up none (some k) r = r k
 up none none r = none
 
+-- the last number below n that p holds of
 unfoldable pub find : ℕ → (ℕ → Bool) → Option ℕ
 find zero p = none
 find (suc n) p = cond (p n) (some n) (find n p)
@@ -47,19 +49,21 @@ find-some (suc n) p i e = go (p n) refl e (λ h. find-some n p i h)
 
 -- ── naming ──
 module _ (F : File) where
+  -- rule 10, as sums say it
   pub record Rule10 : Type 0 where
     pub once : (c : ℕ) → c < F .charts → held F c ≡ 1
     pub named-once : (j : ℕ) → suc j < F .nodes → named F j ≡ 1
     pub named-last : (j : ℕ) → suc j ≡ F .nodes → named F j ≡ 0
     pub master-higher : (i j : ℕ) → i < F .slaves → j < F .nodes → F .kind j ≡ 0 → F .a j ≡ F .master i → F .node i < j
 
-  -- the nearest enclosing slave of node j
+  -- what names node j: a slave, or a node
   abbrev pub bySlave : ℕ → Option ℕ
   bySlave j = find (F .slaves) (λ i. same (F .node i) j)
 
   abbrev pub byNode : ℕ → Option ℕ
   byNode j = find (F .nodes) (λ k. not (same (names F k j) 0))
 
+  -- the nearest enclosing slave of node j, looking at most f nodes up
   unfoldable pub nearest : ℕ → ℕ → Option ℕ
   nearest zero j = none
   nearest (suc f) j = up (bySlave j) (byNode j) (nearest f)

@@ -1,4 +1,5 @@
--- The tree of a file: nodes, charts and slaves by number.
+-- The tree of a file. In this order: the tree of a node from those of lower nodes, by its kind; how charts stand in their nearest slaves (Placed);
+-- every chart stands in the whole (`all-there`); rule 11.
 use mathlib.Core.Path.{_≡_, refl, sym, _∙_, ap}
 use mathlib.Core.Bool.{Bool, true, false, _||_, cond, false≢true}
 use mathlib.Core.Option.{Option, some}
@@ -68,12 +69,15 @@ pub record Placed (F : File) (enc kap : ℕ → Option ℕ) : Type 0 where
   pub under : (j i : ℕ) → j < F .nodes → enc j ≡ some i → j ≤ F .node i
 
 -- ── every chart stands in the whole ──
+
+-- what names node j
 pub data Namer (F : File) (j : ℕ) : Type 0 where
   left : (k : ℕ) → k < F .nodes → F .kind k ≡ 1 → F .a k ≡ j → Namer F j
   right : (k : ℕ) → k < F .nodes → F .kind k ≡ 1 → F .b k ≡ j → Namer F j
   inside : (k : ℕ) → k < F .nodes → F .kind k ≡ 2 → F .a k ≡ j → Namer F j
   slave : (i : ℕ) → i < F .slaves → F .node i ≡ j → Namer F j
 
+-- every chart is held, and every node but the last is named
 pub record Joined (F : File) : Type 0 where
   pub holder : (c : ℕ) → c < F .charts → (j : ℕ) × (j < F .nodes) × (F .kind j ≡ 0) × (F .a j ≡ c)
   pub named : (j : ℕ) → suc j < F .nodes → Namer F j
