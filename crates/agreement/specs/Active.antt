@@ -50,14 +50,18 @@ module _ (E : ℕ → Chart) (state : ℕ → ℕ) (cfg : ℕ → ℕ) (M : ℕ 
     pub ok-active : (t : Tree) (a : Bool) (o : Set) (c : ℕ) → Has t c ≡ true → ok E state cfg M t a o ≡ true → some? (M c) ≡ active state cfg M t a c
     ok-active (leaf d) a o c h k = rw (same→≡ c d h) (okChart-some (E d .feedback) a o (cfg d) (M d) k)
     ok-active (comp p q x) a o c h k = either (Has p c) (Has q c) _ _ _
-        (λ e. ok-active p a ((o ∪ ((out M p ∪ out M q) ∩ x)) ∩ inFace E p) c e (and-l _ _ k)) (λ e. ok-active q a ((o ∪ ((out M p ∪ out M q) ∩ x)) ∩ inFace E q) c e (and-r (ok E state cfg M p a ((o ∪ ((out M p ∪ out M q) ∩ x)) ∩ inFace E p)) _ k)) h
+        (λ e. ok-active p a ((o ∪ ((out M p ∪ out M q) ∩ x)) ∩ inFace E p) c e (and-l _ _ k))
+        (λ e. ok-active q a ((o ∪ ((out M p ∪ out M q) ∩ x)) ∩ inFace E q) c e
+        (and-r (ok E state cfg M p a ((o ∪ ((out M p ∪ out M q) ∩ x)) ∩ inFace E p)) _ k)) h
     ok-active (hide p x y) a o c h k = ok-active p a (o ∖ x) c h k
     ok-active (dec d ss) a o c h k = either (same c d) (HasS ss c) _ _ _
-        (λ e. rw (same→≡ c d e) (okChart-some (E d .feedback) a ((o ∪ (actionOf (M d) ∪ outs M ss) ∩ E d .feedback) ∩ inFaceChart (E d)) (cfg d) (M d) (and-l _ _ k)))
+        (λ e. rw (same→≡ c d e) (okChart-some (E d .feedback) a ((o ∪ (actionOf (M d) ∪ outs M ss) ∩ E d .feedback) ∩ inFaceChart (E d)) (cfg d) (M d)
+        (and-l _ _ k)))
         (λ e. oks-active ss (λ q. a && meets (cfg d) (M d) q) (o ∪ (actionOf (M d) ∪ outs M ss) ∩ E d .feedback) c e
         (and-r (okChart (E d .feedback) a ((o ∪ (actionOf (M d) ∪ outs M ss) ∩ E d .feedback) ∩ inFaceChart (E d)) (cfg d) (M d)) _ k)) h
 
-    oks-active : (ss : Slaves) (f : ℕ → Bool) (z : Set) (c : ℕ) → HasS ss c ≡ true → oks E state cfg M ss f z ≡ true → some? (M c) ≡ actives state cfg M ss f c
+    oks-active : (ss : Slaves) (f : ℕ → Bool) (z : Set) (c : ℕ) → HasS ss c ≡ true → oks E state cfg M ss f z ≡ true
+        → some? (M c) ≡ actives state cfg M ss f c
     oks-active nil f z c h k = absurd (false≢true h)
     oks-active (snoc ss i t) f z c h k = either (Has t c) (HasS ss c) _ _ _
         (λ e. ok-active t (f (state i)) (z ∩ inFace E t) c e (and-r (oks E state cfg M ss f z) _ k)) (λ e. oks-active ss f z c e (and-l _ _ k)) h
@@ -76,7 +80,8 @@ module _ (state : ℕ → ℕ) (cfg : ℕ → ℕ) (M M₂ : ℕ → Move) (c : 
 
     actives-agree : (ss : Slaves) (f : ℕ → Bool) → AboveS ss → HasS ss c ≡ true → actives state cfg M ss f c ≡ actives state cfg M₂ ss f c
     actives-agree nil f v h = refl
-    actives-agree (snoc ss i t) f v h = both-ways (Has t c) (HasS ss c) _ _ _ _ (λ e. active-agree t (f (state i)) (v .1) e) (λ e. actives-agree ss f (v .0) e) h
+    actives-agree (snoc ss i t) f v h =
+        both-ways (Has t c) (HasS ss c) _ _ _ _ (λ e. active-agree t (f (state i)) (v .1) e) (λ e. actives-agree ss f (v .0) e) h
 
 -- in a tree without decomposed charts, every chart takes a transition from its state
 abbrev pub Live : ℕ → Move → Type 0
@@ -102,10 +107,13 @@ module _ (sig : ℕ → ℕ) (fbOf : ℕ → Set) (E : ℕ → Chart) (state : �
     live (hide p x y) o h k = live p (o ∖ x) h k
     live (dec d ss) o h k = live-s ss d (fbOf d ∪ calls sig ss) (o ∖ calls sig ss) h k
 
-    live-s : (ss : Slaves) (d : ℕ) (x o : Set) → (same c d || HasS ss c) ≡ true → ok E state cfg M (nest sig fbOf ss d x) true o ≡ true → Live (cfg c) (M c)
-    live-s nil d x o h k = or-elim (same c d) false _ (λ e. rw (same→≡ c d e) (okChart-live (E d .feedback) o (cfg d) (M d) k)) (λ e. absurd (false≢true e)) h
+    live-s : (ss : Slaves) (d : ℕ) (x o : Set) → (same c d || HasS ss c) ≡ true → ok E state cfg M (nest sig fbOf ss d x) true o ≡ true
+        → Live (cfg c) (M c)
+    live-s nil d x o h k = or-elim (same c d) false _ (λ e. rw (same→≡ c d e) (okChart-live (E d .feedback) o (cfg d) (M d) k))
+        (λ e. absurd (false≢true e)) h
     live-s (snoc ss i t) d x o h k = or-elim (Has t c) (same c d || HasS ss c) _
-        (λ e. live t (z ∩ inFace E (tree sig fbOf t)) e (and-r (ok E state cfg M (nest sig fbOf ss d x) true (z ∩ inFace E (nest sig fbOf ss d x))) _ k))
+        (λ e. live t (z ∩ inFace E (tree sig fbOf t)) e
+        (and-r (ok E state cfg M (nest sig fbOf ss d x) true (z ∩ inFace E (nest sig fbOf ss d x))) _ k))
         (λ e. live-s ss d x (z ∩ inFace E (nest sig fbOf ss d x)) e (and-l _ _ k)) (turn (same c d) (Has t c) (HasS ss c) h)
       where
         z : Set

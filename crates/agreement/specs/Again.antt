@@ -89,7 +89,8 @@ trailer-zero t (suc zero) l = refl
 trailer-zero t (suc (suc i)) l = absurd (omega arith)
 
 -- the zero bytes of a record that stands at a place
-zeros-at : (s xs r : List ℕ) (at k m : ℕ) → drop at s ≡ xs ++ r → k + m ≤ length xs → ((i : ℕ) → i < m → getD xs (k + i) 0 ≡ 0) → nonzero s (at + k) m ≡ false
+zeros-at : (s xs r : List ℕ) (at k m : ℕ) → drop at s ≡ xs ++ r → k + m ≤ length xs → ((i : ℕ) → i < m → getD xs (k + i) 0 ≡ 0)
+    → nonzero s (at + k) m ≡ false
 unfolding nonzero
 zeros-at s xs r at k m e l h = any-all m (λ i. differ (getD s (at + k + i) 0) 0) (λ i q. equal (getD s (at + k + i) 0) 0
     (ap (λ z. getD s z 0) (let z : at + k + i ≡ at + (k + i) = omega arith in z) ∙ sym (getD-drop at s (k + i) 0) ∙ ap (λ z. getD z (k + i) 0) e
@@ -100,7 +101,8 @@ zeros-at s xs r at k m e l h = any-all m (λ i. differ (getD s (at + k + i) 0) 0
 leaving-list : (ts : List Transition) (s : ℕ) → tally (length ts) (λ u. one (same (getD ts u noTransition .from) s)) ≡ leavingIn ts s
 unfolding leavingIn tally
 leaving-list [] s = refl
-leaving-list (t ∷ ts) s = tally-front (length ts) (λ u. one (same (getD (t ∷ ts) u noTransition .from) s)) ∙ ap (λ z. one (same (t .from) s) + z) (leaving-list ts s)
+leaving-list (t ∷ ts) s = tally-front (length ts) (λ u. one (same (getD (t ∷ ts) u noTransition .from) s))
+    ∙ ap (λ z. one (same (t .from) s) + z) (leaving-list ts s)
 
 module _ (F : File) (rg : Regular F) (gv : Given F) where
   abbrev R : File
@@ -136,24 +138,33 @@ module _ (F : File) (rg : Regular F) (gv : Given F) where
   counts : counts? (trailer (encode R)) ≡ false
   unfolding counts?
   counts = ap counts? (trailer-is R fits)
-      ∙ neither _ _ (neither _ _ (neither _ _ (neither _ _ (there (F .charts) (rg .some-chart)) (le-ltb mostCharts (F .charts) (rg .charts))) (le-ltb mostSlaves 0 (omega arith)))
+      ∙ neither _ _ (neither _ _ (neither _ _ (neither _ _ (there (F .charts) (rg .some-chart)) (le-ltb mostCharts (F .charts) (rg .charts)))
+      (le-ltb mostSlaves 0 (omega arith)))
       (neither _ _ (there (R .nodes) some-node) (le-ltb mostNodes (R .nodes) (gv .nodes)))) (le-ltb mostTransitions (transitionsIn R) (gv .total))
 
   distance : distance? (encode R) ≡ false
   unfolding distance?
   distance = neither _ _ (equal _ _ (ap (λ t. t .distance) (trailer-is R fits) ∙ ap sizeOf (sym (shape-is R fits))))
-      (le-ltb (endOf (encode R)) (trailer (encode R) .distance) (let e = end-is R fits in let d : trailer (encode R) .distance ≡ sizeOf (shapeIn R) = ap (λ t. t .distance) (trailer-is R fits) in omega arith))
+      (le-ltb (endOf (encode R)) (trailer (encode R) .distance)
+      (let e = end-is R fits in let d : trailer (encode R) .distance ≡ sizeOf (shapeIn R) = ap (λ t. t .distance) (trailer-is R fits) in omega arith))
 
   zeros : (nonzero (encode R) (endOf (encode R) + 10) 2 || zeros? (shapeOf (trailer (encode R))) (bodyOf (encode R))) ≡ false
   unfolding zeros? shapeIn
   zeros = neither _ _
-      (zeros-at (encode R) (trailerBytes t) [] (endOf (encode R)) 10 2 (trailer-there R fits ∙ sym (append-nil (trailerBytes t))) (let e = length-trailer t in omega arith) (trailer-zero t))
+      (zeros-at (encode R) (trailerBytes t) [] (endOf (encode R)) 10 2 (trailer-there R fits ∙ sym (append-nil (trailerBytes t)))
+      (let e = length-trailer t in omega arith) (trailer-zero t))
       (ap₂ zeros? (shape-is R fits) (body-is R fits)
       ∙ neither _ _ (neither _ _ (neither _ _
-      (any-all (R .charts) _ (λ c l. let u = head-there R c l in zeros-at b (headBytes (headFor (R .chart c))) (u .0) (24 * c) 3 5 (u .1) (let e = length-head (headFor (R .chart c)) in omega arith) (head-zero (headFor (R .chart c)))))
-      (any-all (transitionsIn R) _ (λ k l. let u = some-transition-there R k l in zeros-at b (transitionBytes (u .0)) (u .1) (transitionsFrom n + 28 * k) 2 2 (u .2) (let e = length-transition (u .0) in omega arith) (transition-zero (u .0)))))
+      (any-all (R .charts) _ (λ c l. let u = head-there R c l in
+      zeros-at b (headBytes (headFor (R .chart c))) (u .0) (24 * c) 3 5 (u .1) (let e = length-head (headFor (R .chart c)) in omega arith)
+      (head-zero (headFor (R .chart c)))))
+      (any-all (transitionsIn R) _ (λ k l. let u = some-transition-there R k l in
+      zeros-at b (transitionBytes (u .0)) (u .1) (transitionsFrom n + 28 * k) 2 2 (u .2) (let e = length-transition (u .0) in omega arith)
+      (transition-zero (u .0)))))
       (any-all 0 _ (λ i l. absurd (omega arith))))
-      (any-all (R .nodes) _ (λ j l. let u = node-there R j l in zeros-at b (nodeBytes (nodeIn R j)) (u .0) (nodesFrom n + 20 * j) 3 1 (u .1) (let e = length-node (nodeIn R j) in omega arith) (node-zero (nodeIn R j)))))
+      (any-all (R .nodes) _ (λ j l. let u = node-there R j l in
+      zeros-at b (nodeBytes (nodeIn R j)) (u .0) (nodesFrom n + 20 * j) 3 1 (u .1) (let e = length-node (nodeIn R j) in omega arith)
+      (node-zero (nodeIn R j)))))
     where
       t : Trailer
       t = trailerFor R fits
@@ -163,8 +174,10 @@ module _ (F : File) (rg : Regular F) (gv : Given F) where
   charts : charts? n b ≡ false
   unfolding charts? chart? shapeIn headFor rewrittenChart chartWith transitionsIn inChart?
   charts = neither _ _ (any-all (R .charts) (chart? n b) (λ c l. ap form (head-is R fits c l)
-      ∙ neither _ _ (neither _ _ (neither _ _ (there (F .chart c .states) (rg .ready .some-state c l)) (le-ltb mostStates (F .chart c .states) (rg .most-states c l)))
-      (lower (F .chart c .initial) (F .chart c .states) (rg .initials c l))) (any-never (R .charts) (λ c. ltb mostInChart (length (R .chart c .transitions))) (gv .lists) c l)))
+      ∙ neither _ _ (neither _ _ (neither _ _ (there (F .chart c .states) (rg .ready .some-state c l))
+      (le-ltb mostStates (F .chart c .states) (rg .most-states c l)))
+      (lower (F .chart c .initial) (F .chart c .states) (rg .initials c l)))
+      (any-never (R .charts) (λ c. ltb mostInChart (length (R .chart c .transitions))) (gv .lists) c l)))
       (equal _ _ (start-is R fits (R .charts) (omega arith)))
     where
       form : Head → Bool
@@ -179,10 +192,12 @@ module _ (F : File) (rg : Regular F) (gv : Given F) where
   transitions = any-all (R .charts) _ (λ c l. neither _ _
       (any-all (headAt n b c .transitions) (ends? n b c) (λ k m. let m′ = subst (λ z. k < z) (count c l) m in
       ap₂ (λ t s. notBelow (t .from) s || notBelow (t .to) s) (transition-is R fits c k l m′) (states c l)
-      ∙ (let h = every-at (λ t. (t .from < F .chart c .states) × (t .to < F .chart c .states)) (R .chart c .transitions) k noTransition m′ (new-states F rg (gv .room) c l) in
+      ∙ (let h = every-at (λ t. (t .from < F .chart c .states) × (t .to < F .chart c .states)) (R .chart c .transitions) k noTransition m′
+      (new-states F rg (gv .room) c l) in
       neither _ _ (lower _ _ (h .0)) (lower _ _ (h .1)))))
       (any-all (headAt n b c .states) _ (λ s m. ap (ltb mostFromState) (leaves c l s)
-      ∙ any-never (R .chart c .states) (λ s. ltb mostFromState (leavingIn (R .chart c .transitions) s)) (any-never (R .charts) _ (gv .leaving) c l) s (subst (λ z. s < z) (ap (λ h. h .states) (head-is R fits c l)) m))))
+      ∙ any-never (R .chart c .states) (λ s. ltb mostFromState (leavingIn (R .chart c .transitions) s)) (any-never (R .charts) _ (gv .leaving) c l) s
+      (subst (λ z. s < z) (ap (λ h. h .states) (head-is R fits c l)) m))))
     where
       count : (c : ℕ) → c < R .charts → headAt n b c .transitions ≡ length (R .chart c .transitions)
       count c l = ap (λ h. h .transitions) (head-is R fits c l)
@@ -190,9 +205,11 @@ module _ (F : File) (rg : Regular F) (gv : Given F) where
       states : (c : ℕ) → c < R .charts → headAt n b c .states ≡ F .chart c .states
       states c l = ap (λ h. h .states) (head-is R fits c l) ∙ states-stay c
 
-      leaves : (c : ℕ) → c < R .charts → (s : ℕ) → tally (headAt n b c .transitions) (λ u. one (same (transitionAt n b (startOf n b c + u) .from) s)) ≡ leavingIn (R .chart c .transitions) s
+      leaves : (c : ℕ) → c < R .charts → (s : ℕ)
+          → tally (headAt n b c .transitions) (λ u. one (same (transitionAt n b (startOf n b c + u) .from) s)) ≡ leavingIn (R .chart c .transitions) s
       leaves c l s = ap (λ k. tally k (λ u. one (same (transitionAt n b (startOf n b c + u) .from) s))) (count c l)
-          ∙ tally-cong (length (R .chart c .transitions)) _ (λ u. one (same (getD (R .chart c .transitions) u noTransition .from) s)) (λ u m. ap (λ t. one (same (t .from) s)) (transition-is R fits c u l m))
+          ∙ tally-cong (length (R .chart c .transitions)) _ (λ u. one (same (getD (R .chart c .transitions) u noTransition .from) s))
+          (λ u m. ap (λ t. one (same (t .from) s)) (transition-is R fits c u l m))
           ∙ leaving-list (R .chart c .transitions) s
 
   -- ── 8 to 11 ──
@@ -216,7 +233,8 @@ module _ (F : File) (rg : Regular F) (gv : Given F) where
   nodes = any-all (R .nodes) _ (λ j l. go j (nodeAt n b j .kind) refl (known j l))
     where
       go : (j k : ℕ) → nodeAt n b j .kind ≡ k → Known j (nodeAt n b j) → nodeOfKind? G k j ≡ false
-      go j zero e h = let u = h .0 .held e in neither _ _ (neither _ _ (neither _ _ (lower _ _ (u .0)) (equal _ _ (u .1))) (equal _ _ (u .2))) (equal _ _ (u .3))
+      go j zero e h = let u = h .0 .held e in
+          neither _ _ (neither _ _ (neither _ _ (lower _ _ (u .0)) (equal _ _ (u .1))) (equal _ _ (u .2))) (equal _ _ (u .3))
       go j (suc zero) e h = let u = h .1 e in neither _ _ (neither _ _ (lower _ _ (u .0)) (lower _ _ (u .1))) (equal _ _ (h .0 .both e))
       go j (suc (suc zero)) e h = neither _ _ (lower _ _ (h .2 e)) (equal _ _ (h .0 .hidden e))
       go j (suc (suc (suc k))) e h = absurd (let u = h .0 .kind in omega arith)
@@ -227,7 +245,9 @@ module _ (F : File) (rg : Regular F) (gv : Given F) where
 
   named-same : (j : ℕ) → named G j ≡ named R j
   unfolding named names fileAt shapeIn tally
-  named-same j = ap (λ z. 0 + z) (tally-cong (R .nodes) _ _ (λ k l. ap (λ d. one (same (d .kind) 1 && same (d .a) j) + one (same (d .kind) 1 && same (d .b) j) + one (same (d .kind) 2 && same (d .a) j)) (node-is R fits k l)))
+  named-same j = ap (λ z. 0 + z) (tally-cong (R .nodes) _ _
+      (λ k l. ap (λ d. one (same (d .kind) 1 && same (d .a) j) + one (same (d .kind) 1 && same (d .b) j) + one (same (d .kind) 2 && same (d .a) j))
+      (node-is R fits k l)))
 
   naming : naming? G ≡ false
   unfolding naming? fileAt shapeIn anyUpTo
@@ -236,7 +256,8 @@ module _ (F : File) (rg : Regular F) (gv : Given F) where
     where
       due : (j : ℕ) → j < R .nodes → (d : Bool) → same (suc j) (R .nodes) ≡ d → named R j ≡ cond d 0 1
       due j l true e = r10 .named-last j (same→≡ (suc j) (R .nodes) e)
-      due j l false e = r10 .named-once j (let z : suc j ≡ R .nodes → ⊥ = λ q. false≢true (sym e ∙ ap (λ z. same z (R .nodes)) q ∙ same-refl (R .nodes)) in omega arith)
+      due j l false e = r10 .named-once j (let z : suc j ≡ R .nodes
+          → ⊥ = λ q. false≢true (sym e ∙ ap (λ z. same z (R .nodes)) q ∙ same-refl (R .nodes)) in omega arith)
 
   inside : inside? G ≡ false
   unfolding inside? fileAt shapeIn anyUpTo

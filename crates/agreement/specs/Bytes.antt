@@ -57,7 +57,8 @@ in-turn (suc n) f h = and (in-turn n f (λ i l. h i (omega arith))) (h n (omega 
 
 head-bytes : (r : Head) → r .states < 256 → r .initial < 256 → r .transitions < 256 → Bytes (headBytes r)
 unfolding headBytes
-head-bytes r s i t = and (and (byte s (byte i (byte t (nought (nought (nought (nought (nought end)))))))) (number 8 (r .feedback))) (number 8 (r .extra))
+head-bytes r s i t = and (and (byte s (byte i (byte t (nought (nought (nought (nought (nought end)))))))) (number 8 (r .feedback)))
+    (number 8 (r .extra))
 
 transition-bytes : (r : Transition) → r .from < 256 → r .to < 256 → Bytes (transitionBytes r)
 unfolding transitionBytes
@@ -84,25 +85,33 @@ module _ (F : File) (rg : Regular F) (gv : Given F) where
 
   heads : (c : ℕ) → c < F .charts → Bytes (headBytes (headFor (R .chart c)))
   unfolding headFor rewrittenChart chartWith inChart?
-  heads c l = head-bytes (headFor (R .chart c)) (let h = rg .most-states c l in omega arith) (let h = rg .most-states c l in let g = rg .initials c l in omega arith)
-      (let h = ltb-false mostInChart (length (R .chart c .transitions)) (any-never (F .charts) (λ c. ltb mostInChart (length (R .chart c .transitions))) (gv .lists) c l) in omega arith)
+  heads c l = head-bytes (headFor (R .chart c)) (let h = rg .most-states c l in omega arith)
+      (let h = rg .most-states c l in let g = rg .initials c l in omega arith)
+      (let h = ltb-false mostInChart (length (R .chart c .transitions))
+      (any-never (F .charts) (λ c. ltb mostInChart (length (R .chart c .transitions))) (gv .lists) c l) in omega arith)
 
   lists : (c : ℕ) → c < F .charts → Bytes (transitionsBytes (R .chart c .transitions))
-  lists c l = transitions-bytes (R .chart c .transitions) (every-imp (λ t. (t .from < F .chart c .states) × (t .to < F .chart c .states)) (λ t. (t .from < 256) × (t .to < 256))
-      (λ t h. (let g = rg .most-states c l in let a = h .0 in omega arith, let g = rg .most-states c l in let a = h .1 in omega arith)) (R .chart c .transitions) (new-states F rg (gv .room) c l))
+  lists c l = transitions-bytes (R .chart c .transitions)
+      (every-imp (λ t. (t .from < F .chart c .states) × (t .to < F .chart c .states)) (λ t. (t .from < 256) × (t .to < 256))
+      (λ t h. (let g = rg .most-states c l in let a = h .0 in omega arith, let g = rg .most-states c l in let a = h .1 in omega arith))
+      (R .chart c .transitions) (new-states F rg (gv .room) c l))
 
   nodes : (j : ℕ) → j < R .nodes → Bytes (nodeBytes (nodeIn R j))
   nodes j l = go (R .kind j) refl
     where
       go : (k : ℕ) → R .kind j ≡ k → Bytes (nodeBytes (nodeIn R j))
-      go zero e = let h = formed F rg (gv .room) j l .held e in let a = h .0 in let c = rg .charts in let b = h .1 in node-bytes (nodeIn R j) (omega arith) (omega arith) (omega arith)
-      go (suc zero) e = let h = orderedR F (rg .ready .sound .ordered) .lower₁ j l e in let a = h .0 in let b = h .1 in let n = gv .nodes in node-bytes (nodeIn R j) (omega arith) (omega arith) (omega arith)
-      go (suc (suc k)) e = let w = formed F rg (gv .room) j l .kind in let e₂ : R .kind j ≡ 2 = omega arith in let a = orderedR F (rg .ready .sound .ordered) .lower₂ j l e₂ in
+      go zero e = let h = formed F rg (gv .room) j l .held e in let a = h .0 in let c = rg .charts in let b = h .1 in
+          node-bytes (nodeIn R j) (omega arith) (omega arith) (omega arith)
+      go (suc zero) e = let h = orderedR F (rg .ready .sound .ordered) .lower₁ j l e in let a = h .0 in let b = h .1 in let n = gv .nodes in
+          node-bytes (nodeIn R j) (omega arith) (omega arith) (omega arith)
+      go (suc (suc k)) e = let w = formed F rg (gv .room) j l .kind in let e₂ : R .kind j ≡ 2 = omega arith in
+          let a = orderedR F (rg .ready .sound .ordered) .lower₂ j l e₂ in
           let b = formed F rg (gv .room) j l .hidden e₂ in let n = gv .nodes in node-bytes (nodeIn R j) (omega arith) (omega arith) (omega arith)
 
   pub new-bytes : AllBytes (encode R)
   unfolding encode bodyBytes
-  new-bytes = all-bytes (and (and (and (and (in-turn (R .charts) _ heads) (in-turn (R .charts) _ lists)) (in-turn 0 _ (λ i l. absurd (omega arith)))) (in-turn (R .nodes) _ nodes))
+  new-bytes = all-bytes (and (and (and (and (in-turn (R .charts) _ heads) (in-turn (R .charts) _ lists)) (in-turn 0 _ (λ i l. absurd (omega arith))))
+      (in-turn (R .nodes) _ nodes))
       (trailer-bytes t (let c = rg .charts in omega arith) (lit< tt) (let n = gv .nodes in omega arith) (lit< tt)))
     where
       t : Trailer

@@ -49,7 +49,13 @@ allowed f room e =
     let q = firstOf-passes _ (lit< tt, (lit< tt, (lit< tt, (lit< tt, (lit< tt, (lit< tt, tt)))))) (p .1) in
     record {
       checked = p .0;
-      given = record { room = q .0; leaving = q .1 .0; lists = q .1 .1 .0; total = ltb-false mostTransitions _ (q .1 .1 .1 .0); nodes = ltb-false mostNodes _ (q .1 .1 .1 .1 .0) };
+      given = record {
+        room = q .0;
+        leaving = q .1 .0;
+        lists = q .1 .1 .0;
+        total = ltb-false mostTransitions _ (q .1 .1 .1 .0);
+        nodes = ltb-false mostNodes _ (q .1 .1 .1 .1 .0);
+      };
       fits = ltb-false room _ (q .1 .1 .1 .1 .1 .0);
     }
 
@@ -115,12 +121,14 @@ module _ (f : List ℕ) (ab : AllBytes f) (room : ℕ) (ok : rewriteRefusal f ro
   -- the first configuration
   pub same-first-refusal : (left : ℕ) → firstRefusal f′ left ≡ firstRefusal f left
   unfolding firstRefusal
-  same-first-refusal left = call-passed f′ _ same-check ∙ ap (λ n. firstOf (record { number = shortBuffer; applies = ltb left n } ∷ [])) (r .charts) ∙ sym (call-passed f _ h)
+  same-first-refusal left = call-passed f′ _ same-check ∙ ap (λ n. firstOf (record { number = shortBuffer; applies = ltb left n } ∷ [])) (r .charts)
+      ∙ sym (call-passed f _ h)
 
   pub same-first : (buffer : List ℕ) → firstBytes f′ buffer ≡ firstBytes f buffer
   unfolding firstBytes initials rewrittenChart chartWith
   same-first buffer = ap₂ (λ n xs. cond (same n 0) (laidOver xs buffer) buffer) (same-first-refusal (length buffer))
-      (ap (λ n. made n (λ c. fileOf f′ .chart c .initial)) (r .charts) ∙ made-cong (fileOf f .charts) _ _ (λ c l. ap (λ C. C .initial) (r .chart c l)))
+      (ap (λ n. made n (λ c. fileOf f′ .chart c .initial)) (r .charts)
+      ∙ made-cong (fileOf f .charts) _ _ (λ c l. ap (λ C. C .initial) (r .chart c l)))
 
   -- the interface
   pub same-input : inputOf f′ ≡ inputOf f
@@ -134,7 +142,8 @@ module _ (f : List ℕ) (ab : AllBytes f) (room : ℕ) (ok : rewriteRefusal f ro
   -- configurations: 20 and 21
   config-same : (config : List ℕ) → configTests f′ config ≡ configTests f config
   unfolding configTests
-  config-same config = ap₂ (λ n b. record { number = wrongLength; applies = differ (length config) n } ∷ record { number = badState; applies = b } ∷ []) (r .charts)
+  config-same config = ap₂ (λ n b. record { number = wrongLength; applies = differ (length config) n } ∷ record { number = badState; applies = b }
+      ∷ []) (r .charts)
       (ap (λ n. anyUpTo n (λ c. notBelow (getD config c 0) (fileOf f′ .chart c .states))) (r .charts)
       ∙ any-cong (fileOf f .charts) _ _ (λ c l. ap (notBelow (getD config c 0)) (states-same c l)))
 
@@ -162,7 +171,8 @@ module _ (f : List ℕ) (ab : AllBytes f) (room : ℕ) (ok : rewriteRefusal f ro
     tests-same = ap firstOf (append-assoc (fileTests f′) (configTests f′ config) (u′ ∷ [])) ∙ call-passed f′ _ same-check
         ∙ ap₂ (λ ts u. firstOf (ts ++ (u ∷ []))) (config-same config) us ∙ sym tests
 
-    answer-same : {A : Type 0} (x x′ : A) (other : ℕ → A) → (Valid (fileOf f) config → x′ ≡ x) → cond (same n′ 0) x′ (other n′) ≡ cond (same n 0) x (other n)
+    answer-same : {A : Type 0} (x x′ : A) (other : ℕ → A) → (Valid (fileOf f) config → x′ ≡ x)
+        → cond (same n′ 0) x′ (other n′) ≡ cond (same n 0) x (other n)
     answer-same {A} x x′ other xs = ap (λ k. cond (same k 0) x′ (other k)) tests-same ∙ go (same n 0) refl
       where
         go : (b : Bool) → same n 0 ≡ b → cond b x′ (other n) ≡ cond b x (other n)
@@ -172,7 +182,9 @@ module _ (f : List ℕ) (ab : AllBytes f) (room : ℕ) (ok : rewriteRefusal f ro
   -- the step
   pub same-step : (config : List ℕ) (i : Set) (left : ℕ) → stepOf f′ config i left ≡ stepOf f config i left
   unfolding stepOf stepRefusal
-  same-step config i left = answer-same config _ _ (ap (λ n. record { number = shortBuffer; applies = ltb left n }) (r .charts)) (stepIn (fileOf f) config i) (stepIn (fileOf f′) config i) refused
+  same-step config i left =
+      answer-same config _ _ (ap (λ n. record { number = shortBuffer; applies = ltb left n }) (r .charts)) (stepIn (fileOf f) config i)
+      (stepIn (fileOf f′) config i) refused
       (λ v. step-is (fileOf f) (rg .ready) (fileOf f′) r config v i)
 
   -- the run

@@ -22,7 +22,8 @@ place (some i) m s zero = suc (m + s)
 place (some i) m s (suc k) = suc k
 
 module _ (sig : ℕ → ℕ) where
-  nth-own : (κ : Option ℕ) (T : Transition → Set) (s : ℕ) (ts r : List Transition) (k : ℕ) → k < length ts → nth (map (called sig κ T) ts ++ r) k ≡ moveR sig κ T s (nth ts k)
+  nth-own : (κ : Option ℕ) (T : Transition → Set) (s : ℕ) (ts r : List Transition) (k : ℕ) → k < length ts
+      → nth (map (called sig κ T) ts ++ r) k ≡ moveR sig κ T s (nth ts k)
   unfolding nth moveR
   nth-own κ T s [] r k l = absurd (omega arith)
   nth-own κ T s (t ∷ ts) r zero l = refl
@@ -39,9 +40,11 @@ module _ (sig : ℕ → ℕ) where
   nth-idles i b (suc n) zero l = ap (λ z. some (idle sig i z)) (sym (add-zero b))
   nth-idles i b (suc n) (suc q) l = nth-idles i (suc b) n q (omega arith) ∙ ap (λ z. some (idle sig i z)) (omega arith)
 
-  pub idle-at : (i : ℕ) (T : Transition → Set) (C : Chart) (q : ℕ) → q < C .states → pick (chartWith sig (some i) T C .transitions) (suc (length (C .transitions) + q)) ≡ some (idle sig i q)
+  pub idle-at : (i : ℕ) (T : Transition → Set) (C : Chart) (q : ℕ) → q < C .states
+      → pick (chartWith sig (some i) T C .transitions) (suc (length (C .transitions) + q)) ≡ some (idle sig i q)
   unfolding pick chartWith
-  idle-at i T C q l = nth-past (some i) T (C .transitions) (idles sig (some i) zero (C .states)) q ∙ nth-idles i zero (C .states) q l ∙ ap (λ z. some (idle sig i z)) (zero-add q)
+  idle-at i T C q l = nth-past (some i) T (C .transitions) (idles sig (some i) zero (C .states)) q ∙ nth-idles i zero (C .states) q l
+      ∙ ap (λ z. some (idle sig i z)) (zero-add q)
 
   pub pick-moved : (κ : Option ℕ) (T : Transition → Set) (C : Chart) (s v : ℕ) → v ≤ length (C .transitions) → s < C .states
       → pick (chartWith sig κ T C .transitions) (place κ (length (C .transitions)) s v) ≡ moveR sig κ T s (pick (C .transitions) v)
@@ -58,7 +61,11 @@ module _ (sig : ℕ → ℕ) where
 
   pub places : (i : ℕ) (T : Transition → Set) (C : Chart) → length (chartWith sig (some i) T C .transitions) ≡ length (C .transitions) + C .states
   unfolding chartWith
-  places i T C = rw (length-append (map (called sig (some i) T) (C .transitions)) (idles sig (some i) zero (C .states)), length-map (C .transitions) (called sig (some i) T), idles-length i zero (C .states))
+  places i T C = rw (
+    length-append (map (called sig (some i) T) (C .transitions)) (idles sig (some i) zero (C .states)),
+    length-map (C .transitions) (called sig (some i) T),
+    idles-length i zero (C .states),
+  )
 
   pub places-none : (T : Transition → Set) (C : Chart) → length (chartWith sig none T C .transitions) ≡ length (C .transitions)
   unfolding chartWith idles
@@ -68,20 +75,24 @@ module _ (sig : ℕ → ℕ) where
   unfolding guards idles callIn idle
   guards-idles none b n = refl
   guards-idles (some i) b zero = sets (single (sig i) ∷ []) [] ((∅ₑ ∪ₑ A) ∪ₑ ∅ₑ ≐ A) tt
-  guards-idles (some i) b (suc n) = ap (λ z. (∅ ∪ single (sig i)) ∪ z) (guards-idles (some i) (suc b) n) ∙ sets (single (sig i) ∷ []) [] ((∅ₑ ∪ₑ A) ∪ₑ A ≐ A) tt
+  guards-idles (some i) b (suc n) = ap (λ z. (∅ ∪ single (sig i)) ∪ z) (guards-idles (some i) (suc b) n)
+      ∙ sets (single (sig i) ∷ []) [] ((∅ₑ ∪ₑ A) ∪ₑ A ≐ A) tt
 
-  pub guards-own : (κ : Option ℕ) (T : Transition → Set) (ts r : List Transition) → guards r ≡ callIn sig κ → guards (map (called sig κ T) ts ++ r) ≡ guards ts ∪ callIn sig κ
+  pub guards-own : (κ : Option ℕ) (T : Transition → Set) (ts r : List Transition) → guards r ≡ callIn sig κ
+      → guards (map (called sig κ T) ts ++ r) ≡ guards ts ∪ callIn sig κ
   unfolding guards called
   guards-own κ T [] r h = h ∙ sets (callIn sig κ ∷ []) [] (A ≐ ∅ₑ ∪ₑ A) tt
   guards-own κ T (t ∷ ts) r h = ap (λ z. ((t .needed ∪ callIn sig κ) ∪ t .barred) ∪ z) (guards-own κ T ts r h)
       ∙ sets (t .needed ∷ t .barred ∷ guards ts ∷ callIn sig κ ∷ []) [] (((A ∪ₑ D) ∪ₑ B) ∪ₑ (Cₑ ∪ₑ D) ≐ ((A ∪ₑ B) ∪ₑ Cₑ) ∪ₑ D) tt
 
   -- the interface has the nearest call besides
-  pub face-is : (κ : Option ℕ) (T : Transition → Set) (C : Chart) → zero < C .states → inFaceChart (chartWith sig κ T C) ≡ inFaceChart C ∪ callIn sig κ
+  pub face-is : (κ : Option ℕ) (T : Transition → Set) (C : Chart) → zero < C .states
+      → inFaceChart (chartWith sig κ T C) ≡ inFaceChart C ∪ callIn sig κ
   unfolding inFaceChart chartWith
   face-is κ T C l = go (C .states) l
     where
-      go : (m : ℕ) → zero < m → guards (map (called sig κ T) (C .transitions) ++ idles sig κ zero m) ∪ C .extra ≡ (guards (C .transitions) ∪ C .extra) ∪ callIn sig κ
+      go : (m : ℕ) → zero < m → guards (map (called sig κ T) (C .transitions) ++ idles sig κ zero m) ∪ C .extra
+          ≡ (guards (C .transitions) ∪ C .extra) ∪ callIn sig κ
       go zero l = absurd (omega arith)
       go (suc m) l = ap (λ z. z ∪ C .extra) (guards-own κ T (C .transitions) (idles sig κ zero (suc m)) (guards-idles κ zero m))
           ∙ sets (guards (C .transitions) ∷ callIn sig κ ∷ C .extra ∷ []) [] ((A ∪ₑ B) ∪ₑ Cₑ ≐ (A ∪ₑ Cₑ) ∪ₑ B) tt
@@ -104,7 +115,8 @@ module _ (sig : ℕ → ℕ) where
   pub old-guards : (ts : List Transition) → OldTs ts → Old sig (guards ts)
   unfolding guards
   old-guards [] o = old-none sig
-  old-guards (t ∷ ts) o = old-join sig (t .needed ∪ t .barred) (guards ts) (old-join sig (t .needed) (t .barred) (o .0 .0) (o .0 .1)) (old-guards ts (o .1))
+  old-guards (t ∷ ts) o = old-join sig (t .needed ∪ t .barred) (guards ts) (old-join sig (t .needed) (t .barred) (o .0 .0) (o .0 .1))
+      (old-guards ts (o .1))
 
   pub record OldChart (C : Chart) : Type 0 where
     pub old-transitions : OldTs (C .transitions)

@@ -39,7 +39,11 @@ module _ (w : ℕ) (f : ℕ → List ℕ) (h : (i : ℕ) → length (f i) ≡ w)
   unfolding inTurn
   turn-at zero i rest l = absurd (omega arith)
   turn-at (suc n) i rest l = ⊎-elim
-      (λ e. (rest, ap (drop (w * i)) (append-assoc (inTurn n f) (f n) rest) ∙ drop-at (inTurn n f) (f n ++ rest) (w * i) (length-turn n ∙ ap (λ z. w * z) (sym e)) ∙ ap (λ z. f z ++ rest) (sym e)))
+      (λ e. (
+        rest,
+        ap (drop (w * i)) (append-assoc (inTurn n f) (f n) rest)
+            ∙ drop-at (inTurn n f) (f n ++ rest) (w * i) (length-turn n ∙ ap (λ z. w * z) (sym e)) ∙ ap (λ z. f z ++ rest) (sym e),
+      ))
       (λ m. let u = turn-at n i (f n ++ rest) m in (u .0, ap (drop (w * i)) (append-assoc (inTurn n f) (f n) rest) ∙ u .1)) (below-suc i n l)
 
 -- ── transitions in turn ──
@@ -56,17 +60,20 @@ length-transitions (t ∷ ts) = length-append (transitionBytes t) (transitionsBy
 transitions-append : (a b : List Transition) → transitionsBytes (a ++ b) ≡ transitionsBytes a ++ transitionsBytes b
 unfolding transitionsBytes
 transitions-append [] b = refl
-transitions-append (t ∷ a) b = ap (λ z. transitionBytes t ++ z) (transitions-append a b) ∙ sym (append-assoc (transitionBytes t) (transitionsBytes a) (transitionsBytes b))
+transitions-append (t ∷ a) b = ap (λ z. transitionBytes t ++ z) (transitions-append a b)
+    ∙ sym (append-assoc (transitionBytes t) (transitionsBytes a) (transitionsBytes b))
 
 -- transition k stands at 28 * k
-transitions-at : (ts : List Transition) (k : ℕ) (rest : List ℕ) → k < length ts → (r : List ℕ) × (drop (28 * k) (transitionsBytes ts ++ rest) ≡ transitionBytes (getD ts k noTransition) ++ r)
+transitions-at : (ts : List Transition) (k : ℕ) (rest : List ℕ) → k < length ts
+    → (r : List ℕ) × (drop (28 * k) (transitionsBytes ts ++ rest) ≡ transitionBytes (getD ts k noTransition) ++ r)
 unfolding transitionsBytes
 transitions-at [] k rest l = absurd (omega arith)
 transitions-at (t ∷ ts) zero rest l = (transitionsBytes ts ++ rest, append-assoc (transitionBytes t) (transitionsBytes ts) rest)
 transitions-at (t ∷ ts) (suc k) rest l = let u = transitions-at ts k rest (omega arith) in (
   u .0,
   ap (drop (28 * suc k)) (append-assoc (transitionBytes t) (transitionsBytes ts) rest)
-      ∙ ap (λ n. drop n (transitionBytes t ++ (transitionsBytes ts ++ rest))) (let e : 28 * suc k ≡ length (transitionBytes t) + 28 * k = omega (arith, length-transition t) in e)
+      ∙ ap (λ n. drop n (transitionBytes t ++ (transitionsBytes ts ++ rest)))
+      (let e : 28 * suc k ≡ length (transitionBytes t) + 28 * k = omega (arith, length-transition t) in e)
       ∙ drop-append-add (transitionBytes t) (transitionsBytes ts ++ rest) (28 * k) ∙ u .1,
 )
 
@@ -87,16 +94,24 @@ module _ (ts : ℕ → List Transition) where
   all-bytes (suc n) = ap (λ z. z ++ transitionsBytes (ts n)) (all-bytes n) ∙ sym (transitions-append (all n) (ts n))
 
   -- those of chart c begin behind those of the charts before it
-  all-at : (n c k : ℕ) → c < n → k < length (ts c) → (tally c (λ c. length (ts c)) + k < length (all n)) × (getD (all n) (tally c (λ c. length (ts c)) + k) noTransition ≡ getD (ts c) k noTransition)
+  all-at : (n c k : ℕ) → c < n → k < length (ts c)
+      → (tally c (λ c. length (ts c)) + k < length (all n))
+      × (getD (all n) (tally c (λ c. length (ts c)) + k) noTransition ≡ getD (ts c) k noTransition)
   unfolding all
   all-at zero c k l m = absurd (omega arith)
   all-at (suc n) c k l m = ⊎-elim
       (λ e. here c e k m)
-      (λ m′. let u = all-at n c k m′ m in ((let a = length-append (all n) (ts n) in let h = u .0 in omega arith), List·getD-append (all n) (ts n) noTransition (tally c (λ c. length (ts c)) + k) (u .0) ∙ u .1)) (below-suc c n l)
+      (λ m′. let u = all-at n c k m′ m in (
+        (let a = length-append (all n) (ts n) in let h = u .0 in omega arith),
+        List·getD-append (all n) (ts n) noTransition (tally c (λ c. length (ts c)) + k) (u .0) ∙ u .1,
+      )) (below-suc c n l)
     where
-      here : (c : ℕ) → c ≡ n → (k : ℕ) → k < length (ts c) → (tally c (λ c. length (ts c)) + k < length (all n ++ ts n)) × (getD (all n ++ ts n) (tally c (λ c. length (ts c)) + k) noTransition ≡ getD (ts c) k noTransition)
+      here : (c : ℕ) → c ≡ n → (k : ℕ) → k < length (ts c)
+          → (tally c (λ c. length (ts c)) + k < length (all n ++ ts n))
+          × (getD (all n ++ ts n) (tally c (λ c. length (ts c)) + k) noTransition ≡ getD (ts c) k noTransition)
       here c e k m = rw e (
-        (let a = length-append (all n) (ts n) in let b = length-all n in let m′ : k < length (ts n) = subst (λ c. k < length (ts c)) e m in omega arith),
+        (let a = length-append (all n) (ts n) in let b = length-all n in let m′ : k < length (ts n) = subst (λ c. k < length (ts c)) e m in
+            omega arith),
         ap (λ z. getD (all n ++ ts n) (z + k) noTransition) (sym (length-all n)) ∙ getD-append-add (all n) (ts n) k noTransition,
       )
 
@@ -143,7 +158,8 @@ module _ (F : File) where
 
   length-rs : length rs ≡ 28 * transitionsIn F
   unfolding transitionsIn
-  length-rs = ap length (all-bytes listOf (F .charts)) ∙ length-transitions (all listOf (F .charts)) ∙ ap (λ z. 28 * z) (length-all listOf (F .charts))
+  length-rs = ap length (all-bytes listOf (F .charts)) ∙ length-transitions (all listOf (F .charts))
+      ∙ ap (λ z. 28 * z) (length-all listOf (F .charts))
 
   length-ss : length ss ≡ 4 * F .slaves
   length-ss = length-turn 4 (λ i. slaveBytes (slaveIn i)) (λ i. length-slave (slaveIn i)) (F .slaves)
@@ -153,33 +169,42 @@ module _ (F : File) where
 
   pub length-body : length (bodyBytes F) ≡ sizeOf (shapeIn F)
   unfolding bodyBytes shapeIn
-  length-body = length-append ((hs ++ rs) ++ ss) ns ∙ omega (arith, length-append (hs ++ rs) ss, length-append hs rs, length-hs, length-rs, length-ss, length-ns)
+  length-body = length-append ((hs ++ rs) ++ ss) ns
+      ∙ omega (arith, length-append (hs ++ rs) ss, length-append hs rs, length-hs, length-rs, length-ss, length-ns)
 
   -- what stands at a place of each part
   pub head-there : (c : ℕ) → c < F .charts → (r : List ℕ) × (drop (24 * c) (bodyBytes F) ≡ headBytes (headFor (F .chart c)) ++ r)
   unfolding bodyBytes
-  head-there c l = let u = turn-at 24 (λ c. headBytes (headFor (F .chart c))) (λ c. length-head (headFor (F .chart c))) (F .charts) c (rs ++ (ss ++ ns)) l in
+  head-there c l = let u = turn-at 24 (λ c. headBytes (headFor (F .chart c))) (λ c. length-head (headFor (F .chart c))) (F .charts) c
+      (rs ++ (ss ++ ns)) l in
       (u .0, ap (drop (24 * c)) (append-assoc (hs ++ rs) ss ns ∙ append-assoc hs rs (ss ++ ns)) ∙ u .1)
 
   past : (p q : List ℕ) (m k : ℕ) → length p ≡ m → drop (m + k) (p ++ q) ≡ drop k q
   past p q m k e = ap (λ z. drop (z + k) (p ++ q)) (sym e) ∙ drop-append-add p q k
 
   -- transition t, counted through all charts
-  place-there : (t : ℕ) → t < length (all listOf (F .charts)) → (r : List ℕ) × (drop (transitionsFrom (shapeIn F) + 28 * t) (bodyBytes F) ≡ transitionBytes (getD (all listOf (F .charts)) t noTransition) ++ r)
+  place-there : (t : ℕ) → t < length (all listOf (F .charts))
+      → (r : List ℕ) × (drop (transitionsFrom (shapeIn F) + 28 * t) (bodyBytes F)
+      ≡ transitionBytes (getD (all listOf (F .charts)) t noTransition) ++ r)
   unfolding bodyBytes shapeIn
   place-there t l = let u = transitions-at (all listOf (F .charts)) t (ss ++ ns) l in (
     u .0,
-    ap (drop (24 * F .charts + 28 * t)) (append-assoc (hs ++ rs) ss ns ∙ append-assoc hs rs (ss ++ ns)) ∙ past hs (rs ++ (ss ++ ns)) (24 * F .charts) (28 * t) length-hs
+    ap (drop (24 * F .charts + 28 * t)) (append-assoc (hs ++ rs) ss ns ∙ append-assoc hs rs (ss ++ ns))
+        ∙ past hs (rs ++ (ss ++ ns)) (24 * F .charts) (28 * t) length-hs
         ∙ ap (λ z. drop (28 * t) (z ++ (ss ++ ns))) (all-bytes listOf (F .charts)) ∙ u .1,
   )
 
-  pub some-transition-there : (t : ℕ) → t < transitionsIn F → (u : Transition) × (r : List ℕ) × (drop (transitionsFrom (shapeIn F) + 28 * t) (bodyBytes F) ≡ transitionBytes u ++ r)
+  pub some-transition-there : (t : ℕ) → t < transitionsIn F
+      → (u : Transition) × (r : List ℕ) × (drop (transitionsFrom (shapeIn F) + 28 * t) (bodyBytes F) ≡ transitionBytes u ++ r)
   unfolding transitionsIn
-  some-transition-there t l = let u = place-there t (let e = length-all listOf (F .charts) in omega arith) in (getD (all listOf (F .charts)) t noTransition, u .0, u .1)
+  some-transition-there t l = let u = place-there t (let e = length-all listOf (F .charts) in omega arith) in
+      (getD (all listOf (F .charts)) t noTransition, u .0, u .1)
 
   pub transition-there : (c k : ℕ) → c < F .charts → k < length (F .chart c .transitions)
-      → (r : List ℕ) × (drop (transitionsFrom (shapeIn F) + 28 * (tally c (λ c. length (F .chart c .transitions)) + k)) (bodyBytes F) ≡ transitionBytes (getD (F .chart c .transitions) k noTransition) ++ r)
-  transition-there c k l m = let v = all-at listOf (F .charts) c k l m in let u = place-there (tally c (λ c. length (F .chart c .transitions)) + k) (v .0) in
+      → (r : List ℕ) × (drop (transitionsFrom (shapeIn F) + 28 * (tally c (λ c. length (F .chart c .transitions)) + k)) (bodyBytes F)
+      ≡ transitionBytes (getD (F .chart c .transitions) k noTransition) ++ r)
+  transition-there c k l m = let v = all-at listOf (F .charts) c k l m in
+      let u = place-there (tally c (λ c. length (F .chart c .transitions)) + k) (v .0) in
       (u .0, u .1 ∙ ap (λ z. transitionBytes z ++ u .0) (v .1))
 
   pub slave-there : (i : ℕ) → i < F .slaves → (r : List ℕ) × (drop (slavesFrom (shapeIn F) + 4 * i) (bodyBytes F) ≡ slaveBytes (slaveIn i) ++ r)
@@ -187,7 +212,8 @@ module _ (F : File) where
   slave-there i l = let u = turn-at 4 (λ i. slaveBytes (slaveIn i)) (λ i. length-slave (slaveIn i)) (F .slaves) i ns l in (
     u .0,
     ap (drop (24 * F .charts + 28 * transitionsIn F + 4 * i)) (append-assoc (hs ++ rs) ss ns)
-        ∙ past (hs ++ rs) (ss ++ ns) (24 * F .charts + 28 * transitionsIn F) (4 * i) (length-append hs rs ∙ omega (arith, length-hs, length-rs)) ∙ u .1,
+        ∙ past (hs ++ rs) (ss ++ ns) (24 * F .charts + 28 * transitionsIn F) (4 * i) (length-append hs rs ∙ omega (arith, length-hs, length-rs))
+        ∙ u .1,
   )
 
   pub node-there : (j : ℕ) → j < F .nodes → (r : List ℕ) × (drop (nodesFrom (shapeIn F) + 20 * j) (bodyBytes F) ≡ nodeBytes (nodeIn j) ++ r)
@@ -195,7 +221,8 @@ module _ (F : File) where
   node-there j l = let u = turn-at 20 (λ j. nodeBytes (nodeIn j)) (λ j. length-node (nodeIn j)) (F .nodes) j [] l in (
     u .0,
     past ((hs ++ rs) ++ ss) ns (24 * F .charts + 28 * transitionsIn F + 4 * F .slaves) (20 * j)
-        (length-append (hs ++ rs) ss ∙ omega (arith, length-append hs rs, length-hs, length-rs, length-ss)) ∙ ap (drop (20 * j)) (sym (append-nil ns)) ∙ u .1,
+        (length-append (hs ++ rs) ss ∙ omega (arith, length-append hs rs, length-hs, length-rs, length-ss)) ∙ ap (drop (20 * j)) (sym (append-nil ns))
+        ∙ u .1,
   )
 
 module _ (F : File) (ft : Fits F) where
@@ -214,7 +241,8 @@ module _ (F : File) (ft : Fits F) where
   start-is zero l = refl
   start-is (suc c) l = let h = ap (λ z. z .transitions) (head-is c (omega arith)) in let g = start-is c (omega arith) in omega arith
 
-  pub transition-is : (c k : ℕ) → c < F .charts → k < length (F .chart c .transitions) → transitionAt n b (startOf n b c + k) ≡ getD (F .chart c .transitions) k noTransition
+  pub transition-is : (c k : ℕ) → c < F .charts → k < length (F .chart c .transitions)
+      → transitionAt n b (startOf n b c + k) ≡ getD (F .chart c .transitions) k noTransition
   unfolding transitionAt
   transition-is c k l m = let u = transition-there F c k l m in let f = every-at Small (F .chart c .transitions) k noTransition m (ft .lists c l) in
       ap (λ z. transitionOf (drop (transitionsFrom n + 28 * (z + k)) b)) (start-is c (omega arith))
@@ -240,12 +268,20 @@ module _ (F : File) (ft : Fits F) where
 
   pub chart-back : (c : ℕ) → c < F .charts → chartOf n b c ≡ F .chart c
   unfolding chartOf headFor
-  chart-back c l = ap₂ (λ (h : Head) (ts : List Transition). record { states = h .states; initial = h .initial; transitions = ts; feedback = h .feedback; extra = h .extra }) (head-is c l) (list-is c l)
+  chart-back c l = ap₂ (λ (h : Head) (ts : List Transition).
+      record { states = h .states; initial = h .initial; transitions = ts; feedback = h .feedback; extra = h .extra }) (head-is c l) (list-is c l)
 
   -- ── the trailer and the file ──
 
   abbrev pub trailerFor : Trailer
-  trailerFor = record { distance = sizeOf (shapeIn F); charts = F .charts; slaves = F .slaves; nodes = F .nodes; edition = theEdition; transitions = transitionsIn F }
+  trailerFor = record {
+    distance = sizeOf (shapeIn F);
+    charts = F .charts;
+    slaves = F .slaves;
+    nodes = F .nodes;
+    edition = theEdition;
+    transitions = transitionsIn F;
+  }
 
   pub length-encode : length (encode F) ≡ sizeOf (shapeIn F) + 12
   unfolding encode
@@ -265,7 +301,8 @@ module _ (F : File) (ft : Fits F) where
   pub body-is : bodyOf (encode F) ≡ bodyBytes F
   unfolding bodyOf encode
   body-is = ap (λ t. take (t .distance) (drop (endOf (encode F) - t .distance) (encode F))) trailer-is
-      ∙ ap (λ z. take (sizeOf (shapeIn F)) (drop z (encode F))) (let e = end-is in let z : endOf (encode F) - sizeOf (shapeIn F) ≡ 0 = omega arith in z)
+      ∙ ap (λ z. take (sizeOf (shapeIn F)) (drop z (encode F)))
+      (let e = end-is in let z : endOf (encode F) - sizeOf (shapeIn F) ≡ 0 = omega arith in z)
       ∙ take-at (bodyBytes F) (trailerBytes trailerFor) (sizeOf (shapeIn F)) (length-body F)
 
   pub shape-is : shapeOf (trailer (encode F)) ≡ shapeIn F

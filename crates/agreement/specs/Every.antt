@@ -31,9 +31,13 @@ module _ (P : Transition → Type 0) where
   pub every-from : (f : ℕ → Transition) (k n : ℕ) → ((i : ℕ) → i < n → P (f (k + i))) → Every P (from f k n)
   unfolding from
   every-from f k zero h = tt
-  every-from f k (suc n) h = (subst (λ z. P (f z)) (add-zero k) (h 0 (omega arith)), every-from f (suc k) n (λ i l. subst (λ z. P (f z)) (let e : k + suc i ≡ suc k + i = omega arith in e) (h (suc i) (omega arith))))
+  every-from f k (suc n) h = (
+    subst (λ z. P (f z)) (add-zero k) (h 0 (omega arith)),
+    every-from f (suc k) n (λ i l. subst (λ z. P (f z)) (let e : k + suc i ≡ suc k + i = omega arith in e) (h (suc i) (omega arith))),
+  )
 
-  pub every-map : (Q : Transition → Type 0) (g : Transition → Transition) → ((t : Transition) → P t → Q (g t)) → (ts : List Transition) → Every P ts → Every Q (map g ts)
+  pub every-map : (Q : Transition → Type 0) (g : Transition → Transition) → ((t : Transition) → P t → Q (g t)) → (ts : List Transition) → Every P ts
+      → Every Q (map g ts)
   every-map Q g h [] k = tt
   every-map Q g h (t ∷ ts) k = (h t (k .0), every-map Q g h ts (k .1))
 

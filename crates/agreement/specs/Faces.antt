@@ -32,7 +32,8 @@ module _ (sig state : ℕ → ℕ) where
   actions-idles (some i) b zero = refl
   actions-idles (some i) b (suc m) = ap (λ z. ∅ ∪ z) (actions-idles (some i) (suc b) m) ∙ sets [] [] (∅ₑ ∪ₑ ∅ₑ ≐ ∅ₑ) tt
 
-  actions-own : (κ : Option ℕ) (T : Transition → Set) (ts r : List Transition) → actions r ≡ ∅ → actions (map (called sig κ T) ts ++ r) ≡ actions ts ∪ added T ts
+  actions-own : (κ : Option ℕ) (T : Transition → Set) (ts r : List Transition) → actions r ≡ ∅
+      → actions (map (called sig κ T) ts ++ r) ≡ actions ts ∪ added T ts
   unfolding actions called added
   actions-own κ T [] r h = h ∙ sets [] [] (∅ₑ ≐ ∅ₑ ∪ₑ ∅ₑ) tt
   actions-own κ T (t ∷ ts) r h = ap (λ z. (t .action ∪ T t) ∪ z) (actions-own κ T ts r h)
@@ -41,7 +42,9 @@ module _ (sig state : ℕ → ℕ) where
   added-calls : (ss : Slaves) (ts : List Transition) → added (touch sig state ss) ts ∖ calls sig ss ≡ ∅
   unfolding added
   added-calls ss [] = sets (calls sig ss ∷ []) [] (∅ₑ ⊑ A) tt
-  added-calls ss (t ∷ ts) = sets (touch sig state ss t ∷ added (touch sig state ss) ts ∷ calls sig ss ∷ []) (A ⊑ C ∷ B ⊑ C ∷ []) (A ∪ₑ B ⊑ C) tt (touch-calls sig state ss t) (added-calls ss ts)
+  added-calls ss (t ∷ ts) =
+      sets (touch sig state ss t ∷ added (touch sig state ss) ts ∷ calls sig ss ∷ []) (A ⊑ C ∷ B ⊑ C ∷ []) (A ∪ₑ B ⊑ C) tt
+      (touch-calls sig state ss t) (added-calls ss ts)
 
   added-nil : (ts : List Transition) → added (touch sig state nil) ts ≡ ∅
   unfolding added touch
@@ -63,7 +66,8 @@ module _ (sig state : ℕ → ℕ) where
     actions-R : (c : ℕ) → c < N → actions (E′ c .transitions) ≡ actions (E c .transitions) ∪ added (touch sig state (slv c)) (E c .transitions)
     unfolding chartWith
     actions-R c l = ap (λ C. actions (C .transitions)) (same-chart c l)
-        ∙ actions-own (kap c) (touch sig state (slv c)) (E c .transitions) (idles sig (kap c) zero (E c .states)) (actions-idles (kap c) zero (E c .states))
+        ∙ actions-own (kap c) (touch sig state (slv c)) (E c .transitions) (idles sig (kap c) zero (E c .states))
+        (actions-idles (kap c) zero (E c .states))
 
     mutual
       unfolding outFace
@@ -72,7 +76,8 @@ module _ (sig state : ℕ → ℕ) where
       out-old (leaf c) κ f = actions-old (E c .transitions) (old c (f .0) .old-transitions)
       out-old (comp a b x) κ f = old-join sig (outFace E a) (outFace E b) (out-old a κ (f .0)) (out-old b κ (f .1))
       out-old (hide a x y) κ f = old-less sig (outFace E a) y (out-old a κ (f .1))
-      out-old (dec c ss) κ f = old-join sig (actions (E c .transitions)) (outFaces E ss) (actions-old (E c .transitions) (old c (f .0) .old-transitions)) (outs-old ss κ (f .4))
+      out-old (dec c ss) κ f = old-join sig (actions (E c .transitions)) (outFaces E ss)
+          (actions-old (E c .transitions) (old c (f .0) .old-transitions)) (outs-old ss κ (f .4))
 
       outs-old : (ss : Slaves) (κ : Option ℕ) → FitS sig kap slv N ss κ → Old sig (outFaces E ss)
       outs-old nil κ f = old-none sig
@@ -82,17 +87,21 @@ module _ (sig state : ℕ → ℕ) where
       unfolding outFace tree
 
       pub out-t : (t : Tree) (κ : Option ℕ) → Fit sig kap slv N t κ → outFace E′ (tree sig fbs t) ≡ outFace E t
-      out-t (leaf c) κ f = actions-R c (f .0) ∙ ap (λ z. actions (E c .transitions) ∪ z) (ap (λ ss. added (touch sig state ss) (E c .transitions)) (f .2) ∙ added-nil (E c .transitions))
+      out-t (leaf c) κ f = actions-R c (f .0)
+          ∙ ap (λ z. actions (E c .transitions) ∪ z) (ap (λ ss. added (touch sig state ss) (E c .transitions)) (f .2) ∙ added-nil (E c .transitions))
           ∙ sets (actions (E c .transitions) ∷ []) [] (A ∪ₑ ∅ₑ ≐ A) tt
       out-t (comp a b x) κ f = ap₂ _∪_ (out-t a κ (f .0)) (out-t b κ (f .1))
       out-t (hide a x y) κ f = ap (λ z. z ∖ y) (out-t a κ (f .1))
       out-t (dec c ss) κ f = ap (λ z. z ∖ calls sig ss) (out-s ss κ (f .4) c (fbs c ∪ calls sig ss)
-          ∙ ap (λ z. z ∪ outFaces E ss) (actions-R c (f .0) ∙ ap (λ z. actions (E c .transitions) ∪ added (touch sig state z) (E c .transitions)) (f .2)))
-          ∙ sets (actions (E c .transitions) ∷ added (touch sig state ss) (E c .transitions) ∷ outFaces E ss ∷ calls sig ss ∷ []) (D ⊥ₑ A ∷ D ⊥ₑ C ∷ B ⊑ D ∷ []) (((A ∪ₑ B) ∪ₑ C) ∖ₑ D ≐ A ∪ₑ C) tt
+          ∙ ap (λ z. z ∪ outFaces E ss) (actions-R c (f .0)
+          ∙ ap (λ z. actions (E c .transitions) ∪ added (touch sig state z) (E c .transitions)) (f .2)))
+          ∙ sets (actions (E c .transitions) ∷ added (touch sig state ss) (E c .transitions) ∷ outFaces E ss ∷ calls sig ss ∷ [])
+          (D ⊥ₑ A ∷ D ⊥ₑ C ∷ B ⊑ D ∷ []) (((A ∪ₑ B) ∪ₑ C) ∖ₑ D ≐ A ∪ₑ C) tt
           (calls-old sig ss (actions (E c .transitions)) (actions-old (E c .transitions) (old c (f .0) .old-transitions)))
           (calls-old sig ss (outFaces E ss) (outs-old ss κ (f .4))) (added-calls ss (E c .transitions))
 
-      out-s : (ss : Slaves) (κ : Option ℕ) → FitS sig kap slv N ss κ → (c : ℕ) (x : Set) → outFace E′ (nest sig fbs ss c x) ≡ actions (E′ c .transitions) ∪ outFaces E ss
+      out-s : (ss : Slaves) (κ : Option ℕ) → FitS sig kap slv N ss κ → (c : ℕ) (x : Set)
+          → outFace E′ (nest sig fbs ss c x) ≡ actions (E′ c .transitions) ∪ outFaces E ss
       out-s nil κ f c x = sets (actions (E′ c .transitions) ∷ []) [] (A ≐ A ∪ₑ ∅ₑ) tt
       out-s (snoc ss i t) κ f c x = ap₂ _∪_ (out-s ss κ (f .0) c x) (out-t t (some i) (f .2))
           ∙ sets (actions (E′ c .transitions) ∷ outFaces E ss ∷ outFace E t ∷ []) [] ((A ∪ₑ B) ∪ₑ C ≐ A ∪ₑ (B ∪ₑ C)) tt
@@ -137,8 +146,10 @@ module _ (sig state : ℕ → ℕ) where
 module _ (F : File) (rd : Ready F) (F′ : File) (r : Rewritten F F′) where
   pub input-is : inFace (F′ .chart) (wholeOf F′) ≡ inFace (F .chart) (wholeOf F)
   input-is = ap (inFace (F′ .chart)) (whole-is F rd F′ r)
-      ∙ in-t (call F) (F .state) (kap F) (slavesOf F) (F .charts) (F .chart) (F′ .chart) (old-chart F (rd .small)) (chart-is F rd F′ r) (rd .some-state) (call-inj F) (wholeOf F) (fits F rd)
+      ∙ in-t (call F) (F .state) (kap F) (slavesOf F) (F .charts) (F .chart) (F′ .chart) (old-chart F (rd .small)) (chart-is F rd F′ r)
+      (rd .some-state) (call-inj F) (wholeOf F) (fits F rd)
 
   pub output-is : outFace (F′ .chart) (wholeOf F′) ≡ outFace (F .chart) (wholeOf F)
   output-is = ap (outFace (F′ .chart)) (whole-is F rd F′ r)
-      ∙ out-t (call F) (F .state) (kap F) (slavesOf F) (F .charts) (F .chart) (F′ .chart) (old-chart F (rd .small)) (chart-is F rd F′ r) (wholeOf F) none (fits F rd)
+      ∙ out-t (call F) (F .state) (kap F) (slavesOf F) (F .charts) (F .chart) (F′ .chart) (old-chart F (rd .small)) (chart-is F rd F′ r)
+      (wholeOf F) none (fits F rd)

@@ -35,7 +35,8 @@ module _ (F : File) (w : Ordered F) (enc kap : ℕ → Option ℕ) (pl : Placed 
   abbrev slv : ℕ → Slaves
   slv = slavesOf F
 
-  fit-whole : (c : ℕ) (κ : Option ℕ) (ss : Slaves) → c < F .charts → kap c ≡ κ → slv c ≡ ss → FitS sig kap slv (F .charts) ss κ → Fit sig kap slv (F .charts) (whole c ss) κ
+  fit-whole : (c : ℕ) (κ : Option ℕ) (ss : Slaves) → c < F .charts → kap c ≡ κ → slv c ≡ ss → FitS sig kap slv (F .charts) ss κ
+      → Fit sig kap slv (F .charts) (whole c ss) κ
   fit-whole c κ nil l p q f = (l, p, q)
   fit-whole c κ (snoc ss i t) l p q f = (l, p, q, tt, f)
 
@@ -43,7 +44,8 @@ module _ (F : File) (w : Ordered F) (enc kap : ℕ → Option ℕ) (pl : Placed 
   apart j i l h none e = tt
   apart j i l h (some k) e = λ q. let b = pl .under j k l e in let b′ : j ≤ F .node i = subst (λ z. j ≤ F .node z) q b in omega arith
 
-  fit-gather : (c k : ℕ) (κ : Option ℕ) → k ≤ F .slaves → ((i : ℕ) → i < F .slaves → F .master i ≡ c → Apart sig κ i × Fit sig kap slv (F .charts) (treeOf F (F .node i)) (some i))
+  fit-gather : (c k : ℕ) (κ : Option ℕ) → k ≤ F .slaves
+      → ((i : ℕ) → i < F .slaves → F .master i ≡ c → Apart sig κ i × Fit sig kap slv (F .charts) (treeOf F (F .node i)) (some i))
       → FitS sig kap slv (F .charts) (gather (F .master) (λ i. treeOf F (F .node i)) c k) κ
   unfolding gather
   fit-gather c zero κ l h = tt
@@ -52,7 +54,8 @@ module _ (F : File) (w : Ordered F) (enc kap : ℕ → Option ℕ) (pl : Placed 
       rest : Slaves
       rest = gather (F .master) (λ i. treeOf F (F .node i)) c k
 
-      go : (b : Bool) → same (F .master k) c ≡ b → FitS sig kap slv (F .charts) rest κ → FitS sig kap slv (F .charts) (cond b (snoc rest k (treeOf F (F .node k))) rest) κ
+      go : (b : Bool) → same (F .master k) c ≡ b → FitS sig kap slv (F .charts) rest κ
+          → FitS sig kap slv (F .charts) (cond b (snoc rest k (treeOf F (F .node k))) rest) κ
       go true e f = let p = h k (omega arith) (same→≡ (F .master k) c e) in (f, p .0, p .1)
       go false e f = f
 
@@ -60,7 +63,8 @@ module _ (F : File) (w : Ordered F) (enc kap : ℕ → Option ℕ) (pl : Placed 
   fit-node zero j p l = absurd (omega arith)
   fit-node (suc f) j p l = go (F .kind j) refl (λ i a. fit-node f i (omega arith) (omega arith))
     where
-      go : (k : ℕ) → F .kind j ≡ k → ((i : ℕ) → i < j → Fit sig kap slv (F .charts) (treeOf F i) (enc i)) → Fit sig kap slv (F .charts) (treeOf F j) (enc j)
+      go : (k : ℕ) → F .kind j ≡ k → ((i : ℕ) → i < j → Fit sig kap slv (F .charts) (treeOf F i) (enc i))
+          → Fit sig kap slv (F .charts) (treeOf F j) (enc j)
       go zero e ih = rw (tree₀ F w j l e) (fit-whole (F .a j) (enc j) (slv (F .a j)) (pl .hold j l e .0) (pl .hold j l e .1) refl
           (fit-gather (F .a j) (F .slaves) (enc j) (omega arith) (λ i a b. let h = w .lower₀ j l e i a b in
           (apart j i l h (enc j) refl, rw (pl .in₀ j l e i a b) at (ih (F .node i) h)))))

@@ -43,21 +43,25 @@ module _ (s : Set) where
   lacking-is zero i d l = absurd (omega arith)
   lacking-is (suc n) i d l = go (bit s n) refl l (λ h. lacking-is n i d h)
     where
-      go : (b : Bool) → bit s n ≡ b → i < length (cond b (lacking s n) (lacking s n ++ (n ∷ []))) → (i < length (lacking s n) → (getD (lacking s n) i d < n) × (bit s (getD (lacking s n) i d) ≡ false))
-          → (getD (cond b (lacking s n) (lacking s n ++ (n ∷ []))) i d < suc n) × (bit s (getD (cond b (lacking s n) (lacking s n ++ (n ∷ []))) i d) ≡ false)
+      go : (b : Bool) → bit s n ≡ b → i < length (cond b (lacking s n) (lacking s n ++ (n ∷ [])))
+          → (i < length (lacking s n) → (getD (lacking s n) i d < n) × (bit s (getD (lacking s n) i d) ≡ false))
+          → (getD (cond b (lacking s n) (lacking s n ++ (n ∷ []))) i d < suc n)
+          × (bit s (getD (cond b (lacking s n) (lacking s n ++ (n ∷ []))) i d) ≡ false)
       go true e l r = let u = r l in ((let h = u .0 in omega arith), u .1)
       go false e l r = cases (decLt i (length (lacking s n)))
         where
           cases : Dec (i < length (lacking s n)) → (getD (lacking s n ++ (n ∷ [])) i d < suc n) × (bit s (getD (lacking s n ++ (n ∷ [])) i d) ≡ false)
           cases (yes h) = let u = r h in rw (List·getD-append (lacking s n) (n ∷ []) d i h) ((let v = u .0 in omega arith), u .1)
-          cases (no h) = let t = length-append (lacking s n) (n ∷ []) in let z : length (lacking s n) ≡ i = omega arith in rw (getD-at (lacking s n) n [] d i z) (omega arith, e)
+          cases (no h) = let t = length-append (lacking s n) (n ∷ []) in let z : length (lacking s n) ≡ i = omega arith in
+              rw (getD-at (lacking s n) n [] d i z) (omega arith, e)
 
   pub lacking-rise : (n i j d : ℕ) → i < j → j < length (lacking s n) → getD (lacking s n) i d < getD (lacking s n) j d
   unfolding lacking
   lacking-rise zero i j d l m = absurd (omega arith)
   lacking-rise (suc n) i j d l m = go (bit s n) m (λ h. lacking-rise n i j d l h)
     where
-      go : (b : Bool) → j < length (cond b (lacking s n) (lacking s n ++ (n ∷ []))) → (j < length (lacking s n) → getD (lacking s n) i d < getD (lacking s n) j d)
+      go : (b : Bool) → j < length (cond b (lacking s n) (lacking s n ++ (n ∷ [])))
+          → (j < length (lacking s n) → getD (lacking s n) i d < getD (lacking s n) j d)
           → getD (cond b (lacking s n) (lacking s n ++ (n ∷ []))) i d < getD (cond b (lacking s n) (lacking s n ++ (n ∷ []))) j d
       go true m r = r m
       go false m r = cases (decLt j (length (lacking s n)))
@@ -74,11 +78,20 @@ module _ (s : Set) where
   lacking-all (suc n) k l e = go (bit s n) refl (λ m. lacking-all n k m e)
     where
       go : (b : Bool) → bit s n ≡ b → (k < n → (i : ℕ) × (i < length (lacking s n)) × ((d : ℕ) → getD (lacking s n) i d ≡ k))
-          → (i : ℕ) × (i < length (cond b (lacking s n) (lacking s n ++ (n ∷ [])))) × ((d : ℕ) → getD (cond b (lacking s n) (lacking s n ++ (n ∷ []))) i d ≡ k)
+          → (i : ℕ) × (i < length (cond b (lacking s n) (lacking s n ++ (n ∷ []))))
+          × ((d : ℕ) → getD (cond b (lacking s n) (lacking s n ++ (n ∷ []))) i d ≡ k)
       go true q r = r (⊎-elim (λ z. absurd (true≢false (sym q ∙ ap (bit s) (sym z) ∙ e))) (λ m. m) (below-suc k n l))
       go false q r = ⊎-elim
-          (λ z. (length (lacking s n), (let t = length-append (lacking s n) (n ∷ []) in omega arith), λ d. getD-at (lacking s n) n [] d (length (lacking s n)) refl ∙ sym z))
-          (λ m. let u = r m in (u .0, (let t = length-append (lacking s n) (n ∷ []) in let h = u .1 in omega arith), λ d. List·getD-append (lacking s n) (n ∷ []) d (u .0) (u .1) ∙ u .2 d))
+          (λ z. (
+            length (lacking s n),
+            (let t = length-append (lacking s n) (n ∷ []) in omega arith),
+            λ d. getD-at (lacking s n) n [] d (length (lacking s n)) refl ∙ sym z,
+          ))
+          (λ m. let u = r m in (
+            u .0,
+            (let t = length-append (lacking s n) (n ∷ []) in let h = u .1 in omega arith),
+            λ d. List·getD-append (lacking s n) (n ∷ []) d (u .0) (u .1) ∙ u .2 d,
+          ))
           (below-suc k n l)
 
 getD-any : (l : List ℕ) (i a b : ℕ) → i < length l → getD l i a ≡ getD l i b
@@ -100,7 +113,8 @@ module _ (F : File) where
       go (yes a) (yes b) = rw (getD-any L i (64 + i) 0 a, getD-any L j (64 + j) 0 b) (lacking-rise (used F) 64 i j 0 l b)
       go (yes a) (no b) = let u = lacking-is (used F) 64 i (64 + i) a .0 in rw (List·getD-eq-default L (64 + j) {n = j} (omega arith)) (omega arith)
       go (no a) (yes b) = absurd (omega arith)
-      go (no a) (no b) = rw (List·getD-eq-default L (64 + i) {n = i} (omega arith), List·getD-eq-default L (64 + j) {n = j} (omega arith)) (omega arith)
+      go (no a) (no b) = rw (List·getD-eq-default L (64 + i) {n = i} (omega arith), List·getD-eq-default L (64 + j) {n = j} (omega arith))
+          (omega arith)
 
   pub call-inj : (i j : ℕ) → call F i ≡ call F j → i ≡ j
   call-inj i j e = go (decLt i j) (decLt j i)
@@ -130,14 +144,16 @@ module _ (F : File) where
         where
           not-later : Dec (i < j) → ⊥
           not-later (yes b) = let r = lacking-rise (used F) 64 i j (64 + i) b h in let g = getD-any L j (64 + i) (64 + j) h in omega arith
-          not-later (no b) = let z : i ≡ j = omega arith in let y : getD L i (64 + i) ≡ getD L j (64 + j) = ap (λ n. getD L n (64 + n)) z in omega arith
+          not-later (no b) = let z : i ≡ j = omega arith in let y : getD L i (64 + i) ≡ getD L j (64 + j) = ap (λ n. getD L n (64 + n)) z in
+              omega arith
 
   -- what is taken before slave i: the file's sets and the calls of the slaves before it
   unfoldable pub taken : ℕ → Set
   taken i = used F ∪ unionUpTo i (λ k. single (call F k))
 
   in-calls : (i k n : ℕ) → k < i → call F k ≡ n → bit (unionUpTo i (λ k. single (call F k))) n ≡ true
-  in-calls i k n l e = within-at (single (call F k)) (unionUpTo i (λ k. single (call F k))) (union-in i (λ k. single (call F k)) k l) n (rw e (bit-single n n ∙ eq-eqb n n refl))
+  in-calls i k n l e = within-at (single (call F k)) (unionUpTo i (λ k. single (call F k))) (union-in i (λ k. single (call F k)) k l) n
+      (rw e (bit-single n n ∙ eq-eqb n n refl))
 
   not-in-calls : (i n : ℕ) → ((k : ℕ) → k < i → call F k ≡ n → ⊥) → bit (unionUpTo i (λ k. single (call F k))) n ≡ false
   unfolding unionUpTo
@@ -220,11 +236,13 @@ module _ (F : File) where
         H = (((A ∪ₑ B) ∪ₑ C) ∪ₑ Eₑ) ⊑ D ∷ []
 
         h : f c ∖ used F ≡ ∅
-        h = sets (f c ∷ unionUpTo (F .charts) f ∷ unionUpTo (F .nodes) (λ j. F .x j ∪ F .y j) ∷ []) (A ⊑ B ∷ []) (A ⊑ B ∪ₑ C) tt (union-in (F .charts) f c l)
+        h = sets (f c ∷ unionUpTo (F .charts) f ∷ unionUpTo (F .nodes) (λ j. F .x j ∪ F .y j) ∷ []) (A ⊑ B ∷ []) (A ⊑ B ∪ₑ C) tt
+            (union-in (F .charts) f c l)
 
     pub old-x : (j : ℕ) → j < F .nodes → Old (call F) (F .x j)
     unfolding used
-    old-x j l = call-old (F .x j) (sets (F .x j ∷ F .y j ∷ unionUpTo (F .charts) f ∷ unionUpTo (F .nodes) (λ j. F .x j ∪ F .y j) ∷ []) ((A ∪ₑ B) ⊑ D ∷ []) (A ⊑ C ∪ₑ D) tt (union-in (F .nodes) (λ j. F .x j ∪ F .y j) j l))
+    old-x j l = call-old (F .x j) (sets (F .x j ∷ F .y j ∷ unionUpTo (F .charts) f ∷ unionUpTo (F .nodes) (λ j. F .x j ∪ F .y j) ∷ [])
+        ((A ∪ₑ B) ⊑ D ∷ []) (A ⊑ C ∪ₑ D) tt (union-in (F .nodes) (λ j. F .x j ∪ F .y j) j l))
       where
         f : ℕ → Set
         f c = guards (F .chart c .transitions) ∪ actions (F .chart c .transitions) ∪ F .chart c .feedback ∪ F .chart c .extra

@@ -54,7 +54,8 @@ module _ (F : File) where
 
   pub ren-inside : (n j : ℕ) → j < n → newName F j < start F n
   unfolding newName
-  ren-inside n j l = inside n j (before F (F .kind j) (count F (F .a j) (F .slaves))) l (let e = last-width (F .kind j) (count F (F .a j) (F .slaves)) in omega arith)
+  ren-inside n j l = inside n j (before F (F .kind j) (count F (F .a j) (F .slaves))) l
+      (let e = last-width (F .kind j) (count F (F .a j) (F .slaves)) in omega arith)
 
   pub parts-length : (c at k : ℕ) → length (composed F c at k) ≡ count F c k
   unfolding composed tally
@@ -64,7 +65,8 @@ module _ (F : File) where
       nd : Node
       nd = record { kind = 1; a = at + count F c i; b = newName F (F .node i); x = F .chart c .feedback ∪ callsOf F c; y = ∅ }
 
-      go : (d : Bool) → length (composed F c at i) ≡ count F c i → length (cond d (composed F c at i ++ (nd ∷ [])) (composed F c at i)) ≡ one d + count F c i
+      go : (d : Bool) → length (composed F c at i) ≡ count F c i
+          → length (cond d (composed F c at i ++ (nd ∷ [])) (composed F c at i)) ≡ one d + count F c i
       go true h = length-append (composed F c at i) (nd ∷ []) ∙ omega arith
       go false h = h ∙ sym (zero-add (count F c i))
 
@@ -74,7 +76,8 @@ module _ (F : File) where
     where
       go : (k s : ℕ) → count F (F .a j) (F .slaves) ≡ s → length (madeBy F k s j) ≡ widthOf k s
       go zero zero e = refl
-      go zero (suc s) e = ap suc (length-append (composed F (F .a j) (start F j) (F .slaves)) _ ∙ rw (parts-length (F .a j) (start F j) (F .slaves), e) (omega arith))
+      go zero (suc s) e = ap suc (length-append (composed F (F .a j) (start F j) (F .slaves)) _
+          ∙ rw (parts-length (F .a j) (start F j) (F .slaves), e) (omega arith))
       go (suc zero) s e = refl
       go (suc (suc k)) s e = refl
 
@@ -84,13 +87,16 @@ module _ (F : File) where
   laid-length (suc j) = length-append (laid F j) (madeFor F j) ∙ rw (laid-length j, block-length j)
 
   -- a node's madeFor F stands at its start
-  laid-at : (n j q : ℕ) → j < n → q < widthOf (F .kind j) (count F (F .a j) (F .slaves)) → getD (laid F n) (start F j + q) noNode ≡ getD (madeFor F j) q noNode
+  laid-at : (n j q : ℕ) → j < n → q < widthOf (F .kind j) (count F (F .a j) (F .slaves))
+      → getD (laid F n) (start F j + q) noNode ≡ getD (madeFor F j) q noNode
   unfolding laid
   laid-at zero j q l h = absurd (omega arith)
   laid-at (suc n) j q l h = go (same j n) refl (λ m. laid-at n j q m h)
     where
-      go : (d : Bool) → same j n ≡ d → (j < n → getD (laid F n) (start F j + q) noNode ≡ getD (madeFor F j) q noNode) → getD (laid F n ++ madeFor F n) (start F j + q) noNode ≡ getD (madeFor F j) q noNode
-      go true e r = rw (same→≡ j n e) (ap (λ z. getD (laid F n ++ madeFor F n) (z + q) noNode) (sym (laid-length n)) ∙ getD-append-add (laid F n) (madeFor F n) q noNode)
+      go : (d : Bool) → same j n ≡ d → (j < n → getD (laid F n) (start F j + q) noNode ≡ getD (madeFor F j) q noNode)
+          → getD (laid F n ++ madeFor F n) (start F j + q) noNode ≡ getD (madeFor F j) q noNode
+      go true e r = rw (same→≡ j n e) (ap (λ z. getD (laid F n ++ madeFor F n) (z + q) noNode) (sym (laid-length n))
+          ∙ getD-append-add (laid F n) (madeFor F n) q noNode)
       go false e r = let z : j ≢ n = same→≢ j n e in let m : j < n = omega arith in
           List·getD-append (laid F n) (madeFor F n) noNode (start F j + q) (let a = inside n j q m h in let b = laid-length n in omega arith) ∙ r m
 
@@ -119,18 +125,24 @@ module _ (F : File) where
   unfolding madeFor
   block-is j k s e f = ap₂ (λ k s. madeBy F k s j) e f
 
-  at-node : (j q k s : ℕ) → j < F .nodes → F .kind j ≡ k → count F (F .a j) (F .slaves) ≡ s → q < widthOf F k s → newNode F (start F j + q) ≡ getD (madeBy F k s j) q noNode
-  at-node j q k s l e f h = laid-at F (F .nodes) j q l (subst₂ (λ k s. q < widthOf F k s) (sym e) (sym f) h) ∙ ap (λ b. getD b q noNode) (block-is j k s e f)
+  at-node : (j q k s : ℕ) → j < F .nodes → F .kind j ≡ k → count F (F .a j) (F .slaves) ≡ s → q < widthOf F k s
+      → newNode F (start F j + q) ≡ getD (madeBy F k s j) q noNode
+  at-node j q k s l e f h = laid-at F (F .nodes) j q l (subst₂ (λ k s. q < widthOf F k s) (sym e) (sym f) h)
+      ∙ ap (λ b. getD b q noNode) (block-is j k s e f)
 
   ren-is : (j k s : ℕ) → F .kind j ≡ k → count F (F .a j) (F .slaves) ≡ s → newName F j ≡ start F j + before F k s
   unfolding newName
   ren-is j k s e f = ap₂ (λ k s. start F j + before F k s) e f
 
-  pub comp-node : (j : ℕ) → j < F .nodes → F .kind j ≡ 1 → newNode F (newName F j) ≡ record { kind = 1; a = newName F (F .a j); b = newName F (F .b j); x = F .x j; y = ∅ }
-  comp-node j l e = ap (newNode F) (ren-is j 1 (count F (F .a j) (F .slaves)) e refl) ∙ at-node j 0 1 (count F (F .a j) (F .slaves)) l e refl (omega arith)
+  pub comp-node : (j : ℕ) → j < F .nodes → F .kind j ≡ 1
+      → newNode F (newName F j) ≡ record { kind = 1; a = newName F (F .a j); b = newName F (F .b j); x = F .x j; y = ∅ }
+  comp-node j l e = ap (newNode F) (ren-is j 1 (count F (F .a j) (F .slaves)) e refl)
+      ∙ at-node j 0 1 (count F (F .a j) (F .slaves)) l e refl (omega arith)
 
-  pub hide-node : (j : ℕ) → j < F .nodes → F .kind j ≡ 2 → newNode F (newName F j) ≡ record { kind = 2; a = newName F (F .a j); b = 0; x = F .x j; y = F .y j }
-  hide-node j l e = ap (newNode F) (ren-is j 2 (count F (F .a j) (F .slaves)) e refl) ∙ at-node j 0 2 (count F (F .a j) (F .slaves)) l e refl (omega arith)
+  pub hide-node : (j : ℕ) → j < F .nodes → F .kind j ≡ 2
+      → newNode F (newName F j) ≡ record { kind = 2; a = newName F (F .a j); b = 0; x = F .x j; y = F .y j }
+  hide-node j l e = ap (newNode F) (ren-is j 2 (count F (F .a j) (F .slaves)) e refl)
+      ∙ at-node j 0 2 (count F (F .a j) (F .slaves)) l e refl (omega arith)
 
   pub base-node : (j : ℕ) → j < F .nodes → F .kind j ≡ 0 → newNode F (start F j) ≡ record { kind = 0; a = F .a j; b = 0; x = ∅; y = ∅ }
   base-node j l e = ap (newNode F) (sym (add-zero (start F j))) ∙ go (count F (F .a j) (F .slaves)) refl
@@ -140,7 +152,14 @@ module _ (F : File) where
       go (suc s) f = at-node j 0 0 (suc s) l e f (omega arith)
 
   part-node : (j i : ℕ) → j < F .nodes → F .kind j ≡ 0 → i < F .slaves → F .master i ≡ F .a j
-      → newNode F (start F j + suc (count F (F .a j) i)) ≡ record { kind = 1; a = start F j + count F (F .a j) i; b = newName F (F .node i); x = F .chart (F .a j) .feedback ∪ callsOf F (F .a j); y = ∅ }
+      → newNode F (start F j + suc (count F (F .a j) i))
+      ≡ record {
+        kind = 1;
+        a = start F j + count F (F .a j) i;
+        b = newName F (F .node i);
+        x = F .chart (F .a j) .feedback ∪ callsOf F (F .a j);
+        y = ∅;
+      }
   unfolding tally
   part-node j i l e m q = go (count F (F .a j) (F .slaves)) refl
     where
@@ -148,14 +167,28 @@ module _ (F : File) where
       less = count-less F (F .a j) i (F .slaves) m (ap (λ z. same z (F .a j)) q ∙ same-refl (F .a j))
 
       go : (s : ℕ) → count F (F .a j) (F .slaves) ≡ s
-          → newNode F (start F j + suc (count F (F .a j) i)) ≡ record { kind = 1; a = start F j + count F (F .a j) i; b = newName F (F .node i); x = F .chart (F .a j) .feedback ∪ callsOf F (F .a j); y = ∅ }
+          → newNode F (start F j + suc (count F (F .a j) i))
+          ≡ record {
+            kind = 1;
+            a = start F j + count F (F .a j) i;
+            b = newName F (F .node i);
+            x = F .chart (F .a j) .feedback ∪ callsOf F (F .a j);
+            y = ∅;
+          }
       go zero f = absurd (let a = less in omega arith)
       go (suc s) f = at-node j (suc (count F (F .a j) i)) 0 (suc s) l e f (let a = less in omega arith)
-          ∙ List·getD-append (composed F (F .a j) (start F j) (F .slaves)) _ noNode (count F (F .a j) i) (let a = less in let b = parts-length F (F .a j) (start F j) (F .slaves) in omega arith)
+          ∙ List·getD-append (composed F (F .a j) (start F j) (F .slaves)) _ noNode (count F (F .a j) i)
+          (let a = less in let b = parts-length F (F .a j) (start F j) (F .slaves) in omega arith)
           ∙ part-at F (F .a j) (start F j) (F .slaves) i m q
 
   whole-node : (j : ℕ) → j < F .nodes → F .kind j ≡ 0 → 0 < count F (F .a j) (F .slaves)
-      → newNode F (newName F j) ≡ record { kind = 2; a = start F j + count F (F .a j) (F .slaves); b = 0; x = callsOf F (F .a j); y = callsOf F (F .a j) }
+      → newNode F (newName F j) ≡ record {
+        kind = 2;
+        a = start F j + count F (F .a j) (F .slaves);
+        b = 0;
+        x = callsOf F (F .a j);
+        y = callsOf F (F .a j);
+      }
   whole-node j l e h = go (count F (F .a j) (F .slaves)) refl
     where
       go : (s : ℕ) → count F (F .a j) (F .slaves) ≡ s
@@ -220,12 +253,14 @@ AllLow p (n ∷ r) = Low p n × AllLow (suc p) r
 
 low-append : (p : ℕ) (r s : List Node) → AllLow p r → AllLow (p + length r) s → AllLow p (r ++ s)
 low-append p [] s h k = rw (add-zero p) at k
-low-append p (n ∷ r) s h k = (h .0, low-append (suc p) r s (h .1) (subst (λ z. AllLow z s) (let e : p + suc (length r) ≡ suc p + length r = omega arith in e) k))
+low-append p (n ∷ r) s h k =
+    (h .0, low-append (suc p) r s (h .1) (subst (λ z. AllLow z s) (let e : p + suc (length r) ≡ suc p + length r = omega arith in e) k))
 
 low-at : (p : ℕ) (r : List Node) (q : ℕ) → AllLow p r → q < length r → Low (p + q) (getD r q noNode)
 low-at p [] q h l = absurd (omega arith)
 low-at p (n ∷ r) zero h l = subst (λ z. Low z n) (sym (add-zero p)) (h .0)
-low-at p (n ∷ r) (suc q) h l = subst (λ z. Low z (getD r q noNode)) (let e : suc p + q ≡ p + suc q = omega arith in e) (low-at (suc p) r q (h .1) (omega arith))
+low-at p (n ∷ r) (suc q) h l =
+    subst (λ z. Low z (getD r q noNode)) (let e : suc p + q ≡ p + suc q = omega arith in e) (low-at (suc p) r q (h .1) (omega arith))
 
 module _ (F : File) (w : Ordered F) where
   low-parts : (j : ℕ) → j < F .nodes → F .kind j ≡ 0 → (i : ℕ) → i ≤ F .slaves → AllLow (suc (start F j)) (composed F (F .a j) (start F j) i)
@@ -239,11 +274,14 @@ module _ (F : File) (w : Ordered F) where
       nd : Node
       nd = record { kind = 1; a = start F j + count F c i; b = newName F (F .node i); x = F .chart c .feedback ∪ callsOf F c; y = ∅ }
 
-      go : (d : Bool) → same (F .master i) c ≡ d → AllLow (suc (start F j)) (composed F c (start F j) i) → AllLow (suc (start F j)) (cond d (composed F c (start F j) i ++ (nd ∷ [])) (composed F c (start F j) i))
+      go : (d : Bool) → same (F .master i) c ≡ d → AllLow (suc (start F j)) (composed F c (start F j) i)
+          → AllLow (suc (start F j)) (cond d (composed F c (start F j) i ++ (nd ∷ [])) (composed F c (start F j) i))
       go true p h = low-append (suc (start F j)) (composed F c (start F j) i) (nd ∷ []) h ((λ z. low, λ z. absurd (omega arith), omega arith), tt)
         where
-          low : (start F j + count F c i < suc (start F j) + length (composed F c (start F j) i)) × (newName F (F .node i) < suc (start F j) + length (composed F c (start F j) i))
-          low = let a = parts-length F c (start F j) i in let b = ren-inside F j (F .node i) (w .lower₀ j l e i m (same→≡ (F .master i) c p)) in (omega arith, omega arith)
+          low : (start F j + count F c i < suc (start F j) + length (composed F c (start F j) i))
+              × (newName F (F .node i) < suc (start F j) + length (composed F c (start F j) i))
+          low = let a = parts-length F c (start F j) i in let b = ren-inside F j (F .node i) (w .lower₀ j l e i m (same→≡ (F .master i) c p)) in
+              (omega arith, omega arith)
       go false p h = h
 
   low-block : (j : ℕ) → j < F .nodes → AllLow (start F j) (madeFor F j)
@@ -269,7 +307,13 @@ module _ (F : File) (w : Ordered F) where
       (subst (λ z. AllLow z (madeFor F n)) (sym (laid-length F n) ∙ sym (zero-add (length (laid F n)))) (low-block n l))
 
   low-node : (p : ℕ) → p < start F (F .nodes) → Low p (newNode F p)
-  low-node p l = subst (λ z. Low z (newNode F p)) (zero-add p) (low-at 0 (laid F (F .nodes)) p (low-laid (F .nodes) (omega arith)) (let e = laid-length F (F .nodes) in omega arith))
+  low-node p l = subst (λ z. Low z (newNode F p)) (zero-add p)
+      (low-at 0 (laid F (F .nodes)) p (low-laid (F .nodes) (omega arith)) (let e = laid-length F (F .nodes) in omega arith))
 
   pub orderedR : Ordered (rewrite F)
-  orderedR = record { lower₁ = λ p l e. low-node p l .0 e; lower₂ = λ p l e. low-node p l .1 e; lower₀ = λ p l e i m q. absurd (omega arith); kinds = λ p l. low-node p l .2 }
+  orderedR = record {
+    lower₁ = λ p l e. low-node p l .0 e;
+    lower₂ = λ p l e. low-node p l .1 e;
+    lower₀ = λ p l e i m q. absurd (omega arith);
+    kinds = λ p l. low-node p l .2;
+  }

@@ -44,7 +44,8 @@ unfolding nearest
 nearest-below F zero j i e = absurd (let z : _≡_ {A = ℕ} 0 1 = cc in omega arith)
 nearest-below F (suc f) j i e = go (bySlave F j) refl (byNode F j) e (λ k q. nearest-below F f k i q)
   where
-    go : (a : Option ℕ) → bySlave F j ≡ a → (b : Option ℕ) → up a b (nearest F f) ≡ some i → ((k : ℕ) → nearest F f k ≡ some i → i < F .slaves) → i < F .slaves
+    go : (a : Option ℕ) → bySlave F j ≡ a → (b : Option ℕ) → up a b (nearest F f) ≡ some i → ((k : ℕ) → nearest F f k ≡ some i → i < F .slaves)
+        → i < F .slaves
     go (some i′) p b e ih = let z : i′ ≡ i = cc in let u = find-some (F .slaves) (λ i. same (F .node i) j) i′ p in let v = u .0 in omega arith
     go none p (some k) e ih = ih k e
     go none p none e ih = absurd (let z : _≡_ {A = ℕ} 0 1 = cc in omega arith)
@@ -96,23 +97,31 @@ module _ (F : File) (rg : Regular F) (room : noFree? F ≡ false) where
   -- ── charts ──
 
   -- of the idle transitions: those of the states from s on, n of them
-  every-idle : (P : Transition → Type 0) (κ : Option ℕ) → Inside κ → (s n : ℕ) → ((i q : ℕ) → i < F .slaves → s ≤ q → q < s + n → P (idle (call F) i q)) → Every P (idles (call F) κ s n)
+  every-idle : (P : Transition → Type 0) (κ : Option ℕ) → Inside κ → (s n : ℕ)
+      → ((i q : ℕ) → i < F .slaves → s ≤ q → q < s + n → P (idle (call F) i q)) → Every P (idles (call F) κ s n)
   unfolding idles
   every-idle P none k s n h = tt
   every-idle P (some i) k s zero h = tt
-  every-idle P (some i) k s (suc n) h = (h i s k (omega arith) (omega arith), every-idle P (some i) k (suc s) n (λ i q l a b. h i q l (omega arith) (omega arith)))
+  every-idle P (some i) k s (suc n) h =
+      (h i s k (omega arith) (omega arith), every-idle P (some i) k (suc s) n (λ i q l a b. h i q l (omega arith) (omega arith)))
 
   pub new-smalls : (c : ℕ) → c < F .charts → Every Small (rewrittenChart F c .transitions)
   unfolding rewrittenChart chartWith called idle
   new-smalls c l = every-append Small (map (called (call F) κ (callsBy F c)) (F .chart c .transitions)) (idles (call F) κ 0 (F .chart c .states))
-      (every-map Small Small (called (call F) κ (callsBy F c)) (λ t h. (union-lt 64 (t .needed) (callIn (call F) κ) (h .0) (in-lt κ (inside c l)), h .1, union-lt 64 (t .action) (callsBy F c t) (h .2) (by-lt c t)))
+      (every-map Small Small (called (call F) κ (callsBy F c))
+      (λ t h. (
+        union-lt 64 (t .needed) (callIn (call F) κ) (h .0) (in-lt κ (inside c l)),
+        h .1,
+        union-lt 64 (t .action) (callsBy F c t) (h .2) (by-lt c t),
+      ))
       (F .chart c .transitions) (rg .lists c l))
       (every-idle Small κ (inside c l) 0 (F .chart c .states) (λ i q m a b. (lit< tt, call-lt i m, lit< tt)))
     where
       κ : Option ℕ
       κ = nearestSlave F c
 
-  pub new-states : (c : ℕ) → c < F .charts → Every (λ t. (t .from < F .chart c .states) × (t .to < F .chart c .states)) (rewrittenChart F c .transitions)
+  pub new-states : (c : ℕ) → c < F .charts
+      → Every (λ t. (t .from < F .chart c .states) × (t .to < F .chart c .states)) (rewrittenChart F c .transitions)
   unfolding rewrittenChart chartWith called idle
   new-states c l = every-append P (map (called (call F) κ (callsBy F c)) (F .chart c .transitions)) (idles (call F) κ 0 (F .chart c .states))
       (every-map P P (called (call F) κ (callsBy F c)) (λ t h. h) (F .chart c .transitions) (rg .states c l))
@@ -149,13 +158,34 @@ module _ (F : File) (rg : Regular F) (room : noFree? F ≡ false) where
   formed-at (d ∷ ds) (suc p) l h = formed-at ds p (omega arith) (h .1)
 
   chart-node : (c : ℕ) → c < F .charts → Formed (record { kind = 0; a = c; b = 0; x = ∅; y = ∅ })
-  chart-node c l = record { x-small = lit< tt; y-small = lit< tt; kind = omega arith; held = λ e. (l, refl, refl, refl); both = λ e. refl; hidden = λ e. refl }
+  chart-node c l = record {
+    x-small = lit< tt;
+    y-small = lit< tt;
+    kind = omega arith;
+    held = λ e. (l, refl, refl, refl);
+    both = λ e. refl;
+    hidden = λ e. refl;
+  }
 
   comp-node : (p q : ℕ) (x : Set) → x < 2 ^ 64 → Formed (record { kind = 1; a = p; b = q; x = x; y = ∅ })
-  comp-node p q x l = record { x-small = l; y-small = lit< tt; kind = omega arith; held = λ e. absurd (omega arith); both = λ e. refl; hidden = λ e. absurd (omega arith) }
+  comp-node p q x l = record {
+    x-small = l;
+    y-small = lit< tt;
+    kind = omega arith;
+    held = λ e. absurd (omega arith);
+    both = λ e. refl;
+    hidden = λ e. absurd (omega arith);
+  }
 
   hide-node : (p : ℕ) (x y : Set) → x < 2 ^ 64 → y < 2 ^ 64 → Formed (record { kind = 2; a = p; b = 0; x = x; y = y })
-  hide-node p x y l m = record { x-small = l; y-small = m; kind = omega arith; held = λ e. absurd (omega arith); both = λ e. absurd (omega arith); hidden = λ e. refl }
+  hide-node p x y l m = record {
+    x-small = l;
+    y-small = m;
+    kind = omega arith;
+    held = λ e. absurd (omega arith);
+    both = λ e. absurd (omega arith);
+    hidden = λ e. refl;
+  }
 
   formed-composed : (c at k : ℕ) → c < F .charts → AllFormed (composed F c at k)
   unfolding composed
@@ -163,8 +193,18 @@ module _ (F : File) (rg : Regular F) (room : noFree? F ≡ false) where
   formed-composed c at (suc i) l = go (isOf F c i) (formed-composed c at i l)
     where
       go : (d : Bool) → AllFormed (composed F c at i)
-          → AllFormed (cond d (composed F c at i ++ (record { kind = 1; a = at + count F c i; b = newName F (F .node i); x = F .chart c .feedback ∪ callsOf F c; y = ∅ } ∷ [])) (composed F c at i))
-      go true h = formed-append (composed F c at i) _ h (comp-node (at + count F c i) (newName F (F .node i)) (F .chart c .feedback ∪ callsOf F c) (union-lt 64 (F .chart c .feedback) (callsOf F c) (rg .feedbacks c l .0) (of-lt c)), tt)
+          → AllFormed (cond d (composed F c at i ++ (record {
+            kind = 1;
+            a = at + count F c i;
+            b = newName F (F .node i);
+            x = F .chart c .feedback ∪ callsOf F c;
+            y = ∅;
+          } ∷ [])) (composed F c at i))
+      go true h = formed-append (composed F c at i) _ h (
+        comp-node (at + count F c i) (newName F (F .node i)) (F .chart c .feedback ∪ callsOf F c)
+            (union-lt 64 (F .chart c .feedback) (callsOf F c) (rg .feedbacks c l .0) (of-lt c)),
+        tt,
+      )
       go false h = h
 
   formed-made : (j : ℕ) → j < F .nodes → AllFormed (madeFor F j)
@@ -176,7 +216,8 @@ module _ (F : File) (rg : Regular F) (room : noFree? F ≡ false) where
       go zero (suc s) e = (
         chart-node (F .a j) (rg .ready .sound .chart-there j l e),
         formed-append (composed F (F .a j) (start F j) (F .slaves)) _
-            (formed-composed (F .a j) (start F j) (F .slaves) (rg .ready .sound .chart-there j l e)) (hide-node (start F j + suc s) (callsOf F (F .a j)) (callsOf F (F .a j)) (of-lt (F .a j)) (of-lt (F .a j)), tt),
+            (formed-composed (F .a j) (start F j) (F .slaves) (rg .ready .sound .chart-there j l e))
+            (hide-node (start F j + suc s) (callsOf F (F .a j)) (callsOf F (F .a j)) (of-lt (F .a j)) (of-lt (F .a j)), tt),
       )
       go (suc zero) s e = (comp-node (newName F (F .a j)) (newName F (F .b j)) (F .x j) (rg .sets j l .0), tt)
       go (suc (suc k)) s e = (hide-node (newName F (F .a j)) (F .x j) (F .y j) (rg .sets j l .0) (rg .sets j l .1), tt)

@@ -36,8 +36,10 @@ some-nth [] k l = absurd (omega arith)
 some-nth (t ∷ ts) zero l = refl
 some-nth (t ∷ ts) (suc k) l = some-nth ts k (omega arith)
 
-module _ (sig state : ℕ → ℕ) (inj : (i j : ℕ) → sig i ≡ sig j → i ≡ j) (kap : ℕ → Option ℕ) (slv : ℕ → Slaves) (N : ℕ) (E E′ : ℕ → Chart) (cfg : ℕ → ℕ) (t : Tree) (inp : Set)
-    (same-chart : (c : ℕ) → c < N → E′ c ≡ chartWith sig (kap c) (touch sig state (slv c)) (E c)) (fit : Fit sig kap slv N t none) (above : Above t) (has : (c : ℕ) → c < N → Has t c ≡ true)
+module _ (sig state : ℕ → ℕ) (inj : (i j : ℕ) → sig i ≡ sig j → i ≡ j) (kap : ℕ → Option ℕ) (slv : ℕ → Slaves) (N : ℕ) (E E′ : ℕ → Chart)
+    (cfg : ℕ → ℕ) (t : Tree) (inp : Set)
+    (same-chart : (c : ℕ) → c < N → E′ c ≡ chartWith sig (kap c) (touch sig state (slv c)) (E c)) (fit : Fit sig kap slv N t none) (above : Above t)
+    (has : (c : ℕ) → c < N → Has t c ≡ true)
     (old : (c : ℕ) → c < N → OldChart sig (E c)) (sound : (c : ℕ) → c < N → cfg c < E c .states) where
   abbrev fbs : ℕ → Set
   fbs c = E c .feedback
@@ -48,9 +50,11 @@ module _ (sig state : ℕ → ℕ) (inj : (i j : ℕ) → sig i ≡ sig j → i 
 
   moved-is : (ch ch′ : ℕ → ℕ) → Good N ch ch′ → (c : ℕ) → c < N → moves E′ ch′ c ≡ moveR sig (kap c) (touch sig state (slv c)) (cfg c) (moves E ch c)
   unfolding moves
-  moved-is ch ch′ g c l = ap₂ (λ C v. pick (C .transitions) v) (same-chart c l) (g c l .1) ∙ (pick-moved sig (kap c) (touch sig state (slv c)) (E c) (cfg c) (ch c) (g c l .0) (sound c l))
+  moved-is ch ch′ g c l = ap₂ (λ C v. pick (C .transitions) v) (same-chart c l) (g c l .1)
+      ∙ (pick-moved sig (kap c) (touch sig state (slv c)) (E c) (cfg c) (ch c) (g c l .0) (sound c l))
 
-  at-is : (ch ch′ : ℕ → ℕ) → Good N ch ch′ → (c : ℕ) (κ : Option ℕ) (ss : Slaves) → c < N → kap c ≡ κ → slv c ≡ ss → At sig state cfg E E′ (moves E ch) (moves E′ ch′) κ c ss
+  at-is : (ch ch′ : ℕ → ℕ) → Good N ch ch′ → (c : ℕ) (κ : Option ℕ) (ss : Slaves) → c < N → kap c ≡ κ → slv c ≡ ss
+      → At sig state cfg E E′ (moves E ch) (moves E′ ch′) κ c ss
   unfolding chartWith moves
   at-is ch ch′ g c κ ss l p q = subst₂ (λ κ ss. At sig state cfg E E′ (moves E ch) (moves E′ ch′) κ c ss) p q
       (record {
@@ -74,9 +78,12 @@ module _ (sig state : ℕ → ℕ) (inj : (i j : ℕ) → sig i ≡ sig j → i 
       rw-s nil κ f = tt
       rw-s (snoc ss i t) κ f = (rw-s ss κ (f .0), f .1, rw-t t (some i) (f .2))
 
-  same-permitted : (ch ch′ : ℕ → ℕ) → Good N ch ch′ → permitted E′ state cfg (moves E′ ch′) (tree sig fbs t) inp ≡ permitted E state cfg (moves E ch) t inp
+  same-permitted : (ch ch′ : ℕ → ℕ) → Good N ch ch′
+      → permitted E′ state cfg (moves E′ ch′) (tree sig fbs t) inp ≡ permitted E state cfg (moves E ch) t inp
   unfolding permitted on callIn
-  same-permitted ch ch′ g = ap (ok E′ state cfg (moves E′ ch′) (tree sig fbs t) true) (ap (λ z. inp ∩ z) (face-t sig state inj cfg E E′ (moves E ch) (moves E′ ch′) t none r)
+  same-permitted ch ch′ g =
+      ap (ok E′ state cfg (moves E′ ch′) (tree sig fbs t) true)
+      (ap (λ z. inp ∩ z) (face-t sig state inj cfg E E′ (moves E ch) (moves E′ ch′) t none r)
       ∙ sets (inp ∷ inFace E t ∷ []) [] (A ∩ₑ (B ∪ₑ ∅ₑ) ≐ (A ∩ₑ B) ∪ₑ ∅ₑ) tt)
       ∙ ok-t sig state inj cfg E E′ (moves E ch) (moves E′ ch′) t none true (inp ∩ inFace E t) r
       (old-cut sig inp (inFace E t) (face-old sig state inj cfg E E′ (moves E ch) (moves E′ ch′) t none r)) refl
@@ -87,7 +94,9 @@ module _ (sig state : ℕ → ℕ) (inj : (i j : ℕ) → sig i ≡ sig j → i 
   same-nexts : (ch ch′ : ℕ → ℕ) → Good N ch ch′ → (c n : ℕ) → c + n ≤ N → nexts cfg (moves E′ ch′) c n ≡ nexts cfg (moves E ch) c n
   unfolding nexts
   same-nexts ch ch′ g c zero l = refl
-  same-nexts ch ch′ g c (suc n) l = ap₂ _∷_ (rw (moved-is ch ch′ g c (omega arith)) (after-moved sig (kap c) (touch sig state (slv c)) (cfg c) (moves E ch c))) (same-nexts ch ch′ g (suc c) n (omega arith))
+  same-nexts ch ch′ g c (suc n) l =
+      ap₂ _∷_ (rw (moved-is ch ch′ g c (omega arith)) (after-moved sig (kap c) (touch sig state (slv c)) (cfg c) (moves E ch c)))
+      (same-nexts ch ch′ g (suc c) n (omega arith))
 
   same-outcome : (ch ch′ : ℕ → ℕ) → Good N ch ch′ → outcome E′ state cfg (tree sig fbs t) inp N ch′ ≡ outcome E state cfg t inp N ch
   unfolding outcome
@@ -104,30 +113,43 @@ module _ (sig state : ℕ → ℕ) (inj : (i j : ℕ) → sig i ≡ sig j → i 
       p : ℕ
       p = place (kap c) (length (E c .transitions)) (cfg c) v
 
-      go : (d : Bool) → same i c ≡ d → (upd ch c v i ≤ length (E i .transitions)) × (upd ch′ c p i ≡ place (kap i) (length (E i .transitions)) (cfg i) (upd ch c v i))
+      go : (d : Bool) → same i c ≡ d
+          → (upd ch c v i ≤ length (E i .transitions)) × (upd ch′ c p i ≡ place (kap i) (length (E i .transitions)) (cfg i) (upd ch c v i))
       go true e = let q : i ≡ c = same→≡ i c e in
-          rw q (subst (λ w. w ≤ length (E c .transitions)) (sym (upd-at ch c v)) l, upd-at ch′ c p ∙ ap (place (kap c) (length (E c .transitions)) (cfg c)) (sym (upd-at ch c v)))
+          rw q (
+            subst (λ w. w ≤ length (E c .transitions)) (sym (upd-at ch c v)) l,
+            upd-at ch′ c p
+                ∙ ap (place (kap c) (length (E c .transitions)) (cfg c)) (sym (upd-at ch c v)),
+          )
       go false e = let q : i ≢ c = same→≢ i c e in
           let k : i < c = omega arith in
           rw (upd-off ch c v i k, upd-off ch′ c p i k) (g i k)
 
   -- in the rewritten chart, a place without a transition from the present state leads nowhere
-  dead : (n c w : ℕ) (ch′ : ℕ → ℕ) → c < N → (Live (cfg c) (pick (E′ c .transitions) w) → ⊥) → search E′ state cfg (tree sig fbs t) inp N n (suc c) (upd ch′ c w) ≡ []
+  dead : (n c w : ℕ) (ch′ : ℕ → ℕ) → c < N → (Live (cfg c) (pick (E′ c .transitions) w) → ⊥)
+      → search E′ state cfg (tree sig fbs t) inp N n (suc c) (upd ch′ c w) ≡ []
   unfolding permitted moves
   dead n c w ch′ l h = search-empty E′ state cfg (tree sig fbs t) inp N n (suc c) (upd ch′ c w) (λ ch₂ b. not-true (λ k.
-      h (subst (λ u. Live (cfg c) (pick (E′ c .transitions) u)) (b c (omega arith) ∙ upd-at ch′ c w) (live sig fbs E′ state cfg (moves E′ ch₂) c t (inp ∩ inFace E′ (tree sig fbs t)) (has c l) k))))
+      h (subst (λ u. Live (cfg c) (pick (E′ c .transitions) u)) (b c (omega arith) ∙ upd-at ch′ c w)
+      (live sig fbs E′ state cfg (moves E′ ch₂) c t (inp ∩ inFace E′ (tree sig fbs t)) (has c l) k))))
 
   -- in the original, a chart's activity is settled by the charts below
-  settled : (n c v : ℕ) (ch : ℕ → ℕ) → c < N → (some? (pick (E c .transitions) v) ≡ active state cfg (moves E ch) t true c → ⊥) → search E state cfg t inp N n (suc c) (upd ch c v) ≡ []
+  settled : (n c v : ℕ) (ch : ℕ → ℕ) → c < N → (some? (pick (E c .transitions) v) ≡ active state cfg (moves E ch) t true c → ⊥)
+      → search E state cfg t inp N n (suc c) (upd ch c v) ≡ []
   unfolding permitted moves
   settled n c v ch l h = search-empty E state cfg t inp N n (suc c) (upd ch c v) (λ ch₂ b. not-true (λ k.
-      h (subst (λ u. some? (pick (E c .transitions) u) ≡ active state cfg (moves E ch₂) t true c) (b c (omega arith) ∙ upd-at ch c v) (ok-active E state cfg (moves E ch₂) t true (inp ∩ inFace E t) c (has c l) k)
-      ∙ active-agree state cfg (moves E ch₂) (moves E ch) c (λ d e. ap (pick (E d .transitions)) (b d (omega arith) ∙ upd-off ch c v d e)) t true above (has c l))))
+      h (subst (λ u. some? (pick (E c .transitions) u) ≡ active state cfg (moves E ch₂) t true c) (b c (omega arith) ∙ upd-at ch c v)
+      (ok-active E state cfg (moves E ch₂) t true (inp ∩ inFace E t) c (has c l) k)
+      ∙ active-agree state cfg (moves E ch₂) (moves E ch) c
+      (λ d e. ap (pick (E d .transitions)) (b d (omega arith) ∙ upd-off ch c v d e)) t true above (has c l))))
 
-  same-search : (n c : ℕ) (ch ch′ : ℕ → ℕ) → c + n ≡ N → Good c ch ch′ → search E′ state cfg (tree sig fbs t) inp N n c ch′ ≡ search E state cfg t inp N n c ch
+  same-search : (n c : ℕ) (ch ch′ : ℕ → ℕ) → c + n ≡ N → Good c ch ch′
+      → search E′ state cfg (tree sig fbs t) inp N n c ch′ ≡ search E state cfg t inp N n c ch
   unfolding search place pick some? idle
   same-search zero c ch ch′ e g = same-outcome ch ch′ (λ i l. g i (omega arith))
-  same-search (suc n) c ch ch′ e g = go (kap c) refl (λ v l. same-search n (suc c) (upd ch c v) (upd ch′ c (place (kap c) (length (E c .transitions)) (cfg c) v)) (omega arith) (good-step ch ch′ c v g l))
+  same-search (suc n) c ch ch′ e g =
+      go (kap c) refl (λ v l. same-search n (suc c) (upd ch c v) (upd ch′ c (place (kap c) (length (E c .transitions)) (cfg c) v)) (omega arith)
+      (good-step ch ch′ c v g l))
     where
       m : ℕ
       m = length (E c .transitions)
@@ -139,7 +161,8 @@ module _ (sig state : ℕ → ℕ) (inj : (i j : ℕ) → sig i ≡ sig j → i 
       f′ v = search E′ state cfg (tree sig fbs t) inp N n (suc c) (upd ch′ c v)
 
       go : (κ : Option ℕ) → kap c ≡ κ → ((v : ℕ) → v ≤ m → f′ (place (kap c) m (cfg c) v) ≡ f v) → upto (length (E′ c .transitions)) f′ ≡ upto m f
-      go none p ih = rw (same-chart c (omega arith), p, places-none sig (touch sig state (slv c)) (E c)) (upto-cong m f′ f (λ v l. subst (λ κ. f′ (place κ m (cfg c) v) ≡ f v) p (ih v l)))
+      go none p ih = rw (same-chart c (omega arith), p, places-none sig (touch sig state (slv c)) (E c))
+          (upto-cong m f′ f (λ v l. subst (λ κ. f′ (place κ m (cfg c) v) ≡ f v) p (ih v l)))
       go (some i) p ih = rw (len) (merge m (E c .states) (cfg c) f f′ (sound c l)
           (dead n c zero ch′ l (λ lv. lv))
           (λ j h. subst (λ κ. f′ (place κ m (cfg c) (suc j)) ≡ f (suc j)) p (ih (suc j) (omega arith)))

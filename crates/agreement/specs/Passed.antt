@@ -50,7 +50,10 @@ in-front f us e = let p = front (fileTests f) us (numbered f) e in (all-pass (fi
 -- the converse of `passed`
 pub passes : (f : List ℕ) → Passed f → refusalOf f ≡ 0
 unfolding refusalOf fileTests fileOf
-passes f p = all-pass (fileTests f) (le-ltb (length f) 12 (p .long), (p .edition, (p .counts, (p .distance, (p .zeros, (p .charts, (p .transitions, (p .slaves, (p .nodes, (p .naming, (p .inside, tt)))))))))))
+passes f p = all-pass (fileTests f) (
+  le-ltb (length f) 12 (p .long),
+  (p .edition, (p .counts, (p .distance, (p .zeros, (p .charts, (p .transitions, (p .slaves, (p .nodes, (p .naming, (p .inside, tt)))))))))),
+)
 
 module _ (f : List ℕ) (p : Passed f) where
   abbrev n : Shape
@@ -64,7 +67,8 @@ module _ (f : List ℕ) (p : Passed f) where
   -- from and to are the chart's states
   pub ended : (c : ℕ) → c < n .charts → Every (λ t. (t .from < headAt n b c .states) × (t .to < headAt n b c .states)) (transitionsOf n b c)
   unfolding transitions? ends? transitionsOf
-  ended c l = every-from (λ t. (t .from < headAt n b c .states) × (t .to < headAt n b c .states)) (transitionAt n b) (startOf n b c) (headAt n b c .transitions)
+  ended c l = every-from (λ t. (t .from < headAt n b c .states) × (t .to < headAt n b c .states)) (transitionAt n b) (startOf n b c)
+      (headAt n b c .transitions)
       (λ k m. let q = any-never (headAt n b c .transitions) (ends? n b c) all k m in
       (below _ _ (or-left _ _ q), below _ _ (or-right (notBelow (transitionAt n b (startOf n b c + k) .from) (headAt n b c .states)) _ q)))
     where
@@ -93,7 +97,8 @@ module _ (f : List ℕ) (p : Passed f) where
     guards-small : (ts : List Transition) → Every Small ts → guards ts < 2 ^ 64
     unfolding guards
     guards-small [] h = lit< tt
-    guards-small (t ∷ ts) h = union-lt 64 (t .needed ∪ t .barred) (guards ts) (union-lt 64 (t .needed) (t .barred) (h .0 .0) (h .0 .1)) (guards-small ts (h .1))
+    guards-small (t ∷ ts) h =
+        union-lt 64 (t .needed ∪ t .barred) (guards ts) (union-lt 64 (t .needed) (t .barred) (h .0 .0) (h .0 .1)) (guards-small ts (h .1))
 
     actions-small : (ts : List Transition) → Every Small ts → actions ts < 2 ^ 64
     unfolding actions
@@ -103,7 +108,8 @@ module _ (f : List ℕ) (p : Passed f) where
     pub used-small : used (fileOf f) < 2 ^ 64
     unfolding used fileOf fileAt chartOf
     used-small = union-lt 64 _ _
-        (union-small (n .charts) _ (λ c l. let h = headAt-fits n b body-bytes c in union-lt 64 _ _ (union-lt 64 _ _ (union-lt 64 _ _ (guards-small _ (smalls c)) (actions-small _ (smalls c))) (h .feedback)) (h .extra)))
+        (union-small (n .charts) _ (λ c l. let h = headAt-fits n b body-bytes c in
+        union-lt 64 _ _ (union-lt 64 _ _ (union-lt 64 _ _ (guards-small _ (smalls c)) (actions-small _ (smalls c))) (h .feedback)) (h .extra)))
         (union-small (n .nodes) _ (λ j l. let h = nodeAt-fits n b body-bytes j in union-lt 64 _ _ (h .x) (h .y)))
 
     -- ── all of it ──
@@ -114,6 +120,7 @@ module _ (f : List ℕ) (p : Passed f) where
       sound = sound (fileOf f) (p .slaves) (p .nodes) (p .naming) (p .inside);
       some-node = counted (trailer f) (p .counts) .some-node;
       some-state = λ c l. charted n b (p .charts) c l .some-state;
-      ends = λ c l. every-imp (λ t. (t .from < headAt n b c .states) × (t .to < headAt n b c .states)) (λ t. t .to < headAt n b c .states) (λ t h. h .1) (transitionsOf n b c) (ended c l);
+      ends = λ c l. every-imp (λ t. (t .from < headAt n b c .states) × (t .to < headAt n b c .states)) (λ t. t .to < headAt n b c .states)
+          (λ t h. h .1) (transitionsOf n b c) (ended c l);
       small = used-small;
     }

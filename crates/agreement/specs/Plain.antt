@@ -51,8 +51,15 @@ module _ (F : File) (rd : Ready F) (none-there : F .slaves ≡ 0) where
   chart-stays : (c : ℕ) → c < F .charts → rewrittenChart F c ≡ F .chart c
   unfolding rewrittenChart chartWith idles
   chart-stays c l = ap (λ κ. chartWith (call F) κ (callsBy F c) (F .chart c)) (no-nearest c l)
-      ∙ ap (λ ts. record { states = F .chart c .states; initial = F .chart c .initial; transitions = ts; feedback = F .chart c .feedback; extra = F .chart c .extra })
-      (append-nil (map (called (call F) none (callsBy F c)) (F .chart c .transitions)) ∙ stays (call F) (callsBy F c) (no-calls c) (F .chart c .transitions))
+      ∙ ap (λ ts. record {
+        states = F .chart c .states;
+        initial = F .chart c .initial;
+        transitions = ts;
+        feedback = F .chart c .feedback;
+        extra = F .chart c .extra;
+      })
+      (append-nil (map (called (call F) none (callsBy F c)) (F .chart c .transitions))
+      ∙ stays (call F) (callsBy F c) (no-calls c) (F .chart c .transitions))
 
   -- ── nodes ──
 
@@ -67,11 +74,15 @@ module _ (F : File) (rd : Ready F) (none-there : F .slaves ≡ 0) where
   start-stays : (j : ℕ) → start F j ≡ j
   unfolding start
   start-stays zero = refl
-  start-stays (suc j) = let a = start-stays j in let b : before F (F .kind j) (count F (F .a j) (F .slaves)) ≡ 0 = ap (before F (F .kind j)) (no-count (F .a j)) ∙ alone (F .kind j) in omega arith
+  start-stays (suc j) = let a = start-stays j in
+      let b : before F (F .kind j) (count F (F .a j) (F .slaves)) ≡ 0 = ap (before F (F .kind j)) (no-count (F .a j)) ∙ alone (F .kind j) in
+      omega arith
 
   name-stays : (j : ℕ) → newName F j ≡ j
   unfolding newName
-  name-stays j = let a = start-stays j in let b : before F (F .kind j) (count F (F .a j) (F .slaves)) ≡ 0 = ap (before F (F .kind j)) (no-count (F .a j)) ∙ alone (F .kind j) in omega arith
+  name-stays j = let a = start-stays j in
+      let b : before F (F .kind j) (count F (F .a j) (F .slaves)) ≡ 0 = ap (before F (F .kind j)) (no-count (F .a j)) ∙ alone (F .kind j) in
+      omega arith
 
   node-stays : nodes? F ≡ false → (j : ℕ) → j < F .nodes → newNode F j ≡ nodeIn F j
   unfolding nodes? nodeOfKind?
@@ -84,13 +95,16 @@ module _ (F : File) (rd : Ready F) (none-there : F .slaves ≡ 0) where
           let b0 = alike (F .b j) 0 (or-right (notBelow (F .a j) (F .charts)) (differ (F .b j) 0) q2) in
           let x0 = alike (F .x j) 0 (or-right (notBelow (F .a j) (F .charts) || differ (F .b j) 0) (differ (F .x j) 0) q1) in
           let y0 = alike (F .y j) 0 (or-right ((notBelow (F .a j) (F .charts) || differ (F .b j) 0) || differ (F .x j) 0) (differ (F .y j) 0) q) in
-          ap (newNode F) (sym (start-stays j)) ∙ base-node F j l e ∙ (λ i. record { kind = sym e i; a = F .a j; b = sym b0 i; x = sym x0 i; y = sym y0 i })
+          ap (newNode F) (sym (start-stays j)) ∙ base-node F j l e
+          ∙ (λ i. record { kind = sym e i; a = F .a j; b = sym b0 i; x = sym x0 i; y = sym y0 i })
       go (suc zero) e q =
           let y0 = alike (F .y j) 0 (or-right (notBelow (F .a j) j || notBelow (F .b j) j) (differ (F .y j) 0) q) in
-          ap (newNode F) (sym (name-stays j)) ∙ comp-node F j l e ∙ (λ i. record { kind = sym e i; a = name-stays (F .a j) i; b = name-stays (F .b j) i; x = F .x j; y = sym y0 i })
+          ap (newNode F) (sym (name-stays j)) ∙ comp-node F j l e
+          ∙ (λ i. record { kind = sym e i; a = name-stays (F .a j) i; b = name-stays (F .b j) i; x = F .x j; y = sym y0 i })
       go (suc (suc zero)) e q =
           let b0 = alike (F .b j) 0 (or-right (notBelow (F .a j) j) (differ (F .b j) 0) q) in
-          ap (newNode F) (sym (name-stays j)) ∙ hide-node F j l e ∙ (λ i. record { kind = sym e i; a = name-stays (F .a j) i; b = sym b0 i; x = F .x j; y = F .y j })
+          ap (newNode F) (sym (name-stays j)) ∙ hide-node F j l e
+          ∙ (λ i. record { kind = sym e i; a = name-stays (F .a j) i; b = sym b0 i; x = F .x j; y = F .y j })
       go (suc (suc (suc k))) e q = absurd (true≢false q)
 
   -- ── the file ──
@@ -116,7 +130,8 @@ turn-same (suc n) f g h = ap₂ _++_ (turn-same n f g (λ i l. h i (omega arith)
 module _ (F G : File) (r : Reads F G) where
   total-same : transitionsIn G ≡ transitionsIn F
   unfolding transitionsIn
-  total-same = ap (λ n. tally n (λ c. length (G .chart c .transitions))) (r .charts) ∙ tally-cong (F .charts) _ _ (λ c l. ap (λ C. length (C .transitions)) (r .chart c l))
+  total-same = ap (λ n. tally n (λ c. length (G .chart c .transitions))) (r .charts)
+      ∙ tally-cong (F .charts) _ _ (λ c l. ap (λ C. length (C .transitions)) (r .chart c l))
 
   shape-same : shapeIn G ≡ shapeIn F
   unfolding shapeIn
@@ -125,14 +140,23 @@ module _ (F G : File) (r : Reads F G) where
   body-same : bodyBytes G ≡ bodyBytes F
   unfolding bodyBytes
   body-same = ap₂ _++_ (ap₂ _++_ (ap₂ _++_
-      (ap (λ n. inTurn n (λ c. headBytes (headFor (G .chart c)))) (r .charts) ∙ turn-same (F .charts) _ _ (λ c l. ap (λ C. headBytes (headFor C)) (r .chart c l)))
-      (ap (λ n. inTurn n (λ c. transitionsBytes (G .chart c .transitions))) (r .charts) ∙ turn-same (F .charts) _ _ (λ c l. ap (λ C. transitionsBytes (C .transitions)) (r .chart c l))))
+      (ap (λ n. inTurn n (λ c. headBytes (headFor (G .chart c)))) (r .charts)
+      ∙ turn-same (F .charts) _ _ (λ c l. ap (λ C. headBytes (headFor C)) (r .chart c l)))
+      (ap (λ n. inTurn n (λ c. transitionsBytes (G .chart c .transitions))) (r .charts)
+      ∙ turn-same (F .charts) _ _ (λ c l. ap (λ C. transitionsBytes (C .transitions)) (r .chart c l))))
       (ap (λ n. inTurn n (λ i. slaveBytes (slaveIn G i))) (r .slaves) ∙ turn-same (F .slaves) _ _ (λ i l. ap slaveBytes (r .slave i l))))
       (ap (λ n. inTurn n (λ j. nodeBytes (nodeIn G j))) (r .nodes) ∙ turn-same (F .nodes) _ _ (λ j l. ap nodeBytes (r .node j l)))
 
   pub encode-same : encode G ≡ encode F
   unfolding encode shapeIn
-  encode-same = ap₂ (λ s b. b ++ trailerBytes (record { distance = sizeOf s; charts = s .charts; slaves = s .slaves; nodes = s .nodes; edition = theEdition; transitions = s .transitions })) shape-same body-same
+  encode-same = ap₂ (λ s b. b ++ trailerBytes (record {
+    distance = sizeOf s;
+    charts = s .charts;
+    slaves = s .slaves;
+    nodes = s .nodes;
+    edition = theEdition;
+    transitions = s .transitions;
+  })) shape-same body-same
 
 -- a file without slaves rewrites to itself
 pub plain-same : (F : File) → Ready F → nodes? F ≡ false → F .slaves ≡ 0 → encode (rewrite F) ≡ encode F

@@ -47,14 +47,16 @@ module _ (F : File) where
   unfolding callsBy unionUpTo gather touch
   touch-of c t = up (F .slaves)
     where
-      up : (k : ℕ) → touch (call F) (F .state) (gather (F .master) (λ i. treeOf F (F .node i)) c k) t ≡ unionUpTo k (λ i. cond (isOf F c i && touches F t i) (single (call F i)) ∅)
+      up : (k : ℕ) → touch (call F) (F .state) (gather (F .master) (λ i. treeOf F (F .node i)) c k) t
+          ≡ unionUpTo k (λ i. cond (isOf F c i && touches F t i) (single (call F i)) ∅)
       up zero = refl
       up (suc k) = split (isOf F c k) ∙ ap (λ z. z ∪ cond (isOf F c k && touches F t k) (single (call F k)) ∅) (up k)
         where
           ss : Slaves
           ss = gather (F .master) (λ i. treeOf F (F .node i)) c k
 
-          split : (b : Bool) → touch (call F) (F .state) (cond b (snoc ss k (treeOf F (F .node k))) ss) t ≡ touch (call F) (F .state) ss t ∪ cond (b && touches F t k) (single (call F k)) ∅
+          split : (b : Bool) → touch (call F) (F .state) (cond b (snoc ss k (treeOf F (F .node k))) ss) t
+              ≡ touch (call F) (F .state) ss t ∪ cond (b && touches F t k) (single (call F k)) ∅
           split true = refl
           split false = sets (touch (call F) (F .state) ss t ∷ []) [] (A ≐ A ∪ₑ ∅ₑ) tt
 
@@ -75,14 +77,19 @@ pub record NodesR (F F′ : File) : Type 0 where
   pub base-kind : (j : ℕ) → j < F .nodes → F .kind j ≡ 0 → F′ .kind (start F j) ≡ 0
   pub base-a : (j : ℕ) → j < F .nodes → F .kind j ≡ 0 → F′ .a (start F j) ≡ F .a j
   pub plain : (j : ℕ) → j < F .nodes → F .kind j ≡ 0 → count F (F .a j) (F .slaves) ≡ 0 → newName F j ≡ start F j
-  pub part-kind : (j i : ℕ) → j < F .nodes → F .kind j ≡ 0 → i < F .slaves → F .master i ≡ F .a j → F′ .kind (start F j + suc (count F (F .a j) i)) ≡ 1
-  pub part-a : (j i : ℕ) → j < F .nodes → F .kind j ≡ 0 → i < F .slaves → F .master i ≡ F .a j → F′ .a (start F j + suc (count F (F .a j) i)) ≡ start F j + count F (F .a j) i
-  pub part-b : (j i : ℕ) → j < F .nodes → F .kind j ≡ 0 → i < F .slaves → F .master i ≡ F .a j → F′ .b (start F j + suc (count F (F .a j) i)) ≡ newName F (F .node i)
+  pub part-kind : (j i : ℕ) → j < F .nodes → F .kind j ≡ 0 → i < F .slaves → F .master i ≡ F .a j
+      → F′ .kind (start F j + suc (count F (F .a j) i)) ≡ 1
+  pub part-a : (j i : ℕ) → j < F .nodes → F .kind j ≡ 0 → i < F .slaves → F .master i ≡ F .a j
+      → F′ .a (start F j + suc (count F (F .a j) i)) ≡ start F j + count F (F .a j) i
+  pub part-b : (j i : ℕ) → j < F .nodes → F .kind j ≡ 0 → i < F .slaves → F .master i ≡ F .a j
+      → F′ .b (start F j + suc (count F (F .a j) i)) ≡ newName F (F .node i)
   pub part-x : (j i : ℕ) → j < F .nodes → F .kind j ≡ 0 → i < F .slaves → F .master i ≡ F .a j
       → F′ .x (start F j + suc (count F (F .a j) i)) ≡ F .chart (F .a j) .feedback ∪ callsOf F (F .a j)
-  pub whole-at : (j : ℕ) → j < F .nodes → F .kind j ≡ 0 → 0 < count F (F .a j) (F .slaves) → newName F j ≡ start F j + suc (count F (F .a j) (F .slaves))
+  pub whole-at : (j : ℕ) → j < F .nodes → F .kind j ≡ 0 → 0 < count F (F .a j) (F .slaves)
+      → newName F j ≡ start F j + suc (count F (F .a j) (F .slaves))
   pub whole-kind : (j : ℕ) → j < F .nodes → F .kind j ≡ 0 → 0 < count F (F .a j) (F .slaves) → F′ .kind (newName F j) ≡ 2
-  pub whole-a : (j : ℕ) → j < F .nodes → F .kind j ≡ 0 → 0 < count F (F .a j) (F .slaves) → F′ .a (newName F j) ≡ start F j + count F (F .a j) (F .slaves)
+  pub whole-a : (j : ℕ) → j < F .nodes → F .kind j ≡ 0 → 0 < count F (F .a j) (F .slaves)
+      → F′ .a (newName F j) ≡ start F j + count F (F .a j) (F .slaves)
   pub whole-x : (j : ℕ) → j < F .nodes → F .kind j ≡ 0 → 0 < count F (F .a j) (F .slaves) → F′ .x (newName F j) ≡ callsOf F (F .a j)
   pub whole-y : (j : ℕ) → j < F .nodes → F .kind j ≡ 0 → 0 < count F (F .a j) (F .slaves) → F′ .y (newName F j) ≡ callsOf F (F .a j)
 
@@ -126,7 +133,8 @@ module _ (F F′ : File) (w : Ordered F) (w′ : Ordered F′) (nr : NodesR F F�
       → ((i : ℕ) → i < j → treeOf F′ (newName F i) ≡ tree (call F) fbs (treeOf F i)) → (k : ℕ) → k ≤ F .slaves
       → treeOf F′ (start F j + count F (F .a j) k) ≡ nest (call F) fbs (gather (F .master) (λ i. treeOf F (F .node i)) (F .a j) k) (F .a j) (X j)
   unfolding gather tally tree
-  nest-at j l e b ih zero m = ap (treeOf F′) (add-zero (start F j)) ∙ leaf-at (start F j) (omega arith) (nr .base-kind j l e) ∙ ap leaf (nr .base-a j l e)
+  nest-at j l e b ih zero m = ap (treeOf F′) (add-zero (start F j)) ∙ leaf-at (start F j) (omega arith) (nr .base-kind j l e)
+      ∙ ap leaf (nr .base-a j l e)
   nest-at j l e b ih (suc k) m = go (same (F .master k) (F .a j)) refl (nest-at j l e b ih k (omega arith))
     where
       c : ℕ
@@ -152,17 +160,21 @@ module _ (F F′ : File) (w : Ordered F) (w′ : Ordered F′) (nr : NodesR F F�
   tree-ren zero j p l = absurd (omega arith)
   tree-ren (suc f) j p l = go (F .kind j) refl (λ i a. tree-ren f i (omega arith) (omega arith))
     where
-      go : (k : ℕ) → F .kind j ≡ k → ((i : ℕ) → i < j → treeOf F′ (newName F i) ≡ tree (call F) fbs (treeOf F i)) → treeOf F′ (newName F j) ≡ tree (call F) fbs (treeOf F j)
+      go : (k : ℕ) → F .kind j ≡ k → ((i : ℕ) → i < j → treeOf F′ (newName F i) ≡ tree (call F) fbs (treeOf F i))
+          → treeOf F′ (newName F j) ≡ tree (call F) fbs (treeOf F j)
       go zero e ih = rw (tree₀ F w j l e) (cases (count F (F .a j) (F .slaves)) refl)
         where
           cases : (x : ℕ) → count F (F .a j) (F .slaves) ≡ x → treeOf F′ (newName F j) ≡ tree (call F) fbs (whole (F .a j) (slavesOf F (F .a j)))
-          cases zero z = ap (treeOf F′) (nr .plain j l e z) ∙ leaf-at (start F j) (rw (nr .plain j l e z) at (nr .there j l)) (nr .base-kind j l e) ∙ ap leaf (nr .base-a j l e)
+          cases zero z = ap (treeOf F′) (nr .plain j l e z) ∙ leaf-at (start F j) (rw (nr .plain j l e z) at (nr .there j l)) (nr .base-kind j l e)
+              ∙ ap leaf (nr .base-a j l e)
               ∙ sym (ap (λ ss. tree (call F) fbs (whole (F .a j) ss)) (gather-nil (F .master) (λ i. treeOf F (F .node i)) (F .a j) (F .slaves) z))
           cases (suc x) z = let h : 0 < count F (F .a j) (F .slaves) = omega arith in let b = rw (nr .whole-at j l e h) at (nr .there j l) in
               tree₂ F′ w′ (newName F j) (nr .there j l) (nr .whole-kind j l e h)
               ∙ rw (nr .whole-a j l e h, nr .whole-x j l e h, nr .whole-y j l e h, nest-at j l e (omega arith) ih (F .slaves) (omega arith))
-              (ap (λ k. hide (nest (call F) fbs (slavesOf F (F .a j)) (F .a j) (F .chart (F .a j) .feedback ∪ k)) k k) (sym (calls-of F (F .a j))) ∙ sym (ap (tree (call F) fbs) (gather-some (F .master) (λ i. treeOf F (F .node i)) (F .a j) (F .slaves) h)))
+              (ap (λ k. hide (nest (call F) fbs (slavesOf F (F .a j)) (F .a j) (F .chart (F .a j) .feedback ∪ k)) k k) (sym (calls-of F (F .a j)))
+              ∙ sym (ap (tree (call F) fbs) (gather-some (F .master) (λ i. treeOf F (F .node i)) (F .a j) (F .slaves) h)))
       go (suc zero) e ih = let h = w .lower₁ j l e in tree₁ F′ w′ (newName F j) (nr .there j l) (nr .comp-kind j l e)
           ∙ rw (nr .comp-a j l e, nr .comp-b j l e, nr .comp-x j l e, ih (F .a j) (h .0), ih (F .b j) (h .1), tree₁ F w j l e)
-      go (suc (suc k)) e ih = let e₂ : F .kind j ≡ 2 = (let h = w .kinds j l in omega arith) in tree₂ F′ w′ (newName F j) (nr .there j l) (nr .hide-kind j l e₂)
+      go (suc (suc k)) e ih = let e₂ : F .kind j ≡ 2 = (let h = w .kinds j l in omega arith) in
+          tree₂ F′ w′ (newName F j) (nr .there j l) (nr .hide-kind j l e₂)
           ∙ rw (nr .hide-a j l e₂, nr .hide-x j l e₂, nr .hide-y j l e₂, ih (F .a j) (w .lower₂ j l e₂), tree₂ F w j l e₂)

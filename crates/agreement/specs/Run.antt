@@ -13,7 +13,8 @@ module _ (F : File) (rd : Ready F) where
   leads : Leads F
   leads c l u h = every-in (λ t. t .to < F .chart c .states) (F .chart c .transitions) u (rd .ends c l) h
 
-  pub run-is : (F′ : File) → Rewritten F F′ → (inputs : List Set) (config : List ℕ) → Valid F config → rowsOf F′ config inputs ≡ rowsOf F config inputs
+  pub run-is : (F′ : File) → Rewritten F F′ → (inputs : List Set) (config : List ℕ) → Valid F config
+      → rowsOf F′ config inputs ≡ rowsOf F config inputs
   unfolding rowsOf
   run-is F′ r [] config v = refl
   run-is F′ r (i ∷ is) config v =

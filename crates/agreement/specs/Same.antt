@@ -91,7 +91,8 @@ module _ (sig state : ℕ → ℕ) where
   touch-calls nil t = sets [] [] (∅ₑ ⊑ ∅ₑ) tt
   touch-calls (snoc ss i u) t = go (same (t .from) (state i) || same (t .to) (state i)) (touch-calls ss t)
     where
-      go : (b : Bool) → touch sig state ss t ∖ calls sig ss ≡ ∅ → (touch sig state ss t ∪ cond b (single (sig i)) ∅) ∖ (calls sig ss ∪ single (sig i)) ≡ ∅
+      go : (b : Bool) → touch sig state ss t ∖ calls sig ss ≡ ∅
+          → (touch sig state ss t ∪ cond b (single (sig i)) ∅) ∖ (calls sig ss ∪ single (sig i)) ≡ ∅
       go true h = sets (touch sig state ss t ∷ calls sig ss ∷ single (sig i) ∷ []) (A ⊑ B ∷ []) (A ∪ₑ C ⊑ B ∪ₑ C) tt h
       go false h = sets (touch sig state ss t ∷ calls sig ss ∷ single (sig i) ∷ []) (A ⊑ B ∷ []) (A ∪ₑ ∅ₑ ⊑ B ∪ₑ C) tt h
 
@@ -137,11 +138,14 @@ hit-zero n s h = not-true (λ e. false≢true (sym (bit-none n) ∙ ap (λ z. bi
 
 -- an own transition of an active chart
 own : (sig : ℕ → ℕ) (κ : Option ℕ) (o F T : Set) (t : Transition) → OldMove sig (some t) → T ∩ F ≡ ∅
-    → (within (t .needed ∪ callIn sig κ) ((o ∪ callIn sig κ) ∪ ((t .action ∪ T) ∩ F)) && apart (t .barred) ((o ∪ callIn sig κ) ∪ ((t .action ∪ T) ∩ F)))
+    → (within (t .needed ∪ callIn sig κ) ((o ∪ callIn sig κ) ∪ ((t .action ∪ T) ∩ F))
+    && apart (t .barred) ((o ∪ callIn sig κ) ∪ ((t .action ∪ T) ∩ F)))
     ≡ (within (t .needed) (o ∪ (t .action ∩ F)) && apart (t .barred) (o ∪ (t .action ∩ F)))
 own sig κ o F T t om tf = ap₂ (λ p q. eqb p 0 && eqb q 0)
-    (sets (t .needed ∷ callIn sig κ ∷ o ∷ t .action ∷ T ∷ F ∷ []) (B ⊥ₑ A ∷ Eₑ ⊥ₑ Fₑ ∷ []) ((A ∪ₑ B) ∖ₑ (C ∪ₑ B ∪ₑ (D ∪ₑ Eₑ) ∩ₑ Fₑ) ≐ A ∖ₑ (C ∪ₑ D ∩ₑ Fₑ)) tt (call-old sig κ (t .needed) (om .0)) tf)
-    (sets (t .barred ∷ callIn sig κ ∷ o ∷ t .action ∷ T ∷ F ∷ []) (B ⊥ₑ A ∷ Eₑ ⊥ₑ Fₑ ∷ []) (A ∩ₑ (C ∪ₑ B ∪ₑ (D ∪ₑ Eₑ) ∩ₑ Fₑ) ≐ A ∩ₑ (C ∪ₑ D ∩ₑ Fₑ)) tt (call-old sig κ (t .barred) (om .1)) tf)
+    (sets (t .needed ∷ callIn sig κ ∷ o ∷ t .action ∷ T ∷ F ∷ []) (B ⊥ₑ A ∷ Eₑ ⊥ₑ Fₑ ∷ [])
+    ((A ∪ₑ B) ∖ₑ (C ∪ₑ B ∪ₑ (D ∪ₑ Eₑ) ∩ₑ Fₑ) ≐ A ∖ₑ (C ∪ₑ D ∩ₑ Fₑ)) tt (call-old sig κ (t .needed) (om .0)) tf)
+    (sets (t .barred ∷ callIn sig κ ∷ o ∷ t .action ∷ T ∷ F ∷ []) (B ⊥ₑ A ∷ Eₑ ⊥ₑ Fₑ ∷ []) (A ∩ₑ (C ∪ₑ B ∪ₑ (D ∪ₑ Eₑ) ∩ₑ Fₑ) ≐ A ∩ₑ (C ∪ₑ D ∩ₑ Fₑ)) tt
+    (call-old sig κ (t .barred) (om .1)) tf)
 
 okChart-R : (sig : ℕ → ℕ) (κ : Option ℕ) (a : Bool) (o F : Set) (T : Transition → Set) (s : ℕ) (m : Move) → OldMove sig m → Old sig o → Old sig F
     → ((t : Transition) → T t ∩ F ≡ ∅) → Awake sig κ a → okChart F true (o ∪ on sig κ a) s (moveR sig κ T s m) ≡ okChart F a o s m
@@ -154,7 +158,8 @@ okChart-R sig (some i) false o F T s (some t) om oo oF tf w =
     ap (λ b. same (t .from) s && (b && apart (t .barred) ((o ∪ ∅) ∪ ((t .action ∪ T t) ∩ F)))) lacks ∙ and-false (same (t .from) s)
   where
     lacks : within (t .needed ∪ callIn sig (some i)) ((o ∪ ∅) ∪ ((t .action ∪ T t) ∩ F)) ≡ false
-    lacks = hit-zero (sig i) _ (sets (single (sig i) ∷ t .needed ∷ o ∷ (t .action ∪ T t) ∷ F ∷ []) (A ⊥ₑ C ∷ A ⊥ₑ Eₑ ∷ []) (A ⊑ (B ∪ₑ A) ∖ₑ (C ∪ₑ ∅ₑ ∪ₑ D ∩ₑ Eₑ)) tt (oo i) (oF i))
+    lacks = hit-zero (sig i) _ (sets (single (sig i) ∷ t .needed ∷ o ∷ (t .action ∪ T t) ∷ F ∷ []) (A ⊥ₑ C ∷ A ⊥ₑ Eₑ ∷ [])
+        (A ⊑ (B ∪ₑ A) ∖ₑ (C ∪ₑ ∅ₑ ∪ₑ D ∩ₑ Eₑ)) tt (oo i) (oF i))
 okChart-R sig (some i) true o F T s none om oo oF tf w =
     ap (λ b. same s s && (within ∅ ((o ∪ callIn sig (some i)) ∪ (∅ ∩ F)) && b)) hits ∙ law (same s s) (within ∅ ((o ∪ callIn sig (some i)) ∪ (∅ ∩ F)))
   where
@@ -196,7 +201,9 @@ module _ (sig state : ℕ → ℕ) (inj : (i j : ℕ) → sig i ≡ sig j → i 
   calls-call : (ss : Slaves) (κ : Option ℕ) → RwS ss κ → calls sig ss ∩ callIn sig κ ≡ ∅
   unfolding calls
   calls-call nil κ r = sets (callIn sig κ ∷ []) [] (∅ₑ ∩ₑ A ≐ ∅ₑ) tt
-  calls-call (snoc ss i t) κ r = sets (calls sig ss ∷ single (sig i) ∷ callIn sig κ ∷ []) (A ⊥ₑ C ∷ B ⊥ₑ C ∷ []) (A ∪ₑ B ⊥ₑ C) tt (calls-call ss κ (r .0)) (sig-call sig inj κ i (r .1))
+  calls-call (snoc ss i t) κ r =
+      sets (calls sig ss ∷ single (sig i) ∷ callIn sig κ ∷ []) (A ⊥ₑ C ∷ B ⊥ₑ C ∷ []) (A ∪ₑ B ⊥ₑ C) tt (calls-call ss κ (r .0))
+      (sig-call sig inj κ i (r .1))
 
   mutual
     unfolding inFace
@@ -222,7 +229,8 @@ module _ (sig state : ℕ → ℕ) (inj : (i j : ℕ) → sig i ≡ sig j → i 
     face-t (hide a x y) κ r = ap (λ z. z ∖ x) (face-t a κ (r .1))
         ∙ sets (inFace E a ∷ callIn sig κ ∷ x ∷ []) (B ⊥ₑ C ∷ []) ((A ∪ₑ B) ∖ₑ C ≐ (A ∖ₑ C) ∪ₑ B) tt (call-old sig κ x (r .0))
     face-t (dec c ss) κ r = ap (λ z. z ∖ calls sig ss) (face-s ss κ (r .2) c (fbs c ∪ calls sig ss) (r .0 .faced))
-        ∙ sets (inFaceChart (E c) ∷ inFaces E ss ∷ callIn sig κ ∷ calls sig ss ∷ []) (D ⊥ₑ A ∷ D ⊥ₑ B ∷ D ⊥ₑ C ∷ []) (((A ∪ₑ B) ∪ₑ (C ∪ₑ D)) ∖ₑ D ≐ (A ∪ₑ B) ∪ₑ C) tt
+        ∙ sets (inFaceChart (E c) ∷ inFaces E ss ∷ callIn sig κ ∷ calls sig ss ∷ []) (D ⊥ₑ A ∷ D ⊥ₑ B ∷ D ⊥ₑ C ∷ [])
+        (((A ∪ₑ B) ∪ₑ (C ∪ₑ D)) ∖ₑ D ≐ (A ∪ₑ B) ∪ₑ C) tt
         (calls-old sig ss (inFaceChart (E c)) (r .0 .old-face)) (calls-old sig ss (inFaces E ss) (faces-old ss κ (r .2))) (calls-call ss κ (r .2))
 
     face-s : (ss : Slaves) (κ : Option ℕ) → RwS ss κ → (c : ℕ) (x : Set) → inFaceChart (E′ c) ≡ inFaceChart (E c) ∪ callIn sig κ
@@ -280,8 +288,10 @@ module _ (sig state : ℕ → ℕ) (inj : (i j : ℕ) → sig i ≡ sig j → i 
     out-t (comp a b x) κ r = ap₂ _∪_ (out-t a κ (r .0)) (out-t b κ (r .1))
     out-t (hide a x y) κ r = ap (λ z. z ∖ y) (out-t a κ (r .1))
     out-t (dec c ss) κ r = ap (λ z. z ∖ calls sig ss) (out-s ss κ (r .2) c (fbs c ∪ calls sig ss) ∙ ap (λ z. z ∪ outs M ss) (action-at κ c ss (r .0)))
-        ∙ sets (actionOf (M c) ∷ made sig state ss (M c) ∷ outs M ss ∷ calls sig ss ∷ []) (D ⊥ₑ A ∷ D ⊥ₑ C ∷ B ⊑ D ∷ []) (((A ∪ₑ B) ∪ₑ C) ∖ₑ D ≐ A ∪ₑ C) tt
-        (calls-old sig ss (actionOf (M c)) (action-old (M c) (r .0 .old-move))) (calls-old sig ss (outs M ss) (outs-old ss κ (r .2))) (made-calls ss (M c))
+        ∙ sets (actionOf (M c) ∷ made sig state ss (M c) ∷ outs M ss ∷ calls sig ss ∷ []) (D ⊥ₑ A ∷ D ⊥ₑ C ∷ B ⊑ D ∷ [])
+        (((A ∪ₑ B) ∪ₑ C) ∖ₑ D ≐ A ∪ₑ C) tt
+        (calls-old sig ss (actionOf (M c)) (action-old (M c) (r .0 .old-move))) (calls-old sig ss (outs M ss) (outs-old ss κ (r .2)))
+        (made-calls ss (M c))
 
     out-s : (ss : Slaves) (κ : Option ℕ) → RwS ss κ → (c : ℕ) (x : Set) → out M′ (nest sig fbs ss c x) ≡ actionOf (M′ c) ∪ outs M ss
     out-s nil κ r c x = sets (actionOf (M′ c) ∷ []) [] (A ≐ A ∪ₑ ∅ₑ) tt
@@ -299,14 +309,17 @@ module _ (sig state : ℕ → ℕ) (inj : (i j : ℕ) → sig i ≡ sig j → i 
   parts (snoc ss i t) z = parts ss z && okR (tree sig fbs t) (z ∩ inFace E′ (tree sig fbs t))
 
   nest-ok : (ss : Slaves) (c : ℕ) (x z : Set) → (out M′ (nest sig fbs ss c x) ∩ x) ∖ z ≡ ∅
-      → okR (nest sig fbs ss c x) (z ∩ inFace E′ (nest sig fbs ss c x)) ≡ (okChart (E′ c .feedback) true (z ∩ inFaceChart (E′ c)) (cfg c) (M′ c) && parts ss z)
+      → okR (nest sig fbs ss c x) (z ∩ inFace E′ (nest sig fbs ss c x))
+      ≡ (okChart (E′ c .feedback) true (z ∩ inFaceChart (E′ c)) (cfg c) (M′ c) && parts ss z)
   unfolding ok parts tree inFace out
   nest-ok nil c x z h = sym (and-true (okChart (E′ c .feedback) true (z ∩ inFaceChart (E′ c)) (cfg c) (M′ c)))
   nest-ok (snoc ss i t) c x z h =
       ap₂ _&&_
-      (ap (okR (nest sig fbs ss c x)) (sets (z ∷ IN ∷ IT ∷ ON ∷ OT ∷ x ∷ []) ((D ∪ₑ Eₑ) ∩ₑ Fₑ ⊑ A ∷ []) ((A ∩ₑ (B ∪ₑ C) ∪ₑ (D ∪ₑ Eₑ) ∩ₑ Fₑ) ∩ₑ B ≐ A ∩ₑ B) tt h)
+      (ap (okR (nest sig fbs ss c x)) (sets (z ∷ IN ∷ IT ∷ ON ∷ OT ∷ x ∷ []) ((D ∪ₑ Eₑ) ∩ₑ Fₑ ⊑ A ∷ [])
+      ((A ∩ₑ (B ∪ₑ C) ∪ₑ (D ∪ₑ Eₑ) ∩ₑ Fₑ) ∩ₑ B ≐ A ∩ₑ B) tt h)
       ∙ nest-ok ss c x z (sets (z ∷ ON ∷ OT ∷ x ∷ []) ((B ∪ₑ C) ∩ₑ D ⊑ A ∷ []) (B ∩ₑ D ⊑ A) tt h))
-      (ap (okR (tree sig fbs t)) (sets (z ∷ IN ∷ IT ∷ ON ∷ OT ∷ x ∷ []) ((D ∪ₑ Eₑ) ∩ₑ Fₑ ⊑ A ∷ []) ((A ∩ₑ (B ∪ₑ C) ∪ₑ (D ∪ₑ Eₑ) ∩ₑ Fₑ) ∩ₑ C ≐ A ∩ₑ C) tt h))
+      (ap (okR (tree sig fbs t)) (sets (z ∷ IN ∷ IT ∷ ON ∷ OT ∷ x ∷ []) ((D ∪ₑ Eₑ) ∩ₑ Fₑ ⊑ A ∷ [])
+      ((A ∩ₑ (B ∪ₑ C) ∪ₑ (D ∪ₑ Eₑ) ∩ₑ Fₑ) ∩ₑ C ≐ A ∩ₑ C) tt h))
       ∙ and-assoc (okChart (E′ c .feedback) true (z ∩ inFaceChart (E′ c)) (cfg c) (M′ c)) (parts ss z) (okR (tree sig fbs t) (z ∩ IT))
     where
       IN : Set
@@ -323,12 +336,15 @@ module _ (sig state : ℕ → ℕ) (inj : (i j : ℕ) → sig i ≡ sig j → i 
 
   nest-top : (ss : Slaves) → Some ss → (c : ℕ) (x o : Set)
       → okR (nest sig fbs ss c x) o
-      ≡ (okChart (E′ c .feedback) true ((o ∪ (out M′ (nest sig fbs ss c x) ∩ x)) ∩ inFaceChart (E′ c)) (cfg c) (M′ c) && parts ss (o ∪ (out M′ (nest sig fbs ss c x) ∩ x)))
+      ≡ (okChart (E′ c .feedback) true ((o ∪ (out M′ (nest sig fbs ss c x) ∩ x)) ∩ inFaceChart (E′ c)) (cfg c) (M′ c)
+      && parts ss (o ∪ (out M′ (nest sig fbs ss c x) ∩ x)))
   unfolding ok parts tree inFace out
   nest-top nil e c x o = absurd e
   nest-top (snoc ss i t) e c x o =
-      ap (λ b. b && okR (tree sig fbs t) (Z ∩ inFace E′ (tree sig fbs t))) (nest-ok ss c x Z (sets (o ∷ ON ∷ OT ∷ x ∷ []) [] (B ∩ₑ D ⊑ A ∪ₑ (B ∪ₑ C) ∩ₑ D) tt))
-      ∙ and-assoc (okChart (E′ c .feedback) true (Z ∩ inFaceChart (E′ c)) (cfg c) (M′ c)) (parts ss Z) (okR (tree sig fbs t) (Z ∩ inFace E′ (tree sig fbs t)))
+      ap (λ b. b && okR (tree sig fbs t) (Z ∩ inFace E′ (tree sig fbs t)))
+      (nest-ok ss c x Z (sets (o ∷ ON ∷ OT ∷ x ∷ []) [] (B ∩ₑ D ⊑ A ∪ₑ (B ∪ₑ C) ∩ₑ D) tt))
+      ∙ and-assoc (okChart (E′ c .feedback) true (Z ∩ inFaceChart (E′ c)) (cfg c) (M′ c)) (parts ss Z)
+      (okR (tree sig fbs t) (Z ∩ inFace E′ (tree sig fbs t)))
     where
       ON : Set
       ON = out M′ (nest sig fbs ss c x)
@@ -343,7 +359,8 @@ module _ (sig state : ℕ → ℕ) (inj : (i j : ℕ) → sig i ≡ sig j → i 
   made-old ss m b o = sets (made sig state ss m ∷ calls sig ss ∷ b ∷ []) (A ⊑ B ∷ B ⊥ₑ C ∷ []) (A ⊥ₑ C) tt (made-calls ss m) (calls-old sig ss b o)
 
   made-call : (ss : Slaves) (κ : Option ℕ) → RwS ss κ → (m : Move) → made sig state ss m ∩ callIn sig κ ≡ ∅
-  made-call ss κ r m = sets (made sig state ss m ∷ calls sig ss ∷ callIn sig κ ∷ []) (A ⊑ B ∷ B ⊥ₑ C ∷ []) (A ⊥ₑ C) tt (made-calls ss m) (calls-call ss κ r)
+  made-call ss κ r m = sets (made sig state ss m ∷ calls sig ss ∷ callIn sig κ ∷ []) (A ⊑ B ∷ B ⊥ₑ C ∷ []) (A ⊥ₑ C) tt (made-calls ss m)
+      (calls-call ss κ r)
 
   -- a move makes a slave's call exactly if it touches the slave's state
   hits : Transition → ℕ → Bool
@@ -357,7 +374,8 @@ module _ (sig state : ℕ → ℕ) (inj : (i j : ℕ) → sig i ≡ sig j → i 
       T : Set
       T = touch sig state ss t
 
-      own-call : (n h : Bool) → single (sig i) ∩ T ≡ cond (n && h) (single (sig i)) ∅ → single (sig i) ∩ (T ∪ cond h (single (sig i)) ∅) ≡ cond ((n || true) && h) (single (sig i)) ∅
+      own-call : (n h : Bool) → single (sig i) ∩ T ≡ cond (n && h) (single (sig i)) ∅
+          → single (sig i) ∩ (T ∪ cond h (single (sig i)) ∅) ≡ cond ((n || true) && h) (single (sig i)) ∅
       own-call true true r = sets (single (sig i) ∷ T ∷ []) [] (A ∩ₑ (B ∪ₑ A) ≐ A) tt
       own-call true false r = sets (single (sig i) ∷ T ∷ []) (A ⊥ₑ B ∷ []) (A ∩ₑ (B ∪ₑ ∅ₑ) ≐ ∅ₑ) tt r
       own-call false true r = sets (single (sig i) ∷ T ∷ []) [] (A ∩ₑ (B ∪ₑ A) ≐ A) tt
@@ -370,7 +388,8 @@ module _ (sig state : ℕ → ℕ) (inj : (i j : ℕ) → sig i ≡ sig j → i 
       go : (b : Bool) → same j i ≡ b → single (sig j) ∩ T ≡ cond (In j ss && hits t j) (single (sig j)) ∅
           → single (sig j) ∩ (T ∪ cond (hits t i) (single (sig i)) ∅) ≡ cond ((In j ss || b) && hits t j) (single (sig j)) ∅
       go true e r = let q = same→≡ j i e in rw q (own-call (In i ss) (hits t i) (rw q at r))
-      go false e r = other-call (hits t i) (sig-apart sig inj j i (λ q. same→≢ j i e (sym q))) ∙ r ∙ ap (λ n. cond (n && hits t j) (single (sig j)) ∅) (sym (or-false (In j ss)))
+      go false e r = other-call (hits t i) (sig-apart sig inj j i (λ q. same→≢ j i e (sym q))) ∙ r
+          ∙ ap (λ n. cond (n && hits t j) (single (sig j)) ∅) (sym (or-false (In j ss)))
 
   -- a permitted move makes a slave's call exactly if the slave is active
   made-at : (ss : Slaves) (F : Set) (a : Bool) (o : Set) (s : ℕ) (m : Move) → okChart F a o s m ≡ true → (j : ℕ) → In j ss ≡ true
@@ -387,13 +406,15 @@ module _ (sig state : ℕ → ℕ) (inj : (i j : ℕ) → sig i ≡ sig j → i 
   zone c ss o = o ∪ ((actionOf (M c) ∪ outs M ss) ∩ E c .feedback)
 
   zone-old : (c : ℕ) (ss : Slaves) (κ : Option ℕ) (o : Set) → AtC κ c ss → Old sig o → Old sig (zone c ss o)
-  zone-old c ss κ o at oo = old-join sig o ((actionOf (M c) ∪ outs M ss) ∩ E c .feedback) oo (old-cut sig (actionOf (M c) ∪ outs M ss) (E c .feedback) (at .old-feedback))
+  zone-old c ss κ o at oo =
+      old-join sig o ((actionOf (M c) ∪ outs M ss) ∩ E c .feedback) oo (old-cut sig (actionOf (M c) ∪ outs M ss) (E c .feedback) (at .old-feedback))
 
   zone-is : (c : ℕ) (ss : Slaves) (κ : Option ℕ) (a : Bool) (o : Set) → AtC κ c ss → RwS ss κ → Old sig o
       → ((o ∪ on sig κ a) ∖ calls sig ss) ∪ (out M′ (nest sig fbs ss c (fbs c ∪ calls sig ss)) ∩ (fbs c ∪ calls sig ss))
       ≡ (zone c ss o ∪ on sig κ a) ∪ made sig state ss (M c)
   zone-is c ss κ a o at r oo =
-      ap (λ z. ((o ∪ on sig κ a) ∖ calls sig ss) ∪ (z ∩ (fbs c ∪ calls sig ss))) (out-s ss κ r c (fbs c ∪ calls sig ss) ∙ ap (λ z. z ∪ outs M ss) (action-at κ c ss at))
+      ap (λ z. ((o ∪ on sig κ a) ∖ calls sig ss) ∪ (z ∩ (fbs c ∪ calls sig ss)))
+      (out-s ss κ r c (fbs c ∪ calls sig ss) ∙ ap (λ z. z ∪ outs M ss) (action-at κ c ss at))
       ∙ sets (o ∷ on sig κ a ∷ calls sig ss ∷ actionOf (M c) ∷ made sig state ss (M c) ∷ outs M ss ∷ fbs c ∷ callIn sig κ ∷ [])
       (C ⊥ₑ A ∷ B ⊑ Hₑ ∷ C ⊥ₑ Hₑ ∷ C ⊥ₑ D ∷ C ⊥ₑ Fₑ ∷ C ⊥ₑ Gₑ ∷ Eₑ ⊑ C ∷ [])
       (((A ∪ₑ B) ∖ₑ C) ∪ₑ (((D ∪ₑ Eₑ) ∪ₑ Fₑ) ∩ₑ (Gₑ ∪ₑ C)) ≐ ((A ∪ₑ ((D ∪ₑ Fₑ) ∩ₑ Gₑ)) ∪ₑ B) ∪ₑ Eₑ) tt
@@ -402,16 +423,19 @@ module _ (sig state : ℕ → ℕ) (inj : (i j : ℕ) → sig i ≡ sig j → i 
 
   master-ok : (c : ℕ) (ss : Slaves) (κ : Option ℕ) (a : Bool) (o z : Set) → AtC κ c ss → RwS ss κ → Old sig o → Awake sig κ a
       → z ≡ (zone c ss o ∪ on sig κ a) ∪ made sig state ss (M c)
-      → okChart (E′ c .feedback) true (z ∩ inFaceChart (E′ c)) (cfg c) (M′ c) ≡ okChart (E c .feedback) a (zone c ss o ∩ inFaceChart (E c)) (cfg c) (M c)
+      → okChart (E′ c .feedback) true (z ∩ inFaceChart (E′ c)) (cfg c) (M′ c)
+      ≡ okChart (E c .feedback) a (zone c ss o ∩ inFaceChart (E c)) (cfg c) (M c)
   unfolding made
   master-ok c ss κ a o z at r oo w ez =
       rw (cut, at .fed, at .moved)
       (okChart-R sig κ a (zone c ss o ∩ inFaceChart (E c)) (E c .feedback) (touch sig state ss) (cfg c) (M c) (at .old-move)
-      (old-cut sig (zone c ss o) (inFaceChart (E c)) (at .old-face)) (at .old-feedback) (λ t. made-old ss (some t) (E c .feedback) (at .old-feedback)) w)
+      (old-cut sig (zone c ss o) (inFaceChart (E c)) (at .old-face)) (at .old-feedback)
+      (λ t. made-old ss (some t) (E c .feedback) (at .old-feedback)) w)
     where
       cut : z ∩ inFaceChart (E′ c) ≡ (zone c ss o ∩ inFaceChart (E c)) ∪ on sig κ a
       cut = ap₂ _∩_ ez (at .faced)
-          ∙ sets (zone c ss o ∷ on sig κ a ∷ made sig state ss (M c) ∷ inFaceChart (E c) ∷ callIn sig κ ∷ []) (B ⊑ Eₑ ∷ Eₑ ⊥ₑ A ∷ Eₑ ⊥ₑ D ∷ C ⊥ₑ D ∷ C ⊥ₑ Eₑ ∷ [])
+          ∙ sets (zone c ss o ∷ on sig κ a ∷ made sig state ss (M c) ∷ inFaceChart (E c) ∷ callIn sig κ ∷ [])
+          (B ⊑ Eₑ ∷ Eₑ ⊥ₑ A ∷ Eₑ ⊥ₑ D ∷ C ⊥ₑ D ∷ C ⊥ₑ Eₑ ∷ [])
           (((A ∪ₑ B) ∪ₑ C) ∩ₑ (D ∪ₑ Eₑ) ≐ (A ∩ₑ D) ∪ₑ B) tt
           (on-in sig κ a) (call-old sig κ (zone c ss o) (zone-old c ss κ o at oo)) (call-old sig κ (inFaceChart (E c)) (at .old-face))
           (made-old ss (M c) (inFaceChart (E c)) (at .old-face)) (made-call ss κ r (M c))
@@ -428,14 +452,18 @@ module _ (sig state : ℕ → ℕ) (inj : (i j : ℕ) → sig i ≡ sig j → i 
     unfolding ok tree parts In inFace out touch
 
     -- offered the nearest call exactly if it is active, the rewritten tree permits what the tree does
-    pub ok-t : (t : Tree) (κ : Option ℕ) (a : Bool) (o : Set) → RwT t κ → Old sig o → Awake sig κ a → okR (tree sig fbs t) (o ∪ on sig κ a) ≡ ok E state cfg M t a o
+    pub ok-t : (t : Tree) (κ : Option ℕ) (a : Bool) (o : Set) → RwT t κ → Old sig o → Awake sig κ a
+        → okR (tree sig fbs t) (o ∪ on sig κ a) ≡ ok E state cfg M t a o
     ok-t (leaf c) κ a o r oo w = rw (r .moved, r .fed)
-        (okChart-R sig κ a o (E c .feedback) (touch sig state nil) (cfg c) (M c) (r .old-move) oo (r .old-feedback) (λ t. sets (E c .feedback ∷ []) [] (∅ₑ ∩ₑ A ≐ ∅ₑ) tt) w)
+        (okChart-R sig κ a o (E c .feedback) (touch sig state nil) (cfg c) (M c) (r .old-move) oo (r .old-feedback)
+        (λ t. sets (E c .feedback ∷ []) [] (∅ₑ ∩ₑ A ≐ ∅ₑ) tt) w)
     ok-t (comp p q x) κ a o r oo w =
         ap₂ _&&_
-        (ap (okR (tree sig fbs p)) (offer o U U′ x (inFace E p) (inFace E′ (tree sig fbs p)) κ a same-out (face-t p κ (r .0)) oo old-out (face-old p κ (r .0)))
+        (ap (okR (tree sig fbs p)) (offer o U U′ x (inFace E p) (inFace E′ (tree sig fbs p)) κ a same-out (face-t p κ (r .0)) oo old-out
+        (face-old p κ (r .0)))
         ∙ ok-t p κ a ((o ∪ (U ∩ x)) ∩ inFace E p) (r .0) (old-cut sig (o ∪ (U ∩ x)) (inFace E p) (face-old p κ (r .0))) w)
-        (ap (okR (tree sig fbs q)) (offer o U U′ x (inFace E q) (inFace E′ (tree sig fbs q)) κ a same-out (face-t q κ (r .1)) oo old-out (face-old q κ (r .1)))
+        (ap (okR (tree sig fbs q)) (offer o U U′ x (inFace E q) (inFace E′ (tree sig fbs q)) κ a same-out (face-t q κ (r .1)) oo old-out
+        (face-old q κ (r .1)))
         ∙ ok-t q κ a ((o ∪ (U ∩ x)) ∩ inFace E q) (r .1) (old-cut sig (o ∪ (U ∩ x)) (inFace E q) (face-old q κ (r .1))) w)
       where
         U : Set
@@ -451,7 +479,8 @@ module _ (sig state : ℕ → ℕ) (inj : (i j : ℕ) → sig i ≡ sig j → i 
         old-out = old-join sig (out M p) (out M q) (out-old p κ (r .0)) (out-old q κ (r .1))
     ok-t (hide p x y) κ a o r oo w =
         ap (okR (tree sig fbs p))
-        (sets (o ∷ on sig κ a ∷ x ∷ callIn sig κ ∷ []) (B ⊑ D ∷ D ⊥ₑ C ∷ []) ((A ∪ₑ B) ∖ₑ C ≐ (A ∖ₑ C) ∪ₑ B) tt (on-in sig κ a) (call-old sig κ x (r .0)))
+        (sets (o ∷ on sig κ a ∷ x ∷ callIn sig κ ∷ []) (B ⊑ D ∷ D ⊥ₑ C ∷ []) ((A ∪ₑ B) ∖ₑ C ≐ (A ∖ₑ C) ∪ₑ B) tt (on-in sig κ a)
+        (call-old sig κ x (r .0)))
         ∙ ok-t p κ a (o ∖ x) (r .1) (old-less sig o x oo) w
     ok-t (dec c ss) κ a o r oo w =
         nest-top ss (r .1) c (fbs c ∪ calls sig ss) ((o ∪ on sig κ a) ∖ calls sig ss)

@@ -40,7 +40,8 @@ module _ (sig : ℕ → ℕ) (fb : ℕ → Set) (E : ℕ → Chart) (s₁ s₂ :
     free-s nil c x o = refl
     free-s (snoc ss i t) c x o = ap₂ _&&_ (free-s ss c x _) (free-t t _)
 
-module _ (E : ℕ → Chart) (s₁ s₂ : ℕ → ℕ) (cfg : ℕ → ℕ) (t : Tree) (inp : Set) (N : ℕ) (h : (M : ℕ → Move) → permitted E s₁ cfg M t inp ≡ permitted E s₂ cfg M t inp) where
+module _ (E : ℕ → Chart) (s₁ s₂ : ℕ → ℕ) (cfg : ℕ → ℕ) (t : Tree) (inp : Set) (N : ℕ)
+    (h : (M : ℕ → Move) → permitted E s₁ cfg M t inp ≡ permitted E s₂ cfg M t inp) where
   free-search : (n c : ℕ) (ch : ℕ → ℕ) → search E s₁ cfg t inp N n c ch ≡ search E s₂ cfg t inp N n c ch
   unfolding search outcome
   free-search zero c ch = rw (h (moves E ch))
@@ -82,8 +83,10 @@ module _ (F : File) (rd : Ready F) where
   fbs c = F .chart c .feedback
 
   pub fits : Fit (call F) (kap F) (slavesOf F) (F .charts) (wholeOf F) none
-  fits = let s = rd .sound in subst (λ κ. Fit (call F) (kap F) (slavesOf F) (F .charts) (wholeOf F) κ) (enc-last F (s .ordered) (s .rule10) last is-last)
-      (fit-node F (s .ordered) (enc F) (kap F) (placed F (s .ordered) (s .rule10) (s .chart-there) (s .node-there)) (call F) (λ j l e. old-x F (rd .small) j l)
+  fits = let s = rd .sound in
+      subst (λ κ. Fit (call F) (kap F) (slavesOf F) (F .charts) (wholeOf F) κ) (enc-last F (s .ordered) (s .rule10) last is-last)
+      (fit-node F (s .ordered) (enc F) (kap F) (placed F (s .ordered) (s .rule10) (s .chart-there) (s .node-there)) (call F)
+      (λ j l e. old-x F (rd .small) j l)
       (F .nodes) last (let h = is-last in omega arith) (let h = is-last in omega arith))
 
   pub has : (c : ℕ) → c < F .charts → Has (wholeOf F) c ≡ true
@@ -98,7 +101,8 @@ module _ (F : File) (rd : Ready F) where
     -- the tree of the rewritten file is the rewriting of the tree
     pub whole-is : wholeOf F′ ≡ tree (call F) (λ c. F .chart c .feedback) (wholeOf F)
     whole-is = rw′ .whole ∙ ap (treeOf (rewrite F)) (let h = new-last F last is-last in omega arith)
-        ∙ tree-ren F (rewrite F) (rd .sound .ordered) (orderedR F (rd .sound .ordered)) (nodesR F) (F .nodes) last (let h = is-last in omega arith) (let h = is-last in omega arith)
+        ∙ tree-ren F (rewrite F) (rd .sound .ordered) (orderedR F (rd .sound .ordered)) (nodesR F) (F .nodes) last (let h = is-last in omega arith)
+        (let h = is-last in omega arith)
 
     pub chart-is : (c : ℕ) → c < F .charts → F′ .chart c ≡ chartWith (call F) (kap F c) (touch (call F) (F .state) (slavesOf F c)) (F .chart c)
     unfolding rewrittenChart
@@ -112,7 +116,8 @@ module _ (F : File) (rd : Ready F) where
         (free-search (F′ .chart) (F′ .state) (F .state) cfg T inp (F .charts)
         (λ M. free-t (call F) fbs (F′ .chart) (F′ .state) (F .state) cfg M (wholeOf F) (inp ∩ inFace (F′ .chart) T)) (F .charts) zero (λ c. zero)
         ∙ same-outcomes (call F) (F .state) (call-inj F) (kap F) (slavesOf F) (F .charts) (F .chart) (F′ .chart) cfg (wholeOf F) inp chart-is fits
-        (above-node F (s .ordered) (s .rule11) (F .nodes) last (let h = is-last in omega arith) (let h = is-last in omega arith)) has (old-chart F (rd .small)) (v .states)))
+        (above-node F (s .ordered) (s .rule11) (F .nodes) last (let h = is-last in omega arith) (let h = is-last in omega arith)) has
+        (old-chart F (rd .small)) (v .states)))
       where
         cfg : ℕ → ℕ
         cfg c = getD config c 0

@@ -31,7 +31,8 @@ fn put_initials(n: Shape, body: &[u8], config: &mut [u8])
 
 // The first configuration, one byte for each chart.
 pub fn first(file: &[u8], config: &mut [u8]) -> u8
-    ensures { λ r. ⌜ (r ≡ firstRefusal (now (file .entry)) (length (now (config .entry)))) × (now (config .exit) ≡ firstBytes (now (file .entry)) (now (config .entry))) ⌝ }
+    ensures { λ r. ⌜ (r ≡ firstRefusal (now (file .entry)) (length (now (config .entry))))
+        × (now (config .exit) ≡ firstBytes (now (file .entry)) (now (config .entry))) ⌝ }
 {
     let o = checks::opening::opened(file);
     let r = o.refusal;

@@ -79,7 +79,11 @@ fn charts(n: Shape, body: &[u8]) -> Own
 // Of a body that no check refuses.
 fn of_body(n: Shape, body: &[u8]) -> Faces
     requires { ⌜ Sized n (now body) × (Summed n (now body) × Treed (fileAt n (now body))) ⌝ }
-    ensures { λ r. ⌜ r ≡ record { refusal = 0; input = inFace (fileAt n (now (body .entry)) .chart) (wholeOf (fileAt n (now (body .entry)))); output = outFace (fileAt n (now (body .entry)) .chart) (wholeOf (fileAt n (now (body .entry)))) } ⌝ }
+    ensures { λ r. ⌜ r ≡ record {
+      refusal = 0;
+      input = inFace (fileAt n (now (body .entry)) .chart) (wholeOf (fileAt n (now (body .entry))));
+      output = outFace (fileAt n (now (body .entry)) .chart) (wholeOf (fileAt n (now (body .entry))));
+    } ⌝ }
 {
     let own = charts(n, body);
     let input = own.input;
@@ -95,7 +99,11 @@ fn of_body(n: Shape, body: &[u8]) -> Faces
 }
 
 pub fn interface(file: &[u8]) -> Faces
-    ensures { λ r. ⌜ r ≡ record { refusal = refusalOf (now (file .entry)); input = inputOf (now (file .entry)); output = outputOf (now (file .entry)) } ⌝ }
+    ensures { λ r. ⌜ r ≡ record {
+      refusal = refusalOf (now (file .entry));
+      input = inputOf (now (file .entry));
+      output = outputOf (now (file .entry));
+    } ⌝ }
 {
     let o = checks::opening::opened(file);
     let r = o.refusal;

@@ -43,7 +43,8 @@ pub extern "C" fn mestecur_step(
     mark: &mut u8,
 ) -> u8
     ensures { λ r. ⌜ r ≡ refusalIn (stepOf (now (file .entry)) (now (config .entry)) input (length (now (next .entry)))) ⌝ }
-    ensures { λ r. ⌜ now (next .exit) ≡ nextIn (stepOf (now (file .entry)) (now (config .entry)) input (length (now (next .entry)))) (now (next .entry)) ⌝ }
+    ensures { λ r. ⌜ now (next .exit)
+        ≡ nextIn (stepOf (now (file .entry)) (now (config .entry)) input (length (now (next .entry)))) (now (next .entry)) ⌝ }
     ensures { λ r. ⌜ now (output .exit) ≡ outputIn (stepOf (now (file .entry)) (now (config .entry)) input (length (now (next .entry)))) ⌝ }
     ensures { λ r. ⌜ now (mark .exit) ≡ one (markIn (stepOf (now (file .entry)) (now (config .entry)) input (length (now (next .entry))))) ⌝ }
 {

@@ -1,4 +1,5 @@
--- What the day program prints (document 01, "The day program"): numbers in digits, fields, the line of a row, the whole output. Laws are in Line/Laws.antt; document 01's whole case is in Line/Example.antt.
+-- What the day program prints (document 01, "The day program"): numbers in digits, fields, the line of a row, the whole output. Laws are in
+-- Line/Laws.antt; document 01's whole case is in Line/Example.antt.
 use mathlib.Core.Bool.{cond}
 use mathlib.Core.List.{List, [], _∷_, _++_, map}
 use Prim.Native.Nat.{ℕ, zero, suc, _+_, _-_, _/_, _%_}

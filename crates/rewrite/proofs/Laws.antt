@@ -56,7 +56,8 @@ module _ (n : Shape) (b : List ℕ) (c s : ℕ) {h : Head} (eh : h ≡ headAt n 
   own-are = rw (es, eh)
 
 -- the rewritten chart's number
-pub length-rewritten : (n : Shape) (b : List ℕ) (c : ℕ) {h : Head} {κ : Set} → h ≡ headAt n b c → κ ≡ callIn (call (fileAt n b)) (nearestSlave (fileAt n b) c)
+pub length-rewritten : (n : Shape) (b : List ℕ) (c : ℕ) {h : Head} {κ : Set} → h ≡ headAt n b c
+    → κ ≡ callIn (call (fileAt n b)) (nearestSlave (fileAt n b) c)
     → length (rewrittenChart (fileAt n b) c .transitions) ≡ h .transitions + idleCount κ (h .states)
 unfolding fileAt chartOf transitionsOf
 length-rewritten n b c {h} {κ} e k = length-is (fileAt n b) c κ k ∙ rw (length-from, e)

@@ -17,7 +17,8 @@ use signals::Found;
 // The signals of `count` transitions from `start` on.
 fn used_by(n: Shape, body: &[u8], start: usize, count: usize) -> u64
     requires { ⌜ Holds n (now body) × (start + count ≤ n .transitions) ⌝ }
-    ensures { λ r. ⌜ r ≡ guards (from (transitionAt n (now (body .entry))) start count) ∪ actions (from (transitionAt n (now (body .entry))) start count) ⌝ }
+    ensures { λ r. ⌜ r ≡ guards (from (transitionAt n (now (body .entry))) start count)
+        ∪ actions (from (transitionAt n (now (body .entry))) start count) ⌝ }
 {
     let mut all: u64 = 0;
     let mut k: usize = 0;
@@ -32,7 +33,9 @@ fn used_by(n: Shape, body: &[u8], start: usize, count: usize) -> u64
 // The signals in the sets of charts.
 fn used_by_charts(n: Shape, body: &[u8]) -> u64
     requires { ⌜ Checked n (now body) ⌝ }
-    ensures { λ r. ⌜ r ≡ unionUpTo (n .charts) (λ c. guards (fileAt n (now (body .entry)) .chart c .transitions) ∪ actions (fileAt n (now (body .entry)) .chart c .transitions) ∪ fileAt n (now (body .entry)) .chart c .feedback ∪ fileAt n (now (body .entry)) .chart c .extra) ⌝ }
+    ensures { λ r. ⌜ r ≡ unionUpTo (n .charts) (λ c. guards (fileAt n (now (body .entry)) .chart c .transitions)
+        ∪ actions (fileAt n (now (body .entry)) .chart c .transitions)
+        ∪ fileAt n (now (body .entry)) .chart c .feedback ∪ fileAt n (now (body .entry)) .chart c .extra) ⌝ }
 {
     let mut all: u64 = 0;
     let mut start: usize = 0;

@@ -27,8 +27,10 @@ const NODE: usize = 20;
 
 // Each chart's head: more transitions, the rest as it was.
 fn heads(n: Shape, body: &[u8], inner: &[u64; 8], out: &mut [u8], at: usize) -> usize
-    requires { ⌜ Checked n (now body) × InnerIn (fileAt n (now body)) (now inner) × Fits (fileAt n (now body)) × Room (inTurn (n .charts) (λ c. headBytes (headFor (rewrittenChart (fileAt n (now body)) c)))) at (now out) ⌝ }
-    ensures { λ r. ⌜ Puts (inTurn (n .charts) (λ c. headBytes (headFor (rewrittenChart (fileAt n (now (body .entry))) c)))) at (now (out .entry)) (now (out .exit)) r ⌝ }
+    requires { ⌜ Checked n (now body) × InnerIn (fileAt n (now body)) (now inner) × Fits (fileAt n (now body))
+        × Room (inTurn (n .charts) (λ c. headBytes (headFor (rewrittenChart (fileAt n (now body)) c)))) at (now out) ⌝ }
+    ensures { λ r. ⌜ Puts (inTurn (n .charts) (λ c. headBytes (headFor (rewrittenChart (fileAt n (now (body .entry))) c))))
+        at (now (out .entry)) (now (out .exit)) r ⌝ }
 {
     let charts = n.charts;
     let mut p = at;
@@ -110,8 +112,14 @@ fn own(
     out: &mut [u8],
     at: usize,
 ) -> usize
-    requires { ⌜ Checked n (now body) × CallsIn (fileAt n (now body)) (now calls) × (start + count ≤ n .transitions) × Room (inTurn count (λ k. transitionBytes (calledWith inner (callsBy (fileAt n (now body)) c (transitionAt n (now body) (start + k))) (transitionAt n (now body) (start + k))))) at (now out) ⌝ }
-    ensures { λ r. ⌜ Puts (inTurn count (λ k. transitionBytes (calledWith inner (callsBy (fileAt n (now (body .entry))) c (transitionAt n (now (body .entry)) (start + k))) (transitionAt n (now (body .entry)) (start + k))))) at (now (out .entry)) (now (out .exit)) r ⌝ }
+    requires { ⌜ Checked n (now body) × CallsIn (fileAt n (now body)) (now calls) × (start + count ≤ n .transitions)
+        × Room (inTurn count
+        (λ k. transitionBytes (calledWith inner (callsBy (fileAt n (now body)) c (transitionAt n (now body) (start + k)))
+        (transitionAt n (now body) (start + k))))) at (now out) ⌝ }
+    ensures { λ r. ⌜ Puts (inTurn count
+        (λ k. transitionBytes (calledWith inner (callsBy (fileAt n (now (body .entry))) c (transitionAt n (now (body .entry)) (start + k)))
+        (transitionAt n (now (body .entry)) (start + k)))))
+        at (now (out .entry)) (now (out .exit)) r ⌝ }
 {
     let mut p = at;
     let mut k: usize = 0;
@@ -159,8 +167,10 @@ fn chart(
     out: &mut [u8],
     at: usize,
 ) -> usize
-    requires { ⌜ Checked n (now body) × CallsIn (fileAt n (now body)) (now calls) × Takes (fileAt n (now body)) c inner × Stands n (now body) c h start × Room (transitionsBytes (rewrittenChart (fileAt n (now body)) c .transitions)) at (now out) ⌝ }
-    ensures { λ r. ⌜ Puts (transitionsBytes (rewrittenChart (fileAt n (now (body .entry))) c .transitions)) at (now (out .entry)) (now (out .exit)) r ⌝ }
+    requires { ⌜ Checked n (now body) × CallsIn (fileAt n (now body)) (now calls) × Takes (fileAt n (now body)) c inner
+        × Stands n (now body) c h start × Room (transitionsBytes (rewrittenChart (fileAt n (now body)) c .transitions)) at (now out) ⌝ }
+    ensures { λ r. ⌜ Puts (transitionsBytes (rewrittenChart (fileAt n (now (body .entry))) c .transitions))
+        at (now (out .entry)) (now (out .exit)) r ⌝ }
 {
     let idle = crate::room::idle_count(inner, h.states as usize);
     let p = own(
@@ -186,8 +196,10 @@ fn transitions(
     out: &mut [u8],
     at: usize,
 ) -> usize
-    requires { ⌜ Checked n (now body) × CallsIn (fileAt n (now body)) (now calls) × InnerIn (fileAt n (now body)) (now inner) × Room (inTurn (n .charts) (λ c. transitionsBytes (rewrittenChart (fileAt n (now body)) c .transitions))) at (now out) ⌝ }
-    ensures { λ r. ⌜ Puts (inTurn (n .charts) (λ c. transitionsBytes (rewrittenChart (fileAt n (now (body .entry))) c .transitions))) at (now (out .entry)) (now (out .exit)) r ⌝ }
+    requires { ⌜ Checked n (now body) × CallsIn (fileAt n (now body)) (now calls) × InnerIn (fileAt n (now body)) (now inner)
+        × Room (inTurn (n .charts) (λ c. transitionsBytes (rewrittenChart (fileAt n (now body)) c .transitions))) at (now out) ⌝ }
+    ensures { λ r. ⌜ Puts (inTurn (n .charts) (λ c. transitionsBytes (rewrittenChart (fileAt n (now (body .entry))) c .transitions)))
+        at (now (out .entry)) (now (out .exit)) r ⌝ }
 {
     let charts = n.charts;
     let mut p = at;
@@ -239,7 +251,8 @@ fn parts(
     out: &mut [u8],
     at: usize,
 ) -> usize
-    requires { ⌜ Checked n (now body) × NamesIn (fileAt n (now body)) (now names) × (first ≤ mostNodes) × Room (inTurn (n .slaves) (partBytes (fileAt n (now body)) c first x)) at (now out) ⌝ }
+    requires { ⌜ Checked n (now body) × NamesIn (fileAt n (now body)) (now names) × (first ≤ mostNodes)
+        × Room (inTurn (n .slaves) (partBytes (fileAt n (now body)) c first x)) at (now out) ⌝ }
     ensures { λ r. ⌜ Puts (inTurn (n .slaves) (partBytes (fileAt n (now (body .entry))) c first x)) at (now (out .entry)) (now (out .exit)) r ⌝ }
 {
     let slaves = n.slaves;
@@ -277,7 +290,8 @@ fn master(
     out: &mut [u8],
     at: usize,
 ) -> usize
-    requires { ⌜ Checked n (now body) × CallsIn (fileAt n (now body)) (now calls) × NamesIn (fileAt n (now body)) (now names) × Master (fileAt n (now body)) c slaves first × Room (masterBytes (fileAt n (now body)) c first slaves) at (now out) ⌝ }
+    requires { ⌜ Checked n (now body) × CallsIn (fileAt n (now body)) (now calls) × NamesIn (fileAt n (now body)) (now names)
+        × Master (fileAt n (now body)) c slaves first × Room (masterBytes (fileAt n (now body)) c first slaves) at (now out) ⌝ }
     ensures { λ r. ⌜ Puts (masterBytes (fileAt n (now (body .entry))) c first slaves) at (now (out .entry)) (now (out .exit)) r ⌝ }
 {
     let hidden = calls_of(n, body, calls, c);
@@ -312,8 +326,11 @@ fn holder(
     out: &mut [u8],
     at: usize,
 ) -> usize
-    requires { ⌜ Checked n (now body) × CallsIn (fileAt n (now body)) (now calls) × NamesIn (fileAt n (now body)) (now names) × Holder (fileAt n (now body)) c first × Room (heldBytes (fileAt n (now body)) c first (count (fileAt n (now body)) c (n .slaves))) at (now out) ⌝ }
-    ensures { λ r. ⌜ Puts (heldBytes (fileAt n (now (body .entry))) c first (count (fileAt n (now (body .entry))) c (n .slaves))) at (now (out .entry)) (now (out .exit)) r ⌝ }
+    requires { ⌜ Checked n (now body) × CallsIn (fileAt n (now body)) (now calls) × NamesIn (fileAt n (now body)) (now names)
+        × Holder (fileAt n (now body)) c first
+        × Room (heldBytes (fileAt n (now body)) c first (count (fileAt n (now body)) c (n .slaves))) at (now out) ⌝ }
+    ensures { λ r. ⌜ Puts (heldBytes (fileAt n (now (body .entry))) c first (count (fileAt n (now (body .entry))) c (n .slaves)))
+        at (now (out .entry)) (now (out .exit)) r ⌝ }
 {
     let slaves = crate::room::slaves_of(n, body, c);
     if slaves == 0 {
@@ -340,7 +357,8 @@ fn node(
     out: &mut [u8],
     at: usize,
 ) -> usize
-    requires { ⌜ Checked n (now body) × CallsIn (fileAt n (now body)) (now calls) × NamesIn (fileAt n (now body)) (now names) × Begins (fileAt n (now body)) j first × Room (nodesBytes (madeFor (fileAt n (now body)) j)) at (now out) ⌝ }
+    requires { ⌜ Checked n (now body) × CallsIn (fileAt n (now body)) (now calls) × NamesIn (fileAt n (now body)) (now names)
+        × Begins (fileAt n (now body)) j first × Room (nodesBytes (madeFor (fileAt n (now body)) j)) at (now out) ⌝ }
     ensures { λ r. ⌜ Puts (nodesBytes (madeFor (fileAt n (now (body .entry))) j)) at (now (out .entry)) (now (out .exit)) r ⌝ }
 {
     let r = layout::body::node_at(n, body, j);
@@ -379,8 +397,10 @@ fn nodes(
     out: &mut [u8],
     at: usize,
 ) -> usize
-    requires { ⌜ Checked n (now body) × CallsIn (fileAt n (now body)) (now calls) × NamesIn (fileAt n (now body)) (now names) × Fits (fileAt n (now body)) × Room (inTurn (n .nodes) (λ j. nodesBytes (madeFor (fileAt n (now body)) j))) at (now out) ⌝ }
-    ensures { λ r. ⌜ Puts (inTurn (n .nodes) (λ j. nodesBytes (madeFor (fileAt n (now (body .entry))) j))) at (now (out .entry)) (now (out .exit)) r ⌝ }
+    requires { ⌜ Checked n (now body) × CallsIn (fileAt n (now body)) (now calls) × NamesIn (fileAt n (now body)) (now names)
+        × Fits (fileAt n (now body)) × Room (inTurn (n .nodes) (λ j. nodesBytes (madeFor (fileAt n (now body)) j))) at (now out) ⌝ }
+    ensures { λ r. ⌜ Puts (inTurn (n .nodes) (λ j. nodesBytes (madeFor (fileAt n (now (body .entry))) j)))
+        at (now (out .entry)) (now (out .exit)) r ⌝ }
 {
     let nodes = n.nodes;
     let mut p = at;
@@ -420,7 +440,9 @@ pub fn lay(
     edition: u8,
     out: &mut [u8],
 )
-    requires { ⌜ Checked n (now body) × CallsIn (fileAt n (now body)) (now calls) × InnerIn (fileAt n (now body)) (now inner) × Fits (fileAt n (now body)) × (m ≡ shapeIn (rewrite (fileAt n (now body)))) × (edition ≡ theEdition) × (length (encode (rewrite (fileAt n (now body)))) ≤ length (now out)) ⌝ }
+    requires { ⌜ Checked n (now body) × CallsIn (fileAt n (now body)) (now calls) × InnerIn (fileAt n (now body)) (now inner)
+        × Fits (fileAt n (now body)) × (m ≡ shapeIn (rewrite (fileAt n (now body)))) × (edition ≡ theEdition)
+        × (length (encode (rewrite (fileAt n (now body)))) ≤ length (now out)) ⌝ }
     ensures { λ _. ⌜ now (out .exit) ≡ laidOver (encode (rewrite (fileAt n (now (body .entry))))) (now (out .entry)) ⌝ }
 {
     let names = names(n, body);

@@ -39,7 +39,8 @@ fn leaving(n: Shape, body: &[u8], start: usize, count: usize, s: u8) -> usize
 // A state of a chart would have over `most` transitions out: own ones, which begin at `start`, and `idle` more.
 fn over_from_states(n: Shape, body: &[u8], start: usize, h: Head, idle: usize, most: usize) -> bool
     requires { ⌜ Holds n (now body) × (start + h .transitions ≤ n .transitions) × (idle ≤ 1) ⌝ }
-    ensures { λ r. ⌜ r ≡ anyUpTo (h .states) (λ s. ltb most (leavingIn (from (transitionAt n (now (body .entry))) start (h .transitions)) s + idle)) ⌝ }
+    ensures { λ r. ⌜ r
+        ≡ anyUpTo (h .states) (λ s. ltb most (leavingIn (from (transitionAt n (now (body .entry))) start (h .transitions)) s + idle)) ⌝ }
 {
     let states = h.states;
     let count = h.transitions as usize;
@@ -56,7 +57,8 @@ fn over_from_states(n: Shape, body: &[u8], start: usize, h: Head, idle: usize, m
 // A state would have over `most` transitions out.
 pub fn over_from(n: Shape, body: &[u8], inner: &[u64; 8], most: usize) -> bool
     requires { ⌜ Checked n (now body) × InnerIn (fileAt n (now body)) (now inner) ⌝ }
-    ensures { λ r. ⌜ r ≡ anyUpTo (n .charts) (λ c. anyUpTo (rewrite (fileAt n (now (body .entry))) .chart c .states) (λ s. ltb most (leavingIn (rewrite (fileAt n (now (body .entry))) .chart c .transitions) s))) ⌝ }
+    ensures { λ r. ⌜ r ≡ anyUpTo (n .charts) (λ c. anyUpTo (rewrite (fileAt n (now (body .entry))) .chart c .states)
+        (λ s. ltb most (leavingIn (rewrite (fileAt n (now (body .entry))) .chart c .transitions) s))) ⌝ }
 {
     let charts = n.charts;
     let mut start: usize = 0;

@@ -136,7 +136,8 @@ eq-beq true = refl
 eq-beq false = refl
 
 agrees-of : (ρ : List ℕ) (n : ℕ) (h : Claim) → Says ρ h → agrees (row ρ n) h ≡ true
-agrees-of ρ n (a ≐ b) e = ap (λ (x : Bool). Bool·beq x (holds (row ρ n) b)) (sym (bit-value ρ n a) ∙ ap (λ (x : ℕ). bit x n) e ∙ bit-value ρ n b) ∙ eq-beq (holds (row ρ n) b)
+agrees-of ρ n (a ≐ b) e = ap (λ (x : Bool). Bool·beq x (holds (row ρ n) b)) (sym (bit-value ρ n a) ∙ ap (λ (x : ℕ). bit x n) e ∙ bit-value ρ n b)
+    ∙ eq-beq (holds (row ρ n) b)
 
 pass : (a b : Bool) → a ≡ true → T (not a || b) → T b
 pass a b e t = rw e at t

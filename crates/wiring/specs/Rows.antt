@@ -21,7 +21,8 @@ unfolding up
 up-whole d nil e = sets (own d e ∷ []) [] (A ≐ A ∪ₑ ∅ₑ) tt
 up-whole d (snoc ss i t) e = refl
 
-back-whole : (E : ℕ → Chart) (d : ℕ) (ss : Slaves) (c e : ℕ) → back E (whole d ss) c e ≡ backs E ss c e ∪ (own d c ∪ downs ss c) ∩ (own d e ∪ ups ss e) ∩ E d .feedback
+back-whole : (E : ℕ → Chart) (d : ℕ) (ss : Slaves) (c e : ℕ)
+    → back E (whole d ss) c e ≡ backs E ss c e ∪ (own d c ∪ downs ss c) ∩ (own d e ∪ ups ss e) ∩ E d .feedback
 unfolding down up back
 back-whole E d nil c e = sets (own d c ∷ own d e ∷ E d .feedback ∷ []) [] (A ∩ₑ B ∩ₑ C ≐ ∅ₑ ∪ₑ (A ∪ₑ ∅ₑ) ∩ₑ (B ∪ₑ ∅ₑ) ∩ₑ C) tt
 back-whole E d (snoc ss i t) c e = refl
@@ -38,7 +39,8 @@ module _ (F : File) (w : Ordered F) where
   up₀ j c l e = rw (tree₀ F w j l e) (up-whole (F .a j) _ c)
 
   pub back₀ : (j c e : ℕ) → j < F .nodes → F .kind j ≡ 0
-      → back (F .chart) (treeOf F j) c e ≡ backs (F .chart) (some-of (F .a j) (F .slaves)) c e ∪ down (treeOf F j) c ∩ up (treeOf F j) e ∩ F .chart (F .a j) .feedback
+      → back (F .chart) (treeOf F j) c e ≡ backs (F .chart) (some-of (F .a j) (F .slaves)) c e
+      ∪ down (treeOf F j) c ∩ up (treeOf F j) e ∩ F .chart (F .a j) .feedback
   back₀ j c e l k = rw (down₀ j c l k, up₀ j e l k, tree₀ F w j l k) (back-whole (F .chart) (F .a j) _ c e)
 
   pub down₁ : (j c : ℕ) → j < F .nodes → F .kind j ≡ 1 → down (treeOf F j) c ≡ down (treeOf F (F .a j)) c ∪ down (treeOf F (F .b j)) c

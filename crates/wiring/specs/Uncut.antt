@@ -59,16 +59,20 @@ okC-cut F true o s (some t) I w = ap₂ (λ p q. same (t .from) s && (eqb p 0 &&
 
 module _ (E : ℕ → Chart) (state : ℕ → ℕ) (cfg : ℕ → ℕ) (M : ℕ → Move) (own : (c : ℕ) → Within (inFaceChart (E c)) (M c)) where
   -- what is offered counts only up to the interface
-  via : (t : Tree) (a : Bool) (o p : Set) → okU E state cfg M t a (o ∩ inFace E t) ≡ okU E state cfg M t a o → okU E state cfg M t a (p ∩ inFace E t) ≡ okU E state cfg M t a p
+  via : (t : Tree) (a : Bool) (o p : Set) → okU E state cfg M t a (o ∩ inFace E t) ≡ okU E state cfg M t a o
+      → okU E state cfg M t a (p ∩ inFace E t) ≡ okU E state cfg M t a p
       → o ∩ inFace E t ≡ p ∩ inFace E t → okU E state cfg M t a o ≡ okU E state cfg M t a p
   via t a o p h k e = sym h ∙ ap (okU E state cfg M t a) e ∙ k
 
-  vias : (ss : Slaves) (f : ℕ → Bool) (o p : Set) → oksU E state cfg M ss f (o ∩ inFaces E ss) ≡ oksU E state cfg M ss f o → oksU E state cfg M ss f (p ∩ inFaces E ss) ≡ oksU E state cfg M ss f p
+  vias : (ss : Slaves) (f : ℕ → Bool) (o p : Set) → oksU E state cfg M ss f (o ∩ inFaces E ss) ≡ oksU E state cfg M ss f o
+      → oksU E state cfg M ss f (p ∩ inFaces E ss) ≡ oksU E state cfg M ss f p
       → o ∩ inFaces E ss ≡ p ∩ inFaces E ss → oksU E state cfg M ss f o ≡ oksU E state cfg M ss f p
   vias ss f o p h k e = sym h ∙ ap (oksU E state cfg M ss f) e ∙ k
 
-  viac : (c : ℕ) (a : Bool) (o p : Set) → o ∩ inFaceChart (E c) ≡ p ∩ inFaceChart (E c) → okChart (E c .feedback) a o (cfg c) (M c) ≡ okChart (E c .feedback) a p (cfg c) (M c)
-  viac c a o p e = sym (okC-cut (E c .feedback) a o (cfg c) (M c) (inFaceChart (E c)) (own c)) ∙ ap (λ z. okChart (E c .feedback) a z (cfg c) (M c)) e ∙ okC-cut (E c .feedback) a p (cfg c) (M c) (inFaceChart (E c)) (own c)
+  viac : (c : ℕ) (a : Bool) (o p : Set) → o ∩ inFaceChart (E c) ≡ p ∩ inFaceChart (E c)
+      → okChart (E c .feedback) a o (cfg c) (M c) ≡ okChart (E c .feedback) a p (cfg c) (M c)
+  viac c a o p e = sym (okC-cut (E c .feedback) a o (cfg c) (M c) (inFaceChart (E c)) (own c)) ∙ ap (λ z. okChart (E c .feedback) a z (cfg c) (M c)) e
+      ∙ okC-cut (E c .feedback) a p (cfg c) (M c) (inFaceChart (E c)) (own c)
 
   mutual
     unfolding okU inFace
@@ -76,14 +80,18 @@ module _ (E : ℕ → Chart) (state : ℕ → ℕ) (cfg : ℕ → ℕ) (M : ℕ 
     cut : (t : Tree) (a : Bool) (o : Set) → okU E state cfg M t a (o ∩ inFace E t) ≡ okU E state cfg M t a o
     cut (leaf c) a o = okC-cut (E c .feedback) a o (cfg c) (M c) (inFaceChart (E c)) (own c)
     cut (comp l r x) a o = ap₂ _&&_
-        (via l a (o ∩ (inFace E l ∪ inFace E r) ∪ w) (o ∪ w) (cut l a (o ∩ (inFace E l ∪ inFace E r) ∪ w)) (cut l a (o ∪ w)) (cut-left o w (inFace E l) (inFace E r)))
-        (via r a (o ∩ (inFace E l ∪ inFace E r) ∪ w) (o ∪ w) (cut r a (o ∩ (inFace E l ∪ inFace E r) ∪ w)) (cut r a (o ∪ w)) (cut-right o w (inFace E l) (inFace E r)))
+        (via l a (o ∩ (inFace E l ∪ inFace E r) ∪ w) (o ∪ w) (cut l a (o ∩ (inFace E l ∪ inFace E r) ∪ w)) (cut l a (o ∪ w))
+        (cut-left o w (inFace E l) (inFace E r)))
+        (via r a (o ∩ (inFace E l ∪ inFace E r) ∪ w) (o ∪ w) (cut r a (o ∩ (inFace E l ∪ inFace E r) ∪ w)) (cut r a (o ∪ w))
+        (cut-right o w (inFace E l) (inFace E r)))
       where
         w : Set
         w = (out M l ∪ out M r) ∩ x
-    cut (hide l x y) a o = via l a ((o ∩ (inFace E l ∖ x)) ∖ x) (o ∖ x) (cut l a ((o ∩ (inFace E l ∖ x)) ∖ x)) (cut l a (o ∖ x)) (cut-less o (inFace E l) x)
+    cut (hide l x y) a o = via l a ((o ∩ (inFace E l ∖ x)) ∖ x) (o ∖ x) (cut l a ((o ∩ (inFace E l ∖ x)) ∖ x)) (cut l a (o ∖ x))
+        (cut-less o (inFace E l) x)
     cut (dec c ss) a o = ap₂ _&&_ (viac c a (o ∩ (inFaceChart (E c) ∪ inFaces E ss) ∪ w) (o ∪ w) (cut-left o w (inFaceChart (E c)) (inFaces E ss)))
-        (vias ss f (o ∩ (inFaceChart (E c) ∪ inFaces E ss) ∪ w) (o ∪ w) (cuts ss f (o ∩ (inFaceChart (E c) ∪ inFaces E ss) ∪ w)) (cuts ss f (o ∪ w)) (cut-right o w (inFaceChart (E c)) (inFaces E ss)))
+        (vias ss f (o ∩ (inFaceChart (E c) ∪ inFaces E ss) ∪ w) (o ∪ w) (cuts ss f (o ∩ (inFaceChart (E c) ∪ inFaces E ss) ∪ w)) (cuts ss f (o ∪ w))
+        (cut-right o w (inFaceChart (E c)) (inFaces E ss)))
       where
         w : Set
         w = (actionOf (M c) ∪ outs M ss) ∩ E c .feedback
@@ -94,8 +102,10 @@ module _ (E : ℕ → Chart) (state : ℕ → ℕ) (cfg : ℕ → ℕ) (M : ℕ 
     cuts : (ss : Slaves) (f : ℕ → Bool) (z : Set) → oksU E state cfg M ss f (z ∩ inFaces E ss) ≡ oksU E state cfg M ss f z
     cuts nil f z = refl
     cuts (snoc ss i t) f z = ap₂ _&&_
-        (vias ss f (z ∩ (inFaces E ss ∪ inFace E t)) z (cuts ss f (z ∩ (inFaces E ss ∪ inFace E t))) (cuts ss f z) (cut-fst z (inFaces E ss) (inFace E t)))
-        (via t (f (state i)) (z ∩ (inFaces E ss ∪ inFace E t)) z (cut t (f (state i)) (z ∩ (inFaces E ss ∪ inFace E t))) (cut t (f (state i)) z) (cut-snd z (inFaces E ss) (inFace E t)))
+        (vias ss f (z ∩ (inFaces E ss ∪ inFace E t)) z (cuts ss f (z ∩ (inFaces E ss ∪ inFace E t))) (cuts ss f z)
+        (cut-fst z (inFaces E ss) (inFace E t)))
+        (via t (f (state i)) (z ∩ (inFaces E ss ∪ inFace E t)) z (cut t (f (state i)) (z ∩ (inFaces E ss ∪ inFace E t))) (cut t (f (state i)) z)
+        (cut-snd z (inFaces E ss) (inFace E t)))
 
   mutual
     unfolding ok okU
@@ -107,7 +117,8 @@ module _ (E : ℕ → Chart) (state : ℕ → ℕ) (cfg : ℕ → ℕ) (M : ℕ 
         z : Set
         z = o ∪ ((out M l ∪ out M r) ∩ x)
     no-cut (hide l x y) a o = no-cut l a (o ∖ x)
-    no-cut (dec c ss) a o = ap₂ _&&_ (okC-cut (E c .feedback) a z (cfg c) (M c) (inFaceChart (E c)) (own c)) (no-cuts ss (λ q. a && meets (cfg c) (M c) q) z)
+    no-cut (dec c ss) a o = ap₂ _&&_ (okC-cut (E c .feedback) a z (cfg c) (M c) (inFaceChart (E c)) (own c))
+        (no-cuts ss (λ q. a && meets (cfg c) (M c) q) z)
       where
         z : Set
         z = o ∪ ((actionOf (M c) ∪ outs M ss) ∩ E c .feedback)

@@ -142,7 +142,8 @@ none-cut : {a : Set} (y x : Set) → a ≡ ∅ → a ∩ y ∩ x ≡ ∅
 none-cut {a} y x = sets (a ∷ y ∷ x ∷ []) (A ≐ ∅ₑ ∷ []) (A ∩ₑ B ∩ₑ C ≐ ∅ₑ) tt
 
 -- ── joins ──
-join-feed : (N : ℕ) (act b y : ℕ → Set) (a x : Set) → join N (λ e. act e ∩ (b e ∪ a ∩ y e ∩ x)) ≡ join N (λ e. act e ∩ b e) ∪ join N (λ e. act e ∩ y e) ∩ x ∩ a
+join-feed : (N : ℕ) (act b y : ℕ → Set) (a x : Set)
+    → join N (λ e. act e ∩ (b e ∪ a ∩ y e ∩ x)) ≡ join N (λ e. act e ∩ b e) ∪ join N (λ e. act e ∩ y e) ∩ x ∩ a
 unfolding join
 join-feed zero act b y a x = sets (a ∷ x ∷ []) [] (∅ₑ ≐ ∅ₑ ∪ₑ ∅ₑ ∩ₑ B ∩ₑ A) tt
 join-feed (suc k) act b y a x = ap (λ j. j ∪ act k ∩ (b k ∪ a ∩ y k ∩ x)) (join-feed k act b y a x)
@@ -153,7 +154,8 @@ join-or : (N : ℕ) (act y z : ℕ → Set) → join N (λ e. act e ∩ (y e ∪
 unfolding join
 join-or zero act y z = sets [] [] (∅ₑ ≐ ∅ₑ ∪ₑ ∅ₑ) tt
 join-or (suc k) act y z = ap (λ j. j ∪ act k ∩ (y k ∪ z k)) (join-or k act y z)
-    ∙ sets (join k (λ e. act e ∩ y e) ∷ join k (λ e. act e ∩ z e) ∷ act k ∷ y k ∷ z k ∷ []) [] (A ∪ₑ B ∪ₑ C ∩ₑ (D ∪ₑ Eₑ) ≐ A ∪ₑ C ∩ₑ D ∪ₑ (B ∪ₑ C ∩ₑ Eₑ)) tt
+    ∙ sets (join k (λ e. act e ∩ y e) ∷ join k (λ e. act e ∩ z e) ∷ act k ∷ y k ∷ z k ∷ []) []
+    (A ∪ₑ B ∪ₑ C ∩ₑ (D ∪ₑ Eₑ) ≐ A ∪ₑ C ∩ₑ D ∪ₑ (B ∪ₑ C ∩ₑ Eₑ)) tt
 
 join-less : (N : ℕ) (act y : ℕ → Set) (x : Set) → join N (λ e. act e ∩ (y e ∖ x)) ≡ join N (λ e. act e ∩ y e) ∖ x
 unfolding join
@@ -164,7 +166,9 @@ join-less (suc k) act y x = ap (λ j. j ∪ act k ∩ (y k ∖ x)) (join-less k 
 join-none : (N : ℕ) (act y : ℕ → Set) → ((e : ℕ) → e < N → y e ≡ ∅) → join N (λ e. act e ∩ y e) ≡ ∅
 unfolding join
 join-none zero act y h = refl
-join-none (suc k) act y h = sets (join k (λ e. act e ∩ y e) ∷ act k ∷ y k ∷ []) (A ≐ ∅ₑ ∷ C ≐ ∅ₑ ∷ []) (A ∪ₑ B ∩ₑ C ≐ ∅ₑ) tt (join-none k act y (λ e l. h e (omega arith))) (h k (omega arith))
+join-none (suc k) act y h =
+    sets (join k (λ e. act e ∩ y e) ∷ act k ∷ y k ∷ []) (A ≐ ∅ₑ ∷ C ≐ ∅ₑ ∷ []) (A ∪ₑ B ∩ₑ C ≐ ∅ₑ) tt (join-none k act y (λ e l. h e (omega arith)))
+    (h k (omega arith))
 
 join-own : (N : ℕ) (act : ℕ → Set) (d : ℕ) → Small (act d) → d < N → join N (λ e. act e ∩ own d e) ≡ act d
 unfolding join
@@ -176,12 +180,15 @@ join-own (suc k) act d s l = go (same k d) refl (λ m. join-own k act d s m)
         sets (join k (λ e. act e ∩ own d e) ∷ act k ∷ own d k ∷ full ∷ act d ∷ []) (A ≐ ∅ₑ ∷ C ≐ D ∷ B ≐ Eₑ ∷ Eₑ ∩ₑ D ≐ Eₑ ∷ []) (A ∪ₑ B ∩ₑ C ≐ Eₑ) tt
         (join-none k act (own d) (λ e l. own-off d e (same-≢ e d (λ z. omega arith)))) (ap (own d) q ∙ own-on d) (ap act q) s
     go false p rec = let z : k ≢ d = same→≢ k d p in
-        sets (join k (λ e. act e ∩ own d e) ∷ act k ∷ own d k ∷ act d ∷ []) (A ≐ D ∷ C ≐ ∅ₑ ∷ []) (A ∪ₑ B ∩ₑ C ≐ D) tt (rec (omega arith)) (own-off d k p)
+        sets (join k (λ e. act e ∩ own d e) ∷ act k ∷ own d k ∷ act d ∷ []) (A ≐ D ∷ C ≐ ∅ₑ ∷ []) (A ∪ₑ B ∩ₑ C ≐ D) tt (rec (omega arith))
+        (own-off d k p)
 
 join-small : (N : ℕ) (act y : ℕ → Set) → ((e : ℕ) → Small (act e)) → Small (join N (λ e. act e ∩ y e))
 unfolding join
 join-small zero act y h = sets (full ∷ []) [] (∅ₑ ∩ₑ A ≐ ∅ₑ) tt
-join-small (suc k) act y h = sets (join k (λ e. act e ∩ y e) ∷ act k ∷ y k ∷ full ∷ []) (A ∩ₑ D ≐ A ∷ B ∩ₑ D ≐ B ∷ []) ((A ∪ₑ B ∩ₑ C) ∩ₑ D ≐ A ∪ₑ B ∩ₑ C) tt (join-small k act y h) (h k)
+join-small (suc k) act y h =
+    sets (join k (λ e. act e ∩ y e) ∷ act k ∷ y k ∷ full ∷ []) (A ∩ₑ D ≐ A ∷ B ∩ₑ D ≐ B ∷ []) ((A ∪ₑ B ∩ₑ C) ∩ₑ D ≐ A ∪ₑ B ∩ₑ C) tt
+    (join-small k act y h) (h k)
 
 -- feedback of x, from rows: a chart is offered what its part is, with the feedback joined
 feed : (N : ℕ) (act b y : ℕ → Set) (z a x : Set) → offered N act z a (λ e. b e ∪ a ∩ y e ∩ x) ≡ offered N act (z ∪ join N (λ e. act e ∩ y e) ∩ x) a b
@@ -216,7 +223,8 @@ module _ (E : ℕ → Chart) where
     back-off (comp l r x) c h e = none-or (none-or (back-off l c (or-left (Has l c) (Has r c) h) e) (back-off r c (or-right (Has l c) (Has r c) h) e))
         (none-cut (up l e ∪ up r e) x (down-off (comp l r x) c h))
     back-off (hide l x y) c h e = back-off l c h e
-    back-off (dec d ss) c h e = none-or (backs-off ss c (or-right (same c d) (HasS ss c) h) e) (none-cut (own d e ∪ ups ss e) (E d .feedback) (down-off (dec d ss) c h))
+    back-off (dec d ss) c h e =
+        none-or (backs-off ss c (or-right (same c d) (HasS ss c) h) e) (none-cut (own d e ∪ ups ss e) (E d .feedback) (down-off (dec d ss) c h))
 
     backs-off : (ss : Slaves) (c : ℕ) → HasS ss c ≡ false → (e : ℕ) → backs E ss c e ≡ ∅
     backs-off nil c h e = refl
@@ -228,13 +236,16 @@ mutual
 
   each-cong : (t : Tree) (f g : ℕ → Bool) → ((c : ℕ) → Has t c ≡ true → f c ≡ g c) → each t f ≡ each t g
   each-cong (leaf d) f g h = h d (same-refl d)
-  each-cong (comp l r x) f g h = ap₂ _&&_ (each-cong l f g (λ c k. h c (or-l (Has l c) (Has r c) k))) (each-cong r f g (λ c k. h c (or-r (Has l c) (Has r c) k)))
+  each-cong (comp l r x) f g h =
+      ap₂ _&&_ (each-cong l f g (λ c k. h c (or-l (Has l c) (Has r c) k))) (each-cong r f g (λ c k. h c (or-r (Has l c) (Has r c) k)))
   each-cong (hide l x y) f g h = each-cong l f g h
-  each-cong (dec d ss) f g h = ap₂ _&&_ (h d (or-l (same d d) (HasS ss d) (same-refl d))) (eachs-cong ss f g (λ c k. h c (or-r (same c d) (HasS ss c) k)))
+  each-cong (dec d ss) f g h =
+      ap₂ _&&_ (h d (or-l (same d d) (HasS ss d) (same-refl d))) (eachs-cong ss f g (λ c k. h c (or-r (same c d) (HasS ss c) k)))
 
   eachs-cong : (ss : Slaves) (f g : ℕ → Bool) → ((c : ℕ) → HasS ss c ≡ true → f c ≡ g c) → eachs ss f ≡ eachs ss g
   eachs-cong nil f g h = refl
-  eachs-cong (snoc ss i t) f g h = ap₂ _&&_ (eachs-cong ss f g (λ c k. h c (or-r (Has t c) (HasS ss c) k))) (each-cong t f g (λ c k. h c (or-l (Has t c) (HasS ss c) k)))
+  eachs-cong (snoc ss i t) f g h =
+      ap₂ _&&_ (eachs-cong ss f g (λ c k. h c (or-r (Has t c) (HasS ss c) k))) (each-cong t f g (λ c k. h c (or-l (Has t c) (HasS ss c) k)))
 
 -- ── the output ──
 module _ (N : ℕ) (M : ℕ → Move) (small : (e : ℕ) → Small (actionOf (M e))) where
@@ -277,13 +288,16 @@ module _ (N : ℕ) (act : ℕ → Set) where
 
   alone : (d : ℕ) (z a : Set) (b : ℕ → Set) → Small z → a ≡ ∅ → ((e : ℕ) → b e ≡ ∅) → offered N act z (own d d ∪ a) b ≡ z
   unfolding offered
-  alone d z a b s p h = sets (z ∷ own d d ∷ a ∷ full ∷ join N (λ e. act e ∩ b e) ∷ []) (B ≐ D ∷ C ≐ ∅ₑ ∷ A ∩ₑ D ≐ A ∷ Eₑ ≐ ∅ₑ ∷ []) (A ∩ₑ (B ∪ₑ C) ∪ₑ Eₑ ≐ A) tt
+  alone d z a b s p h = sets (z ∷ own d d ∷ a ∷ full ∷ join N (λ e. act e ∩ b e) ∷ []) (B ≐ D ∷ C ≐ ∅ₑ ∷ A ∩ₑ D ≐ A ∷ Eₑ ≐ ∅ₑ ∷ [])
+      (A ∩ₑ (B ∪ₑ C) ∪ₑ Eₑ ≐ A) tt
       (own-on d) p s (join-none N act b (λ e l. h e))
 
   leaf-part : (d : ℕ) (z x : Set) → Small z → Small (act d) → d < N → offered N act z (own d d) (λ e. own d d ∩ own d e ∩ x) ≡ z ∪ act d ∩ x
-  leaf-part d z x s t l = ap₂ (offered N act z) (sym (or-∅ (own d d) ∅ refl)) (fun-ext (λ e. sym (∅-or ∅ (own d d ∩ own d e ∩ x) refl) ∙ ap (λ a. ∅ ∪ a ∩ own d e ∩ x) (sym (or-∅ (own d d) ∅ refl))))
+  leaf-part d z x s t l = ap₂ (offered N act z) (sym (or-∅ (own d d) ∅ refl))
+      (fun-ext (λ e. sym (∅-or ∅ (own d d ∩ own d e ∩ x) refl) ∙ ap (λ a. ∅ ∪ a ∩ own d e ∩ x) (sym (or-∅ (own d d) ∅ refl))))
       ∙ feed N act (λ e. ∅) (own d) z (own d d ∪ ∅) x ∙ ap (λ w. offered N act (z ∪ w ∩ x) (own d d ∪ ∅) (λ e. ∅)) (join-own N act d t l)
-      ∙ alone d (z ∪ act d ∩ x) ∅ (λ e. ∅) (sets (z ∷ act d ∷ x ∷ full ∷ []) (A ∩ₑ D ≐ A ∷ B ∩ₑ D ≐ B ∷ []) ((A ∪ₑ B ∩ₑ C) ∩ₑ D ≐ A ∪ₑ B ∩ₑ C) tt s t) refl (λ e. refl)
+      ∙ alone d (z ∪ act d ∩ x) ∅ (λ e. ∅) (sets (z ∷ act d ∷ x ∷ full ∷ []) (A ∩ₑ D ≐ A ∷ B ∩ₑ D ≐ B ∷ [])
+      ((A ∪ₑ B ∩ₑ C) ∩ₑ D ≐ A ∪ₑ B ∩ₑ C) tt s t) refl (λ e. refl)
 
   filtered : (z a x : Set) (b : ℕ → Set) → offered N act z (a ∖ x) b ≡ offered N act (z ∖ x) a b
   unfolding offered
@@ -313,35 +327,45 @@ module _ (E : ℕ → Chart) (state : ℕ → ℕ) (cfg : ℕ → ℕ) (M : ℕ 
     wired (leaf d) κ a z sm h k e = okC-fits (E d .feedback) a z (cfg d) (M d) ∙ ap₂ (λ b o. fits b o (cfg d) (M d))
         (e ∙ ap (awakeBy sc state cfg M act) (sym k) ∙ sym (awake d h)) (sym (leaf-part N (λ e. actionOf (M e)) d z (E d .feedback) sm (small d) h))
     wired (comp l r x) κ a z sm h k e = ap₂ _&&_
-        (wired l κ a z′ sm′ (h .0) (k .0) e ∙ sym (each-cong l (ruleAt z (down (comp l r x)) (back E (comp l r x))) (ruleAt z′ (down l) (back E l)) (λ c m. ap-fits c _ _
-        (fed c ∙ fst-part N (λ e. actionOf (M e)) z′ (down l c) (down r c) (back E l c) (back E r c) (down-off r c (and-second (Has l c) (Has r c) (h .2 c) m)) (back-off E r c (and-second (Has l c) (Has r c) (h .2 c) m))))))
-        (wired r κ a z′ sm′ (h .1) (k .1) e ∙ sym (each-cong r (ruleAt z (down (comp l r x)) (back E (comp l r x))) (ruleAt z′ (down r) (back E r)) (λ c m. ap-fits c _ _
-        (fed c ∙ snd-part N (λ e. actionOf (M e)) z′ (down l c) (down r c) (back E l c) (back E r c) (down-off l c (apart-r (Has l c) (Has r c) (h .2 c) m)) (back-off E l c (apart-r (Has l c) (Has r c) (h .2 c) m))))))
+        (wired l κ a z′ sm′ (h .0) (k .0) e
+        ∙ sym (each-cong l (ruleAt z (down (comp l r x)) (back E (comp l r x))) (ruleAt z′ (down l) (back E l)) (λ c m. ap-fits c _ _
+        (fed c ∙ fst-part N (λ e. actionOf (M e)) z′ (down l c) (down r c) (back E l c) (back E r c)
+        (down-off r c (and-second (Has l c) (Has r c) (h .2 c) m)) (back-off E r c (and-second (Has l c) (Has r c) (h .2 c) m))))))
+        (wired r κ a z′ sm′ (h .1) (k .1) e
+        ∙ sym (each-cong r (ruleAt z (down (comp l r x)) (back E (comp l r x))) (ruleAt z′ (down r) (back E r)) (λ c m. ap-fits c _ _
+        (fed c ∙ snd-part N (λ e. actionOf (M e)) z′ (down l c) (down r c) (back E l c) (back E r c)
+        (down-off l c (apart-r (Has l c) (Has r c) (h .2 c) m)) (back-off E l c (apart-r (Has l c) (Has r c) (h .2 c) m))))))
       where
         z′ : Set
         z′ = z ∪ (out M l ∪ out M r) ∩ x
 
         sm′ : Small z′
-        sm′ = small-fed z (out M l ∪ out M r) x sm (subst Small (sym (out-wired N M small (comp l r x) h)) (join-small N (λ e. actionOf (M e)) (λ e. up l e ∪ up r e) small))
+        sm′ = small-fed z (out M l ∪ out M r) x sm (subst Small (sym (out-wired N M small (comp l r x) h))
+            (join-small N (λ e. actionOf (M e)) (λ e. up l e ∪ up r e) small))
 
-        fed : (c : ℕ) → offered N (λ e. actionOf (M e)) z (down l c ∪ down r c) (λ e. (back E l c e ∪ back E r c e) ∪ (down l c ∪ down r c) ∩ (up l e ∪ up r e) ∩ x)
+        fed : (c : ℕ) → offered N (λ e. actionOf (M e)) z (down l c ∪ down r c)
+            (λ e. (back E l c e ∪ back E r c e) ∪ (down l c ∪ down r c) ∩ (up l e ∪ up r e) ∩ x)
             ≡ offered N (λ e. actionOf (M e)) z′ (down l c ∪ down r c) (λ e. back E l c e ∪ back E r c e)
         fed c = feed N (λ e. actionOf (M e)) (λ e. back E l c e ∪ back E r c e) (λ e. up l e ∪ up r e) z (down l c ∪ down r c) x
-            ∙ ap (λ w. offered N (λ e. actionOf (M e)) (z ∪ w ∩ x) (down l c ∪ down r c) (λ e. back E l c e ∪ back E r c e)) (sym (out-wired N M small (comp l r x) h))
-    wired (hide l x y) κ a z sm h k e = wired l κ a (z ∖ x) (small-less z x sm) h k e ∙ sym (each-cong l (ruleAt z (down (hide l x y)) (back E (hide l x y))) (ruleAt (z ∖ x) (down l) (back E l)) (λ c m. ap-fits c _ _
+            ∙ ap (λ w. offered N (λ e. actionOf (M e)) (z ∪ w ∩ x) (down l c ∪ down r c) (λ e. back E l c e ∪ back E r c e))
+            (sym (out-wired N M small (comp l r x) h))
+    wired (hide l x y) κ a z sm h k e = wired l κ a (z ∖ x) (small-less z x sm) h k e
+        ∙ sym (each-cong l (ruleAt z (down (hide l x y)) (back E (hide l x y))) (ruleAt (z ∖ x) (down l) (back E l)) (λ c m. ap-fits c _ _
         (filtered N (λ e. actionOf (M e)) z (down l c) x (back E l c))))
     wired (dec d ss) κ a z sm h k e = ap₂ _&&_
         (okC-fits (E d .feedback) a z′ (cfg d) (M d) ∙ ap₂ (λ b o. fits b o (cfg d) (M d)) am
         (inside ∙ sym (fed d ∙ alone N (λ e. actionOf (M e)) d z′ (downs ss d) (backs E ss d) sm′ (downs-off ss d (h .2)) (backs-off E ss d (h .2)))))
         (wireds ss d (λ q. a && meets (cfg d) (M d) q) z′ sm′ (h .1) (k .1) (λ q. ap (λ b. b && meets (cfg d) (M d) q) am)
         ∙ sym (eachs-cong ss (ruleAt z (down (dec d ss)) (back E (dec d ss))) (ruleAt z′ (downs ss) (backs E ss)) (λ c m. ap-fits c _ _
-        (fed c ∙ ap (λ s. offered N (λ e. actionOf (M e)) z′ s (backs E ss c)) (∅-or (own d c) (downs ss c) (own-off d c (same-≢ c d (λ q. true≢false (sym m ∙ ap (HasS ss) q ∙ h .2)))))))))
+        (fed c ∙ ap (λ s. offered N (λ e. actionOf (M e)) z′ s (backs E ss c))
+        (∅-or (own d c) (downs ss c) (own-off d c (same-≢ c d (λ q. true≢false (sym m ∙ ap (HasS ss) q ∙ h .2)))))))))
       where
         z′ : Set
         z′ = z ∪ (actionOf (M d) ∪ outs M ss) ∩ E d .feedback
 
         sm′ : Small z′
-        sm′ = small-fed z (actionOf (M d) ∪ outs M ss) (E d .feedback) sm (subst Small (sym (out-wired N M small (dec d ss) h)) (join-small N (λ e. actionOf (M e)) (λ e. own d e ∪ ups ss e) small))
+        sm′ = small-fed z (actionOf (M d) ∪ outs M ss) (E d .feedback) sm
+            (subst Small (sym (out-wired N M small (dec d ss) h)) (join-small N (λ e. actionOf (M e)) (λ e. own d e ∪ ups ss e) small))
 
         am : a ≡ act d
         am = e ∙ ap (awakeBy sc state cfg M act) (sym (k .0)) ∙ sym (awake d (h .0))
@@ -349,17 +373,23 @@ module _ (E : ℕ → Chart) (state : ℕ → ℕ) (cfg : ℕ → ℕ) (M : ℕ 
         inside : z′ ∪ actionOf (M d) ∩ E d .feedback ≡ z′
         inside = sets (z ∷ actionOf (M d) ∷ outs M ss ∷ E d .feedback ∷ []) [] (A ∪ₑ (B ∪ₑ C) ∩ₑ D ∪ₑ B ∩ₑ D ≐ A ∪ₑ (B ∪ₑ C) ∩ₑ D) tt
 
-        fed : (c : ℕ) → offered N (λ e. actionOf (M e)) z (own d c ∪ downs ss c) (λ e. backs E ss c e ∪ (own d c ∪ downs ss c) ∩ (own d e ∪ ups ss e) ∩ E d .feedback)
+        fed : (c : ℕ) → offered N (λ e. actionOf (M e)) z (own d c ∪ downs ss c)
+            (λ e. backs E ss c e ∪ (own d c ∪ downs ss c) ∩ (own d e ∪ ups ss e) ∩ E d .feedback)
             ≡ offered N (λ e. actionOf (M e)) z′ (own d c ∪ downs ss c) (λ e. backs E ss c e)
         fed c = feed N (λ e. actionOf (M e)) (backs E ss c) (λ e. own d e ∪ ups ss e) z (own d c ∪ downs ss c) (E d .feedback)
-            ∙ ap (λ w. offered N (λ e. actionOf (M e)) (z ∪ w ∩ E d .feedback) (own d c ∪ downs ss c) (backs E ss c)) (sym (out-wired N M small (dec d ss) h))
+            ∙ ap (λ w. offered N (λ e. actionOf (M e)) (z ∪ w ∩ E d .feedback) (own d c ∪ downs ss c) (backs E ss c))
+            (sym (out-wired N M small (dec d ss) h))
 
-    wireds : (ss : Slaves) (d : ℕ) (f : ℕ → Bool) (z : Set) → Small z → Helds N ss → Encs enc sc ss d → ((q : ℕ) → f q ≡ (act d && meets (cfg d) (M d) q))
+    wireds : (ss : Slaves) (d : ℕ) (f : ℕ → Bool) (z : Set) → Small z → Helds N ss → Encs enc sc ss d
+        → ((q : ℕ) → f q ≡ (act d && meets (cfg d) (M d) q))
         → oksU E state cfg M ss f z ≡ eachs ss (ruleAt z (downs ss) (backs E ss))
     wireds nil d f z sm h k e = refl
     wireds (snoc ss i t) d f z sm h k e = ap₂ _&&_
-        (wireds ss d f z sm (h .0) (k .0) e ∙ sym (eachs-cong ss (ruleAt z (downs (snoc ss i t)) (backs E (snoc ss i t))) (ruleAt z (downs ss) (backs E ss)) (λ c m. ap-fits c _ _
-        (fst-part N (λ e. actionOf (M e)) z (downs ss c) (down t c) (backs E ss c) (back E t c) (down-off t c (apart-r (Has t c) (HasS ss c) (h .2 c) m)) (back-off E t c (apart-r (Has t c) (HasS ss c) (h .2 c) m))))))
+        (wireds ss d f z sm (h .0) (k .0) e
+        ∙ sym (eachs-cong ss (ruleAt z (downs (snoc ss i t)) (backs E (snoc ss i t))) (ruleAt z (downs ss) (backs E ss)) (λ c m. ap-fits c _ _
+        (fst-part N (λ e. actionOf (M e)) z (downs ss c) (down t c) (backs E ss c) (back E t c)
+        (down-off t c (apart-r (Has t c) (HasS ss c) (h .2 c) m)) (back-off E t c (apart-r (Has t c) (HasS ss c) (h .2 c) m))))))
         (wired t (some i) (f (state i)) z sm (h .1) (k .2) (e (state i) ∙ ap (λ c. act c && meets (cfg c) (M c) (state i)) (sym (k .1)))
         ∙ sym (each-cong t (ruleAt z (downs (snoc ss i t)) (backs E (snoc ss i t))) (ruleAt z (down t) (back E t)) (λ c m. ap-fits c _ _
-        (snd-part N (λ e. actionOf (M e)) z (downs ss c) (down t c) (backs E ss c) (back E t c) (downs-off ss c (and-second (Has t c) (HasS ss c) (h .2 c) m)) (backs-off E ss c (and-second (Has t c) (HasS ss c) (h .2 c) m))))))
+        (snd-part N (λ e. actionOf (M e)) z (downs ss c) (down t c) (backs E ss c) (back E t c)
+        (downs-off ss c (and-second (Has t c) (HasS ss c) (h .2 c) m)) (backs-off E ss c (and-second (Has t c) (HasS ss c) (h .2 c) m))))))

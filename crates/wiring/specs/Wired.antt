@@ -15,13 +15,16 @@ mutual
 
   each-elim : (t : Tree) (f : ℕ → Bool) → each t f ≡ true → (c : ℕ) → Has t c ≡ true → f c ≡ true
   each-elim (leaf d) f h c k = rw (same→≡ c d k) h
-  each-elim (comp l r x) f h c k = or-elim (Has l c) (Has r c) _ (λ e. each-elim l f (and-l _ _ h) c e) (λ e. each-elim r f (and-r (each l f) _ h) c e) k
+  each-elim (comp l r x) f h c k =
+      or-elim (Has l c) (Has r c) _ (λ e. each-elim l f (and-l _ _ h) c e) (λ e. each-elim r f (and-r (each l f) _ h) c e) k
   each-elim (hide l x y) f h c k = each-elim l f h c k
-  each-elim (dec d ss) f h c k = or-elim (same c d) (HasS ss c) _ (λ e. rw (same→≡ c d e) (and-l _ _ h)) (λ e. eachs-elim ss f (and-r (f d) _ h) c e) k
+  each-elim (dec d ss) f h c k =
+      or-elim (same c d) (HasS ss c) _ (λ e. rw (same→≡ c d e) (and-l _ _ h)) (λ e. eachs-elim ss f (and-r (f d) _ h) c e) k
 
   eachs-elim : (ss : Slaves) (f : ℕ → Bool) → eachs ss f ≡ true → (c : ℕ) → HasS ss c ≡ true → f c ≡ true
   eachs-elim nil f h c k = absurd (false≢true k)
-  eachs-elim (snoc ss i t) f h c k = or-elim (Has t c) (HasS ss c) _ (λ e. each-elim t f (and-r (eachs ss f) _ h) c e) (λ e. eachs-elim ss f (and-l _ _ h) c e) k
+  eachs-elim (snoc ss i t) f h c k =
+      or-elim (Has t c) (HasS ss c) _ (λ e. each-elim t f (and-r (eachs ss f) _ h) c e) (λ e. eachs-elim ss f (and-l _ _ h) c e) k
 
 mutual
   unfolding each
@@ -57,7 +60,8 @@ module _ (enc : ℕ → Option ℕ) (sc state cfg : ℕ → ℕ) (M : ℕ → Mo
     fuel (suc f) zero c p q l = absurd (omega arith)
     fuel (suc f) (suc g) c p q l = go (enc c) refl (λ i r. fuel f g (sc i) (omega arith) (omega arith) (omega arith))
       where
-        go : (κ : Option ℕ) → enc c ≡ κ → ((i : ℕ) → sc i < c → awakeIn f (sc i) ≡ awakeIn g (sc i)) → awakeBy sc state cfg M (awakeIn f) κ ≡ awakeBy sc state cfg M (awakeIn g) κ
+        go : (κ : Option ℕ) → enc c ≡ κ → ((i : ℕ) → sc i < c → awakeIn f (sc i) ≡ awakeIn g (sc i))
+            → awakeBy sc state cfg M (awakeIn f) κ ≡ awakeBy sc state cfg M (awakeIn g) κ
         go none e ih = refl
         go (some i) e ih = ap (λ b. b && meets (cfg (sc i)) (M (sc i)) (state i)) (ih i (lower c i l e))
 
@@ -67,7 +71,8 @@ module _ (enc : ℕ → Option ℕ) (sc state cfg : ℕ → ℕ) (M : ℕ → Mo
       where
         go : (κ : Option ℕ) → enc c ≡ κ → awakeBy sc state cfg M (awakeIn c) κ ≡ awakeBy sc state cfg M awake κ
         go none e = refl
-        go (some i) e = let r = lower c i l e in ap (λ b. b && meets (cfg (sc i)) (M (sc i)) (state i)) (fuel c (suc (sc i)) (sc i) r (omega arith) (omega arith))
+        go (some i) e = let r = lower c i l e in
+            ap (λ b. b && meets (cfg (sc i)) (M (sc i)) (state i)) (fuel c (suc (sc i)) (sc i) r (omega arith) (omega arith))
 
 -- how the charts stand in the tree
 pub record Stands (N : ℕ) (enc : ℕ → Option ℕ) (sc : ℕ → ℕ) (t : Tree) : Type 0 where
@@ -85,8 +90,10 @@ module _ (E : ℕ → Chart) (state : ℕ → ℕ) (cfg : ℕ → ℕ) (N : ℕ)
   unfoldable pub ruled : (ℕ → Move) → ℕ → Bool
   ruled M c = fits (awake enc sc state cfg M c) (offer M N c) (cfg c) (M c)
 
-  pub permitted-wired : (M : ℕ → Move) → Stands N enc sc t → Small inp → ((e : ℕ) → Small (actionOf (M e))) → ((c : ℕ) → Within (inFaceChart (E c)) (M c)) → permitted E state cfg M t inp ≡ every N (ruled M)
+  pub permitted-wired : (M : ℕ → Move) → Stands N enc sc t → Small inp → ((e : ℕ) → Small (actionOf (M e)))
+      → ((c : ℕ) → Within (inFaceChart (E c)) (M c)) → permitted E state cfg M t inp ≡ every N (ruled M)
   unfolding ruled offer
   permitted-wired M s si sa own = permitted-uncut E state cfg M own t inp
-      ∙ wired E state cfg M N enc sc (awake enc sc state cfg M) (awake-by enc sc state cfg M N (s .lower)) sa t none true inp si (s .held) (s .encs) refl
+      ∙ wired E state cfg M N enc sc (awake enc sc state cfg M) (awake-by enc sc state cfg M N (s .lower)) sa t none true inp si (s .held)
+      (s .encs) refl
       ∙ each-every N t _ (s .held) (s .has)

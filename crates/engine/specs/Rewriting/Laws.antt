@@ -29,7 +29,8 @@ use Rattle.engine.specs.Rewriting.{limitTests, rewriteAfter, lengthAfter
 -- ── a file that is refused, and one that passed ──
 
 module _ (f : List ℕ) where
-  behind : (room : ℕ) → rewriteRefusal f room ≡ firstOf (fileTests f ++ (rewriteTests (fileOf f) ++ (record { number = shortOut; applies = ltb room (length (rewriteBytes f)) } ∷ [])))
+  behind : (room : ℕ) → rewriteRefusal f room ≡ firstOf
+      (fileTests f ++ (rewriteTests (fileOf f) ++ (record { number = shortOut; applies = ltb room (length (rewriteBytes f)) } ∷ [])))
   unfolding rewriteRefusal
   behind room = ap firstOf (append-assoc (fileTests f) (rewriteTests (fileOf f)) _)
 
@@ -87,7 +88,8 @@ module _ (F : File) (room : ℕ) where
       unfolding limitTests inChart?
       fits =
           record {
-            lists = λ c l. ltb-false mostInChart (length (rewrittenChart F c .transitions)) (any-never (F .charts) (λ c. ltb mostInChart (length (rewrittenChart F c .transitions))) (passes .1 .0) c l);
+            lists = λ c l. ltb-false mostInChart (length (rewrittenChart F c .transitions))
+                (any-never (F .charts) (λ c. ltb mostInChart (length (rewrittenChart F c .transitions))) (passes .1 .0) c l);
             total = ltb-false mostTransitions (transitionsIn (rewrite F)) (passes .1 .1 .0);
             nodes = ltb-false mostNodes (start F (F .nodes)) (passes .1 .1 .1 .0);
           }
@@ -129,7 +131,8 @@ module _ (F : File) (buffer : List ℕ) where
   unfolding lengthAfter outAfter same
   refuses r s e h q = rw (e, ne-eqb r 0 h) (q, refl)
 
-  pub gives : (k : ℕ) (out : List ℕ) → rewriteAfter F (length buffer) ≡ 0 → k ≡ length (encode (rewrite F)) → out ≡ laidOver (encode (rewrite F)) buffer
+  pub gives : (k : ℕ) (out : List ℕ) → rewriteAfter F (length buffer) ≡ 0 → k ≡ length (encode (rewrite F))
+      → out ≡ laidOver (encode (rewrite F)) buffer
       → (record { refusal = 0; length = k } ≡ answerAfter F (length buffer)) × (out ≡ outAfter F buffer)
   unfolding lengthAfter outAfter same
   gives k out e q h = rw (e, q) (refl, h)

@@ -33,7 +33,9 @@ pub le-split : (m n : ℕ) (s : List ℕ) → le (m + n) s ≡ le m s + le n (dr
 unfolding le
 le-split zero n s = rw (zero-add, zero-add) (sym (mul-one (le n s)))
 le-split (suc m) n [] = rw (suc-add, le-nil n) (omega (arith, zero-mul (256 ^ suc m)))
-le-split (suc m) n (b ∷ s) = rw (suc-add, pow-suc, ← mul-assoc) (ap (λ (x : ℕ). b + x * 256) (le-split m n s) ∙ omega (arith, add-mul (le m s) (le n (drop m s) * 256 ^ m) 256))
+le-split (suc m) n (b ∷ s) =
+    rw (suc-add, pow-suc, ← mul-assoc) (ap (λ (x : ℕ). b + x * 256) (le-split m n s)
+    ∙ omega (arith, add-mul (le m s) (le n (drop m s) * 256 ^ m) 256))
 
 -- n bytes are a number below 256 ^ n
 pub le-lt : (n : ℕ) (s : List ℕ) → AllBytes s → le n s < 256 ^ n

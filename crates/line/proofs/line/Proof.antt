@@ -30,15 +30,19 @@ returns : tie.Need-returns
 returns c =
     let s = c .before .before .before .before .before .before .before .before .before .before .before in
     let a = s .before .args in
-    let p = put-append (c .before .before .before .before .before .before .before .before .put-decimal .ensures) (c .before .before .put-given .ensures) in
-    rw (line-given (a .number) (now (a .row)) (c .before .before .before .before .if1 .taken)) (put-over p (rw length-append (omega (arith, short s))))
+    let p = put-append (c .before .before .before .before .before .before .before .before .put-decimal .ensures)
+    (c .before .before .put-given .ensures) in
+    rw (line-given (a .number) (now (a .row)) (c .before .before .before .before .if1 .taken))
+    (put-over p (rw length-append (omega (arith, short s))))
 
 returns-2 : tie.Need-returns-2
 returns-2 c =
     let s = c .before .before .before .before .before .before .before .before .before .before .before in
     let a = s .before .args in
-    let p = put-append (c .before .before .before .before .before .before .before .before .put-decimal .ensures) (c .before .before .put-refused .ensures) in
-    rw (line-refused (a .number) (now (a .row)) (c .before .before .before .before .if1 .left)) (put-over p (rw length-append (omega (arith, short s))))
+    let p = put-append (c .before .before .before .before .before .before .before .before .put-decimal .ensures)
+    (c .before .before .put-refused .ensures) in
+    rw (line-refused (a .number) (now (a .row)) (c .before .before .before .before .if1 .left))
+    (put-over p (rw length-append (omega (arith, short s))))
 
 pub line-spec : {M : Type 1} → statement M
 line-spec =

@@ -47,7 +47,8 @@ put-state-requires c κs =
     let first = c .before .before .before .before .before .before in
     let a = first .before .before .before .before .before .before .args in
     let states = now (a .states) in
-    let r = room-next (now (a .out)) (a .at) (decimal (getD states 0 0)) (rest states 1) (room (first .before .before .before)) (first .put-decimal .ensures) in
+    let r = room-next (now (a .out)) (a .at) (decimal (getD states 0 0)) (rest states 1) (room (first .before .before .before))
+    (first .put-decimal .ensures) in
     room-first (l .out) (l .next) (dot ∷ decimal (getD states (l .i) 0)) (rest states (suc (l .i)))
     (rw (behind-cons states (l .i) (omega arith)) at (left-room (rest states (l .i)) (l .inv .1) r))
 

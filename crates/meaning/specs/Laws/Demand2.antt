@@ -139,7 +139,8 @@ module _ (E : ℕ → Chart) (state : ℕ → ℕ) (cfg : ℕ → ℕ) (t : Tree
   begun-all k ch e b = record { places = λ c l. b .0 c (omega arith); others = λ c l. b .1 c (omega arith) }
 
   -- ── each permitted choice has its outcome in the list ──
-  has : (n k : ℕ) (ch ch₂ : ℕ → ℕ) → n + k ≡ N → Begun k ch → Choice ch₂ → Below k ch ch₂ → Permitted ch₂ → List·Memᴰ (by ch₂) (search E state cfg t inp N n k ch)
+  has : (n k : ℕ) (ch ch₂ : ℕ → ℕ) → n + k ≡ N → Begun k ch → Choice ch₂ → Below k ch ch₂ → Permitted ch₂
+      → List·Memᴰ (by ch₂) (search E state cfg t inp N n k ch)
   unfolding search outcome
   has zero k ch ch₂ e b q g p =
       subst (λ z. List·Memᴰ (by ch₂) (outcome E state cfg t inp N z)) (settled k ch ch₂ (omega arith) b q g) (rw p (List·Memᴰ·head refl))
@@ -155,8 +156,10 @@ module _ (E : ℕ → Chart) (state : ℕ → ℕ) (cfg : ℕ → ℕ) (t : Tree
     pub permits : Permitted choice
     pub is : x ≡ by choice
 
-  one-outcome : (k : ℕ) (ch : ℕ → ℕ) (x : Outcome) (p : Bool) → permitted E state cfg (moves E ch) t inp ≡ p → k ≡ N → Begun k ch → List·Memᴰ x (cond p (by ch ∷ []) []) → From k ch x
-  one-outcome k ch x true e f b h = record { choice = ch; chosen = begun-all k ch f b; goes-on = λ c l. refl; permits = e; is = only-one (List·Memᴰ·cases-cons h) }
+  one-outcome : (k : ℕ) (ch : ℕ → ℕ) (x : Outcome) (p : Bool) → permitted E state cfg (moves E ch) t inp ≡ p → k ≡ N → Begun k ch
+      → List·Memᴰ x (cond p (by ch ∷ []) []) → From k ch x
+  one-outcome k ch x true e f b h =
+      record { choice = ch; chosen = begun-all k ch f b; goes-on = λ c l. refl; permits = e; is = only-one (List·Memᴰ·cases-cons h) }
     where
       only-one : (x ≡ by ch) ⊎ List·Memᴰ x [] → x ≡ by ch
       only-one (inl q) = q
@@ -176,13 +179,15 @@ module _ (E : ℕ → Chart) (state : ℕ → ℕ) (cfg : ℕ → ℕ) (t : Tree
     pub from : From k ch x
     pub first : (ch₂ : ℕ → ℕ) → Choice ch₂ → Permitted ch₂ → Below k ch ch₂ → Before ch₂ (from .choice) → ⊥
 
-  first-of : (n k : ℕ) (ch : ℕ → ℕ) (x : Outcome) (xs : List Outcome) → n + k ≡ N → Begun k ch → search E state cfg t inp N n k ch ≡ x ∷ xs → First k ch x
+  first-of : (n k : ℕ) (ch : ℕ → ℕ) (x : Outcome) (xs : List Outcome) → n + k ≡ N → Begun k ch → search E state cfg t inp N n k ch ≡ x ∷ xs
+      → First k ch x
   unfolding search
   first-of zero k ch x xs e b h =
       let r = only zero k ch x e b (unfold search in subst (λ l. List·Memᴰ x l) (sym h) (List·Memᴰ·head refl)) in
       record {
         from = r;
-        first = λ ch₂ q p g w. let s = settled k ch ch₂ (omega arith) b q g in let s₂ = settled k ch (r .choice) (omega arith) b (r .chosen) (r .goes-on) in
+        first = λ ch₂ q p g w. let s = settled k ch ch₂ (omega arith) b q g in
+            let s₂ = settled k ch (r .choice) (omega arith) b (r .chosen) (r .goes-on) in
             (let z : ch₂ (w .at) ≡ r .choice (w .at) = ap (λ f. f (w .at)) (s ∙ sym s₂) in let l = w .lower in omega arith);
       }
   first-of (suc n) k ch x xs e b h =
@@ -192,25 +197,35 @@ module _ (E : ℕ → Chart) (state : ℕ → ℕ) (cfg : ℕ → ℕ) (t : Tree
       earlier u r (λ ch₂ q p g l. absurd (List·Memᴰ·not-nil (subst (λ z. List·Memᴰ (by ch₂) z) (u .before (ch₂ k) l)
       (has n (suc k) (upd ch k (ch₂ k)) ch₂ (omega arith) (begun-more k (ch₂ k) ch b (q .places k (omega arith))) q (goes-on-more k ch ch₂ g) p))))
     where
-      earlier : (u : Heads (length (E k .transitions)) (λ v. search E state cfg t inp N n (suc k) (upd ch k v)) x) → First (suc k) (upd ch k (u .place)) x
+      earlier : (u : Heads (length (E k .transitions)) (λ v. search E state cfg t inp N n (suc k) (upd ch k v)) x)
+          → First (suc k) (upd ch k (u .place)) x
           → ((ch₂ : ℕ → ℕ) → Choice ch₂ → Permitted ch₂ → Below k ch ch₂ → ch₂ k < u .place → ⊥) → First k ch x
       earlier u r not-lower = record { from = f; first = λ ch₂ q p g w. go ch₂ q p g w (decLt (ch₂ k) (u .place)) (decLt (u .place) (ch₂ k)) }
         where
           f : From k ch x
-          f = record { choice = r .from .choice; chosen = r .from .chosen; goes-on = goes-on-less k (u .place) ch (r .from .choice) (r .from .goes-on); permits = r .from .permits; is = r .from .is }
+          f = record {
+            choice = r .from .choice;
+            chosen = r .from .chosen;
+            goes-on = goes-on-less k (u .place) ch (r .from .choice) (r .from .goes-on);
+            permits = r .from .permits;
+            is = r .from .is;
+          }
 
           mine : r .from .choice k ≡ u .place
           mine = r .from .goes-on k (omega arith) ∙ upd-at ch k (u .place)
 
-          go : (ch₂ : ℕ → ℕ) → Choice ch₂ → Permitted ch₂ → Below k ch ch₂ → Before ch₂ (r .from .choice) → Dec (ch₂ k < u .place) → Dec (u .place < ch₂ k) → ⊥
+          go : (ch₂ : ℕ → ℕ) → Choice ch₂ → Permitted ch₂ → Below k ch ch₂ → Before ch₂ (r .from .choice) → Dec (ch₂ k < u .place)
+              → Dec (u .place < ch₂ k) → ⊥
           go ch₂ q p g w (yes l) m = not-lower ch₂ q p g l
-          go ch₂ q p g w (no l) (no m) = let z : ch₂ k ≡ u .place = omega arith in r .first ch₂ q p (subst (λ v. Below (suc k) (upd ch k v) ch₂) z (goes-on-more k ch ch₂ g)) w
+          go ch₂ q p g w (no l) (no m) = let z : ch₂ k ≡ u .place = omega arith in
+              r .first ch₂ q p (subst (λ v. Below (suc k) (upd ch k v) ch₂) z (goes-on-more k ch ch₂ g)) w
           go ch₂ q p g w (no l) (yes m) = apart (decLt k (w .at)) (decLt (w .at) k)
             where
               apart : Dec (k < w .at) → Dec (w .at < k) → ⊥
               apart (yes a) c = let z = w .equal k a in let y = mine in omega arith
               apart (no a) (yes c) = let z = g (w .at) c in let y = f .goes-on (w .at) c in let l₂ = w .lower in omega arith
-              apart (no a) (no c) = let z : w .at ≡ k = omega arith in let l₂ = subst (λ v. ch₂ v < r .from .choice v) z (w .lower) in let y = mine in omega arith
+              apart (no a) (no c) = let z : w .at ≡ k = omega arith in let l₂ = subst (λ v. ch₂ v < r .from .choice v) z (w .lower) in let y = mine in
+                  omega arith
 
   nowhere : Begun zero (λ c. zero)
   nowhere = (λ c l. absurd (omega arith), λ c l. refl)
@@ -224,7 +239,8 @@ module _ (E : ℕ → Chart) (state : ℕ → ℕ) (cfg : ℕ → ℕ) (t : Tree
   unfolding outcomes answer
   given-if ch q p = go (outcomes E state cfg t inp N) refl (has N zero (λ c. zero) ch (omega arith) nowhere q (λ c l. absurd (omega arith)) p)
     where
-      go : (l : List Outcome) → outcomes E state cfg t inp N ≡ l → List·Memᴰ (by ch) (outcomes E state cfg t inp N) → (o : Set) × (n : List ℕ) × (m : Bool) × (the-answer ≡ given o n m)
+      go : (l : List Outcome) → outcomes E state cfg t inp N ≡ l → List·Memᴰ (by ch) (outcomes E state cfg t inp N)
+          → (o : Set) × (n : List ℕ) × (m : Bool) × (the-answer ≡ given o n m)
       go [] e h = absurd (List·Memᴰ·not-nil (subst (λ z. List·Memᴰ (by ch) z) e h))
       go (x ∷ xs) e h = (x .output, x .next, agree x xs, ap answer e)
 
@@ -323,7 +339,8 @@ agree-odd a (x ∷ xs) e = go (agrees a x) refl e (agree-odd a xs)
 
 module _ (E : ℕ → Chart) (state : ℕ → ℕ) (cfg : ℕ → ℕ) (t : Tree) (inp : Set) (N : ℕ) (o : Set) (n : List ℕ) where
   -- yes: all permitted choices agree on output and next configuration
-  pub mark-yes : answer (outcomes E state cfg t inp N) ≡ given o n true → (ch : ℕ → ℕ) → Choice E state cfg t inp N ch → Permitted E state cfg t inp N ch
+  pub mark-yes : answer (outcomes E state cfg t inp N) ≡ given o n true → (ch : ℕ → ℕ) → Choice E state cfg t inp N ch
+      → Permitted E state cfg t inp N ch
       → (outputBy E state cfg t inp N ch ≡ o) × (nextBy E state cfg t inp N ch ≡ n)
   unfolding outcomes
   mark-yes e ch q p =
@@ -356,7 +373,8 @@ module _ (E : ℕ → Chart) (state : ℕ → ℕ) (cfg : ℕ → ℕ) (M : ℕ 
 
     pub inactive : (t : Tree) (o : Set) → ok E state cfg M t false o ≡ true → (c : ℕ) → Has t c ≡ true → M c ≡ none
     inactive (leaf d) o h c k = ap M (same→≡ c d k) ∙ chart-inactive (E d .feedback) o (cfg d) (M d) h
-    inactive (comp l r x) o h c k = or-elim (Has l c) (Has r c) _ (λ e. inactive l _ (and-l _ _ h) c e) (λ e. inactive r _ (and-r (ok E state cfg M l false _) _ h) c e) k
+    inactive (comp l r x) o h c k =
+        or-elim (Has l c) (Has r c) _ (λ e. inactive l _ (and-l _ _ h) c e) (λ e. inactive r _ (and-r (ok E state cfg M l false _) _ h) c e) k
     inactive (hide l x y) o h c k = inactive l (o ∖ x) h c k
     inactive (dec d ss) o h c k =
         or-elim (same c d) (HasS ss c) _ (λ e. ap M (same→≡ c d e) ∙ chart-inactive (E d .feedback) _ (cfg d) (M d) (and-l _ _ h))
@@ -365,7 +383,8 @@ module _ (E : ℕ → Chart) (state : ℕ → ℕ) (cfg : ℕ → ℕ) (M : ℕ 
     pub inactive-slaves : (ss : Slaves) (z : Set) → oks E state cfg M ss (λ q. false) z ≡ true → (c : ℕ) → HasS ss c ≡ true → M c ≡ none
     inactive-slaves nil z h c k = absurd (false≢true k)
     inactive-slaves (snoc ss i t) z h c k =
-        or-elim (Has t c) (HasS ss c) _ (λ e. inactive t _ (and-r (oks E state cfg M ss (λ q. false) z) _ h) c e) (λ e. inactive-slaves ss z (and-l _ _ h) c e) k
+        or-elim (Has t c) (HasS ss c) _ (λ e. inactive t _ (and-r (oks E state cfg M ss (λ q. false) z) _ h) c e)
+        (λ e. inactive-slaves ss z (and-l _ _ h) c e) k
 
 -- ── a signal outside the interface changes nothing ──
 module _ (E : ℕ → Chart) (state : ℕ → ℕ) (cfg : ℕ → ℕ) (t : Tree) (i j : Set) (N : ℕ) (alike : i ∩ inFace E t ≡ j ∩ inFace E t) where

@@ -1,6 +1,6 @@
 -- Values of trees that join a value of each chart, less what hiding takes off. Three are used: the charts inside a tree (`has-fold`), the input and
--- the output interface (`in-fold`, `out-fold`). In this order: the fold; the value of a node from those of lower nodes, as a table that is filled from
--- node 0 up takes it (`value-fold`); the fold asks for the tree's own charts alone (`fold-own`); the three.
+-- the output interface (`in-fold`, `out-fold`). In this order: the fold; the value of a node from those of lower nodes, as a table that is filled
+-- from node 0 up takes it (`value-fold`); the fold asks for the tree's own charts alone (`fold-own`); the three.
 use mathlib.Core.Path.{_≡_, refl, sym, _∙_, ap, ap₂}
 use mathlib.Core.Bool.{Bool, true, false, _||_, cond, or-comm}
 use mathlib.Core.List.{[], _∷_}
@@ -89,9 +89,12 @@ module _ (own : ℕ → Set) (off : Set → Set → Set) where
     unfolding valueOf fold
     value-fold j l h = go (F .kind j) refl
       where
-        go : (k : ℕ) → F .kind j ≡ k → setByKind k (own (F .a j) ∪ joins (F .master) (λ i. v (F .node i)) (F .a j) (F .slaves)) (v (F .a j) ∪ v (F .b j)) (v (F .a j) ∖ off (F .x j) (F .y j)) ≡ fold own off (treeOf F j)
+        go : (k : ℕ) → F .kind j ≡ k
+            → setByKind k (own (F .a j) ∪ joins (F .master) (λ i. v (F .node i)) (F .a j) (F .slaves)) (v (F .a j) ∪ v (F .b j))
+            (v (F .a j) ∖ off (F .x j) (F .y j)) ≡ fold own off (treeOf F j)
         go zero e =
-            ap (λ z. own (F .a j) ∪ z) (joins-fold (F .master) (λ i. treeOf F (F .node i)) (λ i. v (F .node i)) (F .a j) (F .slaves) (λ i m q. h (F .node i) (w .lower₀ j l e i m q)))
+            ap (λ z. own (F .a j) ∪ z) (joins-fold (F .master) (λ i. treeOf F (F .node i)) (λ i. v (F .node i)) (F .a j) (F .slaves)
+            (λ i m q. h (F .node i) (w .lower₀ j l e i m q)))
             ∙ sym (whole-fold (F .a j) (gather (F .master) (λ i. treeOf F (F .node i)) (F .a j) (F .slaves)))
             ∙ ap (fold own off) (sym (tree₀ F w j l e))
         go (suc zero) e = let u = w .lower₁ j l e in ap₂ _∪_ (h (F .a j) (u .0)) (h (F .b j) (u .1)) ∙ ap (fold own off) (sym (tree₁ F w j l e))
@@ -112,7 +115,8 @@ module _ (own own′ : ℕ → Set) (off : Set → Set → Set) where
 
     folds-own : (ss : Slaves) → ((c : ℕ) → HasS ss c ≡ true → own c ≡ own′ c) → folds own off ss ≡ folds own′ off ss
     folds-own nil h = refl
-    folds-own (snoc ss i t) h = ap₂ _∪_ (folds-own ss (λ c e. h c (or-r (Has t c) (HasS ss c) e))) (fold-own t (λ c e. h c (or-l (Has t c) (HasS ss c) e)))
+    folds-own (snoc ss i t) h =
+        ap₂ _∪_ (folds-own ss (λ c e. h c (or-r (Has t c) (HasS ss c) e))) (fold-own t (λ c e. h c (or-l (Has t c) (HasS ss c) e)))
 
 -- ── the three ──
 
@@ -159,4 +163,5 @@ module _ (c : ℕ) where
 
     has-folds : (ss : Slaves) → bit (folds single (λ x y. ∅) ss) c ≡ HasS ss c
     has-folds nil = bit-none c
-    has-folds (snoc ss i t) = bit-union c (folds single (λ x y. ∅) ss) (fold single (λ x y. ∅) t) ∙ ap₂ _||_ (has-folds ss) (has-fold t) ∙ or-comm (HasS ss c) (Has t c)
+    has-folds (snoc ss i t) = bit-union c (folds single (λ x y. ∅) ss) (fold single (λ x y. ∅) t) ∙ ap₂ _||_ (has-folds ss) (has-fold t)
+        ∙ or-comm (HasS ss c) (Has t c)

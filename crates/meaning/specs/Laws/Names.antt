@@ -99,7 +99,8 @@ module _ (F : File) (w : Ordered F) (r : Rule10 F) where
   unfolding named
   by-node k j l m p = (
     find-none (F .slaves) (λ i. same (F .node i) j) (λ i n. no-slave i n (same (F .node i) j) refl),
-    find-one (F .nodes) (λ k. not (same (names F k j) 0)) k m (ap not (same-≢ (names F k j) 0 (λ q. omega arith))) (λ k′ n q. one k′ n q (same k′ k) refl),
+    find-one (F .nodes) (λ k. not (same (names F k j) 0)) k m (ap not (same-≢ (names F k j) 0 (λ q. omega arith)))
+        (λ k′ n q. one k′ n q (same k′ k) refl),
   )
     where
       no-slave : (i : ℕ) → i < F .slaves → (b : Bool) → same (F .node i) j ≡ b → b ≡ false
@@ -118,7 +119,8 @@ module _ (F : File) (w : Ordered F) (r : Rule10 F) where
   unfolding names
   higher k j l p = go (same (F .kind k) 1) refl (same (F .kind k) 2) refl (same (F .a k) j) refl (same (F .b k) j) refl p
     where
-      go : (a : Bool) → same (F .kind k) 1 ≡ a → (b : Bool) → same (F .kind k) 2 ≡ b → (c : Bool) → same (F .a k) j ≡ c → (d : Bool) → same (F .b k) j ≡ d
+      go : (a : Bool) → same (F .kind k) 1 ≡ a → (b : Bool) → same (F .kind k) 2 ≡ b → (c : Bool) → same (F .a k) j ≡ c → (d : Bool)
+          → same (F .b k) j ≡ d
           → 0 < one (a && c) + one (a && d) + one (b && c) → j < k
       go true ea b eb true ec d ed h = rw (same→≡ (F .a k) j ec) at (w .lower₁ k l (same→≡ (F .kind k) 1 ea) .0)
       go true ea b eb false ec true ed h = rw (same→≡ (F .b k) j ed) at (w .lower₁ k l (same→≡ (F .kind k) 1 ea) .1)
@@ -135,11 +137,13 @@ module _ (F : File) (w : Ordered F) (r : Rule10 F) where
   near-fuel (suc f) zero j l p q = absurd (omega arith)
   near-fuel (suc f) (suc g) j l p q = go (bySlave F j) (byNode F j) refl (λ k m h. near-fuel f g k m (omega arith) (omega arith))
     where
-      go : (a b : Option ℕ) → byNode F j ≡ b → ((k : ℕ) → k < F .nodes → j < k → nearest F f k ≡ nearest F g k) → up a b (nearest F f) ≡ up a b (nearest F g)
+      go : (a b : Option ℕ) → byNode F j ≡ b → ((k : ℕ) → k < F .nodes → j < k → nearest F f k ≡ nearest F g k)
+          → up a b (nearest F f) ≡ up a b (nearest F g)
       go (some i) b e ih = refl
       go none none e ih = refl
       go none (some k) e ih = let u = find-some (F .nodes) (λ k. not (same (names F k j) 0)) k e in
-          ih k (u .0) (higher k j (u .0) (let y : names F k j ≢ 0 = λ z. false≢true (sym (ap not (ap (λ v. same v 0) z ∙ same-refl 0)) ∙ u .1) in omega arith))
+          ih k (u .0) (higher k j (u .0) (let y : names F k j ≢ 0 = λ z. false≢true (sym (ap not (ap (λ v. same v 0) z ∙ same-refl 0)) ∙ u .1) in
+          omega arith))
 
   pub enc-slave : (i : ℕ) → i < F .slaves → F .node i < F .nodes → enc F (F .node i) ≡ some i
   unfolding enc nearest
@@ -167,10 +171,12 @@ module _ (F : File) (w : Ordered F) (r : Rule10 F) where
 
       no-slave : (i : ℕ) → i < F .slaves → (b : Bool) → same (F .node i) j ≡ b → b ≡ false
       no-slave i n false q = refl
-      no-slave i n true q = let t = tally-ge (F .slaves) (λ i. one (same (F .node i) j)) i n in let a : one (same (F .node i) j) ≡ 1 = ap one q in let z = none-at in absurd (omega arith)
+      no-slave i n true q = let t = tally-ge (F .slaves) (λ i. one (same (F .node i) j)) i n in let a : one (same (F .node i) j) ≡ 1 = ap one q in
+          let z = none-at in absurd (omega arith)
 
       no-node : (k : ℕ) → k < F .nodes → not (same (names F k j) 0) ≡ false
-      no-node k n = let t = tally-ge (F .nodes) (λ k. names F k j) k n in let z = none-at in let y : names F k j ≡ 0 = omega arith in ap not (ap (λ v. same v 0) y ∙ same-refl 0)
+      no-node k n = let t = tally-ge (F .nodes) (λ k. names F k j) k n in let z = none-at in let y : names F k j ≡ 0 = omega arith in
+          ap not (ap (λ v. same v 0) y ∙ same-refl 0)
 
   near-under : (f j i : ℕ) → j < F .nodes → nearest F f j ≡ some i → j ≤ F .node i
   unfolding nearest
@@ -182,11 +188,13 @@ module _ (F : File) (w : Ordered F) (r : Rule10 F) where
       go (some i′) p b q e ih = let z : i′ ≡ i = cc in let u = find-some (F .slaves) (λ i. same (F .node i) j) i′ p in
           let v : F .node i ≡ j = ap (F .node) (sym z) ∙ same→≡ (F .node i′) j (u .1) in omega arith
       go none p (some k) q e ih = let u = find-some (F .nodes) (λ k. not (same (names F k j) 0)) k q in
-          let h = higher k j (u .0) (let y : names F k j ≢ 0 = λ z. false≢true (sym (ap not (ap (λ v. same v 0) z ∙ same-refl 0)) ∙ u .1) in omega arith) in
+          let h = higher k j (u .0) (let y : names F k j ≢ 0 = λ z. false≢true (sym (ap not (ap (λ v. same v 0) z ∙ same-refl 0)) ∙ u .1) in
+          omega arith) in
           let v = ih k (u .0) e in omega arith
       go none p none q e ih = absurd (let z : _≡_ {A = ℕ} 0 1 = cc in omega arith)
 
-  pub hold-one : (j : ℕ) → j < F .nodes → F .kind j ≡ 0 → F .a j < F .charts → find (F .nodes) (λ k. same (F .kind k) 0 && same (F .a k) (F .a j)) ≡ some j
+  pub hold-one : (j : ℕ) → j < F .nodes → F .kind j ≡ 0 → F .a j < F .charts
+      → find (F .nodes) (λ k. same (F .kind k) 0 && same (F .a k) (F .a j)) ≡ some j
   unfolding held
   hold-one j l e c = find-one (F .nodes) (λ k. same (F .kind k) 0 && same (F .a k) (F .a j)) j l own (λ k n q. go k n q (same k j) refl)
     where
@@ -207,21 +215,26 @@ module _ (F : File) (w : Ordered F) (r : Rule10 F) where
 
   pub names-a₁ : (k : ℕ) → F .kind k ≡ 1 → 0 < names F k (F .a k)
   unfolding names
-  names-a₁ k e = let a : one (same (F .kind k) 1 && same (F .a k) (F .a k)) ≡ 1 = ap one (and-i (ap (λ z. same z 1) e ∙ same-refl 1) (same-refl (F .a k))) in omega arith
+  names-a₁ k e = let a : one (same (F .kind k) 1 && same (F .a k) (F .a k)) ≡ 1 =
+      ap one (and-i (ap (λ z. same z 1) e ∙ same-refl 1) (same-refl (F .a k))) in omega arith
 
   pub names-b₁ : (k : ℕ) → F .kind k ≡ 1 → 0 < names F k (F .b k)
   unfolding names
-  names-b₁ k e = let a : one (same (F .kind k) 1 && same (F .b k) (F .b k)) ≡ 1 = ap one (and-i (ap (λ z. same z 1) e ∙ same-refl 1) (same-refl (F .b k))) in omega arith
+  names-b₁ k e = let a : one (same (F .kind k) 1 && same (F .b k) (F .b k)) ≡ 1 =
+      ap one (and-i (ap (λ z. same z 1) e ∙ same-refl 1) (same-refl (F .b k))) in omega arith
 
   pub names-a₂ : (k : ℕ) → F .kind k ≡ 2 → 0 < names F k (F .a k)
   unfolding names
-  names-a₂ k e = let a : one (same (F .kind k) 2 && same (F .a k) (F .a k)) ≡ 1 = ap one (and-i (ap (λ z. same z 2) e ∙ same-refl 2) (same-refl (F .a k))) in omega arith
+  names-a₂ k e = let a : one (same (F .kind k) 2 && same (F .a k) (F .a k)) ≡ 1 =
+      ap one (and-i (ap (λ z. same z 2) e ∙ same-refl 2) (same-refl (F .a k))) in omega arith
 
-  module _ (chart-there : (j : ℕ) → j < F .nodes → F .kind j ≡ 0 → F .a j < F .charts) (node-there : (i : ℕ) → i < F .slaves → (F .node i < F .nodes) × (F .master i < F .charts)) where
+  module _ (chart-there : (j : ℕ) → j < F .nodes → F .kind j ≡ 0 → F .a j < F .charts)
+      (node-there : (i : ℕ) → i < F .slaves → (F .node i < F .nodes) × (F .master i < F .charts)) where
     pub placed : Placed F (enc F) (kap F)
     unfolding enc
     placed = record {
-      in₁ = λ j l e. let h = w .lower₁ j l e in (enc-node j (F .a j) (omega arith) l (names-a₁ j e), enc-node j (F .b j) (omega arith) l (names-b₁ j e));
+      in₁ = λ j l e. let h = w .lower₁ j l e in
+          (enc-node j (F .a j) (omega arith) l (names-a₁ j e), enc-node j (F .b j) (omega arith) l (names-b₁ j e));
       in₂ = λ j l e. let h = w .lower₂ j l e in enc-node j (F .a j) (omega arith) l (names-a₂ j e);
       in₀ = λ j l e i m q. enc-slave i m (node-there i m .0);
       hold = λ j l e. (chart-there j l e, kap-is j l e (chart-there j l e));
@@ -232,7 +245,8 @@ module _ (F : File) (w : Ordered F) (r : Rule10 F) where
     unfolding names
     who k j l p = go (same (F .kind k) 1) refl (same (F .kind k) 2) refl (same (F .a k) j) refl (same (F .b k) j) refl p
       where
-        go : (a : Bool) → same (F .kind k) 1 ≡ a → (b : Bool) → same (F .kind k) 2 ≡ b → (c : Bool) → same (F .a k) j ≡ c → (d : Bool) → same (F .b k) j ≡ d
+        go : (a : Bool) → same (F .kind k) 1 ≡ a → (b : Bool) → same (F .kind k) 2 ≡ b → (c : Bool) → same (F .a k) j ≡ c → (d : Bool)
+            → same (F .b k) j ≡ d
             → 0 < one (a && c) + one (a && d) + one (b && c) → Namer F j
         go true ea b eb true ec d ed h = left k l (same→≡ (F .kind k) 1 ea) (same→≡ (F .a k) j ec)
         go true ea b eb false ec true ed h = right k l (same→≡ (F .kind k) 1 ea) (same→≡ (F .b k) j ed)
@@ -245,8 +259,12 @@ module _ (F : File) (w : Ordered F) (r : Rule10 F) where
     pub joined : Joined F
     unfolding held named
     joined = record {
-      holder = λ c l. let h = r .once c l in let u = tally-find (F .nodes) (λ k. one (same (F .kind k) 0 && same (F .a k) c)) (omega arith) in
-          (u .0, u .1, same→≡ (F .kind (u .0)) 0 (and-l _ _ (pos (same (F .kind (u .0)) 0 && same (F .a (u .0)) c) (u .2))), same→≡ (F .a (u .0)) c (and-r (same (F .kind (u .0)) 0) _ (pos (same (F .kind (u .0)) 0 && same (F .a (u .0)) c) (u .2))));
+      holder = λ c l. let h = r .once c l in let u = tally-find (F .nodes) (λ k. one (same (F .kind k) 0 && same (F .a k) c)) (omega arith) in (
+        u .0,
+        u .1,
+        same→≡ (F .kind (u .0)) 0 (and-l _ _ (pos (same (F .kind (u .0)) 0 && same (F .a (u .0)) c) (u .2))),
+        same→≡ (F .a (u .0)) c (and-r (same (F .kind (u .0)) 0) _ (pos (same (F .kind (u .0)) 0 && same (F .a (u .0)) c) (u .2))),
+      );
       named = λ j l. go j (tally (F .slaves) (λ i. one (same (F .node i) j))) refl (r .named-once j l);
       master = λ i l. node-there i l .1;
     }
@@ -257,4 +275,5 @@ module _ (F : File) (w : Ordered F) (r : Rule10 F) where
 
         go : (j x : ℕ) → tally (F .slaves) (λ i. one (same (F .node i) j)) ≡ x → x + tally (F .nodes) (λ k. names F k j) ≡ 1 → Namer F j
         go j zero e h = let u = tally-find (F .nodes) (λ k. names F k j) (omega arith) in who (u .0) j (u .1) (u .2)
-        go j (suc x) e h = let u = tally-find (F .slaves) (λ i. one (same (F .node i) j)) (omega arith) in slave (u .0) (u .1) (same→≡ (F .node (u .0)) j (pos (same (F .node (u .0)) j) (u .2)))
+        go j (suc x) e h = let u = tally-find (F .slaves) (λ i. one (same (F .node i) j)) (omega arith) in
+            slave (u .0) (u .1) (same→≡ (F .node (u .0)) j (pos (same (F .node (u .0)) j) (u .2)))

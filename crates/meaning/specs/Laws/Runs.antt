@@ -75,8 +75,14 @@ module _ (F : File) (leads : Leads F) where
     rows-from (suc k) l =
         let c = configAt F config inputs k in
         let i = getD inputs k 0 in
-        rw (suc-mul, ← drop-drop (10 + F .charts) (k * (10 + F .charts)) (rowsOf F config inputs), rows-from k (omega arith), rows-next F c inputs k (omega arith))
-        (drop-at (rowOf (stepIn F c i) c) (rowsOf F (afterStep (stepIn F c i) c) (drop (suc k) inputs)) (10 + F .charts) (length-next c i (valid-at k)))
+        rw (
+          suc-mul,
+          ← drop-drop (10 + F .charts) (k * (10 + F .charts)) (rowsOf F config inputs),
+          rows-from k (omega arith),
+          rows-next F c inputs k (omega arith),
+        )
+        (drop-at (rowOf (stepIn F c i) c) (rowsOf F (afterStep (stepIn F c i) c) (drop (suc k) inputs)) (10 + F .charts)
+        (length-next c i (valid-at k)))
 
     -- each row is the step from the configuration before it
     pub row-at : (k : ℕ) → k < length inputs
@@ -86,4 +92,5 @@ module _ (F : File) (leads : Leads F) where
         let c = configAt F config inputs k in
         let i = getD inputs k 0 in
         rw (rows-from k (omega arith), rows-next F c inputs k l)
-        (take-at (rowOf (stepIn F c i) c) (rowsOf F (afterStep (stepIn F c i) c) (drop (suc k) inputs)) (10 + F .charts) (length-next c i (valid-at k)))
+        (take-at (rowOf (stepIn F c i) c) (rowsOf F (afterStep (stepIn F c i) c) (drop (suc k) inputs)) (10 + F .charts)
+        (length-next c i (valid-at k)))

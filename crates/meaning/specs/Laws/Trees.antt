@@ -39,15 +39,20 @@ module _ (F : File) (w : Ordered F) where
   fuel (suc f) (suc g) j p q l = go (F .kind j) refl (λ i a. fuel f g i (omega arith) (omega arith) (omega arith))
     where
       go : (k : ℕ) → F .kind j ≡ k → ((i : ℕ) → i < j → build F f i ≡ build F g i)
-          → byKind k (whole (F .a j) (gather (F .master) (λ i. build F f (F .node i)) (F .a j) (F .slaves))) (comp (build F f (F .a j)) (build F f (F .b j)) (F .x j)) (hide (build F f (F .a j)) (F .x j) (F .y j))
-          ≡ byKind k (whole (F .a j) (gather (F .master) (λ i. build F g (F .node i)) (F .a j) (F .slaves))) (comp (build F g (F .a j)) (build F g (F .b j)) (F .x j)) (hide (build F g (F .a j)) (F .x j) (F .y j))
-      go zero e ih = ap (whole (F .a j)) (gather-cong (F .master) (λ i. build F f (F .node i)) (λ i. build F g (F .node i)) (F .a j) (F .slaves) (λ i a b. ih (F .node i) (w .lower₀ j l e i a b)))
+          → byKind k (whole (F .a j) (gather (F .master) (λ i. build F f (F .node i)) (F .a j) (F .slaves)))
+          (comp (build F f (F .a j)) (build F f (F .b j)) (F .x j)) (hide (build F f (F .a j)) (F .x j) (F .y j))
+          ≡ byKind k (whole (F .a j) (gather (F .master) (λ i. build F g (F .node i)) (F .a j) (F .slaves)))
+          (comp (build F g (F .a j)) (build F g (F .b j)) (F .x j)) (hide (build F g (F .a j)) (F .x j) (F .y j))
+      go zero e ih = ap (whole (F .a j)) (gather-cong (F .master) (λ i. build F f (F .node i)) (λ i. build F g (F .node i)) (F .a j) (F .slaves)
+          (λ i a b. ih (F .node i) (w .lower₀ j l e i a b)))
       go (suc zero) e ih = rw (ih (F .a j) (w .lower₁ j l e .0), ih (F .b j) (w .lower₁ j l e .1))
       go (suc (suc k)) e ih = rw (ih (F .a j) (w .lower₂ j l (let h = w .kinds j l in omega arith)))
 
-  pub tree₀ : (j : ℕ) → j < F .nodes → F .kind j ≡ 0 → treeOf F j ≡ whole (F .a j) (gather (F .master) (λ i. treeOf F (F .node i)) (F .a j) (F .slaves))
+  pub tree₀ : (j : ℕ) → j < F .nodes → F .kind j ≡ 0
+      → treeOf F j ≡ whole (F .a j) (gather (F .master) (λ i. treeOf F (F .node i)) (F .a j) (F .slaves))
   unfolding treeOf build
-  tree₀ j l e = rw e (ap (whole (F .a j)) (gather-cong (F .master) (λ i. build F j (F .node i)) (λ i. build F (suc (F .node i)) (F .node i)) (F .a j) (F .slaves)
+  tree₀ j l e = rw e (ap (whole (F .a j)) (gather-cong (F .master) (λ i. build F j (F .node i)) (λ i. build F (suc (F .node i)) (F .node i)) (F .a j)
+      (F .slaves)
       (λ i a b. let h = w .lower₀ j l e i a b in fuel j (suc (F .node i)) (F .node i) h (omega arith) (omega arith))))
 
   pub tree₁ : (j : ℕ) → j < F .nodes → F .kind j ≡ 1 → treeOf F j ≡ comp (treeOf F (F .a j)) (treeOf F (F .b j)) (F .x j)
@@ -117,20 +122,23 @@ module _ (F : File) (w : Ordered F) (jn : Joined F) where
     m .0,
     rw p at (w .lower₀ (m .0) (m .1) (m .2) i l (sym (m .3))),
     m .1,
-    rw (tree₀ F w (m .0) (m .1) (m .2)) (whole-has (F .a (m .0)) (gather (F .master) (λ i. treeOf F (F .node i)) (F .a (m .0)) (F .slaves)) d (gather-has (F .master) (λ i. treeOf F (F .node i)) (F .a (m .0)) (F .slaves) d i l (sym (m .3)) (rw p h))),
+    rw (tree₀ F w (m .0) (m .1) (m .2)) (whole-has (F .a (m .0)) (gather (F .master) (λ i. treeOf F (F .node i)) (F .a (m .0)) (F .slaves)) d
+        (gather-has (F .master) (λ i. treeOf F (F .node i)) (F .a (m .0)) (F .slaves) d i l (sym (m .3)) (rw p h))),
   )
 
   climb : (f j d last : ℕ) → suc last ≡ F .nodes → F .nodes ≤ j + f → j < F .nodes → Has (treeOf F j) d ≡ true → Has (treeOf F last) d ≡ true
   climb zero j d last e b l h = absurd (omega arith)
   climb (suc f) j d last e b l h = go (same j last) refl (λ k p q r. climb f k d last e (omega arith) q r)
     where
-      go : (x : Bool) → same j last ≡ x → ((k : ℕ) → j < k → k < F .nodes → Has (treeOf F k) d ≡ true → Has (treeOf F last) d ≡ true) → Has (treeOf F last) d ≡ true
+      go : (x : Bool) → same j last ≡ x → ((k : ℕ) → j < k → k < F .nodes → Has (treeOf F k) d ≡ true → Has (treeOf F last) d ≡ true)
+          → Has (treeOf F last) d ≡ true
       go true p rec = rw (same→≡ j last p) at h
       go false p rec = let z : j ≢ last = same→≢ j last p in let u = rise j d (jn .named j (omega arith)) h in rec (u .0) (u .1) (u .2) (u .3)
 
   pub all-there : (last c : ℕ) → suc last ≡ F .nodes → c < F .charts → Has (treeOf F last) c ≡ true
   all-there last c e l = let m = jn .holder c l in
-      climb (F .nodes) (m .0) c last e (omega arith) (m .1) (rw (tree₀ F w (m .0) (m .1) (m .2), m .3) (whole-own c (gather (F .master) (λ i. treeOf F (F .node i)) c (F .slaves))))
+      climb (F .nodes) (m .0) c last e (omega arith) (m .1)
+      (rw (tree₀ F w (m .0) (m .1) (m .2), m .3) (whole-own c (gather (F .master) (λ i. treeOf F (F .node i)) c (F .slaves))))
 
 -- ── rule 11 ──
 abbrev pub Rule11 : File → Type 0
@@ -145,7 +153,8 @@ module _ (F : File) (w : Ordered F) (r11 : Rule11 F) where
       rest : Slaves
       rest = gather (F .master) (λ i. treeOf F (F .node i)) c k
 
-      go : (b : Bool) → same (F .master k) c ≡ b → (HasS rest d ≡ true → c < d) → HasS (cond b (snoc rest k (treeOf F (F .node k))) rest) d ≡ true → c < d
+      go : (b : Bool) → same (F .master k) c ≡ b → (HasS rest d ≡ true → c < d) → HasS (cond b (snoc rest k (treeOf F (F .node k))) rest) d ≡ true
+          → c < d
       go true e rec h = split (Has (treeOf F (F .node k)) d) refl h
         where
           split : (x : Bool) → Has (treeOf F (F .node k)) d ≡ x → (x || HasS rest d) ≡ true → c < d
@@ -157,7 +166,8 @@ module _ (F : File) (w : Ordered F) (r11 : Rule11 F) where
   above-whole c nil h v = tt
   above-whole c (snoc ss i t) h v = (h, v)
 
-  above-gather : (c k : ℕ) → k ≤ F .slaves → ((i : ℕ) → i < F .slaves → F .master i ≡ c → Above (treeOf F (F .node i))) → AboveS (gather (F .master) (λ i. treeOf F (F .node i)) c k)
+  above-gather : (c k : ℕ) → k ≤ F .slaves → ((i : ℕ) → i < F .slaves → F .master i ≡ c → Above (treeOf F (F .node i)))
+      → AboveS (gather (F .master) (λ i. treeOf F (F .node i)) c k)
   unfolding gather
   above-gather c zero l h = tt
   above-gather c (suc k) l h = go (same (F .master k) c) refl (above-gather c k (omega arith) h)

@@ -50,7 +50,8 @@ room-one xs ys w e at l r = rw e at (room-first xs ys at l r)
 pub room-all : (xs ys : List ℕ) (w : ℕ) → xs ≡ ys → length ys ≡ w → (at : ℕ) (l : List ℕ) → Room xs at l → at + w ≤ length l
 room-all xs ys w q e at l r = rw (q, e) at r
 
-pub room-last : {xs : List ℕ} (ys : List ℕ) (w : ℕ) → length ys ≡ w → {at p : ℕ} {l m : List ℕ} → Puts xs at l m p → Room (xs ++ ys) at l → p + w ≤ length m
+pub room-last : {xs : List ℕ} (ys : List ℕ) (w : ℕ) → length ys ≡ w → {at p : ℕ} {l m : List ℕ} → Puts xs at l m p → Room (xs ++ ys) at l
+    → p + w ≤ length m
 room-last {xs} ys w e {at} {p} {l} {m} h r = rw e at (room-more ys h r)
 
 -- ── records in turn ──
@@ -88,10 +89,12 @@ module _ (f : ℕ → List ℕ) where
     room-next {n} {k} {p} {m} r i h = let e = puts-length h in omega (arith, h .place, turn-in n k i)
 
     -- the next is a record of w bytes
-    pub room-record : {n k p : ℕ} {m : List ℕ} (w : ℕ) → length (f k) ≡ w → Room (inTurn n f) at l → k < n → Puts (inTurn k f) at l m p → p + w ≤ length m
+    pub room-record : {n k p : ℕ} {m : List ℕ} (w : ℕ) → length (f k) ≡ w → Room (inTurn n f) at l → k < n → Puts (inTurn k f) at l m p
+        → p + w ≤ length m
     room-record {n} {k} {p} {m} w e r i h = rw e at (room-next r i h)
 
-    pub puts-record : {k p : ℕ} {m o : List ℕ} (w : ℕ) {xs : List ℕ} → length xs ≡ w → xs ≡ f k → Puts (inTurn k f) at l m p → o ≡ sets m p xs → Puts (inTurn (k + 1) f) at l o (p + w)
+    pub puts-record : {k p : ℕ} {m o : List ℕ} (w : ℕ) {xs : List ℕ} → length xs ≡ w → xs ≡ f k → Puts (inTurn k f) at l m p → o ≡ sets m p xs
+        → Puts (inTurn (k + 1) f) at l o (p + w)
     puts-record {k} {p} {m} {o} w {xs} e q h g = puts-next h (puts-is q (puts-one xs w p m o e g))
 
     pub puts-done : {n k p : ℕ} {m : List ℕ} → k ≡ n → Puts (inTurn k f) at l m p → Puts (inTurn n f) at l m p

@@ -69,7 +69,8 @@ module _ (sig : ℕ → ℕ) where
 
   -- ── a chart's transitions, counted ──
 
-  leaving-own : (κ : Option ℕ) (T : Transition → Set) (ts r : List Transition) (s : ℕ) → leavingIn (map (called sig κ T) ts ++ r) s ≡ leavingIn ts s + leavingIn r s
+  leaving-own : (κ : Option ℕ) (T : Transition → Set) (ts r : List Transition) (s : ℕ)
+      → leavingIn (map (called sig κ T) ts ++ r) s ≡ leavingIn ts s + leavingIn r s
   unfolding leavingIn called
   leaving-own κ T [] r s = sym (zero-add (leavingIn r s))
   leaving-own κ T (t ∷ ts) r s = omega (arith, leaving-own κ T ts r s)
@@ -82,19 +83,23 @@ module _ (sig : ℕ → ℕ) where
       leaving-own (some i) T (C .transitions) (idles sig (some i) 0 (C .states)) s
       ∙ ap (λ (k : ℕ). leavingIn (C .transitions) s + k) (idles-once i 0 (C .states) s (omega arith) (omega arith) ∙ sym (count-some i 1))
 
-  length-with : (κ : Option ℕ) (T : Transition → Set) (C : Chart) → length (chartWith sig κ T C .transitions) ≡ length (C .transitions) + idleCount (callIn sig κ) (C .states)
+  length-with : (κ : Option ℕ) (T : Transition → Set) (C : Chart)
+      → length (chartWith sig κ T C .transitions) ≡ length (C .transitions) + idleCount (callIn sig κ) (C .states)
   length-with none T C = places-none sig T C ∙ omega (arith, count-none (C .states))
   length-with (some i) T C = places sig i T C ∙ omega (arith, count-some i (C .states))
 
 -- κ is the call that chart c takes
 module _ (F : File) (c : ℕ) (κ : Set) (is : κ ≡ callIn (call F) (nearestSlave F c)) where
-  pub leaving-is : (s : ℕ) → s < F .chart c .states → leavingIn (rewrittenChart F c .transitions) s ≡ leavingIn (F .chart c .transitions) s + idleCount κ 1
+  pub leaving-is : (s : ℕ) → s < F .chart c .states
+      → leavingIn (rewrittenChart F c .transitions) s ≡ leavingIn (F .chart c .transitions) s + idleCount κ 1
   unfolding rewrittenChart
-  leaving-is s l = leaving-with (call F) (nearestSlave F c) (callsBy F c) (F .chart c) s l ∙ ap (λ (k : Set). leavingIn (F .chart c .transitions) s + idleCount k 1) (sym is)
+  leaving-is s l = leaving-with (call F) (nearestSlave F c) (callsBy F c) (F .chart c) s l
+      ∙ ap (λ (k : Set). leavingIn (F .chart c .transitions) s + idleCount k 1) (sym is)
 
   pub length-is : length (rewrittenChart F c .transitions) ≡ length (F .chart c .transitions) + idleCount κ (F .chart c .states)
   unfolding rewrittenChart
-  length-is = length-with (call F) (nearestSlave F c) (callsBy F c) (F .chart c) ∙ ap (λ (k : Set). length (F .chart c .transitions) + idleCount k (F .chart c .states)) (sym is)
+  length-is = length-with (call F) (nearestSlave F c) (callsBy F c) (F .chart c)
+      ∙ ap (λ (k : Set). length (F .chart c .transitions) + idleCount k (F .chart c .states)) (sym is)
 
 -- ── its transitions in bytes ──
 
@@ -107,7 +112,8 @@ module _ (sig : ℕ → ℕ) where
       (idles-bytes i (suc b) n ∙ turn-cong _ _ n (λ k l. ap (λ (s : ℕ). transitionBytes (idleWith (single (sig i)) s)) (omega arith)))
       ∙ sym (turn-front (λ s. transitionBytes (idleWith (single (sig i)) (b + s))) n)
 
-  idles-with : (κ : Option ℕ) (m : ℕ) → transitionsBytes (idles sig κ 0 m) ≡ inTurn (idleCount (callIn sig κ) m) (λ s. transitionBytes (idleWith (callIn sig κ) s))
+  idles-with : (κ : Option ℕ) (m : ℕ)
+      → transitionsBytes (idles sig κ 0 m) ≡ inTurn (idleCount (callIn sig κ) m) (λ s. transitionBytes (idleWith (callIn sig κ) s))
   unfolding idles transitionsBytes inTurn callIn
   idles-with none m = ap (λ (k : ℕ). inTurn k (λ s. transitionBytes (idleWith (callIn sig none) s))) (sym (count-none sig m))
   idles-with (some i) m =
@@ -127,14 +133,17 @@ own-bytes g f k (suc n) r =
     ∙ ap (λ (l : List ℕ). l ++ transitionsBytes r) (sym (turn-front (λ i. transitionBytes (g (f (k + i)))) n))
 
 -- the own transitions are n from k on
-pub chart-bytes : (F : File) (c : ℕ) (κ : Set) → κ ≡ callIn (call F) (nearestSlave F c) → (f : ℕ → Transition) (k n : ℕ) → F .chart c .transitions ≡ from f k n
+pub chart-bytes : (F : File) (c : ℕ) (κ : Set) → κ ≡ callIn (call F) (nearestSlave F c) → (f : ℕ → Transition) (k n : ℕ)
+    → F .chart c .transitions ≡ from f k n
     → transitionsBytes (rewrittenChart F c .transitions)
-    ≡ inTurn n (λ i. transitionBytes (calledWith κ (callsBy F c (f (k + i))) (f (k + i)))) ++ inTurn (idleCount κ (F .chart c .states)) (λ s. transitionBytes (idleWith κ s))
+    ≡ inTurn n (λ i. transitionBytes (calledWith κ (callsBy F c (f (k + i))) (f (k + i))))
+    ++ inTurn (idleCount κ (F .chart c .states)) (λ s. transitionBytes (idleWith κ s))
 unfolding rewrittenChart chartWith called calledWith
 chart-bytes F c κ is f k n e =
     rw (e, is)
     (own-bytes (called (call F) (nearestSlave F c) (callsBy F c)) f k n (idles (call F) (nearestSlave F c) 0 (F .chart c .states))
-    ∙ ap (λ (l : List ℕ). inTurn n (λ i. transitionBytes (called (call F) (nearestSlave F c) (callsBy F c) (f (k + i)))) ++ l) (idles-with (call F) (nearestSlave F c) (F .chart c .states)))
+    ∙ ap (λ (l : List ℕ). inTurn n (λ i. transitionBytes (called (call F) (nearestSlave F c) (callsBy F c) (f (k + i)))) ++ l)
+    (idles-with (call F) (nearestSlave F c) (F .chart c .states)))
 
 -- ── nodes in bytes ──
 
@@ -161,7 +170,8 @@ module _ (F : File) where
 
   -- all of the rewritten file's
   pub nodes-are : inTurn (start F (F .nodes)) (λ p. nodeBytes (newNode F p)) ≡ inTurn (F .nodes) (λ j. nodesBytes (madeFor F j))
-  nodes-are = ap (λ (n : ℕ). inTurn n (λ p. nodeBytes (newNode F p))) (sym (laid-length F (F .nodes))) ∙ nodes-turn (laid F (F .nodes)) ∙ laid-turn (F .nodes)
+  nodes-are = ap (λ (n : ℕ). inTurn n (λ p. nodeBytes (newNode F p))) (sym (laid-length F (F .nodes))) ∙ nodes-turn (laid F (F .nodes))
+      ∙ laid-turn (F .nodes)
 
   -- those of a master's slaves
   pub parts-are : (c at k : ℕ) → nodesBytes (composed F c at k) ≡ inTurn k (partBytes F c at (F .chart c .feedback ∪ callsOf F c))
@@ -175,7 +185,8 @@ module _ (F : File) where
       before : List ℕ
       before = inTurn i (partBytes F c at (F .chart c .feedback ∪ callsOf F c))
 
-      go : (b : Bool) → nodesBytes (composed F c at i) ≡ before → nodesBytes (cond b (composed F c at i ++ (nd ∷ [])) (composed F c at i)) ≡ before ++ cond b (nodeBytes nd) []
+      go : (b : Bool) → nodesBytes (composed F c at i) ≡ before
+          → nodesBytes (cond b (composed F c at i ++ (nd ∷ [])) (composed F c at i)) ≡ before ++ cond b (nodeBytes nd) []
       go true h = nodes-append (composed F c at i) (nd ∷ []) ∙ ap₂ _++_ h (nodes-one nd)
       go false h = h ∙ sym (append-nil before)
 
@@ -206,11 +217,13 @@ module _ (F : File) where
   pub comp-are : (j : ℕ) → F .kind j ≡ 1 → nodesBytes (madeFor F j) ≡ nodeBytes (composing (newName F (F .a j)) (newName F (F .b j)) (F .x j))
   unfolding madeFor
   comp-are j e =
-      ap (λ (k : ℕ). nodesBytes (madeBy F k (count F (F .a j) (F .slaves)) j)) e ∙ nodes-one (composing (newName F (F .a j)) (newName F (F .b j)) (F .x j))
+      ap (λ (k : ℕ). nodesBytes (madeBy F k (count F (F .a j) (F .slaves)) j)) e
+      ∙ nodes-one (composing (newName F (F .a j)) (newName F (F .b j)) (F .x j))
 
   pub hide-are : (j : ℕ) → F .kind j ≡ 2 → nodesBytes (madeFor F j) ≡ nodeBytes (hiding (newName F (F .a j)) (F .x j) (F .y j))
   unfolding madeFor
-  hide-are j e = ap (λ (k : ℕ). nodesBytes (madeBy F k (count F (F .a j) (F .slaves)) j)) e ∙ nodes-one (hiding (newName F (F .a j)) (F .x j) (F .y j))
+  hide-are j e = ap (λ (k : ℕ). nodesBytes (madeBy F k (count F (F .a j) (F .slaves)) j)) e
+      ∙ nodes-one (hiding (newName F (F .a j)) (F .x j) (F .y j))
 
   -- ── the file ──
 

@@ -31,10 +31,12 @@ module _ (op : ℕ → ℕ → ℕ) (f : ℕ → ℕ → ℕ) (g : Bool → Bool
     (small : (x y : ℕ) → x < 2 → y < 2 → f x y < 2)
     (digit : (x y : ℕ) → x < 2 → y < 2 → eqb (f x y) 1 ≡ g (eqb x 1) (eqb y 1)) where
   op-half : (a b : ℕ) → op a b / 2 ≡ op (a / 2) (b / 2)
-  op-half a b = ap (λ (x : ℕ). x / 2) (step a b) ∙ digits-div (op (a / 2) (b / 2)) (small (a % 2) (b % 2) (mod-lt a (suc-le-suc zero-le)) (mod-lt b (suc-le-suc zero-le)))
+  op-half a b = ap (λ (x : ℕ). x / 2) (step a b)
+      ∙ digits-div (op (a / 2) (b / 2)) (small (a % 2) (b % 2) (mod-lt a (suc-le-suc zero-le)) (mod-lt b (suc-le-suc zero-le)))
 
   op-odd : (a b : ℕ) → op a b % 2 ≡ f (a % 2) (b % 2)
-  op-odd a b = ap (λ (x : ℕ). x % 2) (step a b) ∙ digits-mod (op (a / 2) (b / 2)) (small (a % 2) (b % 2) (mod-lt a (suc-le-suc zero-le)) (mod-lt b (suc-le-suc zero-le)))
+  op-odd a b = ap (λ (x : ℕ). x % 2) (step a b)
+      ∙ digits-mod (op (a / 2) (b / 2)) (small (a % 2) (b % 2) (mod-lt a (suc-le-suc zero-le)) (mod-lt b (suc-le-suc zero-le)))
 
   bit-op : (n a b : ℕ) → bit (op a b) n ≡ g (bit a n) (bit b n)
   unfolding odd

@@ -12,7 +12,8 @@ returns c = sym (firstOf-here _ _ (sym (ap₂ _||_ (c .before .before .nonzero .
 returns-2 : tie.Need-returns-2
 returns-2 c =
     c .records-refusal .ensures
-    ∙ sym (firstOf-next _ _ (sym (ap₂ _||_ (c .before .before .before .nonzero .ensures) (c .before .before .bad-zeros .ensures)) ∙ c .before .if1 .left))
+    ∙ sym (firstOf-next _ _ (sym (ap₂ _||_ (c .before .before .before .nonzero .ensures) (c .before .before .bad-zeros .ensures))
+    ∙ c .before .if1 .left))
 
 pub refusal-spec : {M : Type 1} → statement M
 refusal-spec =

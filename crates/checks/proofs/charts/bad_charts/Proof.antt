@@ -27,22 +27,30 @@ loop-holds : tie.Need-loop-holds Inv-loop μ-loop
 loop-holds c = (omega arith, omega arith, sym (startOf-none _ _), any-none _)
 
 -- what the code asks of the chart is `chart?`
-asked : (c : tie.After-bad-chart Inv-loop μ-loop) → c .bad-chart .result ≡ chart? (c .before .before .before .before .before .args .n) (c .before .before .before .before .before .args .body .now) (c .before .before .before .loop .c)
+asked : (c : tie.After-bad-chart Inv-loop μ-loop)
+    → c .bad-chart .result ≡ chart? (c .before .before .before .before .before .args .n) (c .before .before .before .before .before .args .body .now)
+    (c .before .before .before .loop .c)
 unfolding chart?
 asked c = c .bad-chart .ensures ∙ rw (c .before .head-at .ensures)
 
 returns : tie.Need-returns Inv-loop μ-loop
 unfolding charts?
-returns c = rw (any-at _ (chart? _ _) (c .before .before .before .before .loop .c) (c .before .before .before .loop-test .taken) (sym (asked (c .before)) ∙ c .if1 .taken))
+returns c = rw (any-at _ (chart? _ _) (c .before .before .before .before .loop .c) (c .before .before .before .loop-test .taken)
+    (sym (asked (c .before)) ∙ c .if1 .taken))
 
 loop-again : tie.Need-loop-again Inv-loop μ-loop
 loop-again c =
     let l = c .before .before .before .before .before .loop in
-    let a = c .before .before .before .before .before .before .before .args in
-    (omega arith, omega arith, omega (arith, startOf-next (a .n) (a .body .now) (l .c), ap (λ (h : Head). h .transitions) (c .before .before .before .head-at .ensures)), any-more _ _ (l .inv .3) (sym (asked (c .before .before)) ∙ c .before .if1 .left))
+    let a = c .before .before .before .before .before .before .before .args in (
+      omega arith,
+      omega arith,
+      omega (arith, startOf-next (a .n) (a .body .now) (l .c), ap (λ (h : Head). h .transitions) (c .before .before .before .head-at .ensures)),
+      any-more _ _ (l .inv .3) (sym (asked (c .before .before)) ∙ c .before .if1 .left),
+    )
 
 -- with all charts passed, the sum decides
-summed : (n : Shape) (b : List ℕ) (c sum : ℕ) → c ≡ n .charts → sum ≡ startOf n b c → anyUpTo c (chart? n b) ≡ false → not (eqb sum (n .transitions)) ≡ charts? n b
+summed : (n : Shape) (b : List ℕ) (c sum : ℕ) → c ≡ n .charts → sum ≡ startOf n b c → anyUpTo c (chart? n b) ≡ false
+    → not (eqb sum (n .transitions)) ≡ charts? n b
 unfolding charts? same
 summed n b c sum e s h =
     let h′ : anyUpTo (n .charts) (chart? n b) ≡ false = rw e at h in

@@ -17,13 +17,25 @@ returns-2 c = (simp (lt-ltb _ _ (c .before .before .if1 .left), le-ltb _ _ (c .i
 
 returns-3 : tie.Need-returns-3
 unfolding next?
-returns-3 c =
-    (simp (lt-ltb _ _ (c .before .before .before .before .before .if1 .left), lt-ltb _ _ (c .before .before .before .if2 .left), le-ltb _ _ (c .if3 .taken)), λ e. absurd (false≢true (sym e)))
+returns-3 c = (
+  simp (
+    lt-ltb _ _ (c .before .before .before .before .before .if1 .left),
+    lt-ltb _ _ (c .before .before .before .if2 .left),
+    le-ltb _ _ (c .if3 .taken),
+  ),
+  λ e. absurd (false≢true (sym e)),
+)
 
 returns-4 : tie.Need-returns-4
 unfolding next? counted
-returns-4 c =
-    (simp (lt-ltb _ _ (c .before .before .before .before .before .before .if1 .left), lt-ltb _ _ (c .before .before .before .before .if2 .left), lt-ltb _ _ (c .before .if3 .left)), λ e. refl)
+returns-4 c = (
+  simp (
+    lt-ltb _ _ (c .before .before .before .before .before .before .if1 .left),
+    lt-ltb _ _ (c .before .before .before .before .if2 .left),
+    lt-ltb _ _ (c .before .if3 .left),
+  ),
+  λ e. refl,
+)
 
 pub bad-transition-spec : {M : Type 1} → statement M
 bad-transition-spec =

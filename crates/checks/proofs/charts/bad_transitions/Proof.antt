@@ -41,7 +41,8 @@ loop-holds : tie.Need-loop-holds Inv-loop μ-loop Inv-scan μ-scan
 loop-holds c = (omega arith, omega arith, c .before .before .scan .inv .2, any-none _, counts-none _ _ _)
 
 -- the next transition is one of the file's
-within : (c : tie.In-loop Inv-loop μ-loop Inv-scan μ-scan) → c .before .loop .at < c .before .before .before .before .before .before .args .n .transitions
+within : (c : tie.In-loop Inv-loop μ-loop Inv-scan μ-scan)
+    → c .before .loop .at < c .before .before .before .before .before .before .args .n .transitions
 within c =
     let a = c .before .before .before .before .before .before .args in
     let h = ap (λ (r : Head). r .transitions) (c .before .before .head-at .ensures) in
@@ -52,17 +53,23 @@ within c =
     )
 
 -- the chart's states fit the table
-few : (c : tie.After-head-at Inv-loop μ-loop Inv-scan μ-scan) → headAt (c .before .before .before .before .args .n) (c .before .before .before .before .args .body .now) (c .before .before .scan .c) .states ≤ mostStates
+few : (c : tie.After-head-at Inv-loop μ-loop Inv-scan μ-scan)
+    → headAt (c .before .before .before .before .args .n) (c .before .before .before .before .args .body .now)
+    (c .before .before .scan .c) .states ≤ mostStates
 few c = charted _ _ (c .before .before .before .before .pre .1) (c .before .before .scan .c) (c .before .scan-test .taken) .states
 
 -- the transition read is transition t of the chart
 is : (c : tie.After-transition-at Inv-loop μ-loop Inv-scan μ-scan)
-    → c .transition-at .result ≡ inChart (c .before .before .before .before .before .before .before .args .n) (c .before .before .before .before .before .before .before .args .body .now) (c .before .before .before .before .before .scan .c) (c .before .before .loop .t)
+    → c .transition-at .result ≡ inChart (c .before .before .before .before .before .before .before .args .n)
+    (c .before .before .before .before .before .before .before .args .body .now) (c .before .before .before .before .before .scan .c)
+    (c .before .before .loop .t)
 is c = c .transition-at .ensures ∙ ap (transitionAt _ _) (c .before .before .loop .inv .1)
 
 -- what the code asks of it is `badAt`
 asked : (c : tie.After-bad-transition Inv-loop μ-loop Inv-scan μ-scan)
-    → c .bad-transition .result ≡ badAt (c .before .before .before .before .before .before .before .before .before .args .n) (c .before .before .before .before .before .before .before .before .before .args .body .now) (c .before .before .before .before .before .before .before .scan .c) (c .before .before .before .before .loop .t)
+    → c .bad-transition .result ≡ badAt (c .before .before .before .before .before .before .before .before .before .args .n)
+    (c .before .before .before .before .before .before .before .before .before .args .body .now)
+    (c .before .before .before .before .before .before .before .scan .c) (c .before .before .before .before .loop .t)
 asked c =
     let h = c .before .before .before .before .before in
     c .bad-transition .ensures .0

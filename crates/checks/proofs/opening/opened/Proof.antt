@@ -32,7 +32,8 @@ returns-2 c =
     }
 
 -- 2 to 4 passed
-past : (c : tie.Else2) → firstOf (trailerTests (c .before .before .read-trailer .result) (endOf (c .before .before .before .before .before .args .file .now))) ≡ 0
+past : (c : tie.Else2) → firstOf (trailerTests (c .before .before .read-trailer .result)
+    (endOf (c .before .before .before .before .before .args .file .now))) ≡ 0
 past c = sym (c .before .refusal .ensures) ∙ c .if2 .left
 
 sub-start : tie.Need-sub-start

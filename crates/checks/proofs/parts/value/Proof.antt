@@ -97,7 +97,8 @@ returns-3 : tie.Need-returns-3
 returns-3 c =
     let m = c .before .before .before in
     c .less .ensures
-    ∙ ap (λ (v : Set). getD (m .before .before .before .before .before .args .table .now) (m .before .before .before .node-at .result .a) 0 ∖ v) (c .before .taken .ensures)
+    ∙ ap (λ (v : Set). getD (m .before .before .before .before .before .args .table .now) (m .before .before .before .node-at .result .a) 0 ∖ v)
+    (c .before .taken .ensures)
     ∙ value₂ _ _ _ _ (m .before .before .before .node-at .ensures) _ _ _ (m .match .rest .0 .1) (m .match .rest .1)
 
 pub value-spec : {M : Type 1} → statement M

@@ -56,14 +56,17 @@ returns-3 : tie.Need-returns-3
 returns-3 c =
     let e = c .before .before .before in
     let b = e .before .before .before in
-    no-node _ _ _ _ (b .before .before .before .before .slave-at .ensures) (b .before .if1 .left) _ (b .head-at .ensures) (e .if2 .left) (c .if3 .taken)
+    no-node _ _ _ _ (b .before .before .before .before .slave-at .ensures) (b .before .if1 .left) _ (b .head-at .ensures) (e .if2 .left)
+    (c .if3 .taken)
 
 -- where all but the order is tested
-ordered : (c : tie.Else3) → let a = c .before .before .before .before .before .before .before .before .before .before .before .before .args in not (inOrder (fileAt (a .n) (a .body .now)) (a .i)) ≡ slave? (fileAt (a .n) (a .body .now)) (a .i)
+ordered : (c : tie.Else3) → let a = c .before .before .before .before .before .before .before .before .before .before .before .before .args in
+    not (inOrder (fileAt (a .n) (a .body .now)) (a .i)) ≡ slave? (fileAt (a .n) (a .body .now)) (a .i)
 ordered c =
     let e = c .before .before .before in
     let b = e .before .before .before in
-    by-order _ _ _ _ (b .before .before .before .before .slave-at .ensures) (b .before .if1 .left) _ (b .head-at .ensures) (e .if2 .left) (c .if3 .left)
+    by-order _ _ _ _ (b .before .before .before .before .slave-at .ensures) (b .before .if1 .left) _ (b .head-at .ensures) (e .if2 .left)
+    (c .if3 .left)
 
 returns-4 : tie.Need-returns-4
 returns-4 c = first _ _ (c .if4 .taken) ∙ ordered (c .before)

@@ -23,7 +23,8 @@ loop-holds c = (omega arith, any-none _)
 returns : tie.Need-returns Inv-loop μ-loop
 unfolding slaves? fileAt
 returns c =
-    sym (any-at _ _ (c .before .before .before .before .loop .i) (c .before .before .if1 .taken) (sym (c .before .bad-slave .ensures) ∙ c .if2 .taken))
+    sym (any-at _ _ (c .before .before .before .before .loop .i) (c .before .before .if1 .taken)
+    (sym (c .before .bad-slave .ensures) ∙ c .if2 .taken))
 
 loop-again : tie.Need-loop-again Inv-loop μ-loop
 loop-again c = (omega arith, any-more _ _ (c .before .before .before .before .loop .inv .1) (sym (c .before .bad-slave .ensures) ∙ c .if2 .left))

@@ -13,7 +13,8 @@ use Rattle.checks.proofs.zeros.any_nonzero.Statement.{statement}
 use Rattle.checks.proofs.zeros.any_nonzero.Tie as tie
 
 abbrev Inv-loop : tie.InvT-loop
-Inv-loop s at size count from k place₀ i₀ place i = (i ≤ count) × (place ≡ at + size * i) × (anyUpTo i (λ j. nonzero s (at + size * j + from) k) ≡ false)
+Inv-loop s at size count from k place₀ i₀ place i =
+    (i ≤ count) × (place ≡ at + size * i) × (anyUpTo i (λ j. nonzero s (at + size * j + from) k) ≡ false)
 
 abbrev μ-loop : tie.MeasureT-loop
 μ-loop s at size count from k place₀ i₀ place i = count - i

@@ -7,7 +7,12 @@ use Rattle.checks.proofs.zeros.bad_zeros.Tie as tie
 
 returns : tie.Need-returns
 unfolding zeros?
-returns c = rw (c .before .before .before .any-nonzero .ensures, c .before .before .any-nonzero2 .ensures, c .before .any-nonzero3 .ensures, c .any-nonzero4 .ensures) (simp zero-add)
+returns c = rw (
+  c .before .before .before .any-nonzero .ensures,
+  c .before .before .any-nonzero2 .ensures,
+  c .before .any-nonzero3 .ensures,
+  c .any-nonzero4 .ensures,
+) (simp zero-add)
 
 pub bad-zeros-spec : {M : Type 1} → statement M
 bad-zeros-spec =

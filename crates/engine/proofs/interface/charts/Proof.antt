@@ -1,5 +1,5 @@
--- `interface::charts` meets its contract. The loop's invariant: the charts passed have their interfaces, and `start` is where the next one's transitions
--- begin. Assumes nothing.
+-- `interface::charts` meets its contract. The loop's invariant: the charts passed have their interfaces, and `start` is where the next one's
+-- transitions begin. Assumes nothing.
 use mathlib.Core.Path.{_≡_, refl, sym, ap₂, _∙_}
 use mathlib.Core.List.{List}
 use Prim.Native.Nat.{ℕ, _+_, _≤_, _<_, _-_}
@@ -48,7 +48,8 @@ loop-holds c =
     (omega arith, refl, refl, sym (startOf-none _ _), record { input-at = λ k h. absurd (omega arith); output-at = λ k h. absurd (omega arith) })
 
 -- a chart's transitions are there
-fits : (c : tie.After-head-at Inv-loop μ-loop) → c .before .before .before .loop .start + c .head-at .result .transitions ≤ c .before .before .before .before .before .args .n .transitions
+fits : (c : tie.After-head-at Inv-loop μ-loop)
+    → c .before .before .before .loop .start + c .head-at .result .transitions ≤ c .before .before .before .before .before .args .n .transitions
 fits c =
     let l = c .before .before .before in
     room _ _ _ _ _ (c .head-at .ensures) (l .loop .inv .3) (l .before .before .pre .1) (c .before .if1 .taken)
@@ -71,8 +72,10 @@ loop-again c =
       simp length-set (i .inv .2),
       next _ _ _ _ _ (h .head-at .ensures) (i .inv .3),
       record {
-        input-at = fill-more _ (i .input) (i .c) _ (i .inv .4 .input-at) (input-is _ _ _ _ _ (h .head-at .ensures) (i .inv .3) _ (c .before .guards .ensures)) (omega arith);
-        output-at = fill-more _ (i .output) (i .c) _ (i .inv .4 .output-at) (output-is _ _ _ _ _ (h .head-at .ensures) (i .inv .3) _ (c .actions .ensures)) (omega arith);
+        input-at = fill-more _ (i .input) (i .c) _ (i .inv .4 .input-at)
+            (input-is _ _ _ _ _ (h .head-at .ensures) (i .inv .3) _ (c .before .guards .ensures)) (omega arith);
+        output-at = fill-more _ (i .output) (i .c) _ (i .inv .4 .output-at)
+            (output-is _ _ _ _ _ (h .head-at .ensures) (i .inv .3) _ (c .actions .ensures)) (omega arith);
       },
     )
 

@@ -27,7 +27,11 @@ module _ (f : List ℕ) where
 
   module _ (h : refusalOf f ≡ 0) (n : Shape) (en : n ≡ shapeOf (trailer f)) (b : List ℕ) (eb : b ≡ bodyOf f) where
     given : _≡_ {A = Faces}
-        (record { refusal = 0; input = inFace (fileAt n b .chart) (wholeOf (fileAt n b)); output = outFace (fileAt n b .chart) (wholeOf (fileAt n b)) })
+        (record {
+          refusal = 0;
+          input = inFace (fileAt n b .chart) (wholeOf (fileAt n b));
+          output = outFace (fileAt n b .chart) (wholeOf (fileAt n b));
+        })
         answer
     unfolding inputOf outputOf same fileOf
     given = rw (h, en, eb)

@@ -24,7 +24,8 @@ module _ (F : File) (w : Treed F) (some : 0 < F .nodes) (i u : List ℕ) (o : Ow
 
   output-is : Filled F u Output t (F .nodes) → getD t (F .nodes - 1) 0 ≡ outFace (F .chart) (wholeOf F)
   output-is f =
-      filled F w u t Output (λ c. actions (F .chart c .transitions)) f (o .output-at) (F .nodes - 1) (omega arith) ∙ sym (out-fold (F .chart) (wholeOf F))
+      filled F w u t Output (λ c. actions (F .chart c .transitions)) f (o .output-at) (F .nodes - 1) (omega arith)
+      ∙ sym (out-fold (F .chart) (wholeOf F))
 
 returns : tie.Need-returns
 unfolding fileAt
@@ -33,7 +34,8 @@ returns c =
     let b = s .before .before in
     let F = fileAt (b .args .n) (b .args .body .now) in
     let z = b .pre .0 .some-node in
-    ap₂ {C = Faces} (λ (i o : ℕ). record { refusal = 0; input = i; output = o }) (input-is F (b .pre .1 .1) z _ _ (s .charts .ensures) _ (c .before .before .before .table .ensures))
+    ap₂ {C = Faces} (λ (i o : ℕ). record { refusal = 0; input = i; output = o })
+    (input-is F (b .pre .1 .1) z _ _ (s .charts .ensures) _ (c .before .before .before .table .ensures))
     (output-is F (b .pre .1 .1) z _ _ (s .charts .ensures) _ (c .before .table2 .ensures))
 
 pub of-body-spec : {M : Type 1} → statement M

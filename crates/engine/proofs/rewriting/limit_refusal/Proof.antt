@@ -42,7 +42,8 @@ returns c = sym (firstOf-here _ _ (sym (c .before .over-from .ensures) ∙ c .if
 
 returns-2 : tie.Need-returns-2
 unfolding limitTests fromState? inChart? fileAt
-returns-2 c = sym (firstOf-next _ _ (sym (c .before .before .before .over-from .ensures) ∙ c .before .before .if1 .left) ∙ firstOf-here _ _ (sym (c .before .over-in-chart .ensures) ∙ c .if2 .taken))
+returns-2 c = sym (firstOf-next _ _ (sym (c .before .before .before .over-from .ensures) ∙ c .before .before .if1 .left)
+    ∙ firstOf-here _ _ (sym (c .before .over-in-chart .ensures) ∙ c .if2 .taken))
 
 returns-3 : tie.Need-returns-3
 unfolding limitTests fromState? inChart? fileAt
@@ -54,17 +55,21 @@ returns-3 c =
 returns-4 : tie.Need-returns-4
 unfolding limitTests fromState? inChart? fileAt
 returns-4 c =
-    sym (firstOf-next _ _ (sym (c .before .before .before .before .before .before .before .over-from .ensures) ∙ c .before .before .before .before .before .before .if1 .left)
+    sym (firstOf-next _ _ (sym (c .before .before .before .before .before .before .before .over-from .ensures)
+    ∙ c .before .before .before .before .before .before .if1 .left)
     ∙ firstOf-next _ _ (sym (c .before .before .before .before .before .over-in-chart .ensures) ∙ c .before .before .before .before .if2 .left)
-    ∙ firstOf-next _ _ (total-fits _ _ (c .before .before .before .before .before .before .before .before .before .pre .2) (c .before .before .if3 .left))
+    ∙ firstOf-next _ _ (total-fits _ _ (c .before .before .before .before .before .before .before .before .before .pre .2)
+    (c .before .before .if3 .left))
     ∙ firstOf-here _ _ (nodes-over _ _ (c .before .before .before .before .before .before .before .before .before .pre .2) (c .if4 .taken)))
 
 returns-5 : tie.Need-returns-5
 unfolding limitTests fromState? inChart? fileAt
 returns-5 c =
-    sym (firstOf-next _ _ (sym (c .before .before .before .before .before .before .before .over-from .ensures) ∙ c .before .before .before .before .before .before .if1 .left)
+    sym (firstOf-next _ _ (sym (c .before .before .before .before .before .before .before .over-from .ensures)
+    ∙ c .before .before .before .before .before .before .if1 .left)
     ∙ firstOf-next _ _ (sym (c .before .before .before .before .before .over-in-chart .ensures) ∙ c .before .before .before .before .if2 .left)
-    ∙ firstOf-next _ _ (total-fits _ _ (c .before .before .before .before .before .before .before .before .before .pre .2) (c .before .before .if3 .left))
+    ∙ firstOf-next _ _ (total-fits _ _ (c .before .before .before .before .before .before .before .before .before .pre .2)
+    (c .before .before .if3 .left))
     ∙ firstOf-next _ _ (nodes-fit _ _ (c .before .before .before .before .before .before .before .before .before .pre .2) (c .if4 .left))
     ∙ firstOf-[])
 

@@ -39,7 +39,9 @@ unfolding fileAt
 returns c =
     let a = c .before .before .before .before .before .before .before .args in
     refuses (fileAt (a .n) (a .body .now)) (a .out .now) 40 _
-    (after-calls (fileAt (a .n) (a .body .now)) _ (too-few (fileAt (a .n) (a .body .now)) _ _ (c .before .before .before .before .used .ensures) (c .before .before .before .given .ensures) (not-true _ (c .before .if1 .taken)))) (λ z. omega (arith, z)) (c .refused .ensures)
+    (after-calls (fileAt (a .n) (a .body .now)) _
+    (too-few (fileAt (a .n) (a .body .now)) _ _ (c .before .before .before .before .used .ensures) (c .before .before .before .given .ensures)
+    (not-true _ (c .before .if1 .taken)))) (λ z. omega (arith, z)) (c .refused .ensures)
 
 -- the file that was read
 abbrev at : tie.Else1 → File
@@ -59,13 +61,22 @@ in-limits : (c : tie.Else2) → firstOf (limitTests (at (c .before .before .befo
 in-limits c = sym (c .before .limit-refusal .ensures) ∙ c .if2 .left
 
 fitting : (c : tie.Else2) → Fits (at (c .before .before .before .before .before .before .before .before))
-fitting c = fits (at (c .before .before .before .before .before .before .before .before)) 0 (free-left (c .before .before .before .before .before .before .before .before)) (in-limits c)
+fitting c = fits (at (c .before .before .before .before .before .before .before .before)) 0
+    (free-left (c .before .before .before .before .before .before .before .before)) (in-limits c)
 
 inner-requires : tie.Need-inner-requires
-inner-requires c κs = (c .before .before .before .before .before .before .before .before .pre .0, have-calls (c .before .before), c .before .before .before .before .before .before .before .before .pre .1)
+inner-requires c κs = (
+  c .before .before .before .before .before .before .before .before .pre .0,
+  have-calls (c .before .before),
+  c .before .before .before .before .before .before .before .before .pre .1,
+)
 
 limit-refusal-requires : tie.Need-limit-refusal-requires
-limit-refusal-requires c κs = (c .before .before .before .before .before .before .before .before .before .before .before .before .pre .0, c .before .before .before .inner .ensures, c .before .shape .ensures)
+limit-refusal-requires c κs = (
+  c .before .before .before .before .before .before .before .before .before .before .before .before .pre .0,
+  c .before .before .before .inner .ensures,
+  c .before .shape .ensures,
+)
 
 returns-2 : tie.Need-returns-2
 returns-2 c =
@@ -74,11 +85,15 @@ returns-2 c =
     refuses (at e) (c .before .before .before .before .before .before .before .before .before .before .before .before .before .before .before .args .out .now) _ _ (after-limits (at e) _ (free-left e) (λ z. c .before .if2 .taken (r ∙ z)) ∙ sym r) (c .before .if2 .taken) (c .refused2 .ensures)
 
 -- the result's counts and its size
-counts : (c : tie.Else2) → (c .before .before .before .shape .result .charts < 256) × (c .before .before .before .shape .result .transitions < 65536) × (c .before .before .before .shape .result .slaves < 256) × (c .before .before .before .shape .result .nodes < 256)
+counts : (c : tie.Else2) → (c .before .before .before .shape .result .charts < 256) × (c .before .before .before .shape .result .transitions < 65536)
+    × (c .before .before .before .shape .result .slaves < 256) × (c .before .before .before .shape .result .nodes < 256)
 unfolding fileAt
-counts c = small (at (c .before .before .before .before .before .before .before .before)) (fitting c) (c .before .before .before .before .before .before .before .before .before .before .before .before .before .before .pre .0 .sized .charts) _ (c .before .before .before .shape .ensures)
+counts c = small (at (c .before .before .before .before .before .before .before .before)) (fitting c)
+    (c .before .before .before .before .before .before .before .before .before .before .before .before .before .before .pre .0 .sized .charts) _
+    (c .before .before .before .shape .ensures)
 
-length-is : (c : tie.After-size) → c .size .result + 12 ≡ length (encode (rewrite (at (c .before .before .before .before .before .before .before .before .before))))
+length-is : (c : tie.After-size)
+    → c .size .result + 12 ≡ length (encode (rewrite (at (c .before .before .before .before .before .before .before .before .before))))
 unfolding fileAt
 length-is c = ap (λ (k : ℕ). k + 12) (c .size .ensures) ∙ size-is (at (c .before .before .before .before .before .before .before .before .before)) (fitting (c .before)) (c .before .before .before .before .before .before .before .before .before .before .before .before .before .before .before .pre .0 .sized .charts) _ (c .before .before .before .before .shape .ensures)
 
@@ -90,19 +105,28 @@ returns-3 c =
     let e = c .before .before .before .before .before .before .before .before .before .before .before in
     let l = length-is (c .before .before) in
     let r = c .before .before .before .before .before .before .before .before .before .before .before .before .before .before .before .before .before .args .out .now in
-    refuses (at e) r 45 _ (after-room (at e) (length r) (free-left e) (in-limits (c .before .before .before)) (rw l at (c .before .if3 .taken))) (λ z. omega (arith, z)) (c .refused3 .ensures)
+    refuses (at e) r 45 _ (after-room (at e) (length r) (free-left e) (in-limits (c .before .before .before)) (rw l at (c .before .if3 .taken)))
+    (λ z. omega (arith, z)) (c .refused3 .ensures)
 
 lay-requires : tie.Need-lay-requires
 lay-requires c κs =
-    let p = c .before .before .before .before .before .before .before .before .before .before .before .before .before .before .before .before .before .before .before .pre in
-    (p .0, have-calls (c .before .before .before .before .before .before .before .before .before .before .before .before .before), c .before .before .before .before .before .before .before .before .before .before .inner .ensures, fitting (c .before .before .before .before .before), c .before .before .before .before .before .before .before .before .shape .ensures, refl, rw (length-is (c .before .before .before .before)) at (c .before .before .before .if3 .left))
+    let p = c .before .before .before .before .before .before .before .before .before .before .before .before .before .before .before .before .before .before .before .pre in (
+      p .0,
+      have-calls (c .before .before .before .before .before .before .before .before .before .before .before .before .before),
+      c .before .before .before .before .before .before .before .before .before .before .inner .ensures,
+      fitting (c .before .before .before .before .before),
+      c .before .before .before .before .before .before .before .before .shape .ensures,
+      refl,
+      rw (length-is (c .before .before .before .before)) at (c .before .before .before .if3 .left),
+    )
 
 returns-4 : tie.Need-returns-4
 returns-4 c =
     let e = c .before .before .before .before .before .before .before .before .before .before .before .before .before .before .before .before in
     let l = length-is (c .before .before .before .before .before .before .before) in
     let r = c .before .before .before .before .before .before .before .before .before .before .before .before .before .before .before .before .before .before .before .before .before .before .args .out .now in
-    gives (at e) r _ _ (after-all (at e) (length r) (free-left e) (in-limits (c .before .before .before .before .before .before .before .before)) (rw l at (c .before .before .before .before .before .before .if3 .left))) l (c .before .before .lay .ensures)
+    gives (at e) r _ _ (after-all (at e) (length r) (free-left e) (in-limits (c .before .before .before .before .before .before .before .before))
+    (rw l at (c .before .before .before .before .before .before .if3 .left))) l (c .before .before .lay .ensures)
 
 pub of-body-spec : {M : Type 1} → statement M
 of-body-spec =

@@ -29,14 +29,16 @@ abbrev answerOf : List ℕ → ℕ → Rewritten
 answerOf f room = record { refusal = rewriteRefusal f room; length = rewriteLength f room }
 
 -- a file that is refused leaves the buffer as it was
-by-file : (f out : List ℕ) (r : ℕ) (s : Rewritten) → r ≡ refusalOf f → (r ≡ 0 → ⊥) → s ≡ record { refusal = r; length = 0 } → (s ≡ answerOf f (length out)) × (out ≡ rewriteOut f out)
+by-file : (f out : List ℕ) (r : ℕ) (s : Rewritten) → r ≡ refusalOf f → (r ≡ 0 → ⊥) → s ≡ record { refusal = r; length = 0 }
+    → (s ≡ answerOf f (length out)) × (out ≡ rewriteOut f out)
 unfolding rewriteLength rewriteOut same
 by-file f out r s e h q = rw (file-refused f (λ z. h (e ∙ z)) (length out), ← e, ne-eqb r 0 h) (q, refl)
 
 -- the body that the file is opened to
 module _ (f : List ℕ) (h : refusalOf f ≡ 0) (n : Shape) (en : n ≡ shapeOf (trailer f)) (b : List ℕ) (eb : b ≡ bodyOf f) where
   by-body : (out out′ : List ℕ) (r : Rewritten)
-      → (r ≡ record { refusal = rewriteAfter (fileAt n b) (length out); length = lengthAfter (fileAt n b) (length out) }) × (out′ ≡ outAfter (fileAt n b) out)
+      → (r ≡ record { refusal = rewriteAfter (fileAt n b) (length out); length = lengthAfter (fileAt n b) (length out) })
+      × (out′ ≡ outAfter (fileAt n b) out)
       → (r ≡ answerOf f (length out)) × (out′ ≡ rewriteOut f out)
   by-body out out′ r q = rw (refusal-is f h (length out), length-is f h (length out), out-is f h out, file-is f n b en eb) q
 
@@ -54,7 +56,8 @@ stands : (c : tie.Else1) → Stands (c .before .before .before .before .args .fi
 stands c = c .before .opened .ensures .stands (c .if1 .left)
 
 returns : tie.Need-returns
-returns c = by-file _ (c .before .before .before .before .before .args .out .now) _ _ (c .before .before .opened .ensures .refusal) (c .before .if1 .taken) (c .refused .ensures)
+returns c = by-file _ (c .before .before .before .before .before .args .out .now) _ _ (c .before .before .opened .ensures .refusal)
+    (c .before .if1 .taken) (c .refused .ensures)
 
 of-body-requires : tie.Need-of-body-requires
 of-body-requires c κs =
@@ -68,7 +71,8 @@ returns-2 : tie.Need-returns-2
 returns-2 c =
     let e = c .before .before .before .before .before .before in
     let w = stands e in
-    by-body _ (accepted e) _ (w .shape) _ (w .body) (c .before .before .before .before .before .before .before .before .before .before .args .out .now) _ _ (c .before .before .of-body .ensures)
+    by-body _ (accepted e) _ (w .shape) _ (w .body)
+    (c .before .before .before .before .before .before .before .before .before .before .args .out .now) _ _ (c .before .before .of-body .ensures)
 
 pub rewriting-spec : {M : Type 1} → statement M
 rewriting-spec =

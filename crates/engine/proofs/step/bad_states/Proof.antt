@@ -33,7 +33,8 @@ loop-holds c = (omega arith, any-none _)
 returns : tie.Need-returns Inv-loop μ-loop
 returns c =
     let d = c .before .before in
-    sym (any-at _ _ (d .before .before .before .loop .c) (d .before .before .loop-test .taken) (bad-here _ (d .head-at .result) _ (d .head-at .ensures) (c .if1 .taken)))
+    sym (any-at _ _ (d .before .before .before .loop .c) (d .before .before .loop-test .taken)
+    (bad-here _ (d .head-at .result) _ (d .head-at .ensures) (c .if1 .taken)))
 
 loop-again : tie.Need-loop-again Inv-loop μ-loop
 loop-again c =

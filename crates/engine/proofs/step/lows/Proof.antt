@@ -19,7 +19,11 @@ loop-holds : tie.Need-loop-holds Inv-loop μ-loop
 loop-holds c = (omega arith, search needs, λ k l. absurd (omega arith))
 
 loop-again : tie.Need-loop-again Inv-loop μ-loop
-loop-again c = (omega arith, simp length-set (c .before .loop .inv .1), filled-more _ (c .before .loop .low) (c .before .loop .c) _ (omega arith) refl (c .before .loop .inv .2))
+loop-again c = (
+  omega arith,
+  simp length-set (c .before .loop .inv .1),
+  filled-more _ (c .before .loop .low) (c .before .loop .c) _ (omega arith) refl (c .before .loop .inv .2),
+)
 
 returns : tie.Need-returns Inv-loop μ-loop
 returns c k l = c .before .loop .inv .2 k (omega arith)

@@ -38,7 +38,8 @@ module _ (n : Shape) (b config : List ℕ) (i : Set) (room r : ℕ) (e : r ≡ f
 
     ready-here : Checked n b → Ready n b config
     unfolding fileAt chartOf
-    ready-here k = ready n b k config (let l = config-long (fileAt n b) config (sym e ∙ z) in omega arith) (config-valid (fileAt n b) config (sym e ∙ z))
+    ready-here k = ready n b k config (let l = config-long (fileAt n b) config (sym e ∙ z) in omega arith)
+        (config-valid (fileAt n b) config (sym e ∙ z))
 
     module _ (l : n .charts ≤ room) (f : Found) (h : Finds n b config i f) where
       by-search : f .has ≡ false → stepAfter (fileAt n b) config i room ≡ refused noStep
@@ -73,7 +74,9 @@ returns-3 : tie.Need-returns-3
 returns-3 c =
     let f = c .before .before .before .before .before in
     let e = f .before .before .before .before .before .before .before .before .before .before in
-    refuses _ _ _ _ (by-search _ _ _ _ _ _ (e .before .config-refusal .ensures) (e .if1 .left) (f .before .before .before .before .before .before .before .before .if2 .left) (f .found .result) (f .found .ensures .0) (not-true _ (c .before .if3 .taken))) (c .refused3 .ensures)
+    refuses _ _ _ _ (by-search _ _ _ _ _ _ (e .before .config-refusal .ensures) (e .if1 .left)
+    (f .before .before .before .before .before .before .before .before .if2 .left) (f .found .result) (f .found .ensures .0)
+    (not-true _ (c .before .if3 .taken))) (c .refused3 .ensures)
 
 put-states-requires : tie.Need-put-states-requires
 put-states-requires c κs =
@@ -85,7 +88,9 @@ returns-4 : tie.Need-returns-4
 returns-4 c =
     let f = c .before .before .before .before .before .before .before .before .before in
     let e = f .before .before .before .before .before .before .before .before .before .before in
-    gives _ _ _ _ _ _ (by-found _ _ _ _ _ _ (e .before .config-refusal .ensures) (e .if1 .left) (f .before .before .before .before .before .before .before .before .if2 .left) (f .found .result) (f .found .ensures .0) (not-false _ (c .before .before .before .before .before .if3 .left))) (c .before .before .put-states .ensures)
+    gives _ _ _ _ _ _ (by-found _ _ _ _ _ _ (e .before .config-refusal .ensures) (e .if1 .left)
+    (f .before .before .before .before .before .before .before .before .if2 .left) (f .found .result) (f .found .ensures .0)
+    (not-false _ (c .before .before .before .before .before .if3 .left))) (c .before .before .put-states .ensures)
 
 pub of-body-spec : {M : Type 1} → statement M
 of-body-spec =

@@ -13,7 +13,13 @@ use Rattle.engine.proofs.step.put_states.Tie as tie
 -- one more state stored over a buffer
 take-store : (b s : List ℕ) (i : ℕ) → i < length b → i < length s → set (take i s ++ drop i b) i (getD s i 0) ≡ take (i + 1) s ++ drop (i + 1) b
 take-store b s i h k =
-    rw (drop-cons b i 0, set-at (take i s) (getD b i 0) (drop (suc i) b) (getD s i 0) i (length-take-le i s (omega arith)), add-one, take-suc s i 0 k, append-assoc)
+    rw (
+      drop-cons b i 0,
+      set-at (take i s) (getD b i 0) (drop (suc i) b) (getD s i 0) i (length-take-le i s (omega arith)),
+      add-one,
+      take-suc s i 0 k,
+      append-assoc,
+    )
 
 abbrev Inv-loop : tie.InvT-loop
 Inv-loop buffer₀ n states i₀ buffer i = (i ≤ n) × (length buffer ≡ length buffer₀) × (buffer ≡ take i states ++ drop i buffer₀)

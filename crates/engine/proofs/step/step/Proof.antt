@@ -21,7 +21,8 @@ by-file : (f config : List ℕ) (i : Set) (room r : ℕ) → r ≡ refusalOf f �
 by-file f config i room r e h = rw e (step-refused f config i room (λ z. h (e ∙ z)))
 
 -- the step of the body that the file is opened to is the file's
-module _ (f : List ℕ) (h : refusalOf f ≡ 0) (n : Shape) (en : n ≡ shapeOf (trailer f)) (b : List ℕ) (eb : b ≡ bodyOf f) (config : List ℕ) (i : Set) where
+module _ (f : List ℕ) (h : refusalOf f ≡ 0) (n : Shape) (en : n ≡ shapeOf (trailer f)) (b : List ℕ) (eb : b ≡ bodyOf f) (config : List ℕ)
+    (i : Set) where
   by-body : (next next′ : List ℕ) (r : Stepped)
       → (r ≡ steppedOf (stepAfter (fileAt n b) config i (length next))) × (next′ ≡ nextIn (stepAfter (fileAt n b) config i (length next)) next)
       → (r ≡ steppedOf (stepOf f config i (length next))) × (next′ ≡ nextIn (stepOf f config i (length next)) next)

@@ -20,5 +20,9 @@ le16-spec =
     (λ c. search needs)
     (λ c. omega (arith, c .shared-slice-known2 .given (c .before .before .args .at + 1)))
     (λ c. omega (arith, c .shared-slice-known2 .given (c .before .before .args .at + 1)))
-    (λ c. omega (arith, c .shared-slice-known2 .given (c .before .before .args .at + 1), c .before .shared-slice-known .given (c .before .before .args .at)))
+    (λ c. omega (
+      arith,
+      c .shared-slice-known2 .given (c .before .before .args .at + 1),
+      c .before .shared-slice-known .given (c .before .before .args .at),
+    ))
     returns)

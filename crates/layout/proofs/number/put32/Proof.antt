@@ -8,7 +8,8 @@ use Rattle.layout.proofs.number.put32.Tie as tie
 returns : tie.Need-returns
 returns c =
     let a = c .before .before .before .before .before .before .before .before .before .args in
-    rw (c .before .before .put162 .ensures, c .before .before .before .before .before .before .put16 .ensures) (put-twice 2 (now (a .s)) (a .at) (a .x))
+    rw (c .before .before .put162 .ensures, c .before .before .before .before .before .before .put16 .ensures)
+    (put-twice 2 (now (a .s)) (a .at) (a .x))
 
 pub put32-spec : {M : Type 1} → statement M
 put32-spec =

@@ -8,7 +8,8 @@ use Rattle.layout.proofs.number.put64.Tie as tie
 returns : tie.Need-returns
 returns c =
     let a = c .before .before .before .before .before .before .before .before .before .args in
-    rw (c .before .before .put322 .ensures, c .before .before .before .before .before .before .put32 .ensures) (put-twice 4 (now (a .s)) (a .at) (a .x))
+    rw (c .before .before .put322 .ensures, c .before .before .before .before .before .before .put32 .ensures)
+    (put-twice 4 (now (a .s)) (a .at) (a .x))
 
 pub put64-spec : {M : Type 1} → statement M
 put64-spec =

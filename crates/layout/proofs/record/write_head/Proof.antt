@@ -38,5 +38,11 @@ write-head-spec =
     (λ c κs. omega (arith, simp (length-sets, length-set) at (ap length (c .before .before .before .put32 .ensures))))
     (λ c. search needs)
     (λ c κs. omega (arith, simp (length-sets, length-set) at (ap length (c .before .before .before .before .before .before .before .put32 .ensures))))
-    (λ c. omega (arith, simp (length-sets, length-set) at (ap length (c .before .before .before .before .before .before .before .before .before .before .put32 .ensures))))
+    (λ c. omega (
+      arith,
+      simp (
+        length-sets,
+        length-set,
+      ) at (ap length (c .before .before .before .before .before .before .before .before .before .before .put32 .ensures)),
+    ))
     returns)

@@ -16,7 +16,8 @@ unfolding bytes trailerBytes
 returns c =
     let a = c .before .before .before .before .before .before .before .before .before .before .before .before .before .args in
     let r = a .r in
-    let distance = start (now (a .s)) (a .at) (bytes 4 (r .distance)) (c .before .before .before .before .before .before .before .before .before .before .put32 .ensures) in
+    let distance = start (now (a .s)) (a .at) (bytes 4 (r .distance))
+    (c .before .before .before .before .before .before .before .before .before .before .put32 .ensures) in
     let edition = byte (byte (byte (byte distance (r .charts)) (r .slaves)) (r .nodes)) (r .edition) in
     let transitions = part edition (bytes 2 (r .transitions)) (c .before .before .before .before .before .before .put16 .ensures) in
     part transitions (bytes 2 0) (c .before .before .put162 .ensures) .is

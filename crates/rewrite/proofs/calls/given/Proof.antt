@@ -75,7 +75,8 @@ record Gives (used i left : ℕ) (l : List ℕ) : Type 0 where
   pub rest : drop i (lacking used mostSignals) ≡ lacking left mostSignals
   pub given : (k : ℕ) → k < i → getD l k 0 ≡ single (getD (lacking used mostSignals) k (mostSignals + k))
 
-module _ (used i left s : ℕ) (l : List ℕ) (h : Gives used i left l) (free : bit left s ≡ false) (low : (k : ℕ) → k < s → bit left k ≡ true) (small : s < 64) where
+module _ (used i left s : ℕ) (l : List ℕ) (h : Gives used i left l) (free : bit left s ≡ false) (low : (k : ℕ) → k < s → bit left k ≡ true)
+    (small : s < 64) where
   abbrev L : List ℕ
   L = lacking used mostSignals
 
@@ -98,7 +99,8 @@ module _ (used i left s : ℕ) (l : List ℕ) (h : Gives used i left l) (free : 
       }
 
 -- none is left
-gives-out : (used i left slaves : ℕ) (l : List ℕ) → Gives used i left l → left ≡ 2 ^ 64 - 1 → i < slaves → Calling used slaves record { enough = false; sets = l }
+gives-out : (used i left slaves : ℕ) (l : List ℕ) → Gives used i left l → left ≡ 2 ^ 64 - 1 → i < slaves
+    → Calling used slaves record { enough = false; sets = l }
 gives-out used i left slaves l h e q =
     let none : lacking left mostSignals ≡ [] = rw e (lacks-none (2 ^ 64 - 1) 64 (λ k p. bit-all 64 k p)) in
     let short : length (lacking used mostSignals) < slaves = omega (arith, ap length (h .rest ∙ none), length-drop i (lacking used mostSignals)) in
@@ -125,7 +127,8 @@ returns c =
     gives-out _ (i .i) (i .left) _ _ (i .inv .1) out (c .before .before .before .loop-test .taken)
 
 -- the signal that was found
-found : (c : tie.After-known-told Inv-loop μ-loop) → IsLowestFree (c .before .before .before .before .before .loop .left) (At (c .before .s .given .0 .0))
+found : (c : tie.After-known-told Inv-loop μ-loop)
+    → IsLowestFree (c .before .before .before .before .before .loop .left) (At (c .before .s .given .0 .0))
 found c = rw (c .before .s .given .1) at (c .before .before .before .lowest-free .ensures)
 
 loop-again : tie.Need-loop-again Inv-loop μ-loop

@@ -34,7 +34,8 @@ Has F l c = getD l c 0 ≡ callIn (call F) (kap F c)
 
 module _ (F : File) (s : Sound F) where
   -- the call of the slave that node j stands in, by its number
-  call-is : (calls : List ℕ) → CallsIn F calls → F .slaves ≤ mostSlaves → (j i : ℕ) → i ≡ numberOf (enc F j) → cond (ltb i (F .slaves)) (getD calls i 0) 0 ≡ callIn (call F) (enc F j)
+  call-is : (calls : List ℕ) → CallsIn F calls → F .slaves ≤ mostSlaves → (j i : ℕ) → i ≡ numberOf (enc F j)
+      → cond (ltb i (F .slaves)) (getD calls i 0) 0 ≡ callIn (call F) (enc F j)
   unfolding numberOf callIn
   call-is calls h m j i e = go (enc F j) refl e
     where
@@ -58,7 +59,8 @@ record Filled (F : File) (j : ℕ) (l : List ℕ) : Type 0 where
   pub has : (k : ℕ) → k < j → F .kind k ≡ 0 → Has F l (F .a k)
 
 -- r is node j
-module _ (n : Shape) (b : List ℕ) (w : Checked n b) (j : ℕ) (p : j < n .nodes) (r : Node) (e : r ≡ nodeAt n b j) (l : List ℕ) (h : Filled (fileAt n b) j l) where
+module _ (n : Shape) (b : List ℕ) (w : Checked n b) (j : ℕ) (p : j < n .nodes) (r : Node) (e : r ≡ nodeAt n b j) (l : List ℕ)
+    (h : Filled (fileAt n b) j l) where
   abbrev F : File
   F = fileAt n b
 
@@ -81,14 +83,19 @@ module _ (n : Shape) (b : List ℕ) (w : Checked n b) (j : ℕ) (p : j < n .node
       let m : F .a j < length l = (let t = there k in let z = a-is in let y = h .long in omega arith) in
       rw a-is (record {
         long = simp length-set (h .long);
-        has = below-more (λ (i : ℕ). F .kind i ≡ 0 → Has F (set l (F .a j) v) (F .a i)) j (λ i z y. has-set F (w .sound) j p u l v q m (F .a i) (h .has i z y)) (λ y. has-here F (w .sound) j p u l v q m);
+        has = below-more (λ (i : ℕ). F .kind i ≡ 0 → Has F (set l (F .a j) v) (F .a i)) j
+            (λ i z y. has-set F (w .sound) j p u l v q m (F .a i) (h .has i z y)) (λ y. has-here F (w .sound) j p u l v q m);
       })
 
   filled-other : (r .kind ≡ 0 → ⊥) → Filled F (j + 1) l
-  filled-other k = record { long = h .long; has = below-more (λ (i : ℕ). F .kind i ≡ 0 → Has F l (F .a i)) j (h .has) (λ y. absurd (k (kind-is ∙ y))) }
+  filled-other k = record {
+    long = h .long;
+    has = below-more (λ (i : ℕ). F .kind i ≡ 0 → Has F l (F .a i)) j (h .has) (λ y. absurd (k (kind-is ∙ y)));
+  }
 
 -- every chart is held by a node
-filled-all : (n : Shape) (b : List ℕ) → Checked n b → Upward (fileAt n b) → (j : ℕ) (l : List ℕ) → j ≡ n .nodes → Filled (fileAt n b) j l → InnerIn (fileAt n b) l
+filled-all : (n : Shape) (b : List ℕ) → Checked n b → Upward (fileAt n b) → (j : ℕ) (l : List ℕ) → j ≡ n .nodes → Filled (fileAt n b) j l
+    → InnerIn (fileAt n b) l
 unfolding fileAt
 filled-all n b w up j l e h c p =
     let s = w .sound in
@@ -115,13 +122,16 @@ loop-again c =
     let t = c .before .before .before .before .loop-test .taken in (
       omega arith,
       ⊎-elim
-          (λ w. rw (w .2) (filled-own _ _ (p .0) (i .j) t _ e (i .inner) (i .inv .1) _ (w .1 .ensures ∙ call-is _ (p .0 .sound) (c .before .before .before .before .before .before .before .before .args .calls .now) (p .1) (p .0 .sized .slaves) (i .j) _ (c .before .before .before .before .before .before .enclosers .ensures (i .j) t)) (w .0 .taken)))
+          (λ w. rw (w .2) (filled-own _ _ (p .0) (i .j) t _ e (i .inner) (i .inv .1) _
+          (w .1 .ensures ∙ call-is _ (p .0 .sound) (c .before .before .before .before .before .before .before .before .args .calls .now) (p .1)
+          (p .0 .sized .slaves) (i .j) _ (c .before .before .before .before .before .before .enclosers .ensures (i .j) t)) (w .0 .taken)))
           (λ w. rw (w .1) (filled-other _ _ (p .0) (i .j) t _ e (i .inner) (i .inv .1) (w .0 .left)))
           (c .if1 .came),
     )
 
 returns : tie.Need-returns Inv-loop μ-loop
-returns c = filled-all _ _ (c .before .before .before .before .pre .0) (c .before .before .before .before .pre .2) (c .before .loop .j) (c .before .loop .inner) (omega arith) (c .before .loop .inv .1)
+returns c = filled-all _ _ (c .before .before .before .before .pre .0) (c .before .before .before .before .pre .2) (c .before .loop .j)
+    (c .before .loop .inner) (omega arith) (c .before .loop .inv .1)
 
 pub inner-spec : {M : Type 1} → statement M
 inner-spec =
@@ -136,7 +146,10 @@ inner-spec =
     (λ c. let h = c .before .before .before .before .before .before .before .before .pre .0 .sized .nodes in omega arith)
     (λ c κs. c .before .before .before .before .before .before .before .before .pre .0 .sized .slaves)
     (λ c. search needs)
-    (λ c. there _ _ (c .before .before .before .before .before .before .before .before .before .pre .0) (c .before .before .before .before .before .before .loop .j) (c .before .before .before .before .before .loop-test .taken) _ (c .before .before .before .before .node-at .ensures) (c .before .before .before .before .before .before .loop .inner) (c .before .before .before .before .before .before .loop .inv .1) (c .before .if1 .taken))
+    (λ c. there _ _ (c .before .before .before .before .before .before .before .before .before .pre .0)
+    (c .before .before .before .before .before .before .loop .j) (c .before .before .before .before .before .loop-test .taken) _
+    (c .before .before .before .before .node-at .ensures) (c .before .before .before .before .before .before .loop .inner)
+    (c .before .before .before .before .before .before .loop .inv .1) (c .before .if1 .taken))
     (λ c. omega arith)
     (λ c. omega arith)
     loop-again

@@ -21,7 +21,8 @@ use Rattle.rewrite.proofs.calls.used_by_charts.Tie as tie
 -- the sets of chart c
 abbrev ofChart : Shape → List ℕ → ℕ → Set
 ofChart n b c =
-    guards (fileAt n b .chart c .transitions) ∪ actions (fileAt n b .chart c .transitions) ∪ fileAt n b .chart c .feedback ∪ fileAt n b .chart c .extra
+    guards (fileAt n b .chart c .transitions) ∪ actions (fileAt n b .chart c .transitions) ∪ fileAt n b .chart c .feedback
+    ∪ fileAt n b .chart c .extra
 
 -- h is the head of chart c, whose transitions begin at s
 of-chart : (n : Shape) (b : List ℕ) (c s : ℕ) (h : Head) (own : Set) → h ≡ headAt n b c → s ≡ startOf n b c
@@ -29,7 +30,8 @@ of-chart : (n : Shape) (b : List ℕ) (c s : ℕ) (h : Head) (own : Set) → h �
     → own ∪ h .feedback ∪ h .extra ≡ ofChart n b c
 unfolding fileAt chartOf
 of-chart n b c s h own eh es eo =
-    ap₂ _∪_ (ap₂ _∪_ (eo ∙ ap (λ (ts : List Transition). guards ts ∪ actions ts) (sym (own-are n b c s eh es))) (ap (λ (h : Head). h .feedback) eh)) (ap (λ (h : Head). h .extra) eh)
+    ap₂ _∪_ (ap₂ _∪_ (eo ∙ ap (λ (ts : List Transition). guards ts ∪ actions ts) (sym (own-are n b c s eh es))) (ap (λ (h : Head). h .feedback) eh))
+    (ap (λ (h : Head). h .extra) eh)
 
 abbrev Inv-loop : tie.InvT-loop
 Inv-loop n body all₀ start₀ c₀ all start c = (c ≤ n .charts) × (start ≡ startOf n body c) × (all ≡ unionUpTo c (ofChart n body))
@@ -40,8 +42,11 @@ abbrev μ-loop : tie.MeasureT-loop
 loop-holds : tie.Need-loop-holds Inv-loop μ-loop
 loop-holds c = (omega arith, sym (startOf-none _ _), union-none _)
 
-room : (c : tie.After-struct-known2 Inv-loop μ-loop) → c .before .before .before .before .loop .start + c .before .head-at .result .transitions ≤ c .before .before .before .before .before .before .args .n .transitions
-room c = in-all _ _ _ _ (c .before .head-at .ensures) (c .before .before .before .before .loop .inv .1) (c .before .before .before .before .before .before .pre) (c .before .before .if1 .taken)
+room : (c : tie.After-struct-known2 Inv-loop μ-loop)
+    → c .before .before .before .before .loop .start
+    + c .before .head-at .result .transitions ≤ c .before .before .before .before .before .before .args .n .transitions
+room c = in-all _ _ _ _ (c .before .head-at .ensures) (c .before .before .before .before .loop .inv .1)
+    (c .before .before .before .before .before .before .pre) (c .before .before .if1 .taken)
 
 loop-again : tie.Need-loop-again Inv-loop μ-loop
 loop-again c =
@@ -68,7 +73,8 @@ used-by-charts-spec =
     (λ c κs. (c .before .before .before .before .pre .sized .holds, omega arith))
     (λ c. search needs)
     (λ c κs. (c .before .before .before .before .before .before .pre .sized .holds, room c))
-    (λ c. let r = room (c .before .before .before) in let t = c .before .before .before .before .before .before .before .before .before .pre .sized .transitions in omega arith)
+    (λ c. let r = room (c .before .before .before) in
+    let t = c .before .before .before .before .before .before .before .before .before .pre .sized .transitions in omega arith)
     (λ c. omega arith)
     (λ c. omega arith)
     loop-again

@@ -47,7 +47,9 @@ loop-again c =
     let given : (b : Bool) → Set = λ b. cond b (single (call (fileAt (a .n) (a .body .now)) (i .i))) ∅ in (
       omega arith,
       ⊎-elim
-          (λ w. w .2 ∙ union-taken (i .i) _ (i .inv .1) (c .before .before .before .before .before .before .before .before .before .before .pre .1 (i .i) (c .before .before .before .before .before .before .before .loop-test .taken) ∙ sym (ap given (sym e ∙ w .0 .taken))))
+          (λ w. w .2 ∙ union-taken (i .i) _ (i .inv .1)
+          (c .before .before .before .before .before .before .before .before .before .before .pre .1 (i .i)
+          (c .before .before .before .before .before .before .before .loop-test .taken) ∙ sym (ap given (sym e ∙ w .0 .taken))))
           (λ w. w .1 ∙ union-left (i .i) _ (i .inv .1) (ap given (sym e ∙ w .0 .left)))
           (c .if1 .came),
     )

@@ -22,19 +22,22 @@ use Rattle.rewrite.proofs.lay.chart.Tie as tie
 
 -- the own transitions, and the idle ones
 abbrev owns : Shape → List ℕ → Set → ℕ → ℕ → ℕ → List ℕ
-owns n b κ c s count = inTurn count (λ k. transitionBytes (calledWith κ (callsBy (fileAt n b) c (transitionAt n b (s + k))) (transitionAt n b (s + k))))
+owns n b κ c s count = inTurn count (λ k. transitionBytes
+    (calledWith κ (callsBy (fileAt n b) c (transitionAt n b (s + k))) (transitionAt n b (s + k))))
 
 abbrev rests : Set → ℕ → List ℕ
 rests κ idle = inTurn idle (λ s. transitionBytes (idleWith κ s))
 
-module _ (n : Shape) (b : List ℕ) (c : ℕ) (h : Head) (s κ idle : ℕ) (t : Takes (fileAt n b) c κ) (w : Stands n b c h s) (e : idle ≡ idleCount κ (h .states)) where
+module _ (n : Shape) (b : List ℕ) (c : ℕ) (h : Head) (s κ idle : ℕ) (t : Takes (fileAt n b) c κ) (w : Stands n b c h s)
+    (e : idle ≡ idleCount κ (h .states)) where
   bytes-are : transitionsBytes (rewrittenChart (fileAt n b) c .transitions) ≡ owns n b κ c s (h .transitions) ++ rests κ idle
   unfolding fileAt chartOf
   bytes-are =
       chart-bytes (fileAt n b) c κ t (transitionAt n b) s (h .transitions) (own-are n b c s (w .head) (w .start))
       ∙ ap (λ (k : ℕ). owns n b κ c s (h .transitions) ++ rests κ k) (sym (e ∙ ap (λ (h : Head). idleCount κ (h .states)) (w .head)))
 
-  room-are : (at : ℕ) (l : List ℕ) → Room (transitionsBytes (rewrittenChart (fileAt n b) c .transitions)) at l → Room (owns n b κ c s (h .transitions) ++ rests κ idle) at l
+  room-are : (at : ℕ) (l : List ℕ) → Room (transitionsBytes (rewrittenChart (fileAt n b) c .transitions)) at l
+      → Room (owns n b κ c s (h .transitions) ++ rests κ idle) at l
   room-are at l r = rw bytes-are at r
 
 own-requires : tie.Need-own-requires
@@ -45,7 +48,8 @@ own-requires c κs =
       p .0,
       p .1,
       in-all _ _ _ _ (w .head) (w .start) (p .0) (w .there),
-      room-first (owns (a .n) (a .body .now) (a .inner) (a .c) (a .start) (a .h .transitions)) (rests (a .inner) (c .before .before .idle-count .result)) (a .at) (a .out .now)
+      room-first (owns (a .n) (a .body .now) (a .inner) (a .c) (a .start) (a .h .transitions))
+          (rests (a .inner) (c .before .before .idle-count .result)) (a .at) (a .out .now)
           (room-are _ _ _ _ _ _ _ (p .2) w (c .before .before .idle-count .ensures) (a .at) (a .out .now) (p .4)),
     )
 
@@ -53,12 +57,15 @@ idles-requires : tie.Need-idles-requires
 idles-requires c κs =
     let p = c .before .before .before .before .before .before .before .before .before .before .pre in
     let a = c .before .before .before .before .before .before .before .before .before .before .args in
-    room-more (rests (a .inner) (c .before .before .before .before .before .before .idle-count .result)) (c .before .before .before .own .ensures) (room-are _ _ _ _ _ _ _ (p .2) (p .3) (c .before .before .before .before .before .before .idle-count .ensures) (a .at) (a .out .now) (p .4))
+    room-more (rests (a .inner) (c .before .before .before .before .before .before .idle-count .result)) (c .before .before .before .own .ensures)
+    (room-are _ _ _ _ _ _ _ (p .2) (p .3) (c .before .before .before .before .before .before .idle-count .ensures) (a .at) (a .out .now) (p .4))
 
 returns : tie.Need-returns
 returns c =
     let p = c .before .before .before .before .before .before .before .before .before .before .before .before .before .pre in
-    puts-is (sym (bytes-are _ _ _ _ _ _ _ (p .2) (p .3) (c .before .before .before .before .before .before .before .before .before .idle-count .ensures))) (puts-more (c .before .before .before .before .before .before .own .ensures) (c .before .before .idles .ensures))
+    puts-is (sym (bytes-are _ _ _ _ _ _ _ (p .2) (p .3)
+    (c .before .before .before .before .before .before .before .before .before .idle-count .ensures)))
+    (puts-more (c .before .before .before .before .before .before .own .ensures) (c .before .before .idles .ensures))
 
 pub chart-spec : {M : Type 1} → statement M
 chart-spec =
@@ -70,7 +77,12 @@ chart-spec =
     own-requires
     (λ c.
     let s : c .before .before .before .before .before .before .before .before .before .args .h .states < 256 = search needs in
-    omega (arith, c .before .before .before .before .before .idle-count .ensures, count-most (c .before .before .before .before .before .before .before .before .before .args .inner) (c .before .before .before .before .before .before .before .before .before .args .h .states)))
+    omega (
+      arith,
+      c .before .before .before .before .before .idle-count .ensures,
+      count-most (c .before .before .before .before .before .before .before .before .before .args .inner)
+          (c .before .before .before .before .before .before .before .before .before .args .h .states),
+    ))
     idles-requires
     (λ c. puts-length (returns c))
     returns)

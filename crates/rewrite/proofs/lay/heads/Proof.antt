@@ -23,9 +23,16 @@ written n b c = headBytes (headFor (rewrittenChart (fileAt n b) c))
 
 -- h is the head of chart c, t the rewritten chart's number
 new-is : (n : Shape) (b : List ℕ) (c t : ℕ) (h : Head) → h ≡ headAt n b c → t ≡ length (rewrittenChart (fileAt n b) c .transitions)
-    → record { states = h .states; initial = h .initial; transitions = t; feedback = h .feedback; extra = h .extra } ≡ headFor (rewrittenChart (fileAt n b) c)
+    → record { states = h .states; initial = h .initial; transitions = t; feedback = h .feedback; extra = h .extra }
+    ≡ headFor (rewrittenChart (fileAt n b) c)
 unfolding headFor rewrittenChart chartWith fileAt chartOf
-new-is n b c t h eh et = λ i. record { states = eh i .states; initial = eh i .initial; transitions = et i; feedback = eh i .feedback; extra = eh i .extra }
+new-is n b c t h eh et = λ i. record {
+  states = eh i .states;
+  initial = eh i .initial;
+  transitions = et i;
+  feedback = eh i .feedback;
+  extra = eh i .extra;
+}
 
 abbrev Inv-loop : tie.InvT-loop
 Inv-loop n body inner out₀ at charts p₀ c₀ out p c = (c ≤ charts) × Puts (inTurn c (written n body)) at out₀ out p
@@ -37,21 +44,33 @@ loop-holds : tie.Need-loop-holds Inv-loop μ-loop
 loop-holds c = (omega arith, puts-start _)
 
 room : (c : tie.In-loop Inv-loop μ-loop) → c .before .loop .p + 24 ≤ length (c .before .loop .out)
-room c = room-record (written (c .before .before .before .before .args .n) (c .before .before .before .before .args .body .now)) 24 (length-head _) (c .before .before .before .before .pre .3) (c .loop-test .taken) (c .before .loop .inv .1)
+room c = room-record (written (c .before .before .before .before .args .n) (c .before .before .before .before .args .body .now)) 24 (length-head _)
+    (c .before .before .before .before .pre .3) (c .loop-test .taken) (c .before .loop .inv .1)
 
 -- what was counted is the chart's number
-is : (c : tie.After-in-chart Inv-loop μ-loop) → c .in-chart .result ≡ length (rewrittenChart (fileAt (c .before .before .before .before .before .before .before .args .n) (c .before .before .before .before .before .before .before .args .body .now)) (c .before .before .before .before .loop .c) .transitions)
+is : (c : tie.After-in-chart Inv-loop μ-loop)
+    → c .in-chart .result ≡ length (rewrittenChart
+    (fileAt (c .before .before .before .before .before .before .before .args .n)
+    (c .before .before .before .before .before .before .before .args .body .now)) (c .before .before .before .before .loop .c) .transitions)
 unfolding fileAt
-is c = c .in-chart .ensures .0 ∙ sym (length-rewritten _ _ _ (c .before .before .head-at .ensures) (c .before .before .before .before .before .before .before .pre .1 _ (c .before .before .before .loop-test .taken)))
+is c = c .in-chart .ensures .0
+    ∙ sym (length-rewritten _ _ _ (c .before .before .head-at .ensures)
+    (c .before .before .before .before .before .before .before .pre .1 _ (c .before .before .before .loop-test .taken)))
 
 small : (c : tie.After-in-chart Inv-loop μ-loop) → c .in-chart .result ≤ 64
 unfolding fileAt
-small c = let h = c .before .before .before .before .before .before .before .pre .2 .lists (c .before .before .before .before .loop .c) (c .before .before .before .loop-test .taken) in let e = is c in omega arith
+small c = let h = c .before .before .before .before .before .before .before .pre .2 .lists (c .before .before .before .before .loop .c)
+    (c .before .before .before .loop-test .taken) in let e = is c in omega arith
 
 loop-again : tie.Need-loop-again Inv-loop μ-loop
 loop-again c =
-    let i = c .before .before .before .before .before .before .before .before .loop in
-    (omega arith, puts-record (written (c .before .before .before .before .before .before .before .before .before .before .before .args .n) (c .before .before .before .before .before .before .before .before .before .before .before .args .body .now)) 24 (length-head _) (ap headBytes (new-is _ _ _ _ _ (c .before .before .before .before .before .before .head-at .ensures) (is (c .before .before .before .before)))) (i .inv .1) (c .before .before .write-head .ensures))
+    let i = c .before .before .before .before .before .before .before .before .loop in (
+      omega arith,
+      puts-record (written (c .before .before .before .before .before .before .before .before .before .before .before .args .n)
+          (c .before .before .before .before .before .before .before .before .before .before .before .args .body .now)) 24 (length-head _)
+          (ap headBytes (new-is _ _ _ _ _ (c .before .before .before .before .before .before .head-at .ensures) (is (c .before .before .before .before))))
+          (i .inv .1) (c .before .before .write-head .ensures),
+    )
 
 returns : tie.Need-returns Inv-loop μ-loop
 returns c = puts-done _ (omega arith) (c .before .loop .inv .1)
@@ -69,7 +88,8 @@ heads-spec =
     (λ c κs. search needs)
     (λ c. let s = small c in omega arith)
     (λ c κs. room (c .before .before .before .before))
-    (λ c. let r = room (c .before .before .before .before .before .before .before) in let e = puts-length (c .before .before .before .before .before .before .before .before .loop .inv .1) in omega arith)
+    (λ c. let r = room (c .before .before .before .before .before .before .before) in
+    let e = puts-length (c .before .before .before .before .before .before .before .before .loop .inv .1) in omega arith)
     (λ c. omega arith)
     (λ c. omega arith)
     loop-again

@@ -29,11 +29,13 @@ put-node-requires : tie.Need-put-node-requires
 put-node-requires c κs =
     let a = c .before .before .before .before .before .args in
     let F = fileAt (a .n) (a .body .now) in
-    room-all (heldBytes F (a .c) (a .first) (count F (a .c) (a .n .slaves))) (nodeBytes (holding (a .c))) 20 (none F (a .c) (a .first) _ _ (c .before .before .slaves-of .ensures .0) (c .before .if1 .taken))
+    room-all (heldBytes F (a .c) (a .first) (count F (a .c) (a .n .slaves))) (nodeBytes (holding (a .c))) 20
+    (none F (a .c) (a .first) _ _ (c .before .before .slaves-of .ensures .0) (c .before .if1 .taken))
     (length-node (holding (a .c))) (a .at) (a .out .now) (c .before .before .before .before .before .pre .4)
 
 returns : tie.Need-returns
-returns c = puts-is (sym (none _ _ _ _ _ (c .before .before .before .before .before .slaves-of .ensures .0) (c .before .before .before .before .if1 .taken))) (c .before .before .put-node .ensures)
+returns c = puts-is (sym (none _ _ _ _ _ (c .before .before .before .before .before .slaves-of .ensures .0)
+    (c .before .before .before .before .if1 .taken))) (c .before .before .put-node .ensures)
 
 master-requires : tie.Need-master-requires
 unfolding fileAt
@@ -47,11 +49,13 @@ master-requires c κs =
       p .1,
       p .2,
       record { there = p .3 .there; some = omega arith; number = e; named = omega arith },
-      room-some (fileAt (a .n) (a .body .now)) (a .c) (a .first) _ (count (fileAt (a .n) (a .body .now)) (a .c) (a .n .slaves)) e z (a .at) (a .out .now) (p .4),
+      room-some (fileAt (a .n) (a .body .now)) (a .c) (a .first) _ (count (fileAt (a .n) (a .body .now)) (a .c) (a .n .slaves)) e z (a .at)
+          (a .out .now) (p .4),
     )
 
 returns-2 : tie.Need-returns-2
-returns-2 c = puts-is (sym (some _ _ _ _ _ (c .before .before .before .before .before .slaves-of .ensures .0) (c .before .before .before .before .if1 .left))) (c .before .before .master .ensures)
+returns-2 c = puts-is (sym (some _ _ _ _ _ (c .before .before .before .before .before .slaves-of .ensures .0)
+    (c .before .before .before .before .if1 .left))) (c .before .before .master .ensures)
 
 pub holder-spec : {M : Type 1} → statement M
 unfolding fileAt

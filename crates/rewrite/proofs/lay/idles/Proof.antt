@@ -27,13 +27,17 @@ loop-holds : tie.Need-loop-holds Inv-loop μ-loop
 loop-holds c = (omega arith, puts-start _)
 
 room : (c : tie.In-loop Inv-loop μ-loop) → c .before .loop .p + 28 ≤ length (c .before .loop .out)
-room c = room-record (written (c .before .before .before .args .inner)) 28 (length-transition _) (c .before .before .before .pre) (c .loop-test .taken) (c .before .loop .inv .1)
+room c = room-record (written (c .before .before .before .args .inner)) 28 (length-transition _) (c .before .before .before .pre)
+    (c .loop-test .taken) (c .before .loop .inv .1)
 
 loop-again : tie.Need-loop-again Inv-loop μ-loop
 unfolding idleWith
 loop-again c =
-    let i = c .before .before .before .before .before .loop in
-    (omega arith, puts-record (written (c .before .before .before .before .before .before .before .args .inner)) 28 (length-transition _) refl (i .inv .1) (c .before .before .write-transition .ensures))
+    let i = c .before .before .before .before .before .loop in (
+      omega arith,
+      puts-record (written (c .before .before .before .before .before .before .before .args .inner)) 28 (length-transition _) refl
+          (i .inv .1) (c .before .before .write-transition .ensures),
+    )
 
 returns : tie.Need-returns Inv-loop μ-loop
 returns c = puts-done _ (omega arith) (c .before .loop .inv .1)
@@ -46,7 +50,8 @@ idles-spec =
     μ-loop
     loop-holds
     (λ c κs. room (c .before))
-    (λ c. let r = room (c .before .before .before .before) in let e = puts-length (c .before .before .before .before .before .loop .inv .1) in omega arith)
+    (λ c. let r = room (c .before .before .before .before) in let e = puts-length (c .before .before .before .before .before .loop .inv .1) in
+    omega arith)
     (λ c. search needs)
     (λ c. omega arith)
     loop-again

@@ -64,7 +64,8 @@ module _ (n : Shape) (b : List ℕ) (m : Shape) (edition : ℕ) (em : m ≡ shap
 
           laid : (m₄ : List ℕ) → m₄ ≡ sets m₃ p₃ (end m edition) → m₄ ≡ laidOver (encode (rewrite F)) out
           laid m₄ h₄ =
-              puts-over r (puts-is (sym all-is) (puts-more h₁ (puts-more h₂ (puts-more h₃ (puts-one (end m edition) 12 p₃ m₃ m₄ (length-trailer (trailerWith m edition)) h₄)))))
+              puts-over r (puts-is (sym all-is) (puts-more h₁
+              (puts-more h₂ (puts-more h₃ (puts-one (end m edition) 12 p₃ m₃ m₄ (length-trailer (trailerWith m edition)) h₄)))))
 
           same : (m₄ : List ℕ) → m₄ ≡ sets m₃ p₃ (end m edition) → length m₄ ≡ length out
           same m₄ h₄ = ap length h₄ ∙ length-sets m₃ p₃ (end m edition) ∙ puts-length h₃ ∙ puts-length h₂ ∙ puts-length h₁
@@ -74,8 +75,13 @@ unfolding fileAt
 heads-requires c κs =
     let p = c .before .before .before .before .pre in
     let a = c .before .before .before .before .args in
-    let F = fileAt (a .n) (a .body .now) in
-    (p .0, p .2, p .3, room-first (hs F) (ts F ++ (ns F ++ end (a .m) (a .edition))) 0 (a .out .now) (room-all (a .n) (a .body .now) (a .m) (a .edition) (p .4) (p .5) (a .out .now) (p .6)))
+    let F = fileAt (a .n) (a .body .now) in (
+      p .0,
+      p .2,
+      p .3,
+      room-first (hs F) (ts F ++ (ns F ++ end (a .m) (a .edition))) 0 (a .out .now)
+          (room-all (a .n) (a .body .now) (a .m) (a .edition) (p .4) (p .5) (a .out .now) (p .6)),
+    )
 
 transitions-requires : tie.Need-transitions-requires
 unfolding fileAt
@@ -87,7 +93,8 @@ transitions-requires c κs =
       p .1,
       p .2,
       room-first (ts F) (ns F ++ end (a .m) (a .edition)) _ (c .before .before .before .heads .last .1 .1 .1 .0)
-          (room₁ (a .n) (a .body .now) (a .m) (a .edition) (p .4) (p .5) (a .out .now) (p .6) (c .before .before .before .heads .last .1 .1 .1 .0) _ (c .before .before .before .heads .ensures)),
+          (room₁ (a .n) (a .body .now) (a .m) (a .edition) (p .4) (p .5) (a .out .now) (p .6) (c .before .before .before .heads .last .1 .1 .1 .0) _
+          (c .before .before .before .heads .ensures)),
     )
 
 nodes-requires : tie.Need-nodes-requires
@@ -101,7 +108,9 @@ nodes-requires c κs =
       c .before .before .before .before .before .before .before .before .before .before .names .ensures,
       p .3,
       room-first (ns F) (end (a .m) (a .edition)) _ (c .before .before .before .before .transitions .last .1 .1 .1 .1 .0)
-          (room₂ (a .n) (a .body .now) (a .m) (a .edition) (p .4) (p .5) (a .out .now) (p .6) (c .before .before .before .before .before .before .before .before .heads .last .1 .1 .1 .0) _ (c .before .before .before .before .before .before .before .before .heads .ensures)
+          (room₂ (a .n) (a .body .now) (a .m) (a .edition) (p .4) (p .5) (a .out .now) (p .6)
+          (c .before .before .before .before .before .before .before .before .heads .last .1 .1 .1 .0) _
+          (c .before .before .before .before .before .before .before .before .heads .ensures)
           (c .before .before .before .before .transitions .last .1 .1 .1 .1 .0) _ (c .before .before .before .before .transitions .ensures)),
     )
 
@@ -111,8 +120,12 @@ trailer-requires c κs =
     let p = c .before .before .before .before .before .before .before .before .before .before .before .before .before .before .before .before .before .pre in
     let a = c .before .before .before .before .before .before .before .before .before .before .before .before .before .before .before .before .before .args in (
       small (a .n) (a .body .now) (a .m) (a .edition) (p .4) (p .5) (p .0) (p .3),
-      room₃ (a .n) (a .body .now) (a .m) (a .edition) (p .4) (p .5) (a .out .now) (p .6) (c .before .before .before .before .before .before .before .before .before .before .before .before .heads .last .1 .1 .1 .0) _ (c .before .before .before .before .before .before .before .before .before .before .before .before .heads .ensures)
-          (c .before .before .before .before .before .before .before .before .transitions .last .1 .1 .1 .1 .0) _ (c .before .before .before .before .before .before .before .before .transitions .ensures) (c .before .before .before .nodes .last .1 .1 .1 .1 .0) _ (c .before .before .before .nodes .ensures),
+      room₃ (a .n) (a .body .now) (a .m) (a .edition) (p .4) (p .5) (a .out .now) (p .6)
+          (c .before .before .before .before .before .before .before .before .before .before .before .before .heads .last .1 .1 .1 .0) _
+          (c .before .before .before .before .before .before .before .before .before .before .before .before .heads .ensures)
+          (c .before .before .before .before .before .before .before .before .transitions .last .1 .1 .1 .1 .0) _
+          (c .before .before .before .before .before .before .before .before .transitions .ensures)
+          (c .before .before .before .nodes .last .1 .1 .1 .1 .0) _ (c .before .before .before .nodes .ensures),
     )
 
 returns : tie.Need-returns
@@ -121,7 +134,10 @@ returns c =
     let p = c .before .before .before .before .before .before .before .before .before .before .before .before .before .before .before .before .before .before .before .before .pre in
     let a = c .before .before .before .before .before .before .before .before .before .before .before .before .before .before .before .before .before .before .before .before .args in
     laid (a .n) (a .body .now) (a .m) (a .edition) (p .4) (p .5) (a .out .now) (p .6) (c .before .before .before .before .before .before .before .before .before .before .before .before .before .before .before .heads .last .1 .1 .1 .0) _ (c .before .before .before .before .before .before .before .before .before .before .before .before .before .before .before .heads .ensures)
-    (c .before .before .before .before .before .before .before .before .before .before .before .transitions .last .1 .1 .1 .1 .0) _ (c .before .before .before .before .before .before .before .before .before .before .before .transitions .ensures) (c .before .before .before .before .before .before .nodes .last .1 .1 .1 .1 .0) _ (c .before .before .before .before .before .before .nodes .ensures) _ (c .before .before .trailer .ensures)
+    (c .before .before .before .before .before .before .before .before .before .before .before .transitions .last .1 .1 .1 .1 .0) _
+    (c .before .before .before .before .before .before .before .before .before .before .before .transitions .ensures)
+    (c .before .before .before .before .before .before .nodes .last .1 .1 .1 .1 .0) _
+    (c .before .before .before .before .before .before .nodes .ensures) _ (c .before .before .trailer .ensures)
 
 same-length : tie.Need-same-length
 unfolding fileAt
@@ -129,7 +145,11 @@ same-length c =
     let p = c .before .before .before .before .before .before .before .before .before .before .before .before .before .before .before .before .before .before .before .before .pre in
     let a = c .before .before .before .before .before .before .before .before .before .before .before .before .before .before .before .before .before .before .before .before .args in
     same (a .n) (a .body .now) (a .m) (a .edition) (p .4) (p .5) (a .out .now) (p .6) (c .before .before .before .before .before .before .before .before .before .before .before .before .before .before .before .heads .last .1 .1 .1 .0) _ (c .before .before .before .before .before .before .before .before .before .before .before .before .before .before .before .heads .ensures)
-    (c .before .before .before .before .before .before .before .before .before .before .before .transitions .last .1 .1 .1 .1 .0) _ (c .before .before .before .before .before .before .before .before .before .before .before .transitions .ensures) (c .before .before .before .before .before .before .nodes .last .1 .1 .1 .1 .0) _ (c .before .before .before .before .before .before .nodes .ensures) (c .before .before .trailer .last .1 .1 .0) (c .before .before .trailer .ensures)
+    (c .before .before .before .before .before .before .before .before .before .before .before .transitions .last .1 .1 .1 .1 .0) _
+    (c .before .before .before .before .before .before .before .before .before .before .before .transitions .ensures)
+    (c .before .before .before .before .before .before .nodes .last .1 .1 .1 .1 .0) _
+    (c .before .before .before .before .before .before .nodes .ensures) (c .before .before .trailer .last .1 .1 .0)
+    (c .before .before .trailer .ensures)
 
 pub lay-spec : {M : Type 1} → statement M
 lay-spec =

@@ -26,11 +26,13 @@ abbrev last : ℕ → Set → List ℕ
 last at hidden = nodeBytes (hiding at hidden hidden)
 
 module _ (n : Shape) (b : List ℕ) (c slaves first : ℕ) (h : Head) (hidden : Set) (eh : h ≡ headAt n b c) (es : hidden ≡ callsOf (fileAt n b) c) where
-  bytes-are : masterBytes (fileAt n b) c first slaves ≡ nodeBytes (holding c) ++ (middle (fileAt n b) c first (h .feedback ∪ hidden) ++ last (first + slaves) hidden)
+  bytes-are : masterBytes (fileAt n b) c first slaves
+      ≡ nodeBytes (holding c) ++ (middle (fileAt n b) c first (h .feedback ∪ hidden) ++ last (first + slaves) hidden)
   unfolding masterBytes fileAt chartOf
   bytes-are = rw (eh, es)
 
-  room-are : (at : ℕ) (l : List ℕ) → Room (masterBytes (fileAt n b) c first slaves) at l → Room (nodeBytes (holding c) ++ (middle (fileAt n b) c first (h .feedback ∪ hidden) ++ last (first + slaves) hidden)) at l
+  room-are : (at : ℕ) (l : List ℕ) → Room (masterBytes (fileAt n b) c first slaves) at l
+      → Room (nodeBytes (holding c) ++ (middle (fileAt n b) c first (h .feedback ∪ hidden) ++ last (first + slaves) hidden)) at l
   room-are at l r = rw bytes-are at r
 
 put-node-requires : tie.Need-put-node-requires
@@ -38,21 +40,28 @@ put-node-requires c κs =
     let p = c .before .before .before .before .before .pre in
     let a = c .before .before .before .before .before .args in
     room-one (nodeBytes (holding (a .c))) _ 20 (length-node (holding (a .c))) (a .at) (a .out .now)
-    (room-are (a .n) (a .body .now) (a .c) (a .slaves) (a .first) _ _ (c .before .head-at .ensures) (c .before .before .calls-of .ensures) (a .at) (a .out .now) (p .4))
+    (room-are (a .n) (a .body .now) (a .c) (a .slaves) (a .first) _ _ (c .before .head-at .ensures) (c .before .before .calls-of .ensures) (a .at)
+    (a .out .now) (p .4))
 
 parts-requires : tie.Need-parts-requires
 unfolding fileAt
 parts-requires c κs =
     let p = c .before .before .before .before .before .before .before .before .before .before .pre in
     let a = c .before .before .before .before .before .before .before .before .before .before .args in
-    let x = c .before .before .before .before .before .before .head-at .result .feedback ∪ c .before .before .before .before .before .before .before .calls-of .result in
+    let x = c .before .before .before .before .before .before .head-at .result .feedback
+    ∪ c .before .before .before .before .before .before .before .calls-of .result in
     let m = p .3 .named in (
       p .0,
       p .2,
       omega arith,
-      room-first (middle (fileAt (a .n) (a .body .now)) (a .c) (a .first) x) (last (a .first + a .slaves) (c .before .before .before .before .before .before .before .calls-of .result)) _ (c .before .before .before .before .put-node .last .0)
-          (room-more (middle (fileAt (a .n) (a .body .now)) (a .c) (a .first) x ++ last (a .first + a .slaves) (c .before .before .before .before .before .before .before .calls-of .result)) (c .before .before .before .before .put-node .ensures)
-          (room-are (a .n) (a .body .now) (a .c) (a .slaves) (a .first) _ _ (c .before .before .before .before .before .before .head-at .ensures) (c .before .before .before .before .before .before .before .calls-of .ensures) (a .at) (a .out .now) (p .4))),
+      room-first (middle (fileAt (a .n) (a .body .now)) (a .c) (a .first) x)
+          (last (a .first + a .slaves) (c .before .before .before .before .before .before .before .calls-of .result)) _
+          (c .before .before .before .before .put-node .last .0)
+          (room-more (middle (fileAt (a .n) (a .body .now)) (a .c) (a .first) x
+          ++ last (a .first + a .slaves) (c .before .before .before .before .before .before .before .calls-of .result))
+          (c .before .before .before .before .put-node .ensures)
+          (room-are (a .n) (a .body .now) (a .c) (a .slaves) (a .first) _ _ (c .before .before .before .before .before .before .head-at .ensures)
+          (c .before .before .before .before .before .before .before .calls-of .ensures) (a .at) (a .out .now) (p .4))),
     )
 
 put-node-requires-2 : tie.Need-put-node-requires-2
@@ -60,17 +69,25 @@ unfolding fileAt
 put-node-requires-2 c κs =
     let p = c .before .before .before .before .before .before .before .before .before .before .before .before .before .before .pre in
     let a = c .before .before .before .before .before .before .before .before .before .before .before .before .before .before .args in
-    let x = c .before .before .before .before .before .before .before .before .before .before .head-at .result .feedback ∪ c .before .before .before .before .before .before .before .before .before .before .before .calls-of .result in
+    let x = c .before .before .before .before .before .before .before .before .before .before .head-at .result .feedback
+    ∪ c .before .before .before .before .before .before .before .before .before .before .before .calls-of .result in
     room-last (last (a .first + a .slaves) (c .before .before .before .before .before .before .before .before .before .before .before .calls-of .result)) 20 (length-node _) (c .before .before .before .parts .ensures)
-    (room-more (middle (fileAt (a .n) (a .body .now)) (a .c) (a .first) x ++ last (a .first + a .slaves) (c .before .before .before .before .before .before .before .before .before .before .before .calls-of .result)) (c .before .before .before .before .before .before .before .before .put-node .ensures)
-    (room-are (a .n) (a .body .now) (a .c) (a .slaves) (a .first) _ _ (c .before .before .before .before .before .before .before .before .before .before .head-at .ensures) (c .before .before .before .before .before .before .before .before .before .before .before .calls-of .ensures) (a .at) (a .out .now) (p .4)))
+    (room-more (middle (fileAt (a .n) (a .body .now)) (a .c) (a .first) x
+    ++ last (a .first + a .slaves) (c .before .before .before .before .before .before .before .before .before .before .before .calls-of .result))
+    (c .before .before .before .before .before .before .before .before .put-node .ensures)
+    (room-are (a .n) (a .body .now) (a .c) (a .slaves) (a .first) _ _
+    (c .before .before .before .before .before .before .before .before .before .before .head-at .ensures)
+    (c .before .before .before .before .before .before .before .before .before .before .before .calls-of .ensures) (a .at) (a .out .now) (p .4)))
 
 returns : tie.Need-returns
 unfolding fileAt
 returns c =
     let a = c .before .before .before .before .before .before .before .before .before .before .before .before .before .before .before .before .before .args in
-    puts-is (sym (bytes-are (a .n) (a .body .now) (a .c) (a .slaves) (a .first) _ _ (c .before .before .before .before .before .before .before .before .before .before .before .before .before .head-at .ensures) (c .before .before .before .before .before .before .before .before .before .before .before .before .before .before .calls-of .ensures)))
-    (puts-more (c .before .before .before .before .before .before .before .before .before .before .before .put-node .ensures) (puts-more (c .before .before .before .before .before .before .parts .ensures) (c .before .before .put-node2 .ensures)))
+    puts-is (sym (bytes-are (a .n) (a .body .now) (a .c) (a .slaves) (a .first) _ _
+    (c .before .before .before .before .before .before .before .before .before .before .before .before .before .head-at .ensures)
+    (c .before .before .before .before .before .before .before .before .before .before .before .before .before .before .calls-of .ensures)))
+    (puts-more (c .before .before .before .before .before .before .before .before .before .before .before .put-node .ensures)
+    (puts-more (c .before .before .before .before .before .before .parts .ensures) (c .before .before .put-node2 .ensures)))
 
 pub master-spec : {M : Type 1} → statement M
 unfolding fileAt
@@ -83,8 +100,10 @@ master-spec =
     put-node-requires
     (λ c. let m = c .before .before .before .before .before .before .before .before .before .pre .3 .named in omega arith)
     parts-requires
-    (λ c. let m = c .before .before .before .before .before .before .before .before .before .before .before .before .before .pre .3 .named in omega arith)
-    (λ c. let m = c .before .before .before .before .before .before .before .before .before .before .before .before .before .pre .3 .named in omega arith)
+    (λ c. let m = c .before .before .before .before .before .before .before .before .before .before .before .before .before .pre .3 .named in
+    omega arith)
+    (λ c. let m = c .before .before .before .before .before .before .before .before .before .before .before .before .before .pre .3 .named in
+    omega arith)
     put-node-requires-2
     (λ c. puts-length (returns c))
     returns)

@@ -24,7 +24,8 @@ name-is : (F : File) (j first b : ℕ) → first ≡ start F j → b ≡ beforeL
 unfolding newName
 name-is F j first b e g = ap₂ _+_ e g
 
-named-more : (F : File) (j first b : ℕ) (l : List ℕ) → j < 64 → b ≡ beforeLast F j → Named F j first l → Named F (j + 1) (first + b + 1) (set l j (first + b))
+named-more : (F : File) (j first b : ℕ) (l : List ℕ) → j < 64 → b ≡ beforeLast F j → Named F j first l
+    → Named F (j + 1) (first + b + 1) (set l j (first + b))
 named-more F j first b l m e h =
     record {
       long = simp length-set (h .long);

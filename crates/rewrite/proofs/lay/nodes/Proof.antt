@@ -20,7 +20,8 @@ abbrev written : Shape → List ℕ → ℕ → List ℕ
 written n b j = nodesBytes (madeFor (fileAt n b) j)
 
 abbrev Inv-loop : tie.InvT-loop
-Inv-loop n body calls names out₀ at nodes p₀ first₀ j₀ out p first j = (j ≤ nodes) × (first ≡ start (fileAt n body) j) × Puts (inTurn j (written n body)) at out₀ out p
+Inv-loop n body calls names out₀ at nodes p₀ first₀ j₀ out p first j =
+    (j ≤ nodes) × (first ≡ start (fileAt n body) j) × Puts (inTurn j (written n body)) at out₀ out p
 
 abbrev μ-loop : tie.MeasureT-loop
 μ-loop n body calls names out₀ at nodes p₀ first₀ j₀ out p first j = nodes - j
@@ -38,7 +39,9 @@ node-requires c κs =
     (p .0, p .1, p .2, record { there = t; is = i .inv .1; named = p .3 .nodes }, room-next (written (a .n) (a .body .now)) (p .4) t (i .inv .2))
 
 -- a name is below the limit
-small : (c : tie.After-first Inv-loop μ-loop) → getD (c .before .before .before .before .before .before .before .before .before .args .names .now) (c .before .before .before .before .before .before .loop .j) 0 < 64
+small : (c : tie.After-first Inv-loop μ-loop)
+    → getD (c .before .before .before .before .before .before .before .before .before .args .names .now)
+    (c .before .before .before .before .before .before .loop .j) 0 < 64
 unfolding fileAt
 small c =
     let p = c .before .before .before .before .before .before .before .before .before .pre in
@@ -52,7 +55,8 @@ unfolding fileAt
 loop-again c =
     let i = c .before .before .before .before .before .before .loop in (
       omega arith,
-      ap (λ (k : ℕ). k + 1) (c .before .before .before .before .before .before .before .before .before .pre .2 (i .j) (c .before .before .before .before .before .loop-test .taken)) ∙ name-next _ (i .j),
+      ap (λ (k : ℕ). k + 1) (c .before .before .before .before .before .before .before .before .before .pre .2 (i .j)
+          (c .before .before .before .before .before .loop-test .taken)) ∙ name-next _ (i .j),
       puts-next _ (i .inv .2) (c .before .before .before .node .ensures),
     )
 

@@ -37,7 +37,8 @@ loop-holds c = (omega arith, puts-start _)
 room : (c : tie.In-loop Inv-loop μ-loop) → c .before .loop .p + 28 ≤ length (c .before .loop .out)
 room c =
     let a = c .before .before .before .before .args in
-    room-record (written (a .n) (a .body .now) (a .inner) (a .c) (a .start)) 28 (length-transition _) (c .before .before .before .before .pre .3) (c .loop-test .taken) (c .before .loop .inv .1)
+    room-record (written (a .n) (a .body .now) (a .inner) (a .c) (a .start)) 28 (length-transition _) (c .before .before .before .before .pre .3)
+    (c .loop-test .taken) (c .before .loop .inv .1)
 
 loop-again : tie.Need-loop-again Inv-loop μ-loop
 loop-again c =
@@ -45,8 +46,13 @@ loop-again c =
     let a = c .before .before .before .before .before .before .before .before .before .before .before .args in
     let t = c .before .before .before .before .before .before .transition-at .ensures in
     let e : c .before .before .before .before .called .result ≡ new (a .n) (a .body .now) (a .inner) (a .c) (a .start + i .k) =
-    c .before .before .before .before .called .ensures ∙ ap₂ (calledWith (a .inner)) (c .before .before .before .before .before .calls-by .ensures ∙ ap (callsBy (fileAt (a .n) (a .body .now)) (a .c)) t) t in
-    (omega arith, puts-record (written (a .n) (a .body .now) (a .inner) (a .c) (a .start)) 28 (length-transition _) (ap transitionBytes e) (i .inv .1) (c .before .before .write-transition .ensures))
+    c .before .before .before .before .called .ensures
+    ∙ ap₂ (calledWith (a .inner)) (c .before .before .before .before .before .calls-by .ensures
+    ∙ ap (callsBy (fileAt (a .n) (a .body .now)) (a .c)) t) t in (
+      omega arith,
+      puts-record (written (a .n) (a .body .now) (a .inner) (a .c) (a .start)) 28 (length-transition _) (ap transitionBytes e) (i .inv .1)
+          (c .before .before .write-transition .ensures),
+    )
 
 returns : tie.Need-returns Inv-loop μ-loop
 returns c = puts-done _ (omega arith) (c .before .loop .inv .1)
@@ -63,7 +69,9 @@ own-spec =
     (λ c κs. (c .before .before .before .before .before .pre .0, c .before .before .before .before .before .pre .1))
     (λ c κs. search needs)
     (λ c κs. room (c .before .before .before .before))
-    (λ c. let r = room (c .before .before .before .before .before .before .before) in let e = puts-length (c .before .before .before .before .before .before .before .before .loop .inv .1) in omega (arith, c .before .before .before .before .before .before .before .before .before .before .before .good .1 .1 .1 .1 .1 .1 .1 .0 .0))
+    (λ c. let r = room (c .before .before .before .before .before .before .before) in
+    let e = puts-length (c .before .before .before .before .before .before .before .before .loop .inv .1) in
+    omega (arith, c .before .before .before .before .before .before .before .before .before .before .before .good .1 .1 .1 .1 .1 .1 .1 .0 .0))
     (λ c. omega arith)
     (λ c. omega arith)
     loop-again

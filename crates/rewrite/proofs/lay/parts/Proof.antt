@@ -31,7 +31,8 @@ record Parted (F : File) (c x first at i : ℕ) (l m : List ℕ) (p made : ℕ) 
   pub puts : Puts (inTurn i (partBytes F c first x)) at l m p
 
 -- the same at equal places
-moved : (F : File) (c x first at i : ℕ) (l m m′ : List ℕ) (p p′ made made′ : ℕ) → m ≡ m′ → p ≡ p′ → made ≡ made′ → Parted F c x first at i l m′ p′ made′ → Parted F c x first at i l m p made
+moved : (F : File) (c x first at i : ℕ) (l m m′ : List ℕ) (p p′ made made′ : ℕ) → m ≡ m′ → p ≡ p′ → made ≡ made′
+    → Parted F c x first at i l m′ p′ made′ → Parted F c x first at i l m p made
 moved F c x first at i l m m′ p p′ made made′ e f g h = rw (e, f, g) h
 
 -- r is slave i
@@ -57,18 +58,28 @@ module _ (n : Shape) (b : List ℕ) (c x first i : ℕ) (r : Slave) (e : r ≡ s
     name names h = h (r .node) there ∙ ap (λ (s : Slave). newName (fileAt n b) (s .node)) e
 
   module _ (at : ℕ) (l m : List ℕ) (p made : ℕ) (h : Parted F c x first at i l m p made) where
-    parted-own : r .chart ≡ c → (d : Node) (o : List ℕ) (q : ℕ) → d ≡ composing (first + count F c i) (newName F (F .node i)) x → Puts (nodeBytes d) p m o q
+    parted-own : r .chart ≡ c → (d : Node) (o : List ℕ) (q : ℕ) → d ≡ composing (first + count F c i) (newName F (F .node i)) x
+        → Puts (nodeBytes d) p m o q
         → Parted F c x first at (i + 1) l o q (made + 1)
     parted-own g d o q z u =
         let k = count-own n b c i e g in
         let j = h .most in
-        record { last = ap (λ (y : ℕ). y + 1) (h .last) ∙ omega arith; most = omega arith; puts = puts-next _ (h .puts) (puts-is (ap nodeBytes z ∙ sym (part-own g)) u) }
+        record {
+          last = ap (λ (y : ℕ). y + 1) (h .last)
+              ∙ omega arith;
+          most = omega arith;
+          puts = puts-next _ (h .puts) (puts-is (ap nodeBytes z ∙ sym (part-own g)) u);
+        }
 
     parted-other : (r .chart ≡ c → ⊥) → Parted F c x first at (i + 1) l m p made
     parted-other g =
         let k = count-other n b c i e g in
         let j = h .most in
-        record { last = h .last ∙ ap (λ (y : ℕ). first + y) k; most = omega arith; puts = puts-next _ (h .puts) (puts-is (sym (part-other g)) (puts-none p m)) }
+        record {
+          last = h .last ∙ ap (λ (y : ℕ). first + y) k;
+          most = omega arith;
+          puts = puts-next _ (h .puts) (puts-is (sym (part-other g)) (puts-none p m));
+        }
 
 abbrev Inv-loop : tie.InvT-loop
 Inv-loop n body names c x first out₀ at slaves p₀ made₀ i₀ out p made i = (i ≤ slaves) × Parted (fileAt n body) c x first at i out₀ out p made
@@ -78,14 +89,24 @@ abbrev μ-loop : tie.MeasureT-loop
 
 loop-holds : tie.Need-loop-holds Inv-loop μ-loop
 loop-holds c =
-    let z = tally-none _ in
-    (omega arith, record { last = sym (ap (λ (k : ℕ). c .before .before .args .first + k) z ∙ add-zero _); most = rw z (omega arith); puts = puts-start _ })
+    let z = tally-none _ in (
+      omega arith,
+      record {
+        last = sym (ap (λ (k : ℕ). c .before .before .args .first + k) z ∙ add-zero _);
+        most = rw z (omega arith);
+        puts = puts-start _;
+      },
+    )
 
-room : (c : tie.Then1 Inv-loop μ-loop) → c .before .before .before .before .before .loop .p + 20 ≤ length (c .before .before .before .before .before .loop .out)
+room : (c : tie.Then1 Inv-loop μ-loop)
+    → c .before .before .before .before .before .loop .p + 20 ≤ length (c .before .before .before .before .before .loop .out)
 room c =
     let a = c .before .before .before .before .before .before .before .before .args in
-    let e = part-own (a .n) (a .body .now) (a .c) (a .x) (a .first) (c .before .before .before .before .before .loop .i) _ (c .before .before .before .slave-at .ensures) (c .if1 .taken) in
-    room-record (partBytes (fileAt (a .n) (a .body .now)) (a .c) (a .first) (a .x)) 20 (ap length e ∙ length-node _) (c .before .before .before .before .before .before .before .before .pre .3) (c .before .before .before .before .loop-test .taken) (c .before .before .before .before .before .loop .inv .1 .puts)
+    let e = part-own (a .n) (a .body .now) (a .c) (a .x) (a .first) (c .before .before .before .before .before .loop .i) _
+    (c .before .before .before .slave-at .ensures) (c .if1 .taken) in
+    room-record (partBytes (fileAt (a .n) (a .body .now)) (a .c) (a .first) (a .x)) 20 (ap length e ∙ length-node _)
+    (c .before .before .before .before .before .before .before .before .pre .3) (c .before .before .before .before .loop-test .taken)
+    (c .before .before .before .before .before .loop .inv .1 .puts)
 
 loop-again : tie.Need-loop-again Inv-loop μ-loop
 loop-again c =
@@ -98,7 +119,15 @@ loop-again c =
           (λ w.
           moved _ _ _ _ _ _ _ _ _ _ _ _ _ (w .6) (w .7) (w .8)
           (parted-own (a .n) (a .body .now) (a .c) (a .x) (a .first) (i .i) _ e (a .at) _ _ _ _ (i .inv .1) (w .0 .taken) _ _ _
-          (λ j. record { kind = 1; a = i .inv .1 .last j; b = name (a .n) (a .body .now) (a .c) (a .x) (a .first) (i .i) _ e (c .before .before .before .before .before .before .before .before .pre .0) t (a .names .now) (c .before .before .before .before .before .before .before .before .pre .1) j; x = a .x; y = 0 })
+          (λ j. record {
+            kind = 1;
+            a = i .inv .1 .last j;
+            b = name (a .n) (a .body .now) (a .c) (a .x) (a .first) (i .i) _ e
+                (c .before .before .before .before .before .before .before .before .pre .0) t (a .names .now)
+                (c .before .before .before .before .before .before .before .before .pre .1) j;
+            x = a .x;
+            y = 0;
+          })
           (w .3 .ensures)))
           (λ w. moved _ _ _ _ _ _ _ _ _ _ _ _ _ (w .1) (w .2) (w .3) (parted-other _ _ _ _ _ _ _ e _ _ _ _ _ (i .inv .1) (w .0 .left)))
           (c .if1 .came),
@@ -117,9 +146,17 @@ parts-spec =
     (λ c κs. (c .before .before .before .before .pre .0 .sized .holds, c .loop-test .taken))
     (λ c. search needs)
     (λ c. search needs)
-    (λ c. let h = c .before .before .before .before .before .before .before .before .pre .0 .sized .nodes in omega (arith, there _ _ 0 0 0 _ _ (c .before .before .before .slave-at .ensures) (c .before .before .before .before .before .before .before .before .pre .0) (c .before .before .before .before .loop-test .taken)))
+    (λ c. let h = c .before .before .before .before .before .before .before .before .pre .0 .sized .nodes in
+    omega (
+      arith,
+      there _ _ 0 0 0 _ _ (c .before .before .before .slave-at .ensures)
+          (c .before .before .before .before .before .before .before .before .pre .0) (c .before .before .before .before .loop-test .taken),
+    ))
     (λ c κs. room (c .before .before))
-    (λ c. let i = c .before .before .before .before .before .before .before .before .before .before .loop in let e = i .inv .1 .last in let m = i .inv .1 .most in let h = c .before .before .before .before .before .before .before .before .before .before .before .before .before .pre .0 .sized .slaves in let g = c .before .before .before .before .before .before .before .before .before .before .before .before .before .pre .2 in omega arith)
+    (λ c. let i = c .before .before .before .before .before .before .before .before .before .before .loop in let e = i .inv .1 .last in
+    let m = i .inv .1 .most in
+    let h = c .before .before .before .before .before .before .before .before .before .before .before .before .before .pre .0 .sized .slaves in
+    let g = c .before .before .before .before .before .before .before .before .before .before .before .before .before .pre .2 in omega arith)
     (λ c. omega arith)
     (λ c. omega arith)
     loop-again

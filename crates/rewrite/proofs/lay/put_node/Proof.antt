@@ -11,4 +11,5 @@ returns c = puts-one _ 20 _ _ _ (length-node _) (c .before .before .write-node .
 
 pub put-node-spec : {M : Type 1} → statement M
 put-node-spec =
-    tie.close (tie.spec (λ c κs. search needs) (λ c. omega (arith, c .before .before .before .before .before .pre)) (λ c. puts-length (returns c)) returns)
+    tie.close (tie.spec (λ c κs. search needs) (λ c. omega (arith, c .before .before .before .before .before .pre))
+    (λ c. puts-length (returns c)) returns)

@@ -15,8 +15,17 @@ unfolding trailerWith
 returns c =
     let a = c .before .before .before .before .before .before .before .before .before .before .args in
     let with : ℕ → Trailer =
-    λ d. record { distance = d; charts = a .m .charts; slaves = a .m .slaves; nodes = a .m .nodes; edition = a .edition; transitions = a .m .transitions } in
-    c .before .before .write-trailer .ensures ∙ ap (λ (d : ℕ). sets (a .out .now) (a .at) (trailerBytes (with d))) (c .before .before .before .before .before .before .before .before .size .ensures)
+    λ d. record {
+      distance = d;
+      charts = a .m .charts;
+      slaves = a .m .slaves;
+      nodes = a .m .nodes;
+      edition = a .edition;
+      transitions = a .m .transitions;
+    } in
+    c .before .before .write-trailer .ensures
+    ∙ ap (λ (d : ℕ). sets (a .out .now) (a .at) (trailerBytes (with d)))
+    (c .before .before .before .before .before .before .before .before .size .ensures)
 
 pub trailer-spec : {M : Type 1} → statement M
 trailer-spec =

@@ -20,7 +20,8 @@ abbrev written : Shape → List ℕ → ℕ → List ℕ
 written n b c = transitionsBytes (rewrittenChart (fileAt n b) c .transitions)
 
 abbrev Inv-loop : tie.InvT-loop
-Inv-loop n body calls inner out₀ at charts p₀ start₀ c₀ out p start c = (c ≤ charts) × (start ≡ startOf n body c) × Puts (inTurn c (written n body)) at out₀ out p
+Inv-loop n body calls inner out₀ at charts p₀ start₀ c₀ out p start c =
+    (c ≤ charts) × (start ≡ startOf n body c) × Puts (inTurn c (written n body)) at out₀ out p
 
 abbrev μ-loop : tie.MeasureT-loop
 μ-loop n body calls inner out₀ at charts p₀ start₀ c₀ out p start c = charts - c
@@ -44,8 +45,11 @@ chart-requires c κs =
 
 loop-again : tie.Need-loop-again Inv-loop μ-loop
 loop-again c =
-    let i = c .before .before .before .before .before .before .before .before .loop in
-    (omega arith, start-next _ _ _ _ (c .before .before .before .before .before .before .head-at .ensures) (i .inv .1), puts-next _ (i .inv .2) (c .before .before .before .chart .ensures))
+    let i = c .before .before .before .before .before .before .before .before .loop in (
+      omega arith,
+      start-next _ _ _ _ (c .before .before .before .before .before .before .head-at .ensures) (i .inv .1),
+      puts-next _ (i .inv .2) (c .before .before .before .chart .ensures),
+    )
 
 returns : tie.Need-returns Inv-loop μ-loop
 returns c = puts-done _ (omega arith) (c .before .loop .inv .2)
@@ -64,7 +68,10 @@ transitions-spec =
     (λ c. search needs)
     (λ c.
     let h = c .before .before .before .before .before .before .before .before .before .before .before .pre .0 .sized .transitions in
-    let r = in-all _ _ _ _ (c .before .before .before .before .before .before .head-at .ensures) (c .before .before .before .before .before .before .before .before .loop .inv .1) (c .before .before .before .before .before .before .before .before .before .before .before .pre .0) (c .before .before .before .before .before .before .before .loop-test .taken) in omega arith)
+    let r = in-all _ _ _ _ (c .before .before .before .before .before .before .head-at .ensures)
+    (c .before .before .before .before .before .before .before .before .loop .inv .1)
+    (c .before .before .before .before .before .before .before .before .before .before .before .pre .0)
+    (c .before .before .before .before .before .before .before .loop-test .taken) in omega arith)
     (λ c. omega arith)
     (λ c. omega arith)
     loop-again

@@ -40,13 +40,20 @@ returns : tie.Need-returns
 returns c = (other _ _ _ _ (c .before .before .node-at .ensures) (c .if1 .taken), omega arith)
 
 returns-2 : tie.Need-returns-2
-returns-2 c = (none _ _ _ _ (c .before .before .before .before .before .node-at .ensures) (c .before .before .before .if1 .left) _ (c .before .slaves-of .ensures .0) (c .if2 .taken), omega arith)
+returns-2 c = (
+  none _ _ _ _ (c .before .before .before .before .before .node-at .ensures) (c .before .before .before .if1 .left) _
+      (c .before .slaves-of .ensures .0) (c .if2 .taken),
+  omega arith,
+)
 
 returns-3 : tie.Need-returns-3
 returns-3 c =
     let m = c .before .slaves-of .ensures .1 in
-    let h = c .before .before .before .before .before .before .before .pre .0 .sized .slaves in
-    (some _ _ _ _ (c .before .before .before .before .before .node-at .ensures) (c .before .before .before .if1 .left) _ (c .before .slaves-of .ensures .0) (c .if2 .left), omega arith)
+    let h = c .before .before .before .before .before .before .before .pre .0 .sized .slaves in (
+      some _ _ _ _ (c .before .before .before .before .before .node-at .ensures) (c .before .before .before .if1 .left) _
+          (c .before .slaves-of .ensures .0) (c .if2 .left),
+      omega arith,
+    )
 
 pub before-last-spec : {M : Type 1} → statement M
 before-last-spec =
@@ -56,6 +63,7 @@ before-last-spec =
     returns
     (λ c. search needs)
     (λ c κs. c .before .before .before .before .before .pre .0)
-    (λ c. let m = c .before .slaves-of .ensures .1 in let h = c .before .before .before .before .before .before .before .pre .0 .sized .slaves in omega arith)
+    (λ c. let m = c .before .slaves-of .ensures .1 in let h = c .before .before .before .before .before .before .before .pre .0 .sized .slaves in
+    omega arith)
     returns-2
     returns-3)

@@ -23,9 +23,13 @@ loop-holds : tie.Need-loop-holds Inv-loop μ-loop
 loop-holds c = (omega arith, omega arith, sym (tally-none _))
 
 -- what was counted is the chart's number
-is : (c : tie.After-in-chart Inv-loop μ-loop) → c .in-chart .result ≡ length (rewrittenChart (fileAt (c .before .before .before .before .before .before .args .n) (c .before .before .before .before .before .before .args .body .now)) (c .before .before .before .before .loop .c) .transitions)
+is : (c : tie.After-in-chart Inv-loop μ-loop)
+    → c .in-chart .result ≡ length (rewrittenChart
+    (fileAt (c .before .before .before .before .before .before .args .n) (c .before .before .before .before .before .before .args .body .now))
+    (c .before .before .before .before .loop .c) .transitions)
 unfolding fileAt
-is c = c .in-chart .ensures .0 ∙ sym (length-rewritten _ _ _ (c .before .before .head-at .ensures) (c .before .before .before .before .before .before .pre .1 _ (omega arith)))
+is c = c .in-chart .ensures .0
+    ∙ sym (length-rewritten _ _ _ (c .before .before .head-at .ensures) (c .before .before .before .before .before .before .pre .1 _ (omega arith)))
 
 loop-again : tie.Need-loop-again Inv-loop μ-loop
 loop-again c =

@@ -19,7 +19,8 @@ use Rattle.rewrite.proofs.room.leaving.Tie as tie
 -- one more at the end
 leaving-more : (f : ℕ → Transition) (s a k : ℕ) → leavingIn (from f a (suc k)) s ≡ leavingIn (from f a k) s + one (same (f (a + k) .from) s)
 unfolding leavingIn from
-leaving-more f s a zero = let e : one (same (f (a + 0) .from) s) ≡ one (same (f a .from) s) = ap (λ (i : ℕ). one (same (f i .from) s)) (omega arith) in omega arith
+leaving-more f s a zero = let e : one (same (f (a + 0) .from) s) ≡ one (same (f a .from) s) =
+    ap (λ (i : ℕ). one (same (f i .from) s)) (omega arith) in omega arith
 leaving-more f s a (suc k) =
     let e : one (same (f (suc a + k) .from) s) ≡ one (same (f (a + suc k) .from) s) = ap (λ (i : ℕ). one (same (f i .from) s)) (omega arith) in
     omega (arith, leaving-more f s (suc a) k)
@@ -27,10 +28,12 @@ leaving-more f s a (suc k) =
 leaving-next : (f : ℕ → Transition) (s a k : ℕ) → leavingIn (from f a (k + 1)) s ≡ leavingIn (from f a k) s + one (same (f (a + k) .from) s)
 leaving-next f s a k = ap (λ (j : ℕ). leavingIn (from f a j) s) (add-one k) ∙ leaving-more f s a k
 
-module _ (n : Shape) (b : List ℕ) (start k s times : ℕ) (t : Transition) (e : t ≡ transitionAt n b (start + k)) (h : times ≡ leavingIn (from (transitionAt n b) start k) s) where
+module _ (n : Shape) (b : List ℕ) (start k s times : ℕ) (t : Transition) (e : t ≡ transitionAt n b (start + k))
+    (h : times ≡ leavingIn (from (transitionAt n b) start k) s) where
   own : t .from ≡ s → times + 1 ≡ leavingIn (from (transitionAt n b) start (k + 1)) s
   own g =
-      let q : one (same (transitionAt n b (start + k) .from) s) ≡ 1 = ap one (ap (λ (x : ℕ). same x s) (sym (ap (λ (t : Transition). t .from) e) ∙ g) ∙ same-refl s) in
+      let q : one (same (transitionAt n b (start + k) .from) s) ≡ 1 =
+      ap one (ap (λ (x : ℕ). same x s) (sym (ap (λ (t : Transition). t .from) e) ∙ g) ∙ same-refl s) in
       omega (arith, leaving-next (transitionAt n b) s start k)
 
   other : (t .from ≡ s → ⊥) → times ≡ leavingIn (from (transitionAt n b) start (k + 1)) s

@@ -25,7 +25,8 @@ loop-again c =
     (omega arith, omega arith, ap (λ (k : ℕ). i .sum + (k + 1)) e ∙ nodes-more _ (i .j) (i .inv .2))
 
 returns : tie.Need-returns Inv-loop μ-loop
-returns c = let e : c .before .before .loop .j ≡ c .before .before .before .before .args .n .nodes = omega arith in rw e at (c .before .before .loop .inv .2)
+returns c = let e : c .before .before .loop .j ≡ c .before .before .before .before .args .n .nodes = omega arith in
+    rw e at (c .before .before .loop .inv .2)
 
 pub nodes-spec : {M : Type 1} → statement M
 nodes-spec =

@@ -24,10 +24,14 @@ loop-holds : tie.Need-loop-holds Inv-loop μ-loop
 loop-holds c = (omega arith, any-none _)
 
 returns : tie.Need-returns Inv-loop μ-loop
-returns c = sym (any-at _ _ (c .before .before .before .loop .s) (c .before .before .loop-test .taken) (lt-ltb _ _ (rw (c .before .leaving .ensures .0) at (c .if1 .taken))))
+returns c = sym (any-at _ _ (c .before .before .before .loop .s) (c .before .before .loop-test .taken)
+    (lt-ltb _ _ (rw (c .before .leaving .ensures .0) at (c .if1 .taken))))
 
 loop-again : tie.Need-loop-again Inv-loop μ-loop
-loop-again c = (omega arith, any-more _ _ (c .before .before .before .loop .inv .1) (le-ltb _ _ (rw (c .before .leaving .ensures .0) at (c .if1 .left))))
+loop-again c = (
+  omega arith,
+  any-more _ _ (c .before .before .before .loop .inv .1) (le-ltb _ _ (rw (c .before .leaving .ensures .0) at (c .if1 .left))),
+)
 
 returns-2 : tie.Need-returns-2 Inv-loop μ-loop
 returns-2 c = any-done _ _ _ (c .before .loop .inv .0) (c .loop-test .left) (c .before .loop .inv .1)

@@ -25,15 +25,22 @@ loop-holds : tie.Need-loop-holds Inv-loop μ-loop
 loop-holds c = (omega arith, any-none _)
 
 -- what was counted is the chart's number
-is : (c : tie.After-in-chart Inv-loop μ-loop) → c .in-chart .result ≡ length (rewrittenChart (fileAt (c .before .before .before .before .before .before .args .n) (c .before .before .before .before .before .before .args .body .now)) (c .before .before .before .before .loop .c) .transitions)
+is : (c : tie.After-in-chart Inv-loop μ-loop)
+    → c .in-chart .result ≡ length (rewrittenChart
+    (fileAt (c .before .before .before .before .before .before .args .n) (c .before .before .before .before .before .before .args .body .now))
+    (c .before .before .before .before .loop .c) .transitions)
 unfolding fileAt
-is c = c .in-chart .ensures .0 ∙ sym (length-rewritten _ _ _ (c .before .before .head-at .ensures) (c .before .before .before .before .before .before .pre .1 _ (omega arith)))
+is c = c .in-chart .ensures .0
+    ∙ sym (length-rewritten _ _ _ (c .before .before .head-at .ensures) (c .before .before .before .before .before .before .pre .1 _ (omega arith)))
 
 returns : tie.Need-returns Inv-loop μ-loop
 returns c = sym (any-at _ _ (c .before .before .before .before .before .loop .c) (omega arith) (lt-ltb _ _ (rw (is (c .before)) at (c .if1 .taken))))
 
 loop-again : tie.Need-loop-again Inv-loop μ-loop
-loop-again c = (omega arith, any-more _ _ (c .before .before .before .before .before .loop .inv .1) (le-ltb _ _ (rw (is (c .before)) at (c .if1 .left))))
+loop-again c = (
+  omega arith,
+  any-more _ _ (c .before .before .before .before .before .loop .inv .1) (le-ltb _ _ (rw (is (c .before)) at (c .if1 .left))),
+)
 
 returns-2 : tie.Need-returns-2 Inv-loop μ-loop
 returns-2 c = any-done _ _ _ (c .before .loop .inv .0) (c .loop-test .left) (c .before .loop .inv .1)

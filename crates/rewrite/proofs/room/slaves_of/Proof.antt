@@ -26,7 +26,8 @@ loop-again c =
     let e = c .before .before .slave-at .ensures in (
       omega arith,
       ⊎-elim (λ w. let q = w .1 in omega arith) (λ w. let q = w .1 in omega arith) (c .if1 .came),
-      ⊎-elim (λ w. w .1 ∙ ap (λ (k : ℕ). k + 1) (i .inv .2) ∙ count-own _ _ _ _ e (w .0 .taken)) (λ w. w .1 ∙ i .inv .2 ∙ count-other _ _ _ _ e (w .0 .left)) (c .if1 .came),
+      ⊎-elim (λ w. w .1 ∙ ap (λ (k : ℕ). k + 1) (i .inv .2) ∙ count-own _ _ _ _ e (w .0 .taken))
+          (λ w. w .1 ∙ i .inv .2 ∙ count-other _ _ _ _ e (w .0 .left)) (c .if1 .came),
     )
 
 returns : tie.Need-returns Inv-loop μ-loop
