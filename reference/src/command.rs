@@ -129,14 +129,19 @@ impl Command {
         }
     }
 
+    /// Whether it is small enough to be recorded.
+    pub fn can_be_recorded(&self) -> bool {
+        let bytes = self.file.len().max(self.room);
+        bytes <= MOST_BYTES && self.inputs.len() <= MOST_INPUTS
+    }
+
     /// The command as recorded bytes.
     pub fn encode(&self) -> Vec<u8> {
+        assert!(self.can_be_recorded());
         let op = OPS.iter().position(|&op| op == self.op).unwrap();
         let mut bytes = vec![op as u8, u8::try_from(self.name.len()).unwrap()];
         let configuration = u16::try_from(self.configuration.len()).unwrap();
         let inputs = u16::try_from(self.inputs.len()).unwrap();
-        assert!(self.file.len() <= MOST_BYTES && self.room <= MOST_BYTES);
-        assert!(self.inputs.len() <= MOST_INPUTS);
         bytes.extend(configuration.to_le_bytes());
         bytes.extend((self.file.len() as u32).to_le_bytes());
         bytes.extend((self.room as u32).to_le_bytes());

@@ -1,6 +1,6 @@
 //! The day program, byte for byte.
 
-use reference::cases::charts::{d, n1, p1, whole_case};
+use reference::cases::charts::{alone, chart, d, n1, p1, whole_case};
 use reference::cases::damage::{behind, changed};
 use reference::cases::file::one_fault;
 use reference::day;
@@ -123,6 +123,22 @@ fn an_input_over_65536_bytes_is_31_before_all_else() {
         changed(&whole_case(), |r| r.trailer.edition = 0),
     );
     assert_eq!(printed(&over_and_bad), "file refused 31\n");
+}
+
+/// The smallest file has 24 bytes of a chart, 20 of a node and the trailer's 12.
+#[test]
+fn in_front_of_the_smallest_chart_8185_inputs_fit() {
+    let smallest = alone(chart(1, &[], vec![])).file();
+    assert_eq!(smallest.len(), 56);
+    let with = |inputs: usize| behind(&front(&vec![0; inputs]), smallest.clone());
+    assert_eq!(with(8_185).len(), DAY_INPUT);
+    let text = printed(&with(8_185));
+    assert_eq!(text.lines().count(), 8_185);
+    assert!(text.ends_with("\n8185 refused 23\n"));
+    assert_eq!(with(8_189).len(), 65_568);
+    for inputs in [8_186, 8_189] {
+        assert_eq!(printed(&with(inputs)), "file refused 31\n");
+    }
 }
 
 #[test]

@@ -4,9 +4,12 @@
 mod engine;
 pub mod same;
 
+use crate::cases::charts::whole_case;
+use crate::cases::run::rows_bytes;
 use crate::command::{Command, Op};
 use crate::draw::Draw;
-use crate::{check, first, interface, rewrite, run, step};
+use crate::generate::Random;
+use crate::{check, first, interface, rewrite, run, step, Set};
 
 /// The bytes of a lent buffer's surroundings, in front and behind; the engine may not touch them.
 const MARGIN: usize = 21;
@@ -20,14 +23,26 @@ pub struct Told {
     pub bytes: Vec<u8>,
 }
 
-/// Makes so many random calls in both engines; the first one that differs, in words.
+/// The inputs of a run that is longer than the day program's can be.
+const LONG_RUN: usize = 8_189;
+
+/// Makes a long run and so many random calls in both engines; the first one that differs, in words.
 pub fn agree(seed: u64, count: usize) -> Result<(), String> {
+    compare(&long_run(seed))?;
     let mut draw = Draw::new(seed);
     for place in 0..count {
         let command = draw.command(&format!("fuzz-{seed}-{place}"));
         compare(&command)?;
     }
     Ok(())
+}
+
+/// A run of the whole case under random inputs.
+fn long_run(seed: u64) -> Command {
+    let mut random = Random::new(seed);
+    let inputs: Vec<Set> = (0..LONG_RUN).map(|_| Set(random.bits() & 3)).collect();
+    let room = rows_bytes(LONG_RUN, 1);
+    Command::run("long-run", whole_case().file(), &[0], &inputs, room)
 }
 
 /// Makes one call here, in the engine and through its binding for Rust.
@@ -92,8 +107,8 @@ fn here(command: &Command, lent: &mut [u8]) -> (u8, [u64; 2]) {
     }
 }
 
-/// A difference in words, with the call in its recorded form; `xxd -r -p` makes bytes of that, which
-/// `reference show` reads and `tests/recorded` can record.
+/// A difference in words, with the call in its recorded form if it has one; `xxd -r -p` makes bytes of
+/// that, which `reference show` reads and `tests/recorded` can record.
 fn difference(command: &Command, expected: &Told, who: &str, told: &Told) -> String {
     let lines = [
         format!("fuzz: {} {:?} differs", command.name, command.op),
@@ -104,7 +119,10 @@ fn difference(command: &Command, expected: &Told, who: &str, told: &Told) -> Str
             command.room, command.configuration
         ),
         format!("inputs {:x?}", command.inputs),
-        format!("recorded form: {}", hex(&command.encode())),
+        match command.can_be_recorded() {
+            true => format!("recorded form: {}", hex(&command.encode())),
+            false => "too large to be recorded".to_string(),
+        },
     ];
     lines.join("\n")
 }
