@@ -1,7 +1,7 @@
 // The run (document 01, "Run."): the file is opened and wired once, then each input gives a row.
 ghost use mathlib.Core.Path.{_≡_};
 ghost use mathlib.Core.List.{_∷_, _++_};
-ghost use Prim.Native.Nat.{ℕ, _+_, _*_, _≤_};
+ghost use Prim.Native.Nat.{ℕ, _+_, _*_, _≤_, _<_};
 ghost use lib.ListN.{length, take};
 ghost use Rattle.layout.specs.Le.{bytes};
 ghost use Rattle.meaning.specs.Count.{one};
@@ -53,15 +53,32 @@ fn put_row(row: &mut [u8], f: Found, states: [u8; 8], charts: usize)
     }
 }
 
-// The states after a step; a refused one keeps them.
-fn after(f: Found, states: [u8; 8]) -> [u8; 8]
-    ensures { λ r. ⌜ ((n : ℕ) → take n r ≡ afterStep (answerOf n f) (take n states)) ⌝ }
+// Where a run stands: the present states, and how many inputs are left.
+struct Stand {
+    states: [u8; 8],
+    left: usize,
+}
+
+fn present(states: [u8; 8], left: usize) -> Stand
+    ensures { λ r. ⌜ (r .states ≡ states) × (r .left ≡ left) ⌝ }
 {
+    Stand {
+        states: states,
+        left: left,
+    }
+}
+
+// Where it stands after a step. A refused one keeps the states; its input is dropped, and the run goes on.
+fn after(f: Found, states: [u8; 8], left: usize) -> Stand
+    requires { ⌜ 0 < left ⌝ }
+    ensures { λ r. ⌜ (r .left + 1 ≡ left) × ((n : ℕ) → take n (r .states) ≡ afterStep (answerOf n f) (take n states)) ⌝ }
+{
+    let rest = left - 1;
     let next = f.next;
     if !f.has {
-        return states;
+        return present(states, rest);
     }
-    next
+    present(next, rest)
 }
 
 // The rows of all inputs, from the first states on.
@@ -82,14 +99,16 @@ fn put_rows(
     let w = STATES + charts;
     let mut states = start;
     let mut at: usize = 0;
-    let mut i: usize = 0;
-    while i < inputs.len() {
+    let mut left = inputs.len();
+    while left > 0 {
+        let i = inputs.len() - left;
         let f = crate::step::found(n, body, &states[..charts], inputs[i], down, masks, small);
         let e = at + w;
         put_row(&mut rows[at..e], f, states, charts);
-        states = after(f, states);
+        let p = after(f, states, left);
+        states = p.states;
+        left = p.left;
         at = e;
-        i += 1;
     }
 }
 

@@ -1,8 +1,10 @@
--- `run::after` meets its contract: a step given has the next states, and a refused one leaves them. Assumes nothing.
-use mathlib.Core.Path.{_≡_}
+-- `run::after` meets its contract: an input less is left; a step given has the next states, and a refused one leaves them. Assumes nothing.
+use mathlib.Core.Path.{_≡_, _∙_}
 use mathlib.Core.Bool.{true, false, not}
 use mathlib.Core.List.{List}
-use Prim.Native.Nat.{ℕ}
+use Prim.Native.Nat.{ℕ, _+_, _-_, _<_}
+use native.Mathlib.Omega.{arith}
+use borrow.Author.Needs.{needs}
 use borrow.Author.Tests.{not-true, not-false}
 use lib.ListN.{take}
 use Rattle.meaning.specs.Calls.{afterStep}
@@ -12,18 +14,27 @@ use Rattle.engine.specs.Step.Laws.{answer-none, answer-given}
 use Rattle.engine.proofs.run.after.Statement.{statement}
 use Rattle.engine.proofs.run.after.Tie as tie
 
-module _ (f : Found) (s : List ℕ) (n : ℕ) where
-  keeps : not (f .has) ≡ true → take n s ≡ afterStep (answerOf n f) (take n s)
-  keeps h = rw (answer-none n f (not-true (f .has) h))
+module _ (f : Found) (s d : List ℕ) (n : ℕ) where
+  keeps : not (f .has) ≡ true → d ≡ s → take n d ≡ afterStep (answerOf n f) (take n s)
+  keeps h e = rw (e, answer-none n f (not-true (f .has) h))
 
-  gives : not (f .has) ≡ false → take n (f .next) ≡ afterStep (answerOf n f) (take n s)
-  gives h = rw (answer-given n f (not-false (f .has) h))
+  gives : not (f .has) ≡ false → d ≡ f .next → take n d ≡ afterStep (answerOf n f) (take n s)
+  gives h e = rw (e, answer-given n f (not-false (f .has) h))
+
+fewer : (left rest : ℕ) → 0 < left → rest ≡ left - 1 → rest + 1 ≡ left
+fewer left rest l e = omega (arith, e)
 
 returns : tie.Need-returns
-returns c n = let a = c .before .before .before .args in keeps (a .f) (a .states) n (c .if1 .taken)
+returns c =
+    let s = c .before .before .before .before in
+    let a = s .args in
+    (fewer (a .left) _ (s .pre) (c .present .ensures .1), λ n. keeps (a .f) (a .states) _ n (c .before .if1 .taken) (c .present .ensures .0))
 
 returns-2 : tie.Need-returns-2
-returns-2 c n = let a = c .before .before .before .args in gives (a .f) (a .states) n (c .if1 .left)
+returns-2 c =
+    let s = c .before .before .before .before in
+    let a = s .args in
+    (fewer (a .left) _ (s .pre) (c .present2 .ensures .1), λ n. gives (a .f) (a .states) _ n (c .before .if1 .left) (c .present2 .ensures .0))
 
 pub after-spec : {M : Type 1} → statement M
-after-spec = tie.close (tie.spec returns returns-2)
+after-spec = tie.close (tie.spec (λ c. search needs) (λ c κs. search needs) returns (λ c κs. search needs) returns-2)

@@ -26,7 +26,6 @@ use Rattle.engine.proofs.step.found.Reads as found-reads
 module _ (n : Shape) (b inputs start rows₀ : List ℕ) where
   -- i inputs were taken: their rows stand before `at`, and they led to this configuration
   pub record So-far (rows config : List ℕ) (at i : ℕ) : Type 0 where
-    pub counted : i ≤ length inputs
     pub place : at ≡ i * (10 + n .charts)
     pub long : length rows ≡ length rows₀
     pub valid : Valid (fileAt n b) config
@@ -45,7 +44,6 @@ module _ (n : Shape) (b inputs start rows₀ : List ℕ) where
       turn =
           let w = 10 + n .charts in
           record {
-            counted = omega arith;
             place = omega (arith, next-at i w, s .place);
             long = laid-length rows row at (at + w) (omega arith) room wide ∙ s .long;
             valid = rw (q, e) (valid-after (fileAt n b) (leads n b k) config (getD inputs i 0) (s .valid));
@@ -54,29 +52,34 @@ module _ (n : Shape) (b inputs start rows₀ : List ℕ) where
             behind = laid-after rows row at (at + w) (omega arith) room wide ∙ sym (drop-drop w at rows) ∙ ap (drop w) (s .behind) ∙ drop-drop w at rows₀;
           }
 
-    pub all : Valid (fileAt n b) start → length inputs ≤ i → rows ≡ laidOver (rowsOf (fileAt n b) start inputs) rows₀
+    pub all : Valid (fileAt n b) start → i ≡ length inputs → rows ≡ laidOver (rowsOf (fileAt n b) start inputs) rows₀
     unfolding fileAt
-    all v l =
-        let e : i ≡ length inputs = omega (arith, s .counted) in
+    all v e =
         run-done (fileAt n b) inputs start config rows rows₀ i at e (rows-all (fileAt n b) (leads n b k) start inputs v ∙ rw (← e) (sym (s .place))) (s .before) (s .behind)
 
 abbrev Inv-loop : tie.InvT-loop
-Inv-loop n body inputs down masks₀ small₀ rows₀ charts w states₀ at₀ i₀ masks small rows states at i =
-    So-far n body inputs (take (n .charts) states₀) rows₀ rows (take (n .charts) states) at i × Prepared n body down masks small
+Inv-loop n body inputs down masks₀ small₀ rows₀ charts w states₀ at₀ left₀ masks small rows states at left =
+    So-far n body inputs (take (n .charts) states₀) rows₀ rows (take (n .charts) states) at (length inputs - left) × Prepared n body down masks small
+    × (left ≤ length inputs)
 
 abbrev μ-loop : tie.MeasureT-loop
-μ-loop n body inputs down masks₀ small₀ rows₀ charts w states₀ at₀ i₀ masks small rows states at i = length inputs - i
+μ-loop n body inputs down masks₀ small₀ rows₀ charts w states₀ at₀ left₀ masks small rows states at left = left
+
+-- the next input is one of them
+another : (c : tie.In-loop Inv-loop μ-loop) → let m = length (c .before .before .before .before .before .before .before .args .inputs .now) in m - c .before .loop .left < m
+another c = omega (arith, c .loop-test .taken, c .before .loop .inv .2)
 
 -- the next row lies within the rows
 fits : (c : tie.In-loop Inv-loop μ-loop) → c .before .loop .at + (10 + c .before .before .before .before .before .before .before .args .n .charts) ≤ length (c .before .loop .rows)
 fits c =
     let l = c .before .loop in
     let s = c .before .before .before .before .before .before .before in
-    omega (arith, l .inv .0 .place, l .inv .0 .long, next-row (l .i) (length (s .args .inputs .now)) (10 + s .args .n .charts) (length (s .args .rows .now)) (c .loop-test .taken) (s .pre .3))
+    let m = length (s .args .inputs .now) in
+    omega (arith, l .inv .0 .place, l .inv .0 .long, next-row (m - l .left) m (10 + s .args .n .charts) (length (s .args .rows .now)) (another c) (s .pre .3))
 
 -- what is lent is memory, so that its length is a number of the machine
-lent : (c : tie.After-slice-known3 Inv-loop μ-loop) → let a = c .before .before .before .before .before .args in (length (a .rows .now) < 2 ^ 64) × (length (a .inputs .now) < 2 ^ 64)
-lent c = (omega arith, omega arith)
+lent : (c : tie.After-slice-known3 Inv-loop μ-loop) → length (c .before .before .before .before .before .args .rows .now) < 2 ^ 64
+lent c = omega arith
 
 -- the present configuration has a state for each chart
 configured : (c : tie.In-loop Inv-loop μ-loop) → length (take (c .before .before .before .before .before .before .before .args .n .charts) (c .before .loop .states)) ≡ c .before .before .before .before .before .before .before .args .n .charts
@@ -86,7 +89,9 @@ configured c = c .before .loop .inv .0 .valid .long
 loop-holds : tie.Need-loop-holds Inv-loop μ-loop
 loop-holds c =
     let s = c .before .before .before .before .before in
-    (record { counted = omega arith; place = omega arith; long = refl; valid = s .pre .1; before = refl; behind = refl }, s .pre .2)
+    let m = length (s .args .inputs .now) in
+    let e : m - m ≡ 0 = omega arith in
+    (rw e (record { place = omega arith; long = refl; valid = s .pre .1; before = refl; behind = refl }), s .pre .2, omega arith)
 
 array-share-prefix-states : tie.Need-array-share-prefix-states Inv-loop μ-loop
 array-share-prefix-states c = omega (arith, rw length-take at (configured c))
@@ -107,21 +112,26 @@ put-row-requires c κs =
 
 loop-again : tie.Need-loop-again Inv-loop μ-loop
 loop-again c =
-    let p = c .before .before .before in
+    let p = c .before .before .before .before in
     let f = p .before .before .before .before .before .before in
     let i = f .before .before .before .before .before in
     let s = i .before .before .before .before .before .before .before in
-    let l = i .before .loop in (
-      turn (s .args .n) (s .args .body .now) (s .args .inputs .now) _ _ (s .pre .0) (l .rows) _ (l .at) (l .i) (l .inv .0) (i .loop-test .taken) (fits i)
-          (p .put-row .last .0) _ _ (f .found .ensures .0) (p .put-row .ensures) (c .after .ensures (s .args .n .charts)),
+    let l = i .before .loop in
+    let m = length (s .args .inputs .now) in
+    let e : m - l .left + 1 ≡ m - c .before .after .result .left = omega (arith, c .before .after .ensures .0, l .inv .2) in (
+      rw e at (turn (s .args .n) (s .args .body .now) (s .args .inputs .now) _ _ (s .pre .0) (l .rows) _ (l .at) (m - l .left) (l .inv .0) (another i) (fits i)
+          (p .put-row .last .0) _ _ (f .found .ensures .0) (p .put-row .ensures) (c .before .after .ensures .1 (s .args .n .charts))),
       f .found .ensures .1,
+      omega (arith, c .before .after .ensures .0, l .inv .2),
     )
 
 returns : tie.Need-returns Inv-loop μ-loop
 returns c =
     let s = c .before .before .before .before .before .before .before in
     let l = c .before .loop in
-    all (s .args .n) (s .args .body .now) (s .args .inputs .now) _ (s .args .rows .now) (s .pre .0) (l .rows) _ (l .at) (l .i) (l .inv .0) (s .pre .1) (c .loop-test .left)
+    let m = length (s .args .inputs .now) in
+    all (s .args .n) (s .args .body .now) (s .args .inputs .now) _ (s .args .rows .now) (s .pre .0) (l .rows) _ (l .at) (m - l .left) (l .inv .0) (s .pre .1)
+    (omega (arith, c .loop-test .left))
 
 pub put-rows-spec : {M : Type 1} → statement M
 put-rows-spec =
@@ -131,23 +141,21 @@ put-rows-spec =
     μ-loop
     (λ c. search needs)
     loop-holds
+    (λ c. c .before .loop .inv .2)
     array-share-prefix-states
     (λ c. sym (configured (c .before)))
     (λ c. search needs)
-    (λ c. search needs)
+    (λ c. another (c .before .before))
     found-requires
     (λ c.
     let i = c .before .before .before .before .before .before .before .before .before in
-    omega (arith, fits i, i .before .loop .inv .0 .long, lent (i .before .before) .0))
+    omega (arith, fits i, i .before .loop .inv .0 .long, lent (i .before .before)))
     (λ c. search needs)
     (λ c. search needs)
     (λ c. fits (c .before .before .before .before .before .before .before .before .before))
     put-row-requires
-    (λ c κs. search needs)
-    (λ c.
-    let i = c .before .before .before .before .before .before .before .before .before .before .before .before .before .before in
-    omega (arith, i .loop-test .taken, lent (i .before .before) .1))
-    (λ c. omega (arith, c .before .before .before .before .before .before .before .before .before .before .before .before .before .before .loop-test .taken))
+    (λ c κs. c .before .before .before .before .before .before .before .before .before .before .before .before .before .loop-test .taken)
+    (λ c. omega (arith, c .before .after .ensures .0))
     loop-again
     (λ c. c .before .loop .inv .1 .tabled .masks ∙ sym (c .before .before .before .before .before .before .before .pre .2 .tabled .masks))
     (λ c. c .before .loop .inv .1 .tabled .small ∙ sym (c .before .before .before .before .before .before .before .pre .2 .tabled .small))
