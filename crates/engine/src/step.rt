@@ -67,7 +67,7 @@ pub fn config_refusal(n: Shape, body: &[u8], config: &[u8]) -> u8
     limits::ACCEPTED
 }
 
-// What of the input is surely offered to each chart.
+// What of the input is offered to each chart.
 fn lows(down: [u64; 8], input: u64) -> [u64; 8]
     ensures { λ r. ⌜ Row r (λ c. input ∩ getD down c 0) ⌝ }
 {
@@ -116,8 +116,8 @@ pub fn found(
     requires { ⌜ Checked n (now body) × Ready n (now body) (now config) × Prepared n (now body) down (now masks) (now small) ⌝ }
     ensures { λ r. ⌜ Finds n (now (body .entry)) (now (config .entry)) input r × Prepared n (now (body .entry)) down (now (masks .exit)) (now (small .exit)) ⌝ }
 {
-    let low = lows(down, input);
-    plan::candidates::choose(n, body, config, low, masks, small);
+    let base = lows(down, input);
+    let low = plan::candidates::choose(n, body, config, base, masks, small);
     if plan::candidates::is_stuck(small, n.charts) {
         return none_found();
     }

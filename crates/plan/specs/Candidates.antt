@@ -1,8 +1,10 @@
 -- What the functions that choose candidates ask and leave.
 use mathlib.Core.Path.{_≡_}
+use mathlib.Core.Bool.{Bool, true, false}
 use mathlib.Core.List.{List}
 use Prim.Native.Nat.{ℕ, _+_, _≤_, _<_}
 use lib.ListN.{length, getD}
+use Rattle.signals.specs.Mask.{_∪_, _∩_}
 use Rattle.layout.specs.Body.{headAt, transitionAt, startOf, transitionsOf}
 use Rattle.layout.specs.declared.body.Shape.{Shape}
 use Rattle.layout.specs.declared.record.Transition.{Transition}
@@ -11,9 +13,10 @@ use Rattle.meaning.specs.Meaning.{Set}
 use Rattle.meaning.specs.Check.{leaving}
 use Rattle.wiring.specs.Hunt.{mayOf}
 use Rattle.search.specs.Table.{backAt, stateAt}
-use Rattle.tables.specs.Fill.{Filling, considered, listing, othersAt, Until, Chosen}
+use Rattle.tables.specs.Fill.{Filling, considered, listing, othersAt, Raised, Until, Chosen}
 use Rattle.checks.specs.Known.{Sized, Summed}
 use Rattle.plan.specs.declared.candidates.Around.{Around}
+use Rattle.plan.specs.declared.candidates.Puts.{Puts}
 pub mod Laws
 
 -- a body that passed the checks, and a configuration of it
@@ -48,9 +51,19 @@ module _ (a : Around) where
 abbrev pub fromStart : Shape → List ℕ → ℕ → ℕ → Transition
 fromStart n b start u = transitionAt n b (start + u)
 
+-- one transition with the action a more
+abbrev pub withOne : Bool → Set → Puts → Puts
+withOne true a p = record { may = p .may ∪ a; sure = p .sure ∩ a }
+withOne false a p = p
+
 -- may has what each of the first k charts might put out
 abbrev pub Mays : Shape → List ℕ → List ℕ → ℕ → List ℕ → Type 0
 Mays n b config k may = (c : ℕ) → c < k → getD may c 0 ≡ mayOf (transitionsOf n b c) (getD config c 0)
+
+-- of the first k charts, and what each chart is surely offered by them, lows
+pub record Sided (n : Shape) (b config base m s : List ℕ) (k : ℕ) (may lows : List ℕ) : Type 0 where
+  pub mays : Mays n b config k may
+  pub raised : Raised (transitionsOf n b) (λ c. getD config c 0) k m s base lows
 
 -- the first k charts have their candidates
 abbrev pub UntilChart : Shape → List ℕ → List ℕ → List ℕ → List ℕ → List ℕ → ℕ → List ℕ → List ℕ → Type 0
@@ -67,8 +80,9 @@ pub record Stated (config : List ℕ) (k : ℕ) (s₀ s : List ℕ) : Type 0 whe
   pub small : length s ≡ length s₀
 
 -- all charts have theirs, and the rest of the tables m₀ and s₀ is as it was: the wiring, the masters and their states
-pub record Chooses (n : Shape) (b config lows m₀ s₀ m s : List ℕ) : Type 0 where
+pub record Chooses (n : Shape) (b config base lows m₀ s₀ m s : List ℕ) : Type 0 where
   pub chosen : Chosen (transitionsOf n b) (λ c. getD config c 0) (n .charts) lows m s
+  pub raised : Raised (transitionsOf n b) (λ c. getD config c 0) (n .charts) m s base lows
   pub wires : (i : ℕ) → 192 ≤ i → i < 256 → getD m i 0 ≡ getD m₀ i 0
   pub ups : (i : ℕ) → 328 ≤ i → getD m i 0 ≡ getD m₀ i 0
   pub masters : (i : ℕ) → 72 ≤ i → i < 88 → getD s i 0 ≡ getD s₀ i 0

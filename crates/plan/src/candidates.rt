@@ -9,11 +9,14 @@ ghost use Rattle.layout.specs.Body.{Holds, transitionAt, transitionsOf, startOf
 ghost use Rattle.layout.specs.Body.{from as fromOn};
 ghost use Rattle.meaning.specs.Count.{tally, one};
 ghost use Rattle.meaning.specs.Meaning.{same};
+ghost use Rattle.signals.specs.Mask.{_∪_, _∩_};
+ghost use Rattle.wiring.specs.Sure.{sureOf};
 ghost use Rattle.wiring.specs.Hunt.{mayOf};
-ghost use Rattle.search.specs.Table.{countAt};
+ghost use Rattle.search.specs.Table.{backAt, countAt};
 ghost use Rattle.tables.specs.Filled.{mayAt};
-ghost use Rattle.tables.specs.Fill.{lastsBy, othersAt, isAt, isAgain, putMasks, putSmall, AheadRow, aheadBy, AheadFrom, stuck};
-ghost use Rattle.plan.specs.Candidates.{Ready, Tabled, Left, filling, consideredBy, listingBy, fromStart, Mays, NextChart, UntilChart, Stated, Chooses};
+ghost use Rattle.tables.specs.Fill.{lastsBy, othersAt, sureAt, isAt, isAgain, putMasks, putSmall, AheadRow, aheadBy, AheadFrom, stuck};
+ghost use Rattle.plan.specs.Wire.{Row};
+ghost use Rattle.plan.specs.Candidates.{Ready, Tabled, Left, filling, consideredBy, listingBy, fromStart, withOne, Mays, Sided, NextChart, UntilChart, Stated, Chooses};
 use layout::body::Shape;
 use layout::record::Transition;
 
@@ -26,6 +29,21 @@ pub struct Around {
     pub others: u64,
 }
 
+// What the transitions from a state put out: some of them, and all of them.
+pub struct Puts {
+    pub may: u64,
+    pub sure: u64,
+}
+
+// What each chart might put out, and what each is surely offered.
+pub struct Sides {
+    pub may: [u64; 8],
+    pub low: [u64; 8],
+}
+
+// The set of all signals.
+const ALL: u64 = 18446744073709551615;
+
 // Where transition t starts.
 fn from_at(n: Shape, body: &[u8], t: usize) -> u8
     requires { ⌜ Holds n (now body) × (t < n .transitions) ⌝ }
@@ -34,48 +52,86 @@ fn from_at(n: Shape, body: &[u8], t: usize) -> u8
     body[24 * n.charts + 28 * t]
 }
 
-// What transition t puts out, nothing if it is from another state.
-fn put_out(n: Shape, body: &[u8], t: usize, state: u8) -> u64
+// One transition more, if it is from the state.
+fn with_one(n: Shape, body: &[u8], t: usize, state: u8, p: Puts) -> Puts
     requires { ⌜ Holds n (now body) × (t < n .transitions) ⌝ }
-    ensures { λ r. ⌜ r ≡ cond (same (transitionAt n (now (body .entry)) t .from) state) (transitionAt n (now (body .entry)) t .action) 0 ⌝ }
+    ensures { λ r. ⌜ r ≡ withOne (same (transitionAt n (now (body .entry)) t .from) state) (transitionAt n (now (body .entry)) t .action) p ⌝ }
 {
     if from_at(n, body, t) == state {
         let r = layout::body::transition_at(n, body, t);
-        return r.action;
+        return Puts {
+            may: p.may | r.action,
+            sure: p.sure & r.action,
+        };
     }
-    0
+    p
 }
 
 // What the transitions from a state put out, of `count` from `start` on.
-fn may_of(n: Shape, body: &[u8], start: usize, count: usize, state: u8) -> u64
+fn puts_of(n: Shape, body: &[u8], start: usize, count: usize, state: u8) -> Puts
     requires { ⌜ Holds n (now body) × (start + count ≤ n .transitions) ⌝ }
-    ensures { λ r. ⌜ r ≡ mayOf (fromOn (transitionAt n (now (body .entry))) start count) state ⌝ }
+    ensures { λ r. ⌜ (r .may ≡ mayOf (fromOn (transitionAt n (now (body .entry))) start count) state) × (r .sure ≡ sureOf (fromOn (transitionAt n (now (body .entry))) start count) state) ⌝ }
 {
-    let mut u: u64 = 0;
+    let mut puts = Puts { may: 0, sure: ALL };
     let mut p: usize = 0;
     while p < count {
-        u = u | put_out(n, body, start + p, state);
+        puts = with_one(n, body, start + p, state, puts);
         p += 1;
     }
-    u
+    puts
 }
 
-// What each chart might put out from its present state.
-fn may_all(n: Shape, body: &[u8], config: &[u8]) -> [u64; 8]
-    requires { ⌜ Ready n (now body) (now config) ⌝ }
-    ensures { λ r. ⌜ Mays n (now (body .entry)) (now (config .entry)) (n .charts) r ⌝ }
+// Each chart is surely offered what it gets of u, which chart c puts out.
+fn raise_all(masks: &[u64], low: &mut [u64], c: usize, u: u64)
+    requires { ⌜ (length (now masks) ≡ 336) × (length (now low) ≡ 8) × (c < 8) ⌝ }
+    ensures { λ _. ⌜ Row (now (low .exit)) (λ d. getD (now (low .entry)) d 0 ∪ u ∩ backAt (now (masks .entry)) d c) ⌝ }
+{
+    let mut d: usize = 0;
+    while d < 8 {
+        low[d] = low[d] | u & masks[192 + (8 * c + d)];
+        d += 1;
+    }
+}
+
+// The same where u is what chart c puts out if it is active: in a slave it need not be.
+fn raise(masks: &[u64], small: &[u8], low: &mut [u64], c: usize, u: u64)
+    requires { ⌜ Tabled (now masks) (now small) × (length (now low) ≡ 8) × (c < 8) ⌝ }
+    ensures { λ _. ⌜ Row (now (low .exit)) (λ d. getD (now (low .entry)) d 0 ∪ sureAt (now (small .entry)) c u ∩ backAt (now (masks .entry)) d c) ⌝ }
+{
+    if small[72 + c] < 8 {
+        return;
+    }
+    if u != 0 {
+        raise_all(masks, low, c, u);
+    }
+}
+
+// What each chart might put out from its present state, and what each is surely offered; `base` has what it is of the input.
+fn sides_of(
+    n: Shape,
+    body: &[u8],
+    config: &[u8],
+    base: [u64; 8],
+    masks: &[u64],
+    small: &[u8],
+) -> Sides
+    requires { ⌜ Ready n (now body) (now config) × Tabled (now masks) (now small) ⌝ }
+    ensures { λ r. ⌜ Sided n (now (body .entry)) (now (config .entry)) base (now (masks .entry)) (now (small .entry)) (n .charts) (r .may) (r .low) ⌝ }
 {
     let mut may = [0u64; 8];
+    let mut low = base;
     let mut start: usize = 0;
     let mut c: usize = 0;
     while c < n.charts {
         let head = layout::body::head_at(n, body, c);
         let count = head.transitions as usize;
-        may[c] = may_of(n, body, start, count, config[c]);
+        let puts = puts_of(n, body, start, count, config[c]);
+        may[c] = puts.may;
+        raise(masks, small, &mut low, c, puts.sure);
         start += count;
         c += 1;
     }
-    may
+    Sides { may, low }
 }
 
 // What the charts other than c might put in for it.
@@ -301,22 +357,26 @@ fn put_states(small: &mut [u8], config: &[u8], charts: usize)
     }
 }
 
-// Fills in all that a search needs of a configuration and of what each chart is surely offered. The wiring and the masters are there.
+// Fills in all that a search needs of a configuration and of what each chart is offered of the input, `base`. The wiring and the masters are there.
+// The result is what each chart is surely offered: of the input, and of what other charts put out whatever they do.
 pub fn choose(
     n: Shape,
     body: &[u8],
     config: &[u8],
-    lows: [u64; 8],
+    base: [u64; 8],
     masks: &mut [u64],
     small: &mut [u8],
-)
+) -> [u64; 8]
     requires { ⌜ Ready n (now body) (now config) × Tabled (now masks) (now small) ⌝ }
-    ensures { λ _. ⌜ Chooses n (now (body .entry)) (now (config .entry)) lows (now (masks .entry)) (now (small .entry)) (now (masks .exit)) (now (small .exit)) ⌝ }
+    ensures { λ r. ⌜ Chooses n (now (body .entry)) (now (config .entry)) base r (now (masks .entry)) (now (small .entry)) (now (masks .exit)) (now (small .exit)) ⌝ }
 {
     put_states(small, config, n.charts);
-    let may = may_all(n, body, config);
-    list_all(n, body, config, lows, may, masks, small);
+    let known = sides_of(n, body, config, base, masks, small);
+    let low = known.low;
+    let may = known.may;
+    list_all(n, body, config, low, may, masks, small);
     ahead_all(masks, small, n.charts);
+    low
 }
 
 // Whether a chart that is surely active has no candidate.

@@ -13,6 +13,7 @@ use Rattle.meaning.specs.Count.{anyUpTo}
 use Rattle.meaning.specs.Meaning.{Set, same, Move, pick, actionOf}
 use Rattle.wiring.specs.Wire.{join}
 use Rattle.wiring.specs.Dropped.{ahead, test}
+use Rattle.wiring.specs.Sure.{sureOf}
 use Rattle.wiring.specs.Hunt.{mayOf}
 use Rattle.search.specs.Table.{neededAt, barredAt, actionAt, backAt, aheadAt, toAt, countAt, masterAt, stateAt}
 use Rattle.tables.specs.Filled.{Listed, mayAt}
@@ -27,6 +28,10 @@ lastsBy low own others M = test M (low ∪ actionOf M ∩ own) (low ∪ actionOf
 -- what the charts other than c might put in for it, each of its `may`
 unfoldable pub othersAt : List ℕ → ℕ → (ℕ → Set) → ℕ → Set
 othersAt m N may c = join N (λ e. cond (same e c) 0 (may e) ∩ backAt m c e)
+
+-- what chart e surely puts out: u, if it stands in no slave
+unfoldable pub sureAt : List ℕ → ℕ → Set → Set
+sureAt s e u = cond (ltb (masterAt s e) 8) 0 u
 
 -- ── one transition more ──
 
@@ -70,6 +75,11 @@ module _ (c q : ℕ) (low own others : Set) where
   listing g (suc p) f = considered (g p) (listing g p f)
 
 -- ── all charts ──
+
+module _ (ts : ℕ → List Transition) (cfg : ℕ → ℕ) where
+  -- lows has what base has, and what the first k charts surely put in
+  abbrev pub Raised : ℕ → List ℕ → List ℕ → List ℕ → List ℕ → Type 0
+  Raised k m s base lows = (c : ℕ) → c < 8 → getD lows c 0 ≡ getD base c 0 ∪ join k (λ e. sureAt s e (sureOf (ts e) (cfg e)) ∩ backAt m c e)
 
 module _ (ts : ℕ → List Transition) (cfg : ℕ → ℕ) (N : ℕ) (lows : List ℕ) where
   -- the move of chart c at place v is kept

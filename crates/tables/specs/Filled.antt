@@ -5,11 +5,12 @@ use mathlib.Core.Option.{Option, none, some}
 use mathlib.Core.List.{List, [], _∷_}
 use mathlib.Core.Logic.{_≢_}
 use Prim.Native.Nat.{ℕ, zero, suc, _-_, _≤_, _<_}
-use lib.ListN.{length, take, replicate}
-use Rattle.signals.specs.Mask.{_∩_}
+use lib.ListN.{length, getD, take, replicate}
+use Rattle.signals.specs.Mask.{_∪_, _∩_}
 use Rattle.layout.specs.declared.record.Transition.{Transition}
 use Rattle.meaning.specs.Meaning.{Set, Chart, Tree, nth, Answer, refused, given}
-use Rattle.wiring.specs.Wire.{join, up, back}
+use Rattle.wiring.specs.Wire.{join, down, up, back}
+use Rattle.wiring.specs.Sure.{surely}
 use Rattle.wiring.specs.Dropped.{ahead}
 use Rattle.search.specs.Table.{neededAt, barredAt, actionAt, backAt, aheadAt, upAt, toAt, countAt, masterAt, slaveStateAt, stateAt}
 use Rattle.search.specs.Hunt.{answerIn}
@@ -53,6 +54,11 @@ module _ (E : ℕ → Chart) (cfg : ℕ → ℕ) (N : ℕ) (t : Tree) where
   pub record Candidates (keep : ℕ → ℕ → Bool) (m s : List ℕ) : Type 0 where
     pub listed : (c : ℕ) → c < N → Listed m s c (E c .transitions) (cfg c) (keep c) (length (E c .transitions)) (countAt s c)
     pub ahead-at : (k c : ℕ) → k ≤ N → c < N → aheadAt m k c ≡ ahead (N - k) k (λ e. mayAt m s e ∩ back E t c e)
+
+module _ (E : ℕ → Chart) (cfg : ℕ → ℕ) (N : ℕ) (enc : ℕ → Option ℕ) (t : Tree) (inp : Set) where
+  -- what each chart is surely offered before any is settled: of the input, and of what charts surely put out
+  abbrev pub Lows : List ℕ → Type 0
+  Lows lows = (c : ℕ) → c < N → getD lows c 0 ≡ inp ∩ down t c ∪ join N (λ e. surely enc E cfg e ∩ back E t c e)
 
 -- no chart is settled; low is what each is surely offered
 unfoldable pub beginning : List ℕ → Trail

@@ -11,7 +11,7 @@ use lib.ListN.{length, getD, set, replicate, length-append, length-set, length-r
 use lib.Seq.{getD-set-same, getD-set-other, set-getD, getD-append-add, ext-getD, getD-append-seam}
 use borrow.Author.Tests.{lt-ltb, le-ltb, ltb-true, ltb-false}
 use Rattle.signals.specs.Mask.{_∪_, _∩_, _∖_, within, apart}
-use Rattle.signals.specs.Decide.{sets, A, B, C, ∅ₑ, _∪ₑ_, _∩ₑ_, _≐_}
+use Rattle.signals.specs.Decide.{sets, A, B, C, D, ∅ₑ, _∪ₑ_, _∩ₑ_, _≐_}
 use Rattle.layout.specs.declared.record.Transition.{Transition}
 use Rattle.meaning.specs.Meaning.{Set, ∅, same, Chart, Tree, Move, nth, pick, actionOf, after, meets, upd, moves, nexts, out}
 use Rattle.meaning.specs.Calls.Laws.{getD-made}
@@ -19,7 +19,7 @@ use Rattle.meaning.specs.Laws.Bools.{same-refl, same→≡, every}
 use Rattle.meaning.specs.Laws.Choices.{upd-at, upd-off, length-nexts, getD-nexts}
 use Rattle.wiring.specs.Wire.{join, down, up, back, offered, awakeBy, Small, out-wired}
 use Rattle.wiring.specs.Wired.{awake, awake-by, Stands, offer}
-use Rattle.wiring.specs.Dropped.{ahead, test, low, high, passes, join-cong}
+use Rattle.wiring.specs.Dropped.{ahead, test, sures, low, high, passes, join-cong}
 use Rattle.wiring.specs.Hunt.{awake-below, every-cong}
 use Rattle.search.specs.Table.{neededAt, barredAt, actionAt, backAt, aheadAt, upAt, toAt, countAt, masterAt, slaveStateAt, stateAt}
 use Rattle.search.specs.Hunt.{isAwake, wakes, taken, rested, passesAt, fineAt, outputAt}
@@ -125,10 +125,13 @@ module _ (E : ℕ → Chart) (state : ℕ → ℕ) (cfg : ℕ → ℕ) (N : ℕ)
 
     low-upd : (ch : ℕ → ℕ) (k v c : ℕ) → lowOf (upd ch k v) (suc k) c ≡ lowOf ch k c ∪ actionOf (pick (E k .transitions) v) ∩ back E tree c k
     unfolding low offer offered join
-    low-upd ch k v c = ap₂ (λ j a. inp ∩ down tree c ∪ (j ∪ actionOf a ∩ back E tree c k))
+    low-upd ch k v c = ap₂ (λ j a. sure c ∪ (inp ∩ down tree c ∪ (j ∪ actionOf a ∩ back E tree c k)))
         (join-cong k (λ e. actionOf (moves E (upd ch k v) e) ∩ back E tree c e) (λ e. actionOf (moves E ch e) ∩ back E tree c e) (λ e l. ap (λ a. actionOf a ∩ back E tree c e) (moves-off E ch k v e l)))
         (moves-on E ch k v)
-        ∙ sets ((inp ∩ down tree c) ∷ join k (λ e. actionOf (moves E ch e) ∩ back E tree c e) ∷ (actionOf (pick (E k .transitions) v) ∩ back E tree c k) ∷ []) [] (A ∪ₑ (B ∪ₑ C) ≐ A ∪ₑ B ∪ₑ C) tt
+        ∙ sets (sure c ∷ (inp ∩ down tree c) ∷ join k (λ e. actionOf (moves E ch e) ∩ back E tree c e) ∷ (actionOf (pick (E k .transitions) v) ∩ back E tree c k) ∷ []) [] (A ∪ₑ (B ∪ₑ (C ∪ₑ D)) ≐ A ∪ₑ (B ∪ₑ C) ∪ₑ D) tt
+      where
+        sure : ℕ → Set
+        sure = sures E state cfg N enc sc tree inp (mayAt m s)
 
     -- ── one chart more: it takes place v, being active or not ──
 

@@ -3,7 +3,8 @@
 use mathlib.Core.Path.{_≡_, refl, sym, _∙_, ap}
 use mathlib.Core.Bool.{true}
 use mathlib.Core.List.{List}
-use Prim.Native.Nat.{ℕ, zero, _≤_, _<_}
+use Prim.Native.Nat.{ℕ, zero, _-_, _≤_, _<_}
+use native.Mathlib.Omega.{arith}
 use lib.ListN.{getD}
 use Rattle.signals.specs.Mask.{_∩_}
 use Rattle.meaning.specs.Numbers.{noStep}
@@ -13,17 +14,22 @@ use Rattle.meaning.specs.Calls.{stepIn}
 use Rattle.meaning.specs.Laws.Trees.{Ordered, Rule11}
 use Rattle.meaning.specs.Laws.Names.{Rule10, kap}
 use Rattle.wiring.specs.Wire.{down, Small}
+use Rattle.wiring.specs.Stand.{stands}
 use Rattle.search.specs.Hunt.{hunts, over, nothing}
-use Rattle.tables.specs.Filled.{Rows, beginning, answerOf, trimmed}
-use Rattle.tables.specs.Fill.{Chosen, stuck}
-use Rattle.tables.specs.Fill.Laws.{candidates, hunts-stuck}
+use Rattle.tables.specs.Filled.{Rows, Lows, beginning, answerOf, trimmed}
+use Rattle.tables.specs.Fill.{Chosen, Raised, stuck}
+use Rattle.tables.specs.Fill.Laws.{candidates, lows-are, hunts-stuck}
 use Rattle.tables.specs.Whole.{found-is}
 
 module _ (F : File) (some-node : 0 < F .nodes) (w : Ordered F) (r : Rule10 F) (r11 : Rule11 F)
     (chart-there : (j : ℕ) → j < F .nodes → F .kind j ≡ 0 → F .a j < F .charts) (node-there : (i : ℕ) → i < F .slaves → (F .node i < F .nodes) × (F .master i < F .charts))
-    (config : List ℕ) (inp : Set) (si : Small inp) (sa : (ch : ℕ → ℕ) (e : ℕ) → Small (actionOf (moves (F .chart) ch e))) (m s lows : List ℕ)
+    (config : List ℕ) (inp : Set) (si : Small inp) (sa : (ch : ℕ → ℕ) (e : ℕ) → Small (actionOf (moves (F .chart) ch e))) (m s base lows : List ℕ)
     (ro : Rows (F .chart) (F .state) (λ c. getD config c 0) (F .charts) (kap F) (F .master) (wholeOf F) m s)
-    (ch : Chosen (λ c. F .chart c .transitions) (λ c. getD config c 0) (F .charts) lows m s) (lw : (c : ℕ) → c < F .charts → getD lows c 0 ≡ inp ∩ down (wholeOf F) c) where
+    (ch : Chosen (λ c. F .chart c .transitions) (λ c. getD config c 0) (F .charts) lows m s)
+    (ra : Raised (λ c. F .chart c .transitions) (λ c. getD config c 0) (F .charts) m s base lows) (bs : (c : ℕ) → c < F .charts → getD base c 0 ≡ inp ∩ down (wholeOf F) c) where
+  lw : Lows (F .chart) (λ c. getD config c 0) (F .charts) (kap F) (wholeOf F) inp lows
+  lw = lows-are (F .chart) (F .state) (λ c. getD config c 0) (F .charts) (kap F) (F .master) (wholeOf F) inp m s base lows (stands F w r r11 chart-there node-there (F .nodes - 1) (omega arith)) ro bs ra
+
   pub step-found : answerOf (F .charts) (over (hunts m s (F .charts) zero (beginning lows)) nothing) ≡ stepIn F config inp
   unfolding stepIn
   step-found = found-is F some-node w r r11 chart-there node-there (λ c. getD config c 0) inp si sa m s lows ro

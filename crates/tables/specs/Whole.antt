@@ -18,9 +18,10 @@ use Rattle.meaning.specs.Laws.Trees.{Ordered, Rule11}
 use Rattle.meaning.specs.Laws.Names.{Rule10, kap}
 use Rattle.meaning.specs.Laws.Choices.{upto-first, length-nexts}
 use Rattle.wiring.specs.Uncut.{own-moves}
-use Rattle.wiring.specs.Wire.{join, down, offered, Small}
-use Rattle.wiring.specs.Wired.{awake, Stands, offer, ruled, permitted-wired}
-use Rattle.wiring.specs.Dropped.{test, may-bounds, open?, fits-open, Bounds, low, passes}
+use Rattle.wiring.specs.Wire.{join, down, back, offered, Small}
+use Rattle.wiring.specs.Wired.{awake, Stands, offer}
+use Rattle.wiring.specs.Sure.{surely, open?}
+use Rattle.wiring.specs.Dropped.{test, may-bounds, permitted-open, Bounds, sures, low, passes}
 use Rattle.wiring.specs.Hunt.{opens, fine, hunt, hunted-all, mayOf, may-of}
 use Rattle.wiring.specs.Filter.{lasts, kept}
 use Rattle.wiring.specs.Stand.{stands}
@@ -28,7 +29,7 @@ use Rattle.search.specs.Table.{actionAt, countAt}
 use Rattle.search.specs.Hunt.{each, wakes, taken, rested, fineAt, hunts, over, nothing}
 use Rattle.search.specs.Hunt.Laws.{among-each}
 use Rattle.search.specs.declared.Trail.{Trail}
-use Rattle.tables.specs.Filled.{Is, Listed, start, other, fails, again, fresh, mayAt, Rows, Candidates, beginning, answerOf}
+use Rattle.tables.specs.Filled.{Is, Listed, start, other, fails, again, fresh, mayAt, Rows, Candidates, Lows, beginning, answerOf}
 use Rattle.tables.specs.Padded.{Padded, padded-none, padded-one, padded-append, padded-nothing, padded-again, Sizes, found}
 use Rattle.tables.specs.Follow.{Follows, moves-on, wakes-is, taken-follows, rested-follows, fine-is, output-is, next-is}
 
@@ -195,11 +196,12 @@ module _ (E : ℕ → Chart) (state : ℕ → ℕ) (cfg : ℕ → ℕ) (N : ℕ)
       go true w ih = rw w (walk n k t ch e′ f (λ t′ ch′. ih t′ ch′ e′) w (ca .listed k (omega arith)))
       go false w ih = rw w (rest n k t ch e′ f (λ t′ ch′. ih t′ ch′ e′) w (idle k))
 
-  begins : (lows : List ℕ) → ((c : ℕ) → c < N → getD lows c 0 ≡ inp ∩ down tree c) → Follow (beginning lows) zero (λ c. zero)
-  unfolding beginning low offer offered join
+  begins : (lows : List ℕ) → Lows E cfg N enc tree inp lows → Follow (beginning lows) zero (λ c. zero)
+  unfolding beginning low sures offer offered
   begins lows h =
       record {
-        lows = λ c l. h c l ∙ sets ((inp ∩ down tree c) ∷ []) [] (A ≐ A ∪ₑ ∅ₑ) tt;
+        lows = λ c l. h c l ∙ sets ((inp ∩ down tree c) ∷ join N (λ e. surely enc E cfg e ∩ back E tree c e) ∷ join zero (λ e. actionOf (moves E (λ c. zero) e) ∩ back E tree c e) ∷ [])
+            (C ≐ ∅ₑ ∷ []) (A ∪ₑ B ≐ B ∪ₑ (A ∪ₑ C)) tt (unfold join in refl);
         shows = λ d l. absurd (omega arith);
         active = λ d l. absurd (omega arith);
         still = λ d l. getD-zeros 8 d;
@@ -212,9 +214,8 @@ module _ (E : ℕ → Chart) (state : ℕ → ℕ) (cfg : ℕ → ℕ) (N : ℕ)
   module _ (si : Small inp) (kept : (ch : ℕ → ℕ) → permitted E state cfg (moves E ch) tree inp ≡ true → (c : ℕ) → c < N → keep c (ch c) ≡ true) where
     -- no permitted choice puts out more than the candidates do
     bounds : Bounds E state cfg N tree inp (mayAt m s)
-    unfolding ruled moves mayAt pick actionOf
-    bounds ch p e l = go (ch e) (kept ch p e l) (and-l _ _ (sym (fits-open (awake enc sc state cfg (moves E ch) e) (offer E state cfg N enc sc tree inp (moves E ch) N e) (cfg e) (moves E ch e))
-        ∙ every-elim N (ruled E state cfg N enc sc tree inp (moves E ch)) (sym (permitted-wired E state cfg N enc sc tree inp (moves E ch) st si (sa ch) (own-moves E ch)) ∙ p) e l))
+    unfolding moves mayAt pick actionOf
+    bounds ch p e l = go (ch e) (kept ch p e l) (permitted-open E state cfg N enc sc tree inp st si sa ch p e l)
       where
         all : Set
         all = join (countAt s e) (actionAt m e)
@@ -245,7 +246,7 @@ module _ (E : ℕ → Chart) (state : ℕ → ℕ) (cfg : ℕ → ℕ) (N : ℕ)
         go false = tt
     sizes (suc n) c ch = sizes-upto (length (E c .transitions)) _ (λ v. sizes n (suc c) (upd ch c v))
 
-    pub found-all : (lows : List ℕ) → ((c : ℕ) → c < N → getD lows c 0 ≡ inp ∩ down tree c)
+    pub found-all : (lows : List ℕ) → Lows E cfg N enc tree inp lows
         → answerOf N (over (hunts m s N zero (beginning lows)) nothing) ≡ answer (outcomes E state cfg tree inp N)
     unfolding outcomes
     found-all lows h = found N _ _ (subst (Padded N (hunts m s N zero (beginning lows))) (hunted-all E state cfg N enc sc tree inp (mayAt m s) keep st bounds si sa kept)
@@ -255,18 +256,18 @@ module _ (E : ℕ → Chart) (state : ℕ → ℕ) (cfg : ℕ → ℕ) (N : ℕ)
 
 -- a transition is kept: it may be met between what its chart is surely offered and what all the others might put in
 abbrev pub keeps : File → (ℕ → ℕ) → Set → ℕ → ℕ → Bool
-keeps F cfg inp = lasts (F .chart) (F .state) cfg (F .charts) (wholeOf F) inp (λ c. mayOf (F .chart c .transitions) (cfg c))
+keeps F cfg inp = lasts (F .chart) (F .state) cfg (F .charts) (kap F) (wholeOf F) inp (λ c. mayOf (F .chart c .transitions) (cfg c))
 
 module _ (F : File) (some-node : 0 < F .nodes) (w : Ordered F) (r : Rule10 F) (r11 : Rule11 F)
     (chart-there : (j : ℕ) → j < F .nodes → F .kind j ≡ 0 → F .a j < F .charts) (node-there : (i : ℕ) → i < F .slaves → (F .node i < F .nodes) × (F .master i < F .charts))
     (cfg : ℕ → ℕ) (inp : Set) (si : Small inp) (sa : (ch : ℕ → ℕ) (e : ℕ) → Small (actionOf (moves (F .chart) ch e))) (m s lows : List ℕ) where
   -- what the search over the tables finds is what the step answers
   pub found-is : Rows (F .chart) (F .state) cfg (F .charts) (kap F) (F .master) (wholeOf F) m s → Candidates (F .chart) cfg (F .charts) (wholeOf F) (keeps F cfg inp) m s
-      → ((c : ℕ) → c < F .charts → getD lows c 0 ≡ inp ∩ down (wholeOf F) c)
+      → Lows (F .chart) cfg (F .charts) (kap F) (wholeOf F) inp lows
       → answerOf (F .charts) (over (hunts m s (F .charts) zero (beginning lows)) nothing) ≡ answer (outcomes (F .chart) (F .state) cfg (wholeOf F) inp (F .charts))
   unfolding lasts test pick
   found-is ro ca h = found-all (F .chart) (F .state) cfg (F .charts) (kap F) (F .master) (wholeOf F) inp m s (keeps F cfg inp) st ro ca sa (λ c. refl) si
-      (kept (F .chart) (F .state) cfg (F .charts) (wholeOf F) inp may₀ (kap F) (F .master) st
+      (kept (F .chart) (F .state) cfg (F .charts) (kap F) (wholeOf F) inp may₀ (F .master) st
       (may-bounds (F .chart) (F .state) cfg (F .charts) (kap F) (F .master) (wholeOf F) inp may₀ st (may-of (F .chart) cfg) si sa) si sa) lows h
     where
       may₀ : ℕ → Set

@@ -13,13 +13,7 @@ use Rattle.layout.specs.declared.record.Transition.{Transition}
 use Rattle.wiring.specs.Uncut.{Within}
 use Rattle.wiring.specs.Wire.{down, back, join, offered, fits, Small}
 use Rattle.wiring.specs.Wired.{awake, Stands, offer, ruled, permitted-wired}
-use Rattle.wiring.specs.Dropped.{test, fits-test}
-
-join-in : (k : ℕ) (f g b : ℕ → Set) → ((e : ℕ) → e < k → Inside (f e) (g e)) → Inside (join k (λ e. f e ∩ b e)) (join k (λ e. g e ∩ b e))
-unfolding join
-join-in zero f g b h = sets [] [] (∅ₑ ⊑ ∅ₑ) tt
-join-in (suc k) f g b h = sets (join k (λ e. f e ∩ b e) ∷ join k (λ e. g e ∩ b e) ∷ f k ∷ g k ∷ b k ∷ []) (A ⊑ B ∷ C ⊑ D ∷ []) (A ∪ₑ C ∩ₑ Eₑ ⊑ B ∪ₑ D ∩ₑ Eₑ) tt
-    (join-in k f g b (λ e l. h e (omega arith))) (h k (omega arith))
+use Rattle.wiring.specs.Dropped.{test, join-in, fits-test}
 
 offered-in : (N : ℕ) (f g : ℕ → Set) (z a : Set) (b : ℕ → Set) → ((e : ℕ) → e < N → Inside (f e) (g e)) → Inside (offered N f z a b) (offered N g z a b)
 unfolding offered

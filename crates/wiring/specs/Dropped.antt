@@ -17,6 +17,7 @@ use Rattle.layout.specs.declared.record.Transition.{Transition}
 use Rattle.wiring.specs.Uncut.{own-moves}
 use Rattle.wiring.specs.Wire.{down, back, join, offered, fits, Small}
 use Rattle.wiring.specs.Wired.{awake, Stands, offer, ruled, permitted-wired}
+use Rattle.wiring.specs.Sure.{surely, open?, sure-open}
 
 -- f k ∪ .. ∪ f (k + n - 1)
 unfoldable pub ahead : ℕ → ℕ → (ℕ → Set) → Set
@@ -40,6 +41,12 @@ ahead-in zero k f g h = sets [] [] (∅ₑ ⊑ ∅ₑ) tt
 ahead-in (suc n) k f g h = sets (f k ∷ g k ∷ ahead n (suc k) f ∷ ahead n (suc k) g ∷ []) (A ⊑ B ∷ C ⊑ D ∷ []) (A ∪ₑ C ⊑ B ∪ₑ D) tt
     (h k (omega arith) (omega arith)) (ahead-in n (suc k) f g (λ e p q. h e (omega arith) (omega arith)))
 
+pub join-in : (k : ℕ) (f g b : ℕ → Set) → ((e : ℕ) → e < k → Within (f e) (g e)) → Within (join k (λ e. f e ∩ b e)) (join k (λ e. g e ∩ b e))
+unfolding join
+join-in zero f g b h = sets [] [] (∅ₑ ⊑ ∅ₑ) tt
+join-in (suc k) f g b h = sets (join k (λ e. f e ∩ b e) ∷ join k (λ e. g e ∩ b e) ∷ f k ∷ g k ∷ b k ∷ []) (A ⊑ B ∷ C ⊑ D ∷ []) (A ∪ₑ C ∩ₑ Eₑ ⊑ B ∪ₑ D ∩ₑ Eₑ) tt
+    (join-in k f g b (λ e l. h e (omega arith))) (h k (omega arith))
+
 sub-in : (g o p : Set) → Within o p → within g o ≡ true → within g p ≡ true
 sub-in g o p h e = eq-eqb (g ∖ p) 0 (sets (g ∷ o ∷ p ∷ []) (A ⊑ B ∷ B ⊑ C ∷ []) (A ⊑ C) tt (eqb-true (g ∖ o) 0 e) h)
 
@@ -56,12 +63,6 @@ fits-test true o s (some t) low high p q e = let h = and-r (same (t .from) s) _ 
     and-i (sub-in (t .needed) o high q (and-l _ _ h)) (dis-in (t .barred) o low p (and-r (within (t .needed) o) _ h))
 
 -- a rule is its activity, its state and the exact test
-unfoldable pub open? : Bool → ℕ → Move → Bool
-open? false s none = true
-open? false s (some t) = false
-open? true s none = false
-open? true s (some t) = same (t .from) s
-
 pub fits-open : (a : Bool) (o : Set) (s : ℕ) (m : Move) → fits a o s m ≡ (open? a s m && test m o o)
 unfolding fits open? test
 fits-open false o s none = refl
@@ -82,10 +83,24 @@ unfolding join
 join-cong zero f g h = refl
 join-cong (suc k) f g h = ap₂ _∪_ (join-cong k f g (λ e l. h e (omega arith))) (h k (omega arith))
 
+-- the rule of each chart holds in a permitted choice, so that each keeps activity and state
+module _ (E : ℕ → Chart) (state : ℕ → ℕ) (cfg : ℕ → ℕ) (N : ℕ) (enc : ℕ → Option ℕ) (sc : ℕ → ℕ) (t : Tree) (inp : Set)
+    (s : Stands N enc sc t) (si : Small inp) (sa : (ch : ℕ → ℕ) (e : ℕ) → Small (actionOf (moves E ch e))) (ch : ℕ → ℕ) (p : permitted E state cfg (moves E ch) t inp ≡ true) where
+  permitted-ruled : (c : ℕ) → c < N → ruled E state cfg N enc sc t inp (moves E ch) c ≡ true
+  permitted-ruled c l = every-elim N (ruled E state cfg N enc sc t inp (moves E ch)) (sym (permitted-wired E state cfg N enc sc t inp (moves E ch) s si (sa ch) (own-moves E ch)) ∙ p) c l
+
+  pub permitted-open : (c : ℕ) → c < N → open? (awake enc sc state cfg (moves E ch) c) (cfg c) (moves E ch c) ≡ true
+  unfolding ruled
+  permitted-open c l = and-l _ _ (sym (fits-open (awake enc sc state cfg (moves E ch) c) (offer E state cfg N enc sc t inp (moves E ch) N c) (cfg c) (moves E ch c)) ∙ permitted-ruled c l)
+
 module _ (E : ℕ → Chart) (state : ℕ → ℕ) (cfg : ℕ → ℕ) (N : ℕ) (enc : ℕ → Option ℕ) (sc : ℕ → ℕ) (t : Tree) (inp : Set) (may : ℕ → Set) where
+  -- what is sure before any chart is settled
+  unfoldable pub sures : ℕ → Set
+  sures c = join N (λ e. surely enc E cfg e ∩ back E t c e)
+
   -- charts below k are settled; n are left
   unfoldable pub low : (ℕ → ℕ) → ℕ → ℕ → Set
-  low ch k c = offer E state cfg N enc sc t inp (moves E ch) k c
+  low ch k c = sures c ∪ offer E state cfg N enc sc t inp (moves E ch) k c
 
   unfoldable pub high : (ℕ → ℕ) → ℕ → ℕ → ℕ → Set
   high ch n k c = low ch k c ∪ ahead n k (λ e. may e ∩ back E t c e)
@@ -94,16 +109,24 @@ module _ (E : ℕ → Chart) (state : ℕ → ℕ) (cfg : ℕ → ℕ) (N : ℕ)
   passes ch n k c = test (moves E ch c) (low ch k c) (high ch n k c)
 
   module _ (s : Stands N enc sc t) (m : Bounds E state cfg N t inp may) (si : Small inp) (sa : (ch : ℕ → ℕ) (e : ℕ) → Small (actionOf (moves E ch e))) where
-    low-in : (ch : ℕ → ℕ) (n k c : ℕ) → n + k ≡ N → Within (low ch k c) (low ch N c)
+    -- every chart keeps activity and state
+    abbrev Open : (ℕ → ℕ) → Type 0
+    Open ch = (e : ℕ) → e < N → open? (awake enc sc state cfg (moves E ch) e) (cfg e) (moves E ch e) ≡ true
+
+    sures-in : (ch : ℕ → ℕ) (c : ℕ) → Open ch → Within (sures c) (join N (λ e. actionOf (moves E ch e) ∩ back E t c e))
+    unfolding sures
+    sures-in ch c o = join-in N (surely enc E cfg) (λ e. actionOf (moves E ch e)) (back E t c) (λ e l. sure-open E state cfg N enc sc t s ch e l (o e l))
+
+    low-in : (ch : ℕ → ℕ) (n k c : ℕ) → n + k ≡ N → Open ch → Within (low ch k c) (offer E state cfg N enc sc t inp (moves E ch) N c)
     unfolding low offer offered
-    low-in ch n k c e = sets ((inp ∩ down t c) ∷ join k f ∷ ahead n k f ∷ join N f ∷ []) (D ≐ B ∪ₑ C ∷ []) (A ∪ₑ B ⊑ A ∪ₑ D) tt (ap (λ z. join z f) (sym e) ∙ split n k f)
+    low-in ch n k c e o = sets ((inp ∩ down t c) ∷ join k f ∷ ahead n k f ∷ join N f ∷ sures c ∷ []) (D ≐ B ∪ₑ C ∷ Eₑ ⊑ D ∷ []) (Eₑ ∪ₑ (A ∪ₑ B) ⊑ A ∪ₑ D) tt (ap (λ z. join z f) (sym e) ∙ split n k f) (sures-in ch c o)
       where
         f : ℕ → Set
         f e = actionOf (moves E ch e) ∩ back E t c e
 
-    high-in : (ch : ℕ → ℕ) (n k c : ℕ) → n + k ≡ N → ((e : ℕ) → e < N → Within (actionOf (moves E ch e)) (may e)) → Within (low ch N c) (high ch n k c)
+    high-in : (ch : ℕ → ℕ) (n k c : ℕ) → n + k ≡ N → ((e : ℕ) → e < N → Within (actionOf (moves E ch e)) (may e)) → Within (offer E state cfg N enc sc t inp (moves E ch) N c) (high ch n k c)
     unfolding low high offer offered
-    high-in ch n k c e q = sets ((inp ∩ down t c) ∷ join k f ∷ ahead n k f ∷ join N f ∷ ahead n k g ∷ []) (D ≐ B ∪ₑ C ∷ C ⊑ Eₑ ∷ []) (A ∪ₑ D ⊑ A ∪ₑ B ∪ₑ Eₑ) tt (ap (λ z. join z f) (sym e) ∙ split n k f)
+    high-in ch n k c e q = sets ((inp ∩ down t c) ∷ join k f ∷ ahead n k f ∷ join N f ∷ ahead n k g ∷ sures c ∷ []) (D ≐ B ∪ₑ C ∷ C ⊑ Eₑ ∷ []) (A ∪ₑ D ⊑ Fₑ ∪ₑ (A ∪ₑ B) ∪ₑ Eₑ) tt (ap (λ z. join z f) (sym e) ∙ split n k f)
         (ahead-in n k f g (λ d p r. sets (actionOf (moves E ch d) ∷ may d ∷ back E t c d ∷ []) (A ⊑ B ∷ []) (A ∩ₑ C ⊑ B ∩ₑ C) tt (q d (omega arith))))
       where
         f : ℕ → Set
@@ -114,13 +137,9 @@ module _ (E : ℕ → Chart) (state : ℕ → ℕ) (cfg : ℕ → ℕ) (N : ℕ)
 
     -- a permitted choice passes every test on the way
     pub passed : (ch : ℕ → ℕ) (n k c : ℕ) → n + k ≡ N → c < N → permitted E state cfg (moves E ch) t inp ≡ true → passes ch n k c ≡ true
-    unfolding passes low ruled moves
-    passed ch n k c e l p = fits-test (awake enc sc state cfg (moves E ch) c) (low ch N c) (cfg c) (moves E ch c) (low ch k c) (high ch n k c) (low-in ch n k c e)
-        (high-in ch n k c e (λ d r. m ch p d r))
-        (every-elim N (ruled E state cfg N enc sc t inp (moves E ch)) all c l)
-      where
-        all : every N (ruled E state cfg N enc sc t inp (moves E ch)) ≡ true
-        all = sym (permitted-wired E state cfg N enc sc t inp (moves E ch) s si (sa ch) (own-moves E ch)) ∙ p
+    unfolding passes ruled
+    passed ch n k c e l p = fits-test (awake enc sc state cfg (moves E ch) c) (offer E state cfg N enc sc t inp (moves E ch) N c) (cfg c) (moves E ch c) (low ch k c) (high ch n k c)
+        (low-in ch n k c e (permitted-open E state cfg N enc sc t inp s si sa ch p)) (high-in ch n k c e (λ d r. m ch p d r)) (permitted-ruled E state cfg N enc sc t inp s si sa ch p c l)
 
     -- low, high and the test look at settled charts alone
     pub passes-below : (ch ch₂ : ℕ → ℕ) (n k c : ℕ) → Below k ch ch₂ → c < k → passes ch₂ n k c ≡ passes ch n k c
@@ -130,16 +149,18 @@ module _ (E : ℕ → Chart) (state : ℕ → ℕ) (cfg : ℕ → ℕ) (N : ℕ)
     pub dropped : (ch : ℕ → ℕ) (n k c : ℕ) → n + k ≡ N → c < k → passes ch n k c ≡ false → (ch₂ : ℕ → ℕ) → Below k ch ch₂ → permitted E state cfg (moves E ch₂) t inp ≡ false
     dropped ch n k c e l f ch₂ b = not-true (λ p. false≢true (sym f ∙ sym (passes-below ch ch₂ n k c b l) ∙ passed ch₂ n k c e (omega arith) p))
 
-    -- when none is left the test is the exact one
-    pub passes-last : (ch : ℕ → ℕ) (c : ℕ) → ruled E state cfg N enc sc t inp (moves E ch) c ≡ (open? (awake enc sc state cfg (moves E ch) c) (cfg c) (moves E ch c) && passes ch zero N c)
-    unfolding passes low high ruled ahead
-    passes-last ch c = fits-open (awake enc sc state cfg (moves E ch) c) (low ch N c) (cfg c) (moves E ch c)
-        ∙ ap (λ s. open? (awake enc sc state cfg (moves E ch) c) (cfg c) (moves E ch c) && test (moves E ch c) (low ch N c) s) (sets (low ch N c ∷ []) [] (A ≐ A ∪ₑ ∅ₑ) tt)
+    -- when none is left the test is the exact one: every chart puts out what was sure
+    pub passes-last : (ch : ℕ → ℕ) (c : ℕ) → Open ch
+        → ruled E state cfg N enc sc t inp (moves E ch) c ≡ (open? (awake enc sc state cfg (moves E ch) c) (cfg c) (moves E ch c) && passes ch zero N c)
+    unfolding passes high ruled ahead
+    passes-last ch c o = fits-open (awake enc sc state cfg (moves E ch) c) all (cfg c) (moves E ch c)
+        ∙ ap₂ (λ x y. open? (awake enc sc state cfg (moves E ch) c) (cfg c) (moves E ch c) && test (moves E ch c) x y) (sym exact) (sym exact ∙ sets (low ch N c ∷ []) [] (A ≐ A ∪ₑ ∅ₑ) tt)
+      where
+        all : Set
+        all = offer E state cfg N enc sc t inp (moves E ch) N c
 
-    -- one more chart settled: its action joins, by its column
-    pub low-next : (ch : ℕ → ℕ) (k c : ℕ) → low ch (suc k) c ≡ low ch k c ∪ actionOf (moves E ch k) ∩ back E t c k
-    unfolding low offer offered join
-    low-next ch k c = sets ((inp ∩ down t c) ∷ join k (λ e. actionOf (moves E ch e) ∩ back E t c e) ∷ (actionOf (moves E ch k) ∩ back E t c k) ∷ []) [] (A ∪ₑ (B ∪ₑ C) ≐ A ∪ₑ B ∪ₑ C) tt
+        exact : low ch N c ≡ all
+        exact = unfold low offer offered in sets ((inp ∩ down t c) ∷ join N (λ e. actionOf (moves E ch e) ∩ back E t c e) ∷ sures c ∷ []) (C ⊑ B ∷ []) (C ∪ₑ (A ∪ₑ B) ≐ A ∪ₑ B) tt (sures-in ch c o)
 
     -- the search may leave such a beginning out
     pub skip-dropped : (ch : ℕ → ℕ) (n k c : ℕ) → n + k ≡ N → c < k → passes ch n k c ≡ false → search E state cfg t inp N n k ch ≡ []
@@ -149,6 +170,5 @@ module _ (E : ℕ → Chart) (state : ℕ → ℕ) (cfg : ℕ → ℕ) (N : ℕ)
 module _ (E : ℕ → Chart) (state : ℕ → ℕ) (cfg : ℕ → ℕ) (N : ℕ) (enc : ℕ → Option ℕ) (sc : ℕ → ℕ) (t : Tree) (inp : Set) (may : ℕ → Set)
     (s : Stands N enc sc t) (m : May E cfg may) (si : Small inp) (sa : (ch : ℕ → ℕ) (e : ℕ) → Small (actionOf (moves E ch e))) where
   pub may-bounds : Bounds E state cfg N t inp may
-  unfolding ruled moves
-  may-bounds ch p e l = m e (ch e) (awake enc sc state cfg (moves E ch) e) (and-l _ _ (sym (fits-open (awake enc sc state cfg (moves E ch) e) (offer E state cfg N enc sc t inp (moves E ch) N e) (cfg e) (moves E ch e))
-      ∙ every-elim N (ruled E state cfg N enc sc t inp (moves E ch)) (sym (permitted-wired E state cfg N enc sc t inp (moves E ch) s si (sa ch) (own-moves E ch)) ∙ p) e l))
+  unfolding moves
+  may-bounds ch p e l = m e (ch e) (awake enc sc state cfg (moves E ch) e) (permitted-open E state cfg N enc sc t inp s si sa ch p e l)

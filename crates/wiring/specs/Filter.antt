@@ -16,14 +16,15 @@ use Rattle.layout.specs.declared.record.Transition.{Transition}
 use Rattle.wiring.specs.Uncut.{own-moves}
 use Rattle.wiring.specs.Wire.{Small, down, back, offered}
 use Rattle.wiring.specs.Wired.{Stands}
-use Rattle.wiring.specs.Dropped.{test, Bounds}
+use Rattle.wiring.specs.Sure.{surely, sure-open}
+use Rattle.wiring.specs.Dropped.{test, Bounds, permitted-open}
 use Rattle.wiring.specs.Bounded.{bounded}
 
-module _ (E : ℕ → Chart) (state : ℕ → ℕ) (cfg : ℕ → ℕ) (N : ℕ) (t : Tree) (inp : Set) (may : ℕ → Set) where
-  -- the test of chart c's candidate v with its own action, between nothing and all that the others may put out
+module _ (E : ℕ → Chart) (state : ℕ → ℕ) (cfg : ℕ → ℕ) (N : ℕ) (enc : ℕ → Option ℕ) (t : Tree) (inp : Set) (may : ℕ → Set) where
+  -- the test of chart c's candidate v with its own action, between what the others surely and what they may put out
   unfoldable pub lasts : ℕ → ℕ → Bool
-  lasts c v = test (pick (E c .transitions) v) (offered N (λ e. cond (same e c) (actionOf (pick (E c .transitions) v)) ∅) inp (down t c) (back E t c))
-      (offered N (λ e. cond (same e c) (actionOf (pick (E c .transitions) v)) (may e)) inp (down t c) (back E t c))
+  lasts c v = test (pick (E c .transitions) v) (offered N (λ e. cond (same e c) (actionOf (pick (E c .transitions) v)) ∅ ∪ surely enc E cfg e) inp (down t c) (back E t c))
+      (offered N (λ e. cond (same e c) (actionOf (pick (E c .transitions) v)) (may e) ∪ surely enc E cfg e) inp (down t c) (back E t c))
 
   -- what the first k candidates put out that last
   unfoldable pub mayLast : ℕ → ℕ → Set
@@ -44,22 +45,23 @@ module _ (E : ℕ → Chart) (state : ℕ → ℕ) (cfg : ℕ → ℕ) (N : ℕ)
       go false e r = let z : v ≢ k = λ w. false≢true (sym e ∙ rw w (same-refl k)) in
           sets (actionOf (pick (E c .transitions) (suc v)) ∷ mayLast c k ∷ new ∷ []) (A ⊑ B ∷ []) (A ⊑ B ∪ₑ C) tt (r (omega arith))
 
-  module _ (enc : ℕ → Option ℕ) (sc : ℕ → ℕ) (s : Stands N enc sc t) (m : Bounds E state cfg N t inp may) (si : Small inp) (sa : (ch : ℕ → ℕ) (e : ℕ) → Small (actionOf (moves E ch e))) where
+  module _ (sc : ℕ → ℕ) (s : Stands N enc sc t) (m : Bounds E state cfg N t inp may) (si : Small inp) (sa : (ch : ℕ → ℕ) (e : ℕ) → Small (actionOf (moves E ch e))) where
     pub kept : (ch : ℕ → ℕ) → permitted E state cfg (moves E ch) t inp ≡ true → (c : ℕ) → c < N → lasts c (ch c) ≡ true
     unfolding lasts moves
-    kept ch p c l = bounded E state cfg N enc sc t inp s (moves E ch) si (sa ch) (own-moves E ch) (λ e. cond (same e c) (actionOf (pick (E c .transitions) (ch c))) ∅)
-        (λ e. cond (same e c) (actionOf (pick (E c .transitions) (ch c))) (may e)) p (λ e h. below e (same e c) refl) (λ e h. above e (same e c) refl (m ch p e h)) c l
+    kept ch p c l = bounded E state cfg N enc sc t inp s (moves E ch) si (sa ch) (own-moves E ch) (λ e. cond (same e c) (actionOf (pick (E c .transitions) (ch c))) ∅ ∪ surely enc E cfg e)
+        (λ e. cond (same e c) (actionOf (pick (E c .transitions) (ch c))) (may e) ∪ surely enc E cfg e) p
+        (λ e h. below e (same e c) refl (sure-open E state cfg N enc sc t s ch e h (permitted-open E state cfg N enc sc t inp s si sa ch p e h))) (λ e h. above e (same e c) refl (m ch p e h)) c l
       where
         mine : (e : ℕ) → same e c ≡ true → actionOf (moves E ch e) ≡ actionOf (pick (E c .transitions) (ch c))
         mine e q = ap (λ z. actionOf (moves E ch z)) (same→≡ e c q)
 
-        below : (e : ℕ) (b : Bool) → same e c ≡ b → Within (cond b (actionOf (pick (E c .transitions) (ch c))) ∅) (actionOf (moves E ch e))
-        below e true q = sets (actionOf (pick (E c .transitions) (ch c)) ∷ actionOf (moves E ch e) ∷ []) (B ≐ A ∷ []) (A ⊑ B) tt (mine e q)
-        below e false q = sets (actionOf (moves E ch e) ∷ []) [] (∅ₑ ⊑ A) tt
+        below : (e : ℕ) (b : Bool) → same e c ≡ b → Within (surely enc E cfg e) (actionOf (moves E ch e)) → Within (cond b (actionOf (pick (E c .transitions) (ch c))) ∅ ∪ surely enc E cfg e) (actionOf (moves E ch e))
+        below e true q w = sets (actionOf (pick (E c .transitions) (ch c)) ∷ actionOf (moves E ch e) ∷ surely enc E cfg e ∷ []) (B ≐ A ∷ C ⊑ B ∷ []) (A ∪ₑ C ⊑ B) tt (mine e q) w
+        below e false q w = sets (actionOf (moves E ch e) ∷ surely enc E cfg e ∷ []) (B ⊑ A ∷ []) (∅ₑ ∪ₑ B ⊑ A) tt w
 
-        above : (e : ℕ) (b : Bool) → same e c ≡ b → Within (actionOf (moves E ch e)) (may e) → Within (actionOf (moves E ch e)) (cond b (actionOf (pick (E c .transitions) (ch c))) (may e))
-        above e true q w = sets (actionOf (pick (E c .transitions) (ch c)) ∷ actionOf (moves E ch e) ∷ []) (B ≐ A ∷ []) (B ⊑ A) tt (mine e q)
-        above e false q w = w
+        above : (e : ℕ) (b : Bool) → same e c ≡ b → Within (actionOf (moves E ch e)) (may e) → Within (actionOf (moves E ch e)) (cond b (actionOf (pick (E c .transitions) (ch c))) (may e) ∪ surely enc E cfg e)
+        above e true q w = sets (actionOf (pick (E c .transitions) (ch c)) ∷ actionOf (moves E ch e) ∷ surely enc E cfg e ∷ []) (B ≐ A ∷ []) (B ⊑ A ∪ₑ C) tt (mine e q)
+        above e false q w = sets (actionOf (moves E ch e) ∷ may e ∷ surely enc E cfg e ∷ []) (A ⊑ B ∷ []) (A ⊑ B ∪ₑ C) tt w
 
     far : (ts : List Transition) (k : ℕ) → length ts ≤ k → actionOf (nth ts k) ≡ ∅
     unfolding nth actionOf length

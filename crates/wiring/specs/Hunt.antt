@@ -16,7 +16,8 @@ use Rattle.layout.specs.declared.record.Transition.{Transition}
 use Rattle.wiring.specs.Uncut.{own-moves}
 use Rattle.wiring.specs.Wire.{Small, awakeBy, fits}
 use Rattle.wiring.specs.Wired.{awakeIn, awake, Stands, offer, ruled, permitted-wired}
-use Rattle.wiring.specs.Dropped.{open?, fits-open, May, Bounds, passes, passes-last, passes-below, skip-dropped, test}
+use Rattle.wiring.specs.Sure.{open?}
+use Rattle.wiring.specs.Dropped.{fits-open, permitted-open, May, Bounds, passes, passes-last, passes-below, skip-dropped, test}
 
 pub every-cong : (n : ℕ) (f g : ℕ → Bool) → ((i : ℕ) → i < n → f i ≡ g i) → every n f ≡ every n g
 unfolding every
@@ -69,10 +70,8 @@ module _ (E : ℕ → Chart) (state : ℕ → ℕ) (cfg : ℕ → ℕ) (N : ℕ)
 
     -- a move against activity or state leads nowhere
     skip-open : (n k : ℕ) (ch : ℕ → ℕ) → k < N → opens ch k ≡ false → search E state cfg t inp N n (suc k) ch ≡ []
-    unfolding opens ruled
-    skip-open n k ch l h = search-empty E state cfg t inp N n (suc k) ch (λ ch₂ b. not-true (λ p. false≢true (sym h ∙ sym (opens-below ch ch₂ k l b)
-        ∙ and-l _ _ (sym (fits-open (awake enc sc state cfg (moves E ch₂) k) (offer E state cfg N enc sc t inp (moves E ch₂) N k) (cfg k) (moves E ch₂ k))
-        ∙ every-elim N (ruled E state cfg N enc sc t inp (moves E ch₂)) (sym (permitted-wired E state cfg N enc sc t inp (moves E ch₂) s si (sa ch₂) (own-moves E ch₂)) ∙ p) k l))))
+    unfolding opens
+    skip-open n k ch l h = search-empty E state cfg t inp N n (suc k) ch (λ ch₂ b. not-true (λ p. false≢true (sym h ∙ sym (opens-below ch ch₂ k l b) ∙ permitted-open E state cfg N enc sc t inp s si sa ch₂ p k l)))
 
     skip-keep : (n k v : ℕ) (ch : ℕ → ℕ) → k < N → keep k v ≡ false → search E state cfg t inp N n (suc k) (upd ch k v) ≡ []
     skip-keep n k v ch l h = search-empty E state cfg t inp N n (suc k) (upd ch k v) (λ ch₂ b. not-true (λ p. false≢true (sym h ∙ ap (keep k) (sym (b k (omega arith) ∙ upd-at ch k v)) ∙ kept ch₂ p k l)))
@@ -84,7 +83,7 @@ module _ (E : ℕ → Chart) (state : ℕ → ℕ) (cfg : ℕ → ℕ) (N : ℕ)
     good-all : (ch : ℕ → ℕ) → Good ch zero N → permitted E state cfg (moves E ch) t inp ≡ true
     unfolding opens
     good-all ch g = permitted-wired E state cfg N enc sc t inp (moves E ch) s si (sa ch) (own-moves E ch)
-        ∙ every-intro N (ruled E state cfg N enc sc t inp (moves E ch)) (λ c l. passes-last E state cfg N enc sc t inp may s m si sa ch c ∙ and-i (g c l .0) (g c l .1))
+        ∙ every-intro N (ruled E state cfg N enc sc t inp (moves E ch)) (λ c l. passes-last E state cfg N enc sc t inp may s m si sa ch c (λ e r. g e r .0) ∙ and-i (g c l .0) (g c l .1))
 
     pub hunted : (n k : ℕ) (ch : ℕ → ℕ) → n + k ≡ N → Good ch n k → hunt n k ch ≡ search E state cfg t inp N n k ch
     unfolding hunt search outcome fine

@@ -1,11 +1,12 @@
 -- How the tree of a file folds into masks, and which choices a search may leave out. In order: interfaces cut nothing off (Uncut); the tree as
--- masks (Wire) and a choice permitted by them (Wired); how charts stand in a file's tree (Stand); bounds on what a chart is offered and what
--- they rule out (Dropped, Bounded); the search that uses them (Hunt, Filter); the masks by node kind (Rows); the nearest slave (Near); all of it
+-- masks (Wire) and a choice permitted by them (Wired); how charts stand in a file's tree (Stand); what a chart surely puts out (Sure);
+-- bounds on what a chart is offered and what they rule out (Dropped, Bounded); the search that uses them (Hunt, Filter); the masks by node kind (Rows); the nearest slave (Near); all of it
 -- for a file (Whole).
 pub mod Uncut
 pub mod Wire
 pub mod Wired
 pub mod Stand
+pub mod Sure
 pub mod Dropped
 pub mod Bounded
 pub mod Hunt

@@ -47,8 +47,8 @@ module _ (F : File) (last : ℕ) (final : suc last ≡ F .nodes) (w : Ordered F)
   plain-hunt = hunted-all (F .chart) (F .state) cfg (F .charts) (kap F) (F .master) t inp may₀ (λ c v. true) s first si sa (λ ch p c l. refl)
 
   -- the search with each candidate tested alone before
-  pub filtered-hunt : hunt (F .chart) (F .state) cfg (F .charts) (kap F) (F .master) t inp (λ c. mayLast (F .chart) (F .state) cfg (F .charts) t inp may₀ c (length (F .chart c .transitions)))
-      (lasts (F .chart) (F .state) cfg (F .charts) t inp may₀) (F .charts) zero (λ c. zero) ≡ outcomes (F .chart) (F .state) cfg t inp (F .charts)
+  pub filtered-hunt : hunt (F .chart) (F .state) cfg (F .charts) (kap F) (F .master) t inp (λ c. mayLast (F .chart) (F .state) cfg (F .charts) (kap F) t inp may₀ c (length (F .chart c .transitions)))
+      (lasts (F .chart) (F .state) cfg (F .charts) (kap F) t inp may₀) (F .charts) zero (λ c. zero) ≡ outcomes (F .chart) (F .state) cfg t inp (F .charts)
   unfolding outcomes
   filtered-hunt = hunted-all (F .chart) (F .state) cfg (F .charts) (kap F) (F .master) t inp _ _ s
-      (tighter (F .chart) (F .state) cfg (F .charts) t inp may₀ (kap F) (F .master) s first si sa) si sa (kept (F .chart) (F .state) cfg (F .charts) t inp may₀ (kap F) (F .master) s first si sa)
+      (tighter (F .chart) (F .state) cfg (F .charts) (kap F) t inp may₀ (F .master) s first si sa) si sa (kept (F .chart) (F .state) cfg (F .charts) (kap F) t inp may₀ (F .master) s first si sa)

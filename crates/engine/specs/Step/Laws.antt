@@ -130,7 +130,7 @@ valid-config n b config h c l = below _ _ (any-never (n .charts) _ h c l)
 
 -- ── the tables after candidates are chosen ──
 
-module _ (n : Shape) (b a m s m′ s′ config lows : List ℕ) (sz : Sized n b) (p : Prepared n b a m s) (ch : Chooses n b config lows m s m′ s′) where
+module _ (n : Shape) (b a m s m′ s′ config base lows : List ℕ) (sz : Sized n b) (p : Prepared n b a m s) (ch : Chooses n b config base lows m s m′ s′) where
   wired-again : Wired (fileAt n b) a m′ s′
   unfolding fileAt
   wired-again =
@@ -165,10 +165,10 @@ module _ (n : Shape) (b a m s m′ s′ config lows : List ℕ) (sz : Sized n b)
 
   -- ── what the search answers ──
 
-  module _ (all : AllBytes b) (k : Checked n b) (inp : Set) (fits : inp < 2 ^ 64) (lw : Row lows (λ c. inp ∩ getD a c 0)) where
-    lows-are : (c : ℕ) → c < F .charts → getD lows c 0 ≡ inp ∩ down (wholeOf F) c
+  module _ (all : AllBytes b) (k : Checked n b) (inp : Set) (fits : inp < 2 ^ 64) (lw : Row base (λ c. inp ∩ getD a c 0)) where
+    base-is : (c : ℕ) → c < F .charts → getD base c 0 ≡ inp ∩ down (wholeOf F) c
     unfolding fileAt
-    lows-are c l = lw c (omega (arith, sz .charts)) ∙ ap (λ z. inp ∩ z) (p .wired .down-is c (omega (arith, sz .charts)))
+    base-is c l = lw c (omega (arith, sz .charts)) ∙ ap (λ z. inp ∩ z) (p .wired .down-is c (omega (arith, sz .charts)))
 
     small-input : Small inp
     unfolding full
@@ -178,14 +178,14 @@ module _ (n : Shape) (b a m s m′ s′ config lows : List ℕ) (sz : Sized n b)
     unfolding fileAt chartOf
     found-here =
         let t = k .sound in
-        step-found F (sz .some-node) (t .ordered) (t .rule10) (t .rule11) (t .chart-there) (t .node-there) config inp small-input (actions-small n b all) m′ s′ lows rows (ch .chosen) lows-are
+        step-found F (sz .some-node) (t .ordered) (t .rule10) (t .rule11) (t .chart-there) (t .node-there) config inp small-input (actions-small n b all) m′ s′ base lows rows (ch .chosen) (ch .raised) base-is
 
     -- no search is needed
     pub found-stuck : stuck s′ (n .charts) ≡ true → stepIn (fileAt n b) config inp ≡ refused noStep
     unfolding fileAt chartOf
     found-stuck =
         let t = k .sound in
-        step-stuck F (sz .some-node) (t .ordered) (t .rule10) (t .rule11) (t .chart-there) (t .node-there) config inp small-input (actions-small n b all) m′ s′ lows rows (ch .chosen) lows-are
+        step-stuck F (sz .some-node) (t .ordered) (t .rule10) (t .rule11) (t .chart-there) (t .node-there) config inp small-input (actions-small n b all) m′ s′ base lows rows (ch .chosen) (ch .raised) base-is
 
 -- ── what was found ──
 

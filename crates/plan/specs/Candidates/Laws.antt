@@ -1,4 +1,4 @@
--- Laws for choosing candidates. In order: where a chart's transitions stand (start-fits), what they might put out (may-none, may-more, may-done),
+-- Laws for choosing candidates. In order: where a chart's transitions stand (start-fits), what they put out (puts-none, puts-more, puts-done),
 -- what the other charts might (join-more, others-done), one transition (left-other to left-put), a filling by one transition more (left-none to
 -- left-room), one chart more (mays-next to chart-tabled), the present states (stated-none, stated-next), all of it (chooses), and that actions have no signal
 -- from 64 on (actions-small).
@@ -31,12 +31,15 @@ use Rattle.meaning.specs.File.{chartOf, fileAt}
 use Rattle.meaning.specs.Laws.Bools.{same-refl, same→≡, same-≢}
 use Rattle.wiring.specs.Wire.{join, Small, full}
 use Rattle.wiring.specs.Dropped.{join-cong}
+use Rattle.wiring.specs.Sure.{sureOf, sure-small}
 use Rattle.wiring.specs.Hunt.{mayOf}
 use Rattle.search.specs.Table.{backAt}
-use Rattle.tables.specs.Fill.{Filling, considered, listing, lastsBy, isAgain, putMasks, putSmall, put, pickFilling, othersAt, Until, AheadFrom}
-use Rattle.tables.specs.Fill.Laws.{length-masks, length-small, leave-room, count-few, until-next, chosen}
+use Rattle.tables.specs.Fill.{Filling, considered, listing, lastsBy, isAgain, putMasks, putSmall, put, pickFilling, othersAt, sureAt, Raised, Until, AheadFrom}
+use Rattle.tables.specs.Fill.Laws.{length-masks, length-small, leave-room, count-few, until-next, chosen, raised-none, raised-next, raised-same}
 use Rattle.plan.specs.declared.candidates.Around.{Around}
-use Rattle.plan.specs.Candidates.{Ready, Tabled, Left, filling, consideredBy, listingBy, fromStart, Mays, UntilChart, NextChart, Stated, Chooses}
+use Rattle.plan.specs.declared.candidates.Puts.{Puts}
+use Rattle.plan.specs.Wire.{Row}
+use Rattle.plan.specs.Candidates.{Ready, Tabled, Left, filling, consideredBy, listingBy, fromStart, withOne, Mays, Sided, UntilChart, NextChart, Stated, Chooses}
 
 -- ── where transitions stand ──
 
@@ -58,35 +61,65 @@ start-fits n b c (suc k) l = go (same c k) refl (start-fits n b c k)
     go true e r = rw (same→≡ c k e) (omega arith)
     go false e r = let z : c ≢ k = λ w. false≢true (sym e ∙ rw w (same-refl k)) in let h = r (omega arith) in omega arith
 
--- ── what transitions might put out ──
+-- ── what transitions put out ──
 
 module _ (f : ℕ → Transition) (start count q : ℕ) where
-  -- u is what the first p put out
-  pub record MayLeft (p : ℕ) (u : Set) : Type 0 where
-    pub all : u ∪ mayOf (fromOn f (start + p) (count - p)) q ≡ mayOf (fromOn f start count) q
+  abbrev left : ℕ → List Transition
+  left p = fromOn f (start + p) (count - p)
 
-  pub may-none : MayLeft 0 0
-  may-none = record {
-    all = sets (mayOf (fromOn f (start + 0) (count - 0)) q ∷ mayOf (fromOn f start count) q ∷ []) (A ≐ B ∷ []) (∅ₑ ∪ₑ A ≐ B) tt
-        (ap₂ (λ k n. mayOf (fromOn f k n) q) (let h : start + 0 ≡ start = omega arith in h) (let h : count - 0 ≡ count = omega arith in h));
-  }
+  -- u is what the first p put out, some and all
+  pub record PutsLeft (p : ℕ) (u : Puts) : Type 0 where
+    pub may : u .may ∪ mayOf (left p) q ≡ mayOf (fromOn f start count) q
+    pub sure : u .sure ∩ sureOf (left p) q ≡ sureOf (fromOn f start count) q
+    pub few : Small (u .sure)
 
-  pub may-more : (p : ℕ) (u v : Set) → MayLeft p u → p < count → v ≡ cond (same (f (start + p) .from) q) (f (start + p) .action) 0 → MayLeft (p + 1) (u ∪ v)
-  unfolding mayOf fromOn
-  may-more p u v h l e = record {
-    all = ap₂ (λ k n. u ∪ v ∪ mayOf (fromOn f k n) q) (let x : start + (p + 1) ≡ suc (start + p) = omega arith in x) (let x : count - (p + 1) ≡ count - suc p = omega arith in x) ∙ sets (u ∷ v ∷ rest ∷ one ∷ mayOf (fromOn f start count) q ∷ []) (B ≐ D ∷ A ∪ₑ (C ∪ₑ D) ≐ Eₑ ∷ []) (A ∪ₑ B ∪ₑ C ≐ Eₑ) tt e
-        (ap (λ n. u ∪ mayOf (fromOn f (start + p) n) q) (let x : suc (count - suc p) ≡ count - p = omega arith in x) ∙ h .all);
+  pub puts-none : PutsLeft 0 (record { may = 0; sure = full })
+  puts-none = record {
+    may = sets (mayOf (left 0) q ∷ mayOf (fromOn f start count) q ∷ []) (A ≐ B ∷ []) (∅ₑ ∪ₑ A ≐ B) tt (ap (λ ts. mayOf ts q) all);
+    sure = sets (sureOf (left 0) q ∷ sureOf (fromOn f start count) q ∷ full ∷ []) (A ≐ B ∷ B ∩ₑ C ≐ B ∷ []) (C ∩ₑ A ≐ B) tt (ap (λ ts. sureOf ts q) all) (sure-small (fromOn f start count) q);
+    few = sets (full ∷ []) [] (A ∩ₑ A ≐ A) tt;
   }
     where
-      one : Set
-      one = cond (same (f (start + p) .from) q) (f (start + p) .action) 0
+      all : left 0 ≡ fromOn f start count
+      all = ap₂ (fromOn f) (let h : start + 0 ≡ start = omega arith in h) (let h : count - 0 ≡ count = omega arith in h)
 
-      rest : Set
-      rest = mayOf (fromOn f (suc (start + p)) (count - suc p)) q
+  pub puts-more : (p : ℕ) (u v : Puts) → PutsLeft p u → p < count → v ≡ withOne (same (f (start + p) .from) q) (f (start + p) .action) u → PutsLeft (p + 1) v
+  unfolding mayOf sureOf fromOn
+  puts-more p u v h l e = subst (λ w. PutsLeft (p + 1) w) (sym e) (go (same (f (start + p) .from) q) refl)
+    where
+      a : Set
+      a = f (start + p) .action
 
-  pub may-done : (p : ℕ) (u : Set) → MayLeft p u → count ≤ p → u ≡ mayOf (fromOn f start count) q
-  unfolding mayOf fromOn
-  may-done p u h l = sets (u ∷ mayOf (fromOn f start count) q ∷ []) (A ∪ₑ ∅ₑ ≐ B ∷ []) (A ≐ B) tt (ap (λ n. u ∪ mayOf (fromOn f (start + p) n) q) (let x : 0 ≡ count - p = omega arith in x) ∙ h .all)
+      rest : List Transition
+      rest = left (p + 1)
+
+      one : left p ≡ f (start + p) ∷ rest
+      one = ap (fromOn f (start + p)) (let x : count - p ≡ suc (count - (p + 1)) = omega arith in x) ∙ ap (λ k. f (start + p) ∷ fromOn f k (count - (p + 1))) (let x : suc (start + p) ≡ start + (p + 1) = omega arith in x)
+
+      go : (b : Bool) → same (f (start + p) .from) q ≡ b → PutsLeft (p + 1) (withOne b a u)
+      go true x = record {
+        may = sets (u .may ∷ a ∷ mayOf rest q ∷ mayOf (fromOn f start count) q ∷ cond (same (f (start + p) .from) q) a 0 ∷ []) (A ∪ₑ (C ∪ₑ Eₑ) ≐ D ∷ Eₑ ≐ B ∷ []) (A ∪ₑ B ∪ₑ C ≐ D) tt
+            (ap (λ ts. u .may ∪ mayOf ts q) (sym one) ∙ h .may) (rw x);
+        sure = sets (u .sure ∷ a ∷ sureOf rest q ∷ sureOf (fromOn f start count) q ∷ []) (A ∩ₑ (C ∩ₑ B) ≐ D ∷ []) (A ∩ₑ B ∩ₑ C ≐ D) tt
+            (ap (λ b. u .sure ∩ cond b (sureOf rest q ∩ a) (sureOf rest q)) (sym x) ∙ ap (λ ts. u .sure ∩ sureOf ts q) (sym one) ∙ h .sure);
+        few = sets (u .sure ∷ a ∷ full ∷ []) (A ∩ₑ C ≐ A ∷ []) (A ∩ₑ B ∩ₑ C ≐ A ∩ₑ B) tt (h .few);
+      }
+      go false x = record {
+        may = sets (u .may ∷ mayOf rest q ∷ mayOf (fromOn f start count) q ∷ cond (same (f (start + p) .from) q) a 0 ∷ []) (A ∪ₑ (B ∪ₑ D) ≐ C ∷ D ≐ ∅ₑ ∷ []) (A ∪ₑ B ≐ C) tt
+            (ap (λ ts. u .may ∪ mayOf ts q) (sym one) ∙ h .may) (rw x);
+        sure = ap (λ b. u .sure ∩ cond b (sureOf rest q ∩ a) (sureOf rest q)) (sym x) ∙ ap (λ ts. u .sure ∩ sureOf ts q) (sym one) ∙ h .sure;
+        few = h .few;
+      }
+
+  pub puts-done : (p : ℕ) (u : Puts) → PutsLeft p u → count ≤ p → (u .may ≡ mayOf (fromOn f start count) q) × (u .sure ≡ sureOf (fromOn f start count) q)
+  unfolding mayOf sureOf fromOn
+  puts-done p u h l = (
+    sets (u .may ∷ mayOf (fromOn f start count) q ∷ []) (A ∪ₑ ∅ₑ ≐ B ∷ []) (A ≐ B) tt (ap (λ n. u .may ∪ mayOf (fromOn f (start + p) n) q) none ∙ h .may),
+    sym (h .few) ∙ ap (λ n. u .sure ∩ sureOf (fromOn f (start + p) n) q) none ∙ h .sure,
+  )
+    where
+      none : 0 ≡ count - p
+      none = omega arith
 
 -- ── what the other charts might put in ──
 
@@ -185,6 +218,22 @@ module _ (n : Shape) (b config : List ℕ) where
       go true e = rw (same→≡ d c e) (getD-set-same may c v 0 l ∙ ev ∙ ap₂ (λ x y. mayOf (fromOn (transitionAt n b) x (y .transitions)) (getD config c 0)) es eh)
       go false e = let z : d ≢ c = λ w. false≢true (sym e ∙ rw w (same-refl c)) in getD-set-other may c d v 0 z ∙ h d (omega arith)
 
+  module _ (base m s : List ℕ) where
+    pub sided-none : (may : List ℕ) → Sided n b config base m s 0 may base
+    sided-none may = record { mays = λ c l. absurd (omega arith); raised = raised-none (transitionsOf n b) (λ c. getD config c 0) base m s }
+
+    -- chart c puts in what its transitions do
+    pub sided-next : (c : ℕ) (may lows lows′ : List ℕ) (start : ℕ) (head : Head) (v : Puts) → Sided n b config base m s c may lows → c < length may → start ≡ startOf n b c → head ≡ headAt n b c
+        → (v .may ≡ mayOf (fromOn (transitionAt n b) start (head .transitions)) (getD config c 0)) × (v .sure ≡ sureOf (fromOn (transitionAt n b) start (head .transitions)) (getD config c 0))
+        → Row lows′ (λ d. getD lows d 0 ∪ sureAt s c (v .sure) ∩ backAt m d c) → Sided n b config base m s (c + 1) (set may c (v .may)) lows′
+    unfolding transitionsOf
+    sided-next c may lows lows′ start head v h l es eh ev f = rw (add-one c) (
+        record {
+          mays = rw (add-one c) at (mays-next c may (v .may) start head (h .mays) l es eh (ev .0));
+          raised = raised-next (transitionsOf n b) (λ d. getD config d 0) base c m s lows lows′ (h .raised)
+              (λ d r. f d r ∙ ap (λ z. getD lows d 0 ∪ sureAt s c z ∩ backAt m d c) (ev .1 ∙ ap₂ (λ x y. sureOf (fromOn (transitionAt n b) x (y .transitions)) (getD config c 0)) es eh));
+        })
+
   module _ (r : Ready n b config) (c start : ℕ) (head : Head) (l : c < n .charts) (es : start ≡ startOf n b c) (eh : head ≡ headAt n b c) where
     pub chart-fits : start + head .transitions ≤ n .transitions
     chart-fits = rw (es, eh) (let h = start-fits n b c (n .charts) l in let s = r .summed in omega arith)
@@ -236,11 +285,13 @@ stated-next config c s₀ s h l =
 
 -- ── all of it ──
 
-pub chooses : (n : Shape) (b config lows m₀ s₀ s₁ m s m′ : List ℕ) → Ready n b config → Tabled m₀ s₀ → Stated config (n .charts) s₀ s₁ → UntilChart n b config lows m₀ s₁ (n .charts) m s → AheadFrom (n .charts) s 0 m m′
-    → Chooses n b config lows m₀ s₀ m′ s
-chooses n b config lows m₀ s₀ s₁ m s m′ r tb st un ah = let few = r .sized .charts in
+pub chooses : (n : Shape) (b config base lows m₀ s₀ s₁ m s m′ : List ℕ) → Ready n b config → Tabled m₀ s₀ → Stated config (n .charts) s₀ s₁
+    → Raised (transitionsOf n b) (λ c. getD config c 0) (n .charts) m₀ s₁ base lows → UntilChart n b config lows m₀ s₁ (n .charts) m s → AheadFrom (n .charts) s 0 m m′
+    → Chooses n b config base lows m₀ s₀ m′ s
+chooses n b config base lows m₀ s₀ s₁ m s m′ r tb st ra un ah = let few = r .sized .charts in
     record {
       chosen = chosen (transitionsOf n b) (λ c. getD config c 0) (n .charts) lows m₀ s₁ few m m′ s un ah (st .states);
+      raised = raised-same (transitionsOf n b) (λ c. getD config c 0) base (n .charts) m₀ s₁ m′ s lows few (λ i p q. ah .below i q ∙ un .wires i p) (λ i p q. un .rest i (omega arith)) ra;
       wires = λ i p q. ah .below i q ∙ un .wires i p;
       ups = λ i p. ah .above i p ∙ un .wires i (omega arith);
       masters = λ i p q. un .rest i (omega arith) ∙ st .below i q;

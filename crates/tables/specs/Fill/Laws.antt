@@ -1,5 +1,6 @@
 -- Laws of filling. In order: a transition that is put down (put), one more transition (considered, listing), one more chart (until-next), the rows
--- ahead (ahead-row, ahead-from), and that what is chosen by the tables is what a file's candidates are (candidates).
+-- ahead (ahead-row, ahead-from), that what is chosen by the tables is what a file's candidates are (candidates), and what charts are surely
+-- offered (raised, lows-are).
 use mathlib.Core.Path.{_≡_, refl, sym, _∙_, ap, ap₂, subst, fun-ext}
 use mathlib.Core.Bool.{Bool, true, false, _&&_, _||_, not, cond, true≢false, false≢true}
 use mathlib.Core.Option.{Option, none, some}
@@ -11,7 +12,7 @@ use native.Mathlib.Numerals.{add-one}
 use lib.Dec.{ltb}
 use lib.ListN.{length, getD, set, length-set}
 use lib.Seq.{getD-set-same, getD-set-other}
-use borrow.Author.Tests.{le-ltb, ltb-false}
+use borrow.Author.Tests.{lt-ltb, le-ltb, ltb-false}
 use borrow.Author.Tests.{not-true as tests-not-true}
 use Rattle.signals.specs.Mask.{_∪_, _∩_, _∖_}
 use Rattle.signals.specs.Decide.{sets, A, B, C, D, E as Eₑ, F as Fₑ, ∅ₑ, _∪ₑ_, _∩ₑ_, _≐_}
@@ -20,14 +21,16 @@ use Rattle.meaning.specs.Count.{anyUpTo, tally, one}
 use Rattle.meaning.specs.Meaning.{Set, same, Chart, Tree, Move, nth, pick, actionOf, Outcome}
 use Rattle.meaning.specs.Laws.Bools.{same-refl, same→≡, same-≢, and-l, and-r}
 use Rattle.wiring.specs.Wire.{join, down, back, offered}
+use Rattle.wiring.specs.Wired.{Stands}
 use Rattle.wiring.specs.Dropped.{ahead, test, join-cong}
 use Rattle.wiring.specs.Hunt.{mayOf}
 use Rattle.wiring.specs.Filter.{lasts}
+use Rattle.wiring.specs.Sure.{sureOf, surely, outside}
 use Rattle.search.specs.Table.{neededAt, barredAt, actionAt, backAt, aheadAt, toAt, countAt, masterAt, stateAt}
 use Rattle.search.specs.Hunt.{each, wakes, taken, rested, fineAt, hunts}
 use Rattle.search.specs.declared.Trail.{Trail}
-use Rattle.tables.specs.Filled.{Is, Listed, start, other, fails, again, fresh, mayAt, Rows, Candidates}
-use Rattle.tables.specs.Fill.{lastsBy, othersAt, Filling, isAt, isAgain, putMasks, putSmall, put, pickFilling, considered, listing, keepAt, Until, Chosen, AheadRow, aheadBy, AheadFrom, stuck}
+use Rattle.tables.specs.Filled.{Is, Listed, start, other, fails, again, fresh, mayAt, Rows, Candidates, Lows}
+use Rattle.tables.specs.Fill.{lastsBy, othersAt, sureAt, Raised, Filling, isAt, isAgain, putMasks, putSmall, put, pickFilling, considered, listing, keepAt, Until, Chosen, AheadRow, aheadBy, AheadFrom, stuck}
 
 -- ── candidates that stay ──
 
@@ -435,32 +438,74 @@ join-off (suc N) c b = sets (join N (λ e. cond (same e c) 0 0 ∩ b e) ∷ cond
     either true = refl
     either false = refl
 
+-- two lists of actions, by one row
+join-both : (N : ℕ) (f g b : ℕ → Set) → join N (λ e. (f e ∪ g e) ∩ b e) ≡ join N (λ e. f e ∩ b e) ∪ join N (λ e. g e ∩ b e)
+unfolding join
+join-both zero f g b = sets [] [] (∅ₑ ≐ ∅ₑ ∪ₑ ∅ₑ) tt
+join-both (suc N) f g b = sets (join N (λ e. (f e ∪ g e) ∩ b e) ∷ join N (λ e. f e ∩ b e) ∷ join N (λ e. g e ∩ b e) ∷ f N ∷ g N ∷ b N ∷ [])
+    (A ≐ B ∪ₑ C ∷ []) (A ∪ₑ (D ∪ₑ Eₑ) ∩ₑ Fₑ ≐ B ∪ₑ D ∩ₑ Fₑ ∪ₑ (C ∪ₑ Eₑ ∩ₑ Fₑ)) tt (join-both N f g b)
+
 module _ (E : ℕ → Chart) (state : ℕ → ℕ) (cfg : ℕ → ℕ) (N : ℕ) (enc : ℕ → Option ℕ) (sc : ℕ → ℕ) (t : Tree) (inp : Set) (m s lows : List ℕ)
-    (ro : Rows E state cfg N enc sc t m s) (lw : (c : ℕ) → c < N → getD lows c 0 ≡ inp ∩ down t c) where
+    (ro : Rows E state cfg N enc sc t m s) (lw : Lows E cfg N enc t inp lows) where
   abbrev may₀ : ℕ → Set
   may₀ c = mayOf (E c .transitions) (cfg c)
 
-  -- what chart c is offered, its own action a and the others' f
-  offered-apart : (c : ℕ) (a : Set) (f : ℕ → Set) → c < N → offered N (λ e. cond (same e c) a (f e)) inp (down t c) (back E t c)
+  -- what chart c is offered, its own action a and the others' f with what is sure
+  offered-apart : (c : ℕ) (a : Set) (f : ℕ → Set) → c < N → offered N (λ e. cond (same e c) a (f e) ∪ surely enc E cfg e) inp (down t c) (back E t c)
       ≡ getD lows c 0 ∪ a ∩ backAt m c c ∪ join N (λ e. cond (same e c) 0 (f e) ∩ backAt m c e)
   unfolding offered
-  offered-apart c a f l = sets ((inp ∩ down t c) ∷ join N (λ e. cond (same e c) a (f e) ∩ back E t c e) ∷ getD lows c 0 ∷ (a ∩ backAt m c c) ∷ join N (λ e. cond (same e c) 0 (f e) ∩ backAt m c e) ∷ [])
-      (C ≐ A ∷ B ≐ D ∪ₑ Eₑ ∷ []) (A ∪ₑ B ≐ C ∪ₑ D ∪ₑ Eₑ) tt (lw c l)
-      (join-cong N _ _ (λ e r. ap (λ z. cond (same e c) a (f e) ∩ z) (sym (ro .back-at c e l r))) ∙ join-apart N c a f (backAt m c) l)
+  offered-apart c a f l = sets ((inp ∩ down t c) ∷ join N (λ e. (cond (same e c) a (f e) ∪ surely enc E cfg e) ∩ back E t c e) ∷ getD lows c 0 ∷ (a ∩ backAt m c c)
+      ∷ join N (λ e. cond (same e c) 0 (f e) ∩ backAt m c e) ∷ join N (λ e. surely enc E cfg e ∩ back E t c e) ∷ [])
+      (C ≐ A ∪ₑ Fₑ ∷ B ≐ D ∪ₑ Eₑ ∪ₑ Fₑ ∷ []) (A ∪ₑ B ≐ C ∪ₑ D ∪ₑ Eₑ) tt (lw c l)
+      (join-both N (λ e. cond (same e c) a (f e)) (surely enc E cfg) (back E t c) ∙ ap (λ z. z ∪ join N (λ e. surely enc E cfg e ∩ back E t c e))
+      (join-cong N _ _ (λ e r. ap (λ z. cond (same e c) a (f e) ∩ z) (sym (ro .back-at c e l r))) ∙ join-apart N c a f (backAt m c) l))
 
-  keep-lasts : (c v : ℕ) → c < N → keepAt (λ e. E e .transitions) cfg N lows m c v ≡ lasts E state cfg N t inp may₀ c v
+  keep-lasts : (c v : ℕ) → c < N → keepAt (λ e. E e .transitions) cfg N lows m c v ≡ lasts E state cfg N enc t inp may₀ c v
   unfolding keepAt lastsBy lasts othersAt
   keep-lasts c v l = ap₂ (test (pick (E c .transitions) v))
       (sym (offered-apart c (actionOf (pick (E c .transitions) v)) (λ e. 0) l
       ∙ sets ((getD lows c 0 ∪ actionOf (pick (E c .transitions) v) ∩ backAt m c c) ∷ join N (λ e. cond (same e c) 0 0 ∩ backAt m c e) ∷ []) (B ≐ ∅ₑ ∷ []) (A ∪ₑ B ≐ A) tt (join-off N c (backAt m c))))
       (sym (offered-apart c (actionOf (pick (E c .transitions) v)) may₀ l))
 
-  pub candidates : Chosen (λ e. E e .transitions) cfg N lows m s → Candidates E cfg N t (lasts E state cfg N t inp may₀) m s
+  pub candidates : Chosen (λ e. E e .transitions) cfg N lows m s → Candidates E cfg N t (lasts E state cfg N enc t inp may₀) m s
   candidates ch =
       record {
-        listed = λ c l. listed-kept m s c (E c .transitions) (cfg c) (keepAt (λ e. E e .transitions) cfg N lows m c) (lasts E state cfg N t inp may₀ c) (λ v. keep-lasts c v l) (ch .listed c l);
+        listed = λ c l. listed-kept m s c (E c .transitions) (cfg c) (keepAt (λ e. E e .transitions) cfg N lows m c) (lasts E state cfg N enc t inp may₀ c) (λ v. keep-lasts c v l) (ch .listed c l);
         ahead-at = λ k c p q. ch .ahead-at k c p q ∙ ahead-cong (N - k) k _ _ (λ e x. ap (λ z. mayAt m s e ∩ z) (ro .back-at c e q (omega arith)));
       }
+
+-- ── what is surely offered ──
+
+module _ (ts : ℕ → List Transition) (cfg : ℕ → ℕ) (base : List ℕ) where
+  pub raised-none : (m s : List ℕ) → Raised ts cfg 0 m s base base
+  unfolding join
+  raised-none m s c l = sets (getD base c 0 ∷ []) [] (A ≐ A ∪ₑ ∅ₑ) tt
+
+  pub raised-next : (k : ℕ) (m s lows lows′ : List ℕ) → Raised ts cfg k m s base lows → ((c : ℕ) → c < 8 → getD lows′ c 0 ≡ getD lows c 0 ∪ sureAt s k (sureOf (ts k) (cfg k)) ∩ backAt m c k)
+      → Raised ts cfg (suc k) m s base lows′
+  unfolding join
+  raised-next k m s lows lows′ h f c l = f c l ∙ sets (getD lows c 0 ∷ getD base c 0 ∷ join k (λ e. sureAt s e (sureOf (ts e) (cfg e)) ∩ backAt m c e) ∷ (sureAt s k (sureOf (ts k) (cfg k)) ∩ backAt m c k) ∷ [])
+      (A ≐ B ∪ₑ C ∷ []) (A ∪ₑ D ≐ B ∪ₑ (C ∪ₑ D)) tt (h c l)
+
+  -- by tables with the same wiring and the same masters
+  pub raised-same : (k : ℕ) (m s m′ s′ lows : List ℕ) → k ≤ 8 → ((i : ℕ) → 192 ≤ i → i < 256 → getD m′ i 0 ≡ getD m i 0) → ((i : ℕ) → 72 ≤ i → i < 88 → getD s′ i 0 ≡ getD s i 0)
+      → Raised ts cfg k m s base lows → Raised ts cfg k m′ s′ base lows
+  unfolding sureAt
+  raised-same k m s m′ s′ lows few f g h c l = h c l ∙ ap (λ z. getD base c 0 ∪ z) (join-cong k _ _ (λ e r.
+      ap₂ (λ x y. cond (ltb x 8) 0 (sureOf (ts e) (cfg e)) ∩ y) (sym (g (72 + e) (omega arith) (omega arith))) (sym (f (192 + (8 * e + c)) (omega arith) (omega arith)))))
+
+module _ (E : ℕ → Chart) (state : ℕ → ℕ) (cfg : ℕ → ℕ) (N : ℕ) (enc : ℕ → Option ℕ) (sc : ℕ → ℕ) (t : Tree) (inp : Set) (m s base lows : List ℕ)
+    (st : Stands N enc sc t) (ro : Rows E state cfg N enc sc t m s) where
+  sure-is : (e : ℕ) → e < N → sureAt s e (sureOf (E e .transitions) (cfg e)) ≡ surely enc E cfg e
+  unfolding sureAt surely
+  sure-is e l = go (enc e) refl
+    where
+      go : (κ : Option ℕ) → enc e ≡ κ → cond (ltb (masterAt s e) 8) 0 (sureOf (E e .transitions) (cfg e)) ≡ outside κ (sureOf (E e .transitions) (cfg e))
+      go none x = rw (le-ltb (masterAt s e) 8 (ro .outside e l x))
+      go (some i) x = rw (lt-ltb (masterAt s e) 8 (let a = ro .few in let b = st .lower e i l x in let d = ro .inside e i l x .0 in omega arith))
+
+  pub lows-are : ((c : ℕ) → c < N → getD base c 0 ≡ inp ∩ down t c) → Raised (λ e. E e .transitions) cfg N m s base lows → Lows E cfg N enc t inp lows
+  lows-are f h c l = h c (let a = ro .few in omega arith) ∙ ap₂ _∪_ (f c l) (join-cong N _ _ (λ e r. ap₂ _∩_ (sure-is e r) (ro .back-at c e l r)))
 
 -- ── no search is needed ──
 

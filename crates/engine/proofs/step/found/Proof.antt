@@ -32,9 +32,9 @@ returns c =
     let s = l .before .before .before .before .before in (
       rw (c .none-found .ensures)
           (answer-none _ nothing refl
-          ∙ sym (found-stuck _ _ _ _ _ _ _ _ _ (s .pre .0 .sized) (s .pre .2) (k .choose .ensures) (λ i. l .before .before .before .before .shared-slice-known .given i .fits) (s .pre .0)
+          ∙ sym (found-stuck _ _ _ _ _ _ _ _ _ _ (s .pre .0 .sized) (s .pre .2) (k .choose .ensures) (λ i. l .before .before .before .before .shared-slice-known .given i .fits) (s .pre .0)
           _ (s .fits .input .fits) (l .lows .ensures) (sym (c .before .before .is-stuck .ensures) ∙ c .before .if1 .taken))),
-      prepared-again _ _ _ _ _ _ _ _ _ (s .pre .0 .sized) (s .pre .2) (k .choose .ensures),
+      prepared-again _ _ _ _ _ _ _ _ _ _ (s .pre .0 .sized) (s .pre .2) (k .choose .ensures),
     )
 
 search-requires : tie.Need-search-requires
@@ -50,9 +50,9 @@ returns-2 c =
     let l = k .before .before .before in
     let s = l .before .before .before .before .before in (
       rw (c .search .ensures, c .before .before .begin .ensures, c .before .none-found2 .ensures, sub-self)
-          (found-here _ _ _ _ _ _ _ _ _ (s .pre .0 .sized) (s .pre .2) (k .choose .ensures) (λ i. l .before .before .before .before .shared-slice-known .given i .fits) (s .pre .0)
+          (found-here _ _ _ _ _ _ _ _ _ _ (s .pre .0 .sized) (s .pre .2) (k .choose .ensures) (λ i. l .before .before .before .before .shared-slice-known .given i .fits) (s .pre .0)
           _ (s .fits .input .fits) (l .lows .ensures)),
-      prepared-again _ _ _ _ _ _ _ _ _ (s .pre .0 .sized) (s .pre .2) (k .choose .ensures),
+      prepared-again _ _ _ _ _ _ _ _ _ _ (s .pre .0 .sized) (s .pre .2) (k .choose .ensures),
     )
 
 pub found-spec : {M : Type 1} → statement M

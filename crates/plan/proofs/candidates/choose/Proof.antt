@@ -1,4 +1,4 @@
--- `candidates::choose` meets its contract: states, candidates, rows ahead. Assumes nothing.
+-- `candidates::choose` meets its contract: states, what is sure, candidates, rows ahead. Assumes nothing.
 use borrow.Author.Needs.{needs}
 use Rattle.plan.specs.Candidates.Laws.{chooses}
 use Rattle.plan.proofs.candidates.choose.Statement.{statement}
@@ -6,9 +6,19 @@ use Rattle.plan.proofs.candidates.choose.Tie as tie
 
 returns : tie.Need-returns
 returns c =
-    let a = c .before .before .before .before .before .before .before .before .before .before .before .before .before .before .before .before .before .before .before .before .before .args in
-    let r = c .before .before .before .before .before .before .before .before .before .before .before .before .before .before .before .before .before .before .before .before .before .pre in
-    chooses (a .n) (a .body .now) (a .config .now) (a .lows) (a .masks .now) (a .small .now) _ _ _ _ (r .0) (r .1) (c .before .before .before .before .before .before .before .before .before .before .before .before .before .before .before .put-states .ensures) (c .before .before .before .before .before .before .before .before .before .list-all .ensures) (c .before .before .ahead-all .ensures)
+    let l = c .before .before .before .before .before .before .before .before .before in
+    let k = l .before .before .before .before .before in
+    let p = k .before .before .before .before .before in
+    let s = p .before .before .before .before .before .before in
+    chooses (s .args .n) (s .args .body .now) (s .args .config .now) (s .args .base) _ (s .args .masks .now) (s .args .small .now) _ _ _ _ (s .pre .0) (s .pre .1) (p .put-states .ensures) (k .sides-of .ensures .raised) (l .list-all .ensures) (c .before .before .ahead-all .ensures)
+
+list-all-requires : tie.Need-list-all-requires
+list-all-requires c κs = (c .before .before .before .before .before .before .before .before .before .before .before .before .before .before .before .pre .0, c .before .before .before .before .sides-of .ensures .mays, search needs)
+
+ahead-all-requires : tie.Need-ahead-all-requires
+ahead-all-requires c κs =
+    let u = c .before .before .before .before .before .before .list-all .ensures in
+    (record { masks = u .masks; small = u .small }, c .before .before .before .before .before .before .before .before .before .before .before .before .before .before .before .before .before .before .before .before .before .before .pre .0 .sized .charts, u .counts)
 
 pub choose-spec : {M : Type 1} → statement M
 choose-spec =
@@ -16,8 +26,8 @@ choose-spec =
     (tie.spec
     (λ c κs. search needs)
     (λ c κs. search needs)
-    (λ c κs. search needs)
-    (λ c κs. search needs)
+    list-all-requires
+    ahead-all-requires
     (λ c. search needs)
     (λ c. search needs)
     returns)
