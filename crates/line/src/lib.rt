@@ -1,5 +1,5 @@
-// The making of the day program's lines (document 01, "The day program"). Nothing here knows a file. Each function that writes a part of a line
-// takes the place where it begins and returns the place behind it.
+// The making of the day program's lines (document 01, "The day program"), and the parts that others make lines of. Nothing here knows a file. Each
+// function that writes a part of a line takes the place where it begins and returns the place behind it.
 ghost use mathlib.Core.Path.{_≡_};
 ghost use mathlib.Core.List.{[], _∷_};
 ghost use Prim.Native.Nat.{_+_, _-_, _≤_, _<_, _^_};
@@ -52,7 +52,7 @@ fn put_digits(out: &mut [u8], at: usize, base: u64, n: usize, x: u64) -> usize
     at + n
 }
 
-fn put_decimal(out: &mut [u8], at: usize, x: u64) -> usize
+pub fn put_decimal(out: &mut [u8], at: usize, x: u64) -> usize
     requires { ⌜ Room (now out) at (decimal x) ⌝ }
     ensures { λ r. ⌜ Put (now (out .entry)) at (decimal x) (now (out .exit)) r ⌝ }
 {
@@ -67,7 +67,7 @@ fn put_hex(out: &mut [u8], at: usize, x: u64) -> usize
     put_digits(out, at, 16, 16, x)
 }
 
-fn put_byte(out: &mut [u8], at: usize, b: u8) -> usize
+pub fn put_byte(out: &mut [u8], at: usize, b: u8) -> usize
     requires { ⌜ Room (now out) at (b ∷ []) ⌝ }
     ensures { λ r. ⌜ Put (now (out .entry)) at (b ∷ []) (now (out .exit)) r ⌝ }
 {
@@ -75,7 +75,7 @@ fn put_byte(out: &mut [u8], at: usize, b: u8) -> usize
     at + 1
 }
 
-fn put_word(out: &mut [u8], at: usize, word: &[u8]) -> usize
+pub fn put_word(out: &mut [u8], at: usize, word: &[u8]) -> usize
     requires { ⌜ Room (now out) at (now word) ⌝ }
     ensures { λ r. ⌜ Put (now (out .entry)) at (now (word .entry)) (now (out .exit)) r ⌝ }
 {
@@ -97,7 +97,7 @@ fn put_state(out: &mut [u8], at: usize, state: u8) -> usize
 }
 
 // States joined by dots.
-fn put_states(out: &mut [u8], at: usize, states: &[u8]) -> usize
+pub fn put_states(out: &mut [u8], at: usize, states: &[u8]) -> usize
     requires { ⌜ Room (now out) at (dotted (now states)) ⌝ }
     ensures { λ r. ⌜ Put (now (out .entry)) at (dotted (now (states .entry))) (now (out .exit)) r ⌝ }
 {
