@@ -8,7 +8,7 @@ use native.Mathlib.Omega.{arith}
 use lib.ListN.{length, length-append}
 use lib.Seq.{sets, length-sets}
 use Rattle.layout.specs.Le.Laws.{sets-append}
-use Rattle.line.specs.Put.{Put, Room}
+use Rattle.layout.specs.Put.{Put, Room}
 
 -- of xs, which goes to `at` of l, ys is left, and goes to j of m
 pub record Left (l : List ℕ) (at : ℕ) (xs m : List ℕ) (j : ℕ) (ys : List ℕ) : Type 0 where

@@ -1,4 +1,3 @@
--- The lines of the day program: a text in bytes (Ascii), what is printed (Line), and what it is for bytes to be written at a place of a buffer (Put).
+-- The lines of the day program: a text in bytes (Ascii), and what is printed (Line).
 pub mod Ascii
 pub mod Line
-pub mod Put

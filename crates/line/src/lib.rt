@@ -6,7 +6,7 @@ ghost use Prim.Native.Nat.{_+_, _-_, _≤_, _<_, _^_};
 ghost use lib.ListN.{length};
 ghost use Rattle.meaning.specs.Calls.{laidOver};
 ghost use Rattle.line.specs.Line.{digit, digits, width, decimal, hex, dot, closing, dotted, letter, outputPart, markPart, givenFields, refusedFields, lineOf, fileRefused};
-ghost use Rattle.line.specs.Put.{Put, Room};
+ghost use Rattle.layout.specs.Put.{Put, Room};
 
 // The character of a digit.
 fn digit(d: u8) -> u8

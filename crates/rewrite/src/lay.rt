@@ -11,7 +11,7 @@ ghost use Rattle.layout.specs.Body.{Holds, transitionAt};
 ghost use Rattle.meaning.specs.File.{fileAt};
 ghost use Rattle.meaning.specs.Rewriting.{callsBy, callsOf, count, madeFor, rewrite, rewrittenChart, headFor, inTurn, transitionsBytes, shapeIn, encode};
 ghost use Rattle.rewrite.specs.Known.{Checked, CallsIn, InnerIn, NamesIn, Fits, Takes, Stands, Master, Holder, Begins, Small};
-ghost use Rattle.rewrite.specs.Put.{Room, Puts};
+ghost use Rattle.layout.specs.Put.{Room, Put};
 ghost use Rattle.rewrite.specs.Records.{calledWith, idleWith, partBytes, masterBytes, heldBytes, nodesBytes, trailerWith};
 use layout::body::Shape;
 use layout::record::Head;
@@ -28,9 +28,9 @@ const NODE: usize = 20;
 // Each chart's head: more transitions, the rest as it was.
 fn heads(n: Shape, body: &[u8], inner: &[u64; 8], out: &mut [u8], at: usize) -> usize
     requires { ⌜ Checked n (now body) × InnerIn (fileAt n (now body)) (now inner) × Fits (fileAt n (now body))
-        × Room (inTurn (n .charts) (λ c. headBytes (headFor (rewrittenChart (fileAt n (now body)) c)))) at (now out) ⌝ }
-    ensures { λ r. ⌜ Puts (inTurn (n .charts) (λ c. headBytes (headFor (rewrittenChart (fileAt n (now (body .entry))) c))))
-        at (now (out .entry)) (now (out .exit)) r ⌝ }
+        × Room (now out) at (inTurn (n .charts) (λ c. headBytes (headFor (rewrittenChart (fileAt n (now body)) c)))) ⌝ }
+    ensures { λ r. ⌜ Put (now (out .entry)) at (inTurn (n .charts) (λ c. headBytes (headFor (rewrittenChart (fileAt n (now (body .entry))) c))))
+        (now (out .exit)) r ⌝ }
 {
     let charts = n.charts;
     let mut p = at;
@@ -113,13 +113,12 @@ fn own(
     at: usize,
 ) -> usize
     requires { ⌜ Checked n (now body) × CallsIn (fileAt n (now body)) (now calls) × (start + count ≤ n .transitions)
-        × Room (inTurn count
+        × Room (now out) at (inTurn count
         (λ k. transitionBytes (calledWith inner (callsBy (fileAt n (now body)) c (transitionAt n (now body) (start + k)))
-        (transitionAt n (now body) (start + k))))) at (now out) ⌝ }
-    ensures { λ r. ⌜ Puts (inTurn count
+        (transitionAt n (now body) (start + k))))) ⌝ }
+    ensures { λ r. ⌜ Put (now (out .entry)) at (inTurn count
         (λ k. transitionBytes (calledWith inner (callsBy (fileAt n (now (body .entry))) c (transitionAt n (now (body .entry)) (start + k)))
-        (transitionAt n (now (body .entry)) (start + k)))))
-        at (now (out .entry)) (now (out .exit)) r ⌝ }
+        (transitionAt n (now (body .entry)) (start + k))))) (now (out .exit)) r ⌝ }
 {
     let mut p = at;
     let mut k: usize = 0;
@@ -135,8 +134,8 @@ fn own(
 
 // `count` idle transitions, for each state rising, that bar the call `inner`.
 fn idles(inner: u64, count: u8, out: &mut [u8], at: usize) -> usize
-    requires { ⌜ Room (inTurn count (λ s. transitionBytes (idleWith inner s))) at (now out) ⌝ }
-    ensures { λ r. ⌜ Puts (inTurn count (λ s. transitionBytes (idleWith inner s))) at (now (out .entry)) (now (out .exit)) r ⌝ }
+    requires { ⌜ Room (now out) at (inTurn count (λ s. transitionBytes (idleWith inner s))) ⌝ }
+    ensures { λ r. ⌜ Put (now (out .entry)) at (inTurn count (λ s. transitionBytes (idleWith inner s))) (now (out .exit)) r ⌝ }
 {
     let mut p = at;
     let mut s: u8 = 0;
@@ -168,9 +167,9 @@ fn chart(
     at: usize,
 ) -> usize
     requires { ⌜ Checked n (now body) × CallsIn (fileAt n (now body)) (now calls) × Takes (fileAt n (now body)) c inner
-        × Stands n (now body) c h start × Room (transitionsBytes (rewrittenChart (fileAt n (now body)) c .transitions)) at (now out) ⌝ }
-    ensures { λ r. ⌜ Puts (transitionsBytes (rewrittenChart (fileAt n (now (body .entry))) c .transitions))
-        at (now (out .entry)) (now (out .exit)) r ⌝ }
+        × Stands n (now body) c h start × Room (now out) at (transitionsBytes (rewrittenChart (fileAt n (now body)) c .transitions)) ⌝ }
+    ensures { λ r. ⌜ Put (now (out .entry)) at (transitionsBytes (rewrittenChart (fileAt n (now (body .entry))) c .transitions))
+        (now (out .exit)) r ⌝ }
 {
     let idle = crate::room::idle_count(inner, h.states as usize);
     let p = own(
@@ -197,9 +196,9 @@ fn transitions(
     at: usize,
 ) -> usize
     requires { ⌜ Checked n (now body) × CallsIn (fileAt n (now body)) (now calls) × InnerIn (fileAt n (now body)) (now inner)
-        × Room (inTurn (n .charts) (λ c. transitionsBytes (rewrittenChart (fileAt n (now body)) c .transitions))) at (now out) ⌝ }
-    ensures { λ r. ⌜ Puts (inTurn (n .charts) (λ c. transitionsBytes (rewrittenChart (fileAt n (now (body .entry))) c .transitions)))
-        at (now (out .entry)) (now (out .exit)) r ⌝ }
+        × Room (now out) at (inTurn (n .charts) (λ c. transitionsBytes (rewrittenChart (fileAt n (now body)) c .transitions))) ⌝ }
+    ensures { λ r. ⌜ Put (now (out .entry)) at
+        (inTurn (n .charts) (λ c. transitionsBytes (rewrittenChart (fileAt n (now (body .entry))) c .transitions))) (now (out .exit)) r ⌝ }
 {
     let charts = n.charts;
     let mut p = at;
@@ -234,7 +233,7 @@ fn names(n: Shape, body: &[u8]) -> [u8; 64]
 
 fn put_node(out: &mut [u8], at: usize, r: Node) -> usize
     requires { ⌜ at + 20 ≤ length (now out) ⌝ }
-    ensures { λ p. ⌜ Puts (nodeBytes r) at (now (out .entry)) (now (out .exit)) p ⌝ }
+    ensures { λ p. ⌜ Put (now (out .entry)) at (nodeBytes r) (now (out .exit)) p ⌝ }
 {
     layout::record::write_node(out, at, r);
     at + NODE
@@ -252,8 +251,8 @@ fn parts(
     at: usize,
 ) -> usize
     requires { ⌜ Checked n (now body) × NamesIn (fileAt n (now body)) (now names) × (first ≤ mostNodes)
-        × Room (inTurn (n .slaves) (partBytes (fileAt n (now body)) c first x)) at (now out) ⌝ }
-    ensures { λ r. ⌜ Puts (inTurn (n .slaves) (partBytes (fileAt n (now (body .entry))) c first x)) at (now (out .entry)) (now (out .exit)) r ⌝ }
+        × Room (now out) at (inTurn (n .slaves) (partBytes (fileAt n (now body)) c first x)) ⌝ }
+    ensures { λ r. ⌜ Put (now (out .entry)) at (inTurn (n .slaves) (partBytes (fileAt n (now (body .entry))) c first x)) (now (out .exit)) r ⌝ }
 {
     let slaves = n.slaves;
     let mut p = at;
@@ -291,8 +290,8 @@ fn master(
     at: usize,
 ) -> usize
     requires { ⌜ Checked n (now body) × CallsIn (fileAt n (now body)) (now calls) × NamesIn (fileAt n (now body)) (now names)
-        × Master (fileAt n (now body)) c slaves first × Room (masterBytes (fileAt n (now body)) c first slaves) at (now out) ⌝ }
-    ensures { λ r. ⌜ Puts (masterBytes (fileAt n (now (body .entry))) c first slaves) at (now (out .entry)) (now (out .exit)) r ⌝ }
+        × Master (fileAt n (now body)) c slaves first × Room (now out) at (masterBytes (fileAt n (now body)) c first slaves) ⌝ }
+    ensures { λ r. ⌜ Put (now (out .entry)) at (masterBytes (fileAt n (now (body .entry))) c first slaves) (now (out .exit)) r ⌝ }
 {
     let hidden = calls_of(n, body, calls, c);
     let h = layout::body::head_at(n, body, c);
@@ -328,9 +327,9 @@ fn holder(
 ) -> usize
     requires { ⌜ Checked n (now body) × CallsIn (fileAt n (now body)) (now calls) × NamesIn (fileAt n (now body)) (now names)
         × Holder (fileAt n (now body)) c first
-        × Room (heldBytes (fileAt n (now body)) c first (count (fileAt n (now body)) c (n .slaves))) at (now out) ⌝ }
-    ensures { λ r. ⌜ Puts (heldBytes (fileAt n (now (body .entry))) c first (count (fileAt n (now (body .entry))) c (n .slaves)))
-        at (now (out .entry)) (now (out .exit)) r ⌝ }
+        × Room (now out) at (heldBytes (fileAt n (now body)) c first (count (fileAt n (now body)) c (n .slaves))) ⌝ }
+    ensures { λ r. ⌜ Put (now (out .entry)) at (heldBytes (fileAt n (now (body .entry))) c first (count (fileAt n (now (body .entry))) c (n .slaves)))
+        (now (out .exit)) r ⌝ }
 {
     let slaves = crate::room::slaves_of(n, body, c);
     if slaves == 0 {
@@ -358,8 +357,8 @@ fn node(
     at: usize,
 ) -> usize
     requires { ⌜ Checked n (now body) × CallsIn (fileAt n (now body)) (now calls) × NamesIn (fileAt n (now body)) (now names)
-        × Begins (fileAt n (now body)) j first × Room (nodesBytes (madeFor (fileAt n (now body)) j)) at (now out) ⌝ }
-    ensures { λ r. ⌜ Puts (nodesBytes (madeFor (fileAt n (now (body .entry))) j)) at (now (out .entry)) (now (out .exit)) r ⌝ }
+        × Begins (fileAt n (now body)) j first × Room (now out) at (nodesBytes (madeFor (fileAt n (now body)) j)) ⌝ }
+    ensures { λ r. ⌜ Put (now (out .entry)) at (nodesBytes (madeFor (fileAt n (now (body .entry))) j)) (now (out .exit)) r ⌝ }
 {
     let r = layout::body::node_at(n, body, j);
     let kind = r.kind;
@@ -398,9 +397,9 @@ fn nodes(
     at: usize,
 ) -> usize
     requires { ⌜ Checked n (now body) × CallsIn (fileAt n (now body)) (now calls) × NamesIn (fileAt n (now body)) (now names)
-        × Fits (fileAt n (now body)) × Room (inTurn (n .nodes) (λ j. nodesBytes (madeFor (fileAt n (now body)) j))) at (now out) ⌝ }
-    ensures { λ r. ⌜ Puts (inTurn (n .nodes) (λ j. nodesBytes (madeFor (fileAt n (now (body .entry))) j)))
-        at (now (out .entry)) (now (out .exit)) r ⌝ }
+        × Fits (fileAt n (now body)) × Room (now out) at (inTurn (n .nodes) (λ j. nodesBytes (madeFor (fileAt n (now body)) j))) ⌝ }
+    ensures { λ r. ⌜ Put (now (out .entry)) at (inTurn (n .nodes) (λ j. nodesBytes (madeFor (fileAt n (now (body .entry))) j)))
+        (now (out .exit)) r ⌝ }
 {
     let nodes = n.nodes;
     let mut p = at;

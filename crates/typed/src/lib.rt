@@ -5,7 +5,7 @@ ghost use Prim.Native.Nat.{_≤_, _<_};
 ghost use lib.ListN.{length, take, replicate};
 ghost use Rattle.meaning.specs.Meaning.{eqList};
 ghost use Rattle.meaning.specs.Calls.{laidOver};
-ghost use Rattle.line.specs.Put.{Put, Room};
+ghost use Rattle.layout.specs.Put.{Put, Room};
 ghost use Rattle.typed.specs.Typed.{between, valueOf, digitOn, digitsOn, begun, numberOf, hexOf, signalOf, signalsOn, split, comma, setOf, configOf, shownSignal, shown};
 ghost use Rattle.typed.specs.Parts.{Ends, nextSignal};
 

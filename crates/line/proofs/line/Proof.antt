@@ -7,7 +7,7 @@ use denote.Ref.{now}
 use Rattle.layout.specs.Le.{AllBytes}
 use Rattle.line.specs.Line.{decimal, closing, givenFields, refusedFields}
 use Rattle.line.specs.Line.Laws.{line-given, line-refused, number-le, given-le, refused-le}
-use Rattle.line.specs.Put.Laws.{put-append, put-over}
+use Rattle.layout.specs.Put.Laws.{put-append, put-over}
 use Rattle.line.proofs.line.Statement.{statement}
 use Rattle.line.proofs.line.Tie as tie
 

@@ -9,8 +9,8 @@ use lib.Seq.{take-all}
 use denote.Ref.{now}
 use Rattle.line.specs.Line.{dotted, closing, givenFields}
 use Rattle.line.specs.Line.Laws.{closing-given, length-given, length-output}
-use Rattle.line.specs.Put.{Room}
-use Rattle.line.specs.Put.Laws.{put-append}
+use Rattle.layout.specs.Put.{Room}
+use Rattle.layout.specs.Put.Laws.{put-append}
 use Rattle.line.proofs.put_given.Statement.{statement}
 use Rattle.line.proofs.put_given.Tie as tie
 

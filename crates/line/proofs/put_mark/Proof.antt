@@ -1,6 +1,6 @@
 -- `line::put_mark` meets its contract. Assumes nothing.
 use borrow.Author.Needs.{needs}
-use Rattle.line.specs.Put.Laws.{put-append}
+use Rattle.layout.specs.Put.Laws.{put-append}
 use Rattle.line.proofs.put_mark.Statement.{statement}
 use Rattle.line.proofs.put_mark.Tie as tie
 

@@ -2,7 +2,7 @@
 use native.Mathlib.Omega.{arith}
 use borrow.Author.Needs.{needs}
 use Rattle.line.specs.Line.Laws.{length-digits, length-output}
-use Rattle.line.specs.Put.Laws.{put-append}
+use Rattle.layout.specs.Put.Laws.{put-append}
 use Rattle.line.proofs.put_output.Statement.{statement}
 use Rattle.line.proofs.put_output.Tie as tie
 

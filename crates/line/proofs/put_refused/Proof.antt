@@ -6,8 +6,8 @@ use lib.ListN.{length}
 use denote.Ref.{now}
 use Rattle.line.specs.Line.{decimal, closing, refusedFields}
 use Rattle.line.specs.Line.Laws.{closing-refused, length-refused}
-use Rattle.line.specs.Put.{Room}
-use Rattle.line.specs.Put.Laws.{put-append}
+use Rattle.layout.specs.Put.{Room}
+use Rattle.layout.specs.Put.Laws.{put-append}
 use Rattle.line.proofs.put_refused.Statement.{statement}
 use Rattle.line.proofs.put_refused.Tie as tie
 

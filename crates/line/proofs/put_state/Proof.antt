@@ -1,6 +1,6 @@
 -- `line::put_state` meets its contract. Assumes nothing.
 use borrow.Author.Needs.{needs}
-use Rattle.line.specs.Put.Laws.{put-append}
+use Rattle.layout.specs.Put.Laws.{put-append}
 use Rattle.line.proofs.put_state.Statement.{statement}
 use Rattle.line.proofs.put_state.Tie as tie
 

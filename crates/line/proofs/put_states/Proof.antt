@@ -9,8 +9,8 @@ use lib.ListN.{length, getD, drop, drop-of-length-le}
 use denote.Ref.{now}
 use Rattle.line.specs.Line.{decimal, behind, joined, dot, dotted}
 use Rattle.line.specs.Line.Laws.{dotted-cons, behind-cons}
-use Rattle.line.specs.Put.{Room}
-use Rattle.line.specs.Put.Laws.{put-append, put-length, room-first, room-next}
+use Rattle.layout.specs.Put.{Room}
+use Rattle.layout.specs.Put.Laws.{put-append, put-length, room-first, room-next}
 use Rattle.line.proofs.Laws.{Left, left-all, left-put, left-none, left-length, left-room}
 use Rattle.line.proofs.put_states.Statement.{statement}
 use Rattle.line.proofs.put_states.Tie as tie

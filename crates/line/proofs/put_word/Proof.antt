@@ -7,7 +7,7 @@ use native.Mathlib.Omega.{arith}
 use lib.ListN.{length, getD, drop, drop-of-length-le}
 use lib.Seq.{drop-cons}
 use denote.Ref.{now}
-use Rattle.line.specs.Put.Laws.{put-byte}
+use Rattle.layout.specs.Put.Laws.{put-byte}
 use Rattle.line.proofs.Laws.{Left, left-all, left-put, left-none, left-length}
 use Rattle.line.proofs.put_word.Statement.{statement}
 use Rattle.line.proofs.put_word.Tie as tie

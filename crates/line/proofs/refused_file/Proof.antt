@@ -4,7 +4,7 @@ use borrow.Author.Needs.{needs}
 use Rattle.line.specs.Ascii.{ascii}
 use Rattle.line.specs.Line.{fileRefused, refusedFields}
 use Rattle.line.specs.Line.Laws.{fields-cons, refused-le}
-use Rattle.line.specs.Put.Laws.{put-append, put-over}
+use Rattle.layout.specs.Put.Laws.{put-append, put-over}
 use Rattle.line.proofs.refused_file.Statement.{statement}
 use Rattle.line.proofs.refused_file.Tie as tie
 

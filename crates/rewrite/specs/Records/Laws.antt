@@ -26,7 +26,7 @@ use Rattle.meaning.specs.Laws.Bools.{same-refl, same-≢}
 use Rattle.meaning.specs.Rewriting.{call, callIn, called, idle, idles, chartWith, nearestSlave, callsBy, rewrittenChart, isOf, count, start, newName, callsOf, composed, madeBy, madeFor, laid, newNode, rewrite, leavingIn, inTurn, headFor, transitionsBytes, shapeIn, bodyBytes, encode}
 use Rattle.agreement.specs.Charts.{places, places-none}
 use Rattle.agreement.specs.Laid.{noNode, laid-length}
-use Rattle.rewrite.specs.Put.Laws.{turn-front, turn-cong}
+use Rattle.rewrite.specs.Turn.{turn-front, turn-cong}
 use Rattle.rewrite.specs.Records.{idleCount, calledWith, idleWith, holding, composing, hiding, nodesBytes, partBytes, masterBytes, heldBytes, trailerWith}
 
 -- ── idle transitions, counted ──

@@ -10,7 +10,7 @@ use borrow.Author.Tests.{eq-eqb, ne-eqb, not-true, not-false}
 use lib.ListN.{length}
 use Rattle.signals.specs.Mask.{bit}
 use Rattle.meaning.specs.Meaning.{same}
-use Rattle.line.specs.Put.Laws.{put-append}
+use Rattle.layout.specs.Put.Laws.{put-append}
 use Rattle.typed.specs.Parts.{nextSignal}
 use Rattle.typed.specs.Typed.{comma, shownSignal}
 use Rattle.typed.proofs.put_next.Statement.{statement}

@@ -1,6 +1,6 @@
 -- `typed::put_signal` meets its contract. Assumes nothing.
 use borrow.Author.Needs.{needs}
-use Rattle.line.specs.Put.Laws.{put-append}
+use Rattle.layout.specs.Put.Laws.{put-append}
 use Rattle.typed.specs.Typed.{shownSignal}
 use Rattle.typed.proofs.put_signal.Statement.{statement}
 use Rattle.typed.proofs.put_signal.Tie as tie

@@ -11,8 +11,8 @@ use lib.ListN.{length}
 use Rattle.meaning.specs.Meaning.{same}
 use Rattle.line.specs.Ascii.{ascii}
 use Rattle.line.specs.Line.{joined}
-use Rattle.line.specs.Put.{Put}
-use Rattle.line.specs.Put.Laws.{put-append, put-length, put-over}
+use Rattle.layout.specs.Put.{Put}
+use Rattle.layout.specs.Put.Laws.{put-append, put-length, put-over}
 use Rattle.typed.specs.Parts.{nextSignal}
 use Rattle.typed.specs.Typed.{membersTo, shown}
 use Rattle.typed.specs.Typed.Laws.{listed, listed-next, listed-le, next-le}

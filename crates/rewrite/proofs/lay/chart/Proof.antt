@@ -12,8 +12,9 @@ use Rattle.meaning.specs.Meaning.{Set}
 use Rattle.meaning.specs.File.{fileAt, chartOf}
 use Rattle.meaning.specs.Rewriting.{callsBy, rewrittenChart, inTurn, transitionsBytes}
 use Rattle.rewrite.specs.Known.{Takes, Stands}
-use Rattle.rewrite.specs.Put.{Room}
-use Rattle.rewrite.specs.Put.Laws.{puts-more, puts-is, puts-length, room-first, room-more}
+use Rattle.layout.specs.Put.{Room}
+use Rattle.layout.specs.Put.Laws.{put-append, put-length, room-first, room-next}
+use Rattle.rewrite.specs.Turn.{put-is}
 use Rattle.rewrite.specs.Records.{idleCount, calledWith, idleWith}
 use Rattle.rewrite.specs.Records.Laws.{chart-bytes, count-most}
 use Rattle.rewrite.proofs.Laws.{in-all, own-are}
@@ -36,8 +37,8 @@ module _ (n : Shape) (b : List ℕ) (c : ℕ) (h : Head) (s κ idle : ℕ) (t : 
       chart-bytes (fileAt n b) c κ t (transitionAt n b) s (h .transitions) (own-are n b c s (w .head) (w .start))
       ∙ ap (λ (k : ℕ). owns n b κ c s (h .transitions) ++ rests κ k) (sym (e ∙ ap (λ (h : Head). idleCount κ (h .states)) (w .head)))
 
-  room-are : (at : ℕ) (l : List ℕ) → Room (transitionsBytes (rewrittenChart (fileAt n b) c .transitions)) at l
-      → Room (owns n b κ c s (h .transitions) ++ rests κ idle) at l
+  room-are : (at : ℕ) (l : List ℕ) → Room l at (transitionsBytes (rewrittenChart (fileAt n b) c .transitions))
+      → Room l at (owns n b κ c s (h .transitions) ++ rests κ idle)
   room-are at l r = rw bytes-are at r
 
 own-requires : tie.Need-own-requires
@@ -48,8 +49,8 @@ own-requires c κs =
       p .0,
       p .1,
       in-all _ _ _ _ (w .head) (w .start) (p .0) (w .there),
-      room-first (owns (a .n) (a .body .now) (a .inner) (a .c) (a .start) (a .h .transitions))
-          (rests (a .inner) (c .before .before .idle-count .result)) (a .at) (a .out .now)
+      room-first (a .out .now) (a .at) (owns (a .n) (a .body .now) (a .inner) (a .c) (a .start) (a .h .transitions))
+          (rests (a .inner) (c .before .before .idle-count .result))
           (room-are _ _ _ _ _ _ _ (p .2) w (c .before .before .idle-count .ensures) (a .at) (a .out .now) (p .4)),
     )
 
@@ -57,15 +58,16 @@ idles-requires : tie.Need-idles-requires
 idles-requires c κs =
     let p = c .before .before .before .before .before .before .before .before .before .before .pre in
     let a = c .before .before .before .before .before .before .before .before .before .before .args in
-    room-more (rests (a .inner) (c .before .before .before .before .before .before .idle-count .result)) (c .before .before .before .own .ensures)
+    room-next _ _ _ (rests (a .inner) (c .before .before .before .before .before .before .idle-count .result))
     (room-are _ _ _ _ _ _ _ (p .2) (p .3) (c .before .before .before .before .before .before .idle-count .ensures) (a .at) (a .out .now) (p .4))
+    (c .before .before .before .own .ensures)
 
 returns : tie.Need-returns
 returns c =
     let p = c .before .before .before .before .before .before .before .before .before .before .before .before .before .pre in
-    puts-is (sym (bytes-are _ _ _ _ _ _ _ (p .2) (p .3)
+    put-is (sym (bytes-are _ _ _ _ _ _ _ (p .2) (p .3)
     (c .before .before .before .before .before .before .before .before .before .idle-count .ensures)))
-    (puts-more (c .before .before .before .before .before .before .own .ensures) (c .before .before .idles .ensures))
+    (put-append (c .before .before .before .before .before .before .own .ensures) (c .before .before .idles .ensures))
 
 pub chart-spec : {M : Type 1} → statement M
 chart-spec =
@@ -84,5 +86,5 @@ chart-spec =
           (c .before .before .before .before .before .before .before .before .before .args .h .states),
     ))
     idles-requires
-    (λ c. puts-length (returns c))
+    (λ c. put-length (returns c))
     returns)

@@ -12,8 +12,9 @@ use Rattle.layout.specs.declared.body.Shape.{Shape}
 use Rattle.layout.specs.declared.record.Head.{Head}
 use Rattle.meaning.specs.File.{fileAt, chartOf}
 use Rattle.meaning.specs.Rewriting.{chartWith, rewrittenChart, headFor, inTurn}
-use Rattle.rewrite.specs.Put.{Puts}
-use Rattle.rewrite.specs.Put.Laws.{puts-start, puts-record, puts-done, puts-length, room-record}
+use Rattle.layout.specs.Put.{Put}
+use Rattle.layout.specs.Put.Laws.{put-length}
+use Rattle.rewrite.specs.Turn.{put-start, put-record, put-done, room-record}
 use Rattle.rewrite.proofs.Laws.{length-rewritten}
 use Rattle.rewrite.proofs.lay.heads.Statement.{statement}
 use Rattle.rewrite.proofs.lay.heads.Tie as tie
@@ -35,13 +36,13 @@ new-is n b c t h eh et = λ i. record {
 }
 
 abbrev Inv-loop : tie.InvT-loop
-Inv-loop n body inner out₀ at charts p₀ c₀ out p c = (c ≤ charts) × Puts (inTurn c (written n body)) at out₀ out p
+Inv-loop n body inner out₀ at charts p₀ c₀ out p c = (c ≤ charts) × Put out₀ at (inTurn c (written n body)) out p
 
 abbrev μ-loop : tie.MeasureT-loop
 μ-loop n body inner out₀ at charts p₀ c₀ out p c = charts - c
 
 loop-holds : tie.Need-loop-holds Inv-loop μ-loop
-loop-holds c = (omega arith, puts-start _)
+loop-holds c = (omega arith, put-start _)
 
 room : (c : tie.In-loop Inv-loop μ-loop) → c .before .loop .p + 24 ≤ length (c .before .loop .out)
 room c = room-record (written (c .before .before .before .before .args .n) (c .before .before .before .before .args .body .now)) 24 (length-head _)
@@ -66,14 +67,14 @@ loop-again : tie.Need-loop-again Inv-loop μ-loop
 loop-again c =
     let i = c .before .before .before .before .before .before .before .before .loop in (
       omega arith,
-      puts-record (written (c .before .before .before .before .before .before .before .before .before .before .before .args .n)
+      put-record (written (c .before .before .before .before .before .before .before .before .before .before .before .args .n)
           (c .before .before .before .before .before .before .before .before .before .before .before .args .body .now)) 24 (length-head _)
           (ap headBytes (new-is _ _ _ _ _ (c .before .before .before .before .before .before .head-at .ensures) (is (c .before .before .before .before))))
           (i .inv .1) (c .before .before .write-head .ensures),
     )
 
 returns : tie.Need-returns Inv-loop μ-loop
-returns c = puts-done _ (omega arith) (c .before .loop .inv .1)
+returns c = put-done _ (omega arith) (c .before .loop .inv .1)
 
 pub heads-spec : {M : Type 1} → statement M
 heads-spec =
@@ -89,9 +90,9 @@ heads-spec =
     (λ c. let s = small c in omega arith)
     (λ c κs. room (c .before .before .before .before))
     (λ c. let r = room (c .before .before .before .before .before .before .before) in
-    let e = puts-length (c .before .before .before .before .before .before .before .before .loop .inv .1) in omega arith)
+    let e = put-length (c .before .before .before .before .before .before .before .before .loop .inv .1) in omega arith)
     (λ c. omega arith)
     (λ c. omega arith)
     loop-again
-    (λ c. puts-length (c .before .loop .inv .1))
+    (λ c. put-length (c .before .loop .inv .1))
     returns)

@@ -7,8 +7,9 @@ use Rattle.layout.specs.Record.{nodeBytes}
 use Rattle.layout.specs.Record.Laws.{length-node}
 use Rattle.meaning.specs.File.{File, fileAt}
 use Rattle.meaning.specs.Rewriting.{count}
-use Rattle.rewrite.specs.Put.{Room}
-use Rattle.rewrite.specs.Put.Laws.{puts-is, puts-length, room-all}
+use Rattle.layout.specs.Put.{Room}
+use Rattle.layout.specs.Put.Laws.{put-length}
+use Rattle.rewrite.specs.Turn.{put-is, room-all}
 use Rattle.rewrite.specs.Records.{holding, masterBytes, heldBytes}
 use Rattle.rewrite.specs.Records.Laws.{held-none, held-some}
 use Rattle.rewrite.proofs.lay.holder.Statement.{statement}
@@ -22,7 +23,7 @@ module _ (F : File) (c at s k : ℕ) (e : s ≡ k) where
   some : (s ≡ 0 → ⊥) → heldBytes F c at k ≡ masterBytes F c at s
   some z = held-some F c at k (λ q. z (e ∙ q)) ∙ ap (masterBytes F c at) (sym e)
 
-  room-some : (s ≡ 0 → ⊥) → (p : ℕ) (l : List ℕ) → Room (heldBytes F c at k) p l → Room (masterBytes F c at s) p l
+  room-some : (s ≡ 0 → ⊥) → (p : ℕ) (l : List ℕ) → Room l p (heldBytes F c at k) → Room l p (masterBytes F c at s)
   room-some z p l r = rw (some z) at r
 
 put-node-requires : tie.Need-put-node-requires
@@ -34,7 +35,7 @@ put-node-requires c κs =
     (length-node (holding (a .c))) (a .at) (a .out .now) (c .before .before .before .before .before .pre .4)
 
 returns : tie.Need-returns
-returns c = puts-is (sym (none _ _ _ _ _ (c .before .before .before .before .before .slaves-of .ensures .0)
+returns c = put-is (sym (none _ _ _ _ _ (c .before .before .before .before .before .slaves-of .ensures .0)
     (c .before .before .before .before .if1 .taken))) (c .before .before .put-node .ensures)
 
 master-requires : tie.Need-master-requires
@@ -54,7 +55,7 @@ master-requires c κs =
     )
 
 returns-2 : tie.Need-returns-2
-returns-2 c = puts-is (sym (some _ _ _ _ _ (c .before .before .before .before .before .slaves-of .ensures .0)
+returns-2 c = put-is (sym (some _ _ _ _ _ (c .before .before .before .before .before .slaves-of .ensures .0)
     (c .before .before .before .before .if1 .left))) (c .before .before .master .ensures)
 
 pub holder-spec : {M : Type 1} → statement M
@@ -65,8 +66,8 @@ holder-spec =
     (λ c κs. c .before .before .pre .0)
     (λ c. let h = c .before .before .before .before .pre .0 .sized .charts in let t = c .before .before .before .before .pre .3 .there in omega arith)
     put-node-requires
-    (λ c. puts-length (returns c))
+    (λ c. put-length (returns c))
     returns
     master-requires
-    (λ c. puts-length (returns-2 c))
+    (λ c. put-length (returns-2 c))
     returns-2)

@@ -8,8 +8,9 @@ use lib.ListN.{length}
 use Rattle.layout.specs.Record.{transitionBytes}
 use Rattle.layout.specs.Record.Laws.{length-transition}
 use Rattle.meaning.specs.Rewriting.{inTurn}
-use Rattle.rewrite.specs.Put.{Puts}
-use Rattle.rewrite.specs.Put.Laws.{puts-start, puts-record, puts-done, puts-length, room-record}
+use Rattle.layout.specs.Put.{Put}
+use Rattle.layout.specs.Put.Laws.{put-length}
+use Rattle.rewrite.specs.Turn.{put-start, put-record, put-done, room-record}
 use Rattle.rewrite.specs.Records.{idleWith}
 use Rattle.rewrite.proofs.lay.idles.Statement.{statement}
 use Rattle.rewrite.proofs.lay.idles.Tie as tie
@@ -18,13 +19,13 @@ abbrev written : ℕ → ℕ → List ℕ
 written inner s = transitionBytes (idleWith inner s)
 
 abbrev Inv-loop : tie.InvT-loop
-Inv-loop inner count out₀ at p₀ s₀ out p s = (s ≤ count) × Puts (inTurn s (written inner)) at out₀ out p
+Inv-loop inner count out₀ at p₀ s₀ out p s = (s ≤ count) × Put out₀ at (inTurn s (written inner)) out p
 
 abbrev μ-loop : tie.MeasureT-loop
 μ-loop inner count out₀ at p₀ s₀ out p s = count - s
 
 loop-holds : tie.Need-loop-holds Inv-loop μ-loop
-loop-holds c = (omega arith, puts-start _)
+loop-holds c = (omega arith, put-start _)
 
 room : (c : tie.In-loop Inv-loop μ-loop) → c .before .loop .p + 28 ≤ length (c .before .loop .out)
 room c = room-record (written (c .before .before .before .args .inner)) 28 (length-transition _) (c .before .before .before .pre)
@@ -35,12 +36,12 @@ unfolding idleWith
 loop-again c =
     let i = c .before .before .before .before .before .loop in (
       omega arith,
-      puts-record (written (c .before .before .before .before .before .before .before .args .inner)) 28 (length-transition _) refl
+      put-record (written (c .before .before .before .before .before .before .before .args .inner)) 28 (length-transition _) refl
           (i .inv .1) (c .before .before .write-transition .ensures),
     )
 
 returns : tie.Need-returns Inv-loop μ-loop
-returns c = puts-done _ (omega arith) (c .before .loop .inv .1)
+returns c = put-done _ (omega arith) (c .before .loop .inv .1)
 
 pub idles-spec : {M : Type 1} → statement M
 idles-spec =
@@ -50,10 +51,10 @@ idles-spec =
     μ-loop
     loop-holds
     (λ c κs. room (c .before))
-    (λ c. let r = room (c .before .before .before .before) in let e = puts-length (c .before .before .before .before .before .loop .inv .1) in
+    (λ c. let r = room (c .before .before .before .before) in let e = put-length (c .before .before .before .before .before .loop .inv .1) in
     omega arith)
     (λ c. search needs)
     (λ c. omega arith)
     loop-again
-    (λ c. puts-length (c .before .loop .inv .1))
+    (λ c. put-length (c .before .loop .inv .1))
     returns)

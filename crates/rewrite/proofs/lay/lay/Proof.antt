@@ -14,8 +14,9 @@ use Rattle.meaning.specs.Calls.{laidOver}
 use Rattle.meaning.specs.File.{File, fileAt}
 use Rattle.meaning.specs.Rewriting.{rewrittenChart, madeFor, rewrite, inTurn, headFor, transitionsBytes, shapeIn, encode}
 use Rattle.rewrite.specs.Known.{Checked, Fits, Small}
-use Rattle.rewrite.specs.Put.{Room, Puts}
-use Rattle.rewrite.specs.Put.Laws.{puts-more, puts-one, puts-is, puts-over, puts-length, room-first, room-more, room-last}
+use Rattle.layout.specs.Put.{Room, Put}
+use Rattle.layout.specs.Put.Laws.{put-append, put-over, put-length, room-first, room-next}
+use Rattle.rewrite.specs.Turn.{put-one, put-is, room-last}
 use Rattle.rewrite.specs.Records.{nodesBytes, trailerWith}
 use Rattle.rewrite.specs.Records.Laws.{encode-is}
 use Rattle.rewrite.proofs.lay.lay.Statement.{statement}
@@ -47,28 +48,28 @@ module _ (n : Shape) (b : List ℕ) (m : Shape) (edition : ℕ) (em : m ≡ shap
   small w f = let c = w .sized .charts in let t = f .total in let k = f .nodes in rw em (omega arith, omega arith, omega arith, omega arith)
 
   module _ (out : List ℕ) (r : length (encode (rewrite F)) ≤ length out) where
-    room-all : Room (hs F ++ (ts F ++ (ns F ++ end m edition))) 0 out
+    room-all : Room out 0 (hs F ++ (ts F ++ (ns F ++ end m edition)))
     room-all = let e = ap length all-is in omega arith
 
-    module _ (m₁ : List ℕ) (p₁ : ℕ) (h₁ : Puts (hs F) 0 out m₁ p₁) where
-      room₁ : Room (ts F ++ (ns F ++ end m edition)) p₁ m₁
-      room₁ = room-more (ts F ++ (ns F ++ end m edition)) h₁ room-all
+    module _ (m₁ : List ℕ) (p₁ : ℕ) (h₁ : Put out 0 (hs F) m₁ p₁) where
+      room₁ : Room m₁ p₁ (ts F ++ (ns F ++ end m edition))
+      room₁ = room-next _ _ _ (ts F ++ (ns F ++ end m edition)) room-all h₁
 
-      module _ (m₂ : List ℕ) (p₂ : ℕ) (h₂ : Puts (ts F) p₁ m₁ m₂ p₂) where
-        room₂ : Room (ns F ++ end m edition) p₂ m₂
-        room₂ = room-more (ns F ++ end m edition) h₂ room₁
+      module _ (m₂ : List ℕ) (p₂ : ℕ) (h₂ : Put m₁ p₁ (ts F) m₂ p₂) where
+        room₂ : Room m₂ p₂ (ns F ++ end m edition)
+        room₂ = room-next _ _ _ (ns F ++ end m edition) room₁ h₂
 
-        module _ (m₃ : List ℕ) (p₃ : ℕ) (h₃ : Puts (ns F) p₂ m₂ m₃ p₃) where
+        module _ (m₃ : List ℕ) (p₃ : ℕ) (h₃ : Put m₂ p₂ (ns F) m₃ p₃) where
           room₃ : p₃ + 12 ≤ length m₃
           room₃ = room-last (end m edition) 12 (length-trailer (trailerWith m edition)) h₃ room₂
 
           laid : (m₄ : List ℕ) → m₄ ≡ sets m₃ p₃ (end m edition) → m₄ ≡ laidOver (encode (rewrite F)) out
           laid m₄ h₄ =
-              puts-over r (puts-is (sym all-is) (puts-more h₁
-              (puts-more h₂ (puts-more h₃ (puts-one (end m edition) 12 p₃ m₃ m₄ (length-trailer (trailerWith m edition)) h₄)))))
+              put-over (put-is (sym all-is) (put-append h₁
+              (put-append h₂ (put-append h₃ (put-one (end m edition) 12 p₃ m₃ m₄ (length-trailer (trailerWith m edition)) h₄))))) r .1
 
           same : (m₄ : List ℕ) → m₄ ≡ sets m₃ p₃ (end m edition) → length m₄ ≡ length out
-          same m₄ h₄ = ap length h₄ ∙ length-sets m₃ p₃ (end m edition) ∙ puts-length h₃ ∙ puts-length h₂ ∙ puts-length h₁
+          same m₄ h₄ = ap length h₄ ∙ length-sets m₃ p₃ (end m edition) ∙ put-length h₃ ∙ put-length h₂ ∙ put-length h₁
 
 heads-requires : tie.Need-heads-requires
 unfolding fileAt
@@ -79,7 +80,7 @@ heads-requires c κs =
       p .0,
       p .2,
       p .3,
-      room-first (hs F) (ts F ++ (ns F ++ end (a .m) (a .edition))) 0 (a .out .now)
+      room-first (a .out .now) 0 (hs F) (ts F ++ (ns F ++ end (a .m) (a .edition)))
           (room-all (a .n) (a .body .now) (a .m) (a .edition) (p .4) (p .5) (a .out .now) (p .6)),
     )
 
@@ -92,7 +93,7 @@ transitions-requires c κs =
       p .0,
       p .1,
       p .2,
-      room-first (ts F) (ns F ++ end (a .m) (a .edition)) _ (c .before .before .before .heads .last .1 .1 .1 .0)
+      room-first (c .before .before .before .heads .last .1 .1 .1 .0) _ (ts F) (ns F ++ end (a .m) (a .edition))
           (room₁ (a .n) (a .body .now) (a .m) (a .edition) (p .4) (p .5) (a .out .now) (p .6) (c .before .before .before .heads .last .1 .1 .1 .0) _
           (c .before .before .before .heads .ensures)),
     )
@@ -107,7 +108,7 @@ nodes-requires c κs =
       p .1,
       c .before .before .before .before .before .before .before .before .before .before .names .ensures,
       p .3,
-      room-first (ns F) (end (a .m) (a .edition)) _ (c .before .before .before .before .transitions .last .1 .1 .1 .1 .0)
+      room-first (c .before .before .before .before .transitions .last .1 .1 .1 .1 .0) _ (ns F) (end (a .m) (a .edition))
           (room₂ (a .n) (a .body .now) (a .m) (a .edition) (p .4) (p .5) (a .out .now) (p .6)
           (c .before .before .before .before .before .before .before .before .heads .last .1 .1 .1 .0) _
           (c .before .before .before .before .before .before .before .before .heads .ensures)

@@ -12,8 +12,9 @@ use Rattle.layout.specs.declared.record.Head.{Head}
 use Rattle.meaning.specs.Meaning.{Set}
 use Rattle.meaning.specs.File.{File, fileAt, chartOf}
 use Rattle.meaning.specs.Rewriting.{callsOf, inTurn}
-use Rattle.rewrite.specs.Put.{Room}
-use Rattle.rewrite.specs.Put.Laws.{puts-more, puts-is, puts-length, room-first, room-more, room-one, room-last}
+use Rattle.layout.specs.Put.{Room}
+use Rattle.layout.specs.Put.Laws.{put-append, put-length, room-first, room-next}
+use Rattle.rewrite.specs.Turn.{put-is, room-one, room-last}
 use Rattle.rewrite.specs.Records.{holding, hiding, partBytes, masterBytes}
 use Rattle.rewrite.proofs.lay.master.Statement.{statement}
 use Rattle.rewrite.proofs.lay.master.Tie as tie
@@ -31,8 +32,8 @@ module _ (n : Shape) (b : List ℕ) (c slaves first : ℕ) (h : Head) (hidden : 
   unfolding masterBytes fileAt chartOf
   bytes-are = rw (eh, es)
 
-  room-are : (at : ℕ) (l : List ℕ) → Room (masterBytes (fileAt n b) c first slaves) at l
-      → Room (nodeBytes (holding c) ++ (middle (fileAt n b) c first (h .feedback ∪ hidden) ++ last (first + slaves) hidden)) at l
+  room-are : (at : ℕ) (l : List ℕ) → Room l at (masterBytes (fileAt n b) c first slaves)
+      → Room l at (nodeBytes (holding c) ++ (middle (fileAt n b) c first (h .feedback ∪ hidden) ++ last (first + slaves) hidden))
   room-are at l r = rw bytes-are at r
 
 put-node-requires : tie.Need-put-node-requires
@@ -54,14 +55,13 @@ parts-requires c κs =
       p .0,
       p .2,
       omega arith,
-      room-first (middle (fileAt (a .n) (a .body .now)) (a .c) (a .first) x)
-          (last (a .first + a .slaves) (c .before .before .before .before .before .before .before .calls-of .result)) _
-          (c .before .before .before .before .put-node .last .0)
-          (room-more (middle (fileAt (a .n) (a .body .now)) (a .c) (a .first) x
+      room-first (c .before .before .before .before .put-node .last .0) _ (middle (fileAt (a .n) (a .body .now)) (a .c) (a .first) x)
+          (last (a .first + a .slaves) (c .before .before .before .before .before .before .before .calls-of .result))
+          (room-next _ _ _ (middle (fileAt (a .n) (a .body .now)) (a .c) (a .first) x
           ++ last (a .first + a .slaves) (c .before .before .before .before .before .before .before .calls-of .result))
-          (c .before .before .before .before .put-node .ensures)
           (room-are (a .n) (a .body .now) (a .c) (a .slaves) (a .first) _ _ (c .before .before .before .before .before .before .head-at .ensures)
-          (c .before .before .before .before .before .before .before .calls-of .ensures) (a .at) (a .out .now) (p .4))),
+          (c .before .before .before .before .before .before .before .calls-of .ensures) (a .at) (a .out .now) (p .4))
+          (c .before .before .before .before .put-node .ensures)),
     )
 
 put-node-requires-2 : tie.Need-put-node-requires-2
@@ -72,22 +72,22 @@ put-node-requires-2 c κs =
     let x = c .before .before .before .before .before .before .before .before .before .before .head-at .result .feedback
     ∪ c .before .before .before .before .before .before .before .before .before .before .before .calls-of .result in
     room-last (last (a .first + a .slaves) (c .before .before .before .before .before .before .before .before .before .before .before .calls-of .result)) 20 (length-node _) (c .before .before .before .parts .ensures)
-    (room-more (middle (fileAt (a .n) (a .body .now)) (a .c) (a .first) x
+    (room-next _ _ _ (middle (fileAt (a .n) (a .body .now)) (a .c) (a .first) x
     ++ last (a .first + a .slaves) (c .before .before .before .before .before .before .before .before .before .before .before .calls-of .result))
-    (c .before .before .before .before .before .before .before .before .put-node .ensures)
     (room-are (a .n) (a .body .now) (a .c) (a .slaves) (a .first) _ _
     (c .before .before .before .before .before .before .before .before .before .before .head-at .ensures)
-    (c .before .before .before .before .before .before .before .before .before .before .before .calls-of .ensures) (a .at) (a .out .now) (p .4)))
+    (c .before .before .before .before .before .before .before .before .before .before .before .calls-of .ensures) (a .at) (a .out .now) (p .4))
+    (c .before .before .before .before .before .before .before .before .put-node .ensures))
 
 returns : tie.Need-returns
 unfolding fileAt
 returns c =
     let a = c .before .before .before .before .before .before .before .before .before .before .before .before .before .before .before .before .before .args in
-    puts-is (sym (bytes-are (a .n) (a .body .now) (a .c) (a .slaves) (a .first) _ _
+    put-is (sym (bytes-are (a .n) (a .body .now) (a .c) (a .slaves) (a .first) _ _
     (c .before .before .before .before .before .before .before .before .before .before .before .before .before .head-at .ensures)
     (c .before .before .before .before .before .before .before .before .before .before .before .before .before .before .calls-of .ensures)))
-    (puts-more (c .before .before .before .before .before .before .before .before .before .before .before .put-node .ensures)
-    (puts-more (c .before .before .before .before .before .before .parts .ensures) (c .before .before .put-node2 .ensures)))
+    (put-append (c .before .before .before .before .before .before .before .before .before .before .before .put-node .ensures)
+    (put-append (c .before .before .before .before .before .before .parts .ensures) (c .before .before .put-node2 .ensures)))
 
 pub master-spec : {M : Type 1} → statement M
 unfolding fileAt
@@ -105,5 +105,5 @@ master-spec =
     (λ c. let m = c .before .before .before .before .before .before .before .before .before .before .before .before .before .pre .3 .named in
     omega arith)
     put-node-requires-2
-    (λ c. puts-length (returns c))
+    (λ c. put-length (returns c))
     returns)

@@ -14,8 +14,9 @@ use Rattle.meaning.specs.File.{File, fileAt}
 use Rattle.meaning.specs.Rewriting.{count, before, newName, madeFor}
 use Rattle.agreement.specs.Laid.{ren-inside}
 use Rattle.rewrite.specs.Known.{Checked, NamesIn, Holder, Begins}
-use Rattle.rewrite.specs.Put.{Room}
-use Rattle.rewrite.specs.Put.Laws.{puts-is, puts-length, room-all}
+use Rattle.layout.specs.Put.{Room}
+use Rattle.layout.specs.Put.Laws.{put-length}
+use Rattle.rewrite.specs.Turn.{put-is, room-all}
 use Rattle.rewrite.specs.Records.{composing, hiding, heldBytes, nodesBytes}
 use Rattle.rewrite.specs.Records.Laws.{held-are, comp-are, hide-are}
 use Rattle.rewrite.proofs.lay.node.Statement.{statement}
@@ -49,7 +50,7 @@ module _ (n : Shape) (b : List ℕ) (j : ℕ) (r : Node) (e : r ≡ nodeAt n b j
       unfolding fileAt
       held-bytes = held-are F j (kind-is 0 k) ∙ rw (a-is, h .is)
 
-      room-held : (at : ℕ) (s : List ℕ) → Room (nodesBytes (madeFor F j)) at s → Room (heldBytes F (r .a) first (count F (r .a) (n .slaves))) at s
+      room-held : (at : ℕ) (s : List ℕ) → Room s at (nodesBytes (madeFor F j)) → Room s at (heldBytes F (r .a) first (count F (r .a) (n .slaves)))
       room-held at s m = rw held-bytes at m
 
       holder : Holder F (r .a) first
@@ -105,7 +106,7 @@ holder-requires c κs =
 
 returns : tie.Need-returns
 returns c = let p = c .before .before .before .before .before .before .before .before .before .before .pre in
-    puts-is (sym (held-bytes _ _ _ _ (c .before .before .before .before .before .before .before .node-at .ensures) (p .0) (p .3 .there) _ (p .3)
+    put-is (sym (held-bytes _ _ _ _ (c .before .before .before .before .before .before .before .node-at .ensures) (p .0) (p .3 .there) _ (p .3)
     (c .before .before .before .before .if1 .taken))) (c .before .before .holder .ensures)
 
 element-copy-out-t20 : tie.Need-element-copy-out-t20
@@ -134,7 +135,7 @@ returns-2 : tie.Need-returns-2
 returns-2 c =
     let p = c .before .before .before .before .before .before .before .before .before .before .before .before .before .pre in
     let a = c .before .before .before .before .before .before .before .before .before .before .before .before .before .args in
-    puts-is (sym (both-bytes (a .n) (a .body .now) (a .j) _
+    put-is (sym (both-bytes (a .n) (a .body .now) (a .j) _
     (c .before .before .before .before .before .before .before .before .before .before .node-at .ensures) (p .0) (p .3 .there)
     (c .before .before .before .before .before .before .if2 .taken) (a .names .now) (p .2))) (c .before .before .put-node .ensures)
 
@@ -158,7 +159,7 @@ returns-3 : tie.Need-returns-3
 returns-3 c =
     let p = c .before .before .before .before .before .before .before .before .before .before .before .before .pre in
     let a = c .before .before .before .before .before .before .before .before .before .before .before .before .args in
-    puts-is (sym (hidden-bytes (a .n) (a .body .now) (a .j) _
+    put-is (sym (hidden-bytes (a .n) (a .body .now) (a .j) _
     (c .before .before .before .before .before .before .before .before .before .node-at .ensures) (p .0) (p .3 .there)
     (c .before .before .before .before .before .before .if1 .left) (c .before .before .before .before .before .if2 .left) (a .names .now) (p .2)))
     (c .before .before .put-node2 .ensures)
@@ -172,14 +173,14 @@ node-spec =
     (λ c. search needs)
     (λ c. search needs)
     holder-requires
-    (λ c. puts-length (returns c))
+    (λ c. put-length (returns c))
     returns
     element-copy-out-t20
     element-copy-out-t23
     put-node-requires
-    (λ c. puts-length (returns-2 c))
+    (λ c. put-length (returns-2 c))
     returns-2
     element-copy-out-t28
     put-node-requires-2
-    (λ c. puts-length (returns-3 c))
+    (λ c. put-length (returns-3 c))
     returns-3)

@@ -9,8 +9,9 @@ use Rattle.layout.specs.declared.body.Shape.{Shape}
 use Rattle.meaning.specs.File.{fileAt}
 use Rattle.meaning.specs.Rewriting.{start, madeFor, inTurn}
 use Rattle.agreement.specs.Laid.{ren-inside}
-use Rattle.rewrite.specs.Put.{Puts}
-use Rattle.rewrite.specs.Put.Laws.{puts-start, puts-next, puts-done, puts-length, room-next}
+use Rattle.layout.specs.Put.{Put}
+use Rattle.layout.specs.Put.Laws.{put-length}
+use Rattle.rewrite.specs.Turn.{put-start, put-next, put-done, room-turn}
 use Rattle.rewrite.specs.Records.{nodesBytes}
 use Rattle.rewrite.proofs.Laws.{nodes-none, name-next}
 use Rattle.rewrite.proofs.lay.nodes.Statement.{statement}
@@ -21,13 +22,13 @@ written n b j = nodesBytes (madeFor (fileAt n b) j)
 
 abbrev Inv-loop : tie.InvT-loop
 Inv-loop n body calls names out₀ at nodes p₀ first₀ j₀ out p first j =
-    (j ≤ nodes) × (first ≡ start (fileAt n body) j) × Puts (inTurn j (written n body)) at out₀ out p
+    (j ≤ nodes) × (first ≡ start (fileAt n body) j) × Put out₀ at (inTurn j (written n body)) out p
 
 abbrev μ-loop : tie.MeasureT-loop
 μ-loop n body calls names out₀ at nodes p₀ first₀ j₀ out p first j = nodes - j
 
 loop-holds : tie.Need-loop-holds Inv-loop μ-loop
-loop-holds c = (omega arith, nodes-none _, puts-start _)
+loop-holds c = (omega arith, nodes-none _, put-start _)
 
 node-requires : tie.Need-node-requires Inv-loop μ-loop
 unfolding fileAt
@@ -36,7 +37,7 @@ node-requires c κs =
     let a = c .before .before .before .before .before .args in
     let i = c .before .before .loop in
     let t = c .before .loop-test .taken in
-    (p .0, p .1, p .2, record { there = t; is = i .inv .1; named = p .3 .nodes }, room-next (written (a .n) (a .body .now)) (p .4) t (i .inv .2))
+    (p .0, p .1, p .2, record { there = t; is = i .inv .1; named = p .3 .nodes }, room-turn (written (a .n) (a .body .now)) (p .4) t (i .inv .2))
 
 -- a name is below the limit
 small : (c : tie.After-first Inv-loop μ-loop)
@@ -57,11 +58,11 @@ loop-again c =
       omega arith,
       ap (λ (k : ℕ). k + 1) (c .before .before .before .before .before .before .before .before .before .pre .2 (i .j)
           (c .before .before .before .before .before .loop-test .taken)) ∙ name-next _ (i .j),
-      puts-next _ (i .inv .2) (c .before .before .before .node .ensures),
+      put-next _ (i .inv .2) (c .before .before .before .node .ensures),
     )
 
 returns : tie.Need-returns Inv-loop μ-loop
-returns c = puts-done _ (omega arith) (c .before .loop .inv .2)
+returns c = put-done _ (omega arith) (c .before .loop .inv .2)
 
 pub nodes-spec : {M : Type 1} → statement M
 nodes-spec =
@@ -77,5 +78,5 @@ nodes-spec =
     (λ c. omega arith)
     (λ c. omega arith)
     loop-again
-    (λ c. puts-length (c .before .loop .inv .2))
+    (λ c. put-length (c .before .loop .inv .2))
     returns)

@@ -13,8 +13,9 @@ use Rattle.layout.specs.declared.record.Transition.{Transition}
 use Rattle.meaning.specs.Meaning.{Set}
 use Rattle.meaning.specs.File.{fileAt}
 use Rattle.meaning.specs.Rewriting.{callsBy, inTurn}
-use Rattle.rewrite.specs.Put.{Puts}
-use Rattle.rewrite.specs.Put.Laws.{puts-start, puts-record, puts-done, puts-length, room-record}
+use Rattle.layout.specs.Put.{Put}
+use Rattle.layout.specs.Put.Laws.{put-length}
+use Rattle.rewrite.specs.Turn.{put-start, put-record, put-done, room-record}
 use Rattle.rewrite.specs.Records.{calledWith}
 use Rattle.rewrite.proofs.lay.own.Statement.{statement}
 use Rattle.rewrite.proofs.lay.own.Tie as tie
@@ -26,13 +27,13 @@ abbrev written : Shape → List ℕ → Set → ℕ → ℕ → ℕ → List ℕ
 written n b inner c start k = transitionBytes (new n b inner c (start + k))
 
 abbrev Inv-loop : tie.InvT-loop
-Inv-loop n body calls inner c start count out₀ at p₀ k₀ out p k = (k ≤ count) × Puts (inTurn k (written n body inner c start)) at out₀ out p
+Inv-loop n body calls inner c start count out₀ at p₀ k₀ out p k = (k ≤ count) × Put out₀ at (inTurn k (written n body inner c start)) out p
 
 abbrev μ-loop : tie.MeasureT-loop
 μ-loop n body calls inner c start count out₀ at p₀ k₀ out p k = count - k
 
 loop-holds : tie.Need-loop-holds Inv-loop μ-loop
-loop-holds c = (omega arith, puts-start _)
+loop-holds c = (omega arith, put-start _)
 
 room : (c : tie.In-loop Inv-loop μ-loop) → c .before .loop .p + 28 ≤ length (c .before .loop .out)
 room c =
@@ -50,12 +51,12 @@ loop-again c =
     ∙ ap₂ (calledWith (a .inner)) (c .before .before .before .before .before .calls-by .ensures
     ∙ ap (callsBy (fileAt (a .n) (a .body .now)) (a .c)) t) t in (
       omega arith,
-      puts-record (written (a .n) (a .body .now) (a .inner) (a .c) (a .start)) 28 (length-transition _) (ap transitionBytes e) (i .inv .1)
+      put-record (written (a .n) (a .body .now) (a .inner) (a .c) (a .start)) 28 (length-transition _) (ap transitionBytes e) (i .inv .1)
           (c .before .before .write-transition .ensures),
     )
 
 returns : tie.Need-returns Inv-loop μ-loop
-returns c = puts-done _ (omega arith) (c .before .loop .inv .1)
+returns c = put-done _ (omega arith) (c .before .loop .inv .1)
 
 pub own-spec : {M : Type 1} → statement M
 own-spec =
@@ -70,10 +71,10 @@ own-spec =
     (λ c κs. search needs)
     (λ c κs. room (c .before .before .before .before))
     (λ c. let r = room (c .before .before .before .before .before .before .before) in
-    let e = puts-length (c .before .before .before .before .before .before .before .before .loop .inv .1) in
+    let e = put-length (c .before .before .before .before .before .before .before .before .loop .inv .1) in
     omega (arith, c .before .before .before .before .before .before .before .before .before .before .before .good .1 .1 .1 .1 .1 .1 .1 .0 .0))
     (λ c. omega arith)
     (λ c. omega arith)
     loop-again
-    (λ c. puts-length (c .before .loop .inv .1))
+    (λ c. put-length (c .before .loop .inv .1))
     returns)

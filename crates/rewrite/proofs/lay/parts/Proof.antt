@@ -18,8 +18,9 @@ use Rattle.meaning.specs.Count.Laws.{tally-none}
 use Rattle.meaning.specs.File.{File, fileAt}
 use Rattle.meaning.specs.Rewriting.{count, newName, inTurn}
 use Rattle.rewrite.specs.Known.{Checked, NamesIn}
-use Rattle.rewrite.specs.Put.{Puts}
-use Rattle.rewrite.specs.Put.Laws.{puts-none, puts-is, puts-start, puts-next, puts-done, puts-length, room-record}
+use Rattle.layout.specs.Put.{Put}
+use Rattle.layout.specs.Put.Laws.{put-none, put-length}
+use Rattle.rewrite.specs.Turn.{put-is, put-start, put-next, put-done, room-record}
 use Rattle.rewrite.specs.Records.{composing, partBytes}
 use Rattle.rewrite.proofs.Laws.{is-of, is-not, count-own, count-other}
 use Rattle.rewrite.proofs.lay.parts.Statement.{statement}
@@ -28,7 +29,7 @@ use Rattle.rewrite.proofs.lay.parts.Tie as tie
 record Parted (F : File) (c x first at i : ℕ) (l m : List ℕ) (p made : ℕ) : Type 0 where
   pub last : made ≡ first + count F c i
   pub most : count F c i ≤ i
-  pub puts : Puts (inTurn i (partBytes F c first x)) at l m p
+  pub puts : Put l at (inTurn i (partBytes F c first x)) m p
 
 -- the same at equal places
 moved : (F : File) (c x first at i : ℕ) (l m m′ : List ℕ) (p p′ made made′ : ℕ) → m ≡ m′ → p ≡ p′ → made ≡ made′
@@ -59,7 +60,7 @@ module _ (n : Shape) (b : List ℕ) (c x first i : ℕ) (r : Slave) (e : r ≡ s
 
   module _ (at : ℕ) (l m : List ℕ) (p made : ℕ) (h : Parted F c x first at i l m p made) where
     parted-own : r .chart ≡ c → (d : Node) (o : List ℕ) (q : ℕ) → d ≡ composing (first + count F c i) (newName F (F .node i)) x
-        → Puts (nodeBytes d) p m o q
+        → Put m p (nodeBytes d) o q
         → Parted F c x first at (i + 1) l o q (made + 1)
     parted-own g d o q z u =
         let k = count-own n b c i e g in
@@ -68,7 +69,7 @@ module _ (n : Shape) (b : List ℕ) (c x first i : ℕ) (r : Slave) (e : r ≡ s
           last = ap (λ (y : ℕ). y + 1) (h .last)
               ∙ omega arith;
           most = omega arith;
-          puts = puts-next _ (h .puts) (puts-is (ap nodeBytes z ∙ sym (part-own g)) u);
+          puts = put-next _ (h .puts) (put-is (ap nodeBytes z ∙ sym (part-own g)) u);
         }
 
     parted-other : (r .chart ≡ c → ⊥) → Parted F c x first at (i + 1) l m p made
@@ -78,7 +79,7 @@ module _ (n : Shape) (b : List ℕ) (c x first i : ℕ) (r : Slave) (e : r ≡ s
         record {
           last = h .last ∙ ap (λ (y : ℕ). first + y) k;
           most = omega arith;
-          puts = puts-next _ (h .puts) (puts-is (sym (part-other g)) (puts-none p m));
+          puts = put-next _ (h .puts) (put-is (sym (part-other g)) (put-none p m));
         }
 
 abbrev Inv-loop : tie.InvT-loop
@@ -94,7 +95,7 @@ loop-holds c =
       record {
         last = sym (ap (λ (k : ℕ). c .before .before .args .first + k) z ∙ add-zero _);
         most = rw z (omega arith);
-        puts = puts-start _;
+        puts = put-start _;
       },
     )
 
@@ -134,7 +135,7 @@ loop-again c =
     )
 
 returns : tie.Need-returns Inv-loop μ-loop
-returns c = puts-done _ (omega arith) (c .before .loop .inv .1 .puts)
+returns c = put-done _ (omega arith) (c .before .loop .inv .1 .puts)
 
 pub parts-spec : {M : Type 1} → statement M
 parts-spec =
@@ -160,5 +161,5 @@ parts-spec =
     (λ c. omega arith)
     (λ c. omega arith)
     loop-again
-    (λ c. puts-length (c .before .loop .inv .1 .puts))
+    (λ c. put-length (c .before .loop .inv .1 .puts))
     returns)

@@ -2,14 +2,15 @@
 use native.Mathlib.Omega.{arith}
 use borrow.Author.Needs.{needs}
 use Rattle.layout.specs.Record.Laws.{length-node}
-use Rattle.rewrite.specs.Put.Laws.{puts-one, puts-length}
+use Rattle.layout.specs.Put.Laws.{put-length}
+use Rattle.rewrite.specs.Turn.{put-one}
 use Rattle.rewrite.proofs.lay.put_node.Statement.{statement}
 use Rattle.rewrite.proofs.lay.put_node.Tie as tie
 
 returns : tie.Need-returns
-returns c = puts-one _ 20 _ _ _ (length-node _) (c .before .before .write-node .ensures)
+returns c = put-one _ 20 _ _ _ (length-node _) (c .before .before .write-node .ensures)
 
 pub put-node-spec : {M : Type 1} → statement M
 put-node-spec =
     tie.close (tie.spec (λ c κs. search needs) (λ c. omega (arith, c .before .before .before .before .before .pre))
-    (λ c. puts-length (returns c)) returns)
+    (λ c. put-length (returns c)) returns)

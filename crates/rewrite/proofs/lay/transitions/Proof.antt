@@ -10,8 +10,9 @@ use Rattle.layout.specs.Body.Laws.{startOf-none}
 use Rattle.layout.specs.declared.body.Shape.{Shape}
 use Rattle.meaning.specs.File.{fileAt}
 use Rattle.meaning.specs.Rewriting.{rewrittenChart, inTurn, transitionsBytes}
-use Rattle.rewrite.specs.Put.{Puts}
-use Rattle.rewrite.specs.Put.Laws.{puts-start, puts-next, puts-done, puts-length, room-next}
+use Rattle.layout.specs.Put.{Put}
+use Rattle.layout.specs.Put.Laws.{put-length}
+use Rattle.rewrite.specs.Turn.{put-start, put-next, put-done, room-turn}
 use Rattle.rewrite.proofs.Laws.{start-next, in-all}
 use Rattle.rewrite.proofs.lay.transitions.Statement.{statement}
 use Rattle.rewrite.proofs.lay.transitions.Tie as tie
@@ -21,13 +22,13 @@ written n b c = transitionsBytes (rewrittenChart (fileAt n b) c .transitions)
 
 abbrev Inv-loop : tie.InvT-loop
 Inv-loop n body calls inner out₀ at charts p₀ start₀ c₀ out p start c =
-    (c ≤ charts) × (start ≡ startOf n body c) × Puts (inTurn c (written n body)) at out₀ out p
+    (c ≤ charts) × (start ≡ startOf n body c) × Put out₀ at (inTurn c (written n body)) out p
 
 abbrev μ-loop : tie.MeasureT-loop
 μ-loop n body calls inner out₀ at charts p₀ start₀ c₀ out p start c = charts - c
 
 loop-holds : tie.Need-loop-holds Inv-loop μ-loop
-loop-holds c = (omega arith, sym (startOf-none _ _), puts-start _)
+loop-holds c = (omega arith, sym (startOf-none _ _), put-start _)
 
 chart-requires : tie.Need-chart-requires Inv-loop μ-loop
 unfolding fileAt
@@ -40,7 +41,7 @@ chart-requires c κs =
       p .1,
       p .2 (i .c) t,
       record { there = t; head = c .before .before .head-at .ensures; start = i .inv .1 },
-      room-next (written (a .n) (a .body .now)) (p .3) t (i .inv .2),
+      room-turn (written (a .n) (a .body .now)) (p .3) t (i .inv .2),
     )
 
 loop-again : tie.Need-loop-again Inv-loop μ-loop
@@ -48,11 +49,11 @@ loop-again c =
     let i = c .before .before .before .before .before .before .before .before .loop in (
       omega arith,
       start-next _ _ _ _ (c .before .before .before .before .before .before .head-at .ensures) (i .inv .1),
-      puts-next _ (i .inv .2) (c .before .before .before .chart .ensures),
+      put-next _ (i .inv .2) (c .before .before .before .chart .ensures),
     )
 
 returns : tie.Need-returns Inv-loop μ-loop
-returns c = puts-done _ (omega arith) (c .before .loop .inv .2)
+returns c = put-done _ (omega arith) (c .before .loop .inv .2)
 
 pub transitions-spec : {M : Type 1} → statement M
 transitions-spec =
@@ -75,5 +76,5 @@ transitions-spec =
     (λ c. omega arith)
     (λ c. omega arith)
     loop-again
-    (λ c. puts-length (c .before .loop .inv .2))
+    (λ c. put-length (c .before .loop .inv .2))
     returns)
