@@ -157,8 +157,9 @@ impl Command {
     /// The answer of the call, made with a lent buffer of its own.
     pub fn answer(&self) -> Answer {
         let mut lent = vec![FILL; self.room];
-        let (refusal, fields) = self.call(&mut lent);
+        let (refusal, numbers) = self.call(&mut lent);
         let mut line = format!("{} {}", self.name, word(self.op));
+        let fields = self.fields(numbers, &lent);
         for field in [vec![refusal.to_string()], fields].concat() {
             line.push(' ');
             line.push_str(&field);
@@ -167,32 +168,42 @@ impl Command {
         Answer { refusal, line }
     }
 
-    /// The call itself: its refusal and the fields after it.
-    fn call(&self, lent: &mut [u8]) -> (u8, Vec<String>) {
+    /// The fields of a line behind the refusal: the call's numbers, and its lent buffer.
+    fn fields(&self, [one, other]: [u64; 2], lent: &[u8]) -> Vec<String> {
+        let mark = if other == 1 { "y" } else { "n" };
+        let lent = if lent.is_empty() {
+            "-".to_string()
+        } else {
+            hex(lent)
+        };
         match self.op {
-            Op::Check => (check(&self.file), vec![]),
-            Op::First => {
-                let refusal = first(&self.file, lent);
-                (refusal, vec![hex(lent)])
-            }
+            Op::Check => vec![],
+            Op::First | Op::Run => vec![lent],
+            Op::Interface => vec![Set(one).hex(), Set(other).hex()],
+            Op::Step => vec![Set(one).hex(), mark.to_string(), lent],
+            Op::Rewrite => vec![one.to_string(), lent],
+        }
+    }
+
+    /// Makes the call: its refusal, and the numbers that it answers.
+    pub fn call(&self, lent: &mut [u8]) -> (u8, [u64; 2]) {
+        let (file, at) = (&self.file, &self.configuration);
+        match self.op {
+            Op::Check => (check(file), [0; 2]),
+            Op::First => (first(file, lent), [0; 2]),
             Op::Interface => {
-                let found = interface(&self.file);
-                (found.refusal, vec![found.input.hex(), found.output.hex()])
+                let found = interface(file);
+                (found.refusal, [found.input.0, found.output.0])
             }
             Op::Step => {
-                let stepped = step(&self.file, &self.configuration, self.inputs[0], lent);
-                let mark = if stepped.mark { "y" } else { "n" };
-                let fields = vec![stepped.output.hex(), mark.to_string(), hex(lent)];
-                (stepped.refusal, fields)
+                let stepped = step(file, at, self.inputs[0], lent);
+                let mark = u64::from(stepped.mark);
+                (stepped.refusal, [stepped.output.0, mark])
             }
-            Op::Run => {
-                let refusal = run(&self.file, &self.configuration, &self.inputs, lent);
-                (refusal, vec![hex(lent)])
-            }
+            Op::Run => (run(file, at, &self.inputs, lent), [0; 2]),
             Op::Rewrite => {
-                let rewritten = rewrite(&self.file, lent);
-                let fields = vec![rewritten.length.to_string(), hex(lent)];
-                (rewritten.refusal, fields)
+                let rewritten = rewrite(file, lent);
+                (rewritten.refusal, [rewritten.length as u64, 0])
             }
         }
     }
@@ -210,12 +221,9 @@ fn word(op: Op) -> &'static str {
     }
 }
 
-/// A lent buffer in a line: two lower-case digits a byte, or `-` for none.
-fn hex(lent: &[u8]) -> String {
-    if lent.is_empty() {
-        return "-".to_string();
-    }
-    lent.iter().map(|byte| format!("{byte:02x}")).collect()
+/// Bytes in hex, two lower-case digits each.
+pub fn hex(bytes: &[u8]) -> String {
+    bytes.iter().map(|byte| format!("{byte:02x}")).collect()
 }
 
 /// Recorded bytes as commands, or what is wrong with them.

@@ -302,23 +302,7 @@ fn reorder_nodes(random: &mut Random, model: &mut Model) {
         order.push(random.pick(&ready));
     }
     let new = |old: u8| order.iter().position(|&node| node == old).unwrap() as u8;
-    let renamed = |old: &u8| match model.nodes[usize::from(*old)].clone() {
-        Node::Composed { a, b, feedback } => Node::Composed {
-            a: new(a),
-            b: new(b),
-            feedback,
-        },
-        Node::Hidden {
-            part,
-            filtered,
-            hidden,
-        } => Node::Hidden {
-            part: new(part),
-            filtered,
-            hidden,
-        },
-        chart => chart,
-    };
+    let renamed = |old: &u8| model.nodes[usize::from(*old)].renamed(new);
     let nodes = order.iter().map(renamed).collect();
     for slave in &mut model.slaves {
         slave.node = new(slave.node);
@@ -504,14 +488,28 @@ pub fn most_choices(model: &Model, configuration: &[u8]) -> usize {
 /// The most choices of a random step, so that a recording is soon made.
 const CHOICES: usize = 20_000;
 
+/// A shape for files of at most so many charts, and a file of it.
+pub fn any(random: &mut Random, most_charts: usize) -> (Shape, Model) {
+    let shape = shape(random, most_charts);
+    let model = model(random, &shape);
+    (shape, model)
+}
+
 /// A shape and a file of it that is not longer than asked.
 pub fn bounded(random: &mut Random, most_charts: usize, bytes: usize) -> (Shape, Model) {
     loop {
-        let shape = shape(random, most_charts);
-        let made = model(random, &shape);
-        if made.file().len() <= bytes {
-            return (shape, made);
+        let (shape, model) = any(random, most_charts);
+        if model.file().len() <= bytes {
+            return (shape, model);
         }
+    }
+}
+
+/// The model's file behind some front bytes; once in so many times damaged.
+fn seldom_damaged(random: &mut Random, model: &Model, times: usize) -> Vec<u8> {
+    match random.below(times) {
+        0 => damaged(random, model),
+        _ => [front(random), model.file()].concat(),
     }
 }
 
@@ -601,10 +599,7 @@ pub fn step_command(random: &mut Random, name: &str) -> Command {
         if most_choices(&model, &right) > CHOICES {
             continue;
         }
-        let file = match random.below(30) {
-            0 => damaged(random, &model),
-            _ => [front(random), model.file()].concat(),
-        };
+        let file = seldom_damaged(random, &model, 30);
         let configuration = match random.below(20) {
             0 => wrong_configuration(random, &model),
             _ => right,
@@ -631,10 +626,7 @@ pub fn run_command(random: &mut Random, name: &str) -> Command {
         {
             continue;
         }
-        let file = match random.below(20) {
-            0 => damaged(random, &model),
-            _ => [front(random), model.file()].concat(),
-        };
+        let file = seldom_damaged(random, &model, 20);
         let at = match random.below(20) {
             0 => wrong_configuration(random, &model),
             _ => configuration(random, &model),
@@ -665,10 +657,7 @@ pub fn rewrite_command(random: &mut Random, name: &str) -> Command {
         }
     };
     crowd(random, &mut model);
-    let file = match random.below(20) {
-        0 => damaged(random, &model),
-        _ => [front(random), model.file()].concat(),
-    };
+    let file = seldom_damaged(random, &model, 20);
     let room = room(random, rewritten_bytes(&model));
     let command = Command::rewrite(name, file, room);
     match command.answer().refusal {

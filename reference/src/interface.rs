@@ -42,30 +42,31 @@ pub fn chart_output(chart: &Chart) -> Set {
     Set::union(chart.transitions.iter().map(|t| t.action))
 }
 
-/// The input interface of a node.
+/// The input interface of a node; "hidden, less x".
 pub fn node_input(model: &Model, node: u8) -> Set {
+    of_node(model, node, chart_input, |filtered, _| filtered)
+}
+
+/// The output interface of a node; "likewise over actions, less y".
+pub fn node_output(model: &Model, node: u8) -> Set {
+    of_node(model, node, chart_output, |_, hidden| hidden)
+}
+
+/// An interface of a node, from that of a chart and what a hidden node takes away.
+fn of_node(model: &Model, node: u8, own: fn(&Chart) -> Set, lost: fn(Set, Set) -> Set) -> Set {
+    let of = |part: u8| of_node(model, part, own, lost);
     match model.nodes[usize::from(node)] {
         // "decomposed, the union over its parts": the chart and its slaves
         Node::Chart { chart } => {
-            let slaves = model.slaves_of(chart).map(|s| node_input(model, s.node));
-            chart_input(&model.charts[usize::from(chart)]).joined(Set::union(slaves))
+            let slaves = model.slaves_of(chart).map(|slave| of(slave.node));
+            own(&model.charts[usize::from(chart)]).joined(Set::union(slaves))
         }
         // "composed ..., the union over its parts"
-        Node::Composed { a, b, .. } => node_input(model, a).joined(node_input(model, b)),
-        // "hidden, less x"
-        Node::Hidden { part, filtered, .. } => node_input(model, part).less(filtered),
-    }
-}
-
-/// The output interface of a node.
-pub fn node_output(model: &Model, node: u8) -> Set {
-    match model.nodes[usize::from(node)] {
-        Node::Chart { chart } => {
-            let slaves = model.slaves_of(chart).map(|s| node_output(model, s.node));
-            chart_output(&model.charts[usize::from(chart)]).joined(Set::union(slaves))
-        }
-        Node::Composed { a, b, .. } => node_output(model, a).joined(node_output(model, b)),
-        // "less y"
-        Node::Hidden { part, hidden, .. } => node_output(model, part).less(hidden),
+        Node::Composed { a, b, .. } => of(a).joined(of(b)),
+        Node::Hidden {
+            part,
+            filtered,
+            hidden,
+        } => of(part).less(lost(filtered, hidden)),
     }
 }

@@ -20,7 +20,8 @@
 //! (calls with a name and an answer written by hand), [`generate`] (random calls from fixed seeds),
 //! [`record`] (what is recorded of each kind), [`draw`] (random calls of every kind) and [`walk`]
 //! (random files with slaves, and all their configurations). With the feature `engine` also `fuzz`,
-//! which holds the proved engine against this one.
+//! which holds the proved engine against this one. [`words`] is what a program does with its command
+//! line.
 
 pub mod cases;
 pub mod check;
@@ -41,6 +42,7 @@ pub mod run;
 pub mod set;
 pub mod step;
 pub mod walk;
+pub mod words;
 
 pub use check::check;
 pub use day::day;

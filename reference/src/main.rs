@@ -12,6 +12,7 @@
 
 use reference::command::decode_all;
 use reference::record::{commands, encode, lines, Kind};
+use reference::words;
 use std::io::{Read, Write};
 use std::process::ExitCode;
 
@@ -20,22 +21,13 @@ const USE: &str =
     "use: reference record KIND COMMANDS LINES | show | day | fuzz SEED COUNT | same SEED COUNT";
 
 fn main() -> ExitCode {
-    let words: Vec<String> = std::env::args().skip(1).collect();
-    let words: Vec<&str> = words.iter().map(String::as_str).collect();
-    let done = match words[..] {
+    words::done(|words| match *words {
         ["record", kind, calls, answers] => record(kind, calls, answers),
         ["show"] => show(),
         ["day"] => day(),
         [command @ ("fuzz" | "same"), seed, count] => hold_engine(command, seed, count),
         _ => Err(USE.to_string()),
-    };
-    match done {
-        Ok(()) => ExitCode::SUCCESS,
-        Err(what) => {
-            eprintln!("{what}");
-            ExitCode::FAILURE
-        }
-    }
+    })
 }
 
 /// Writes the calls of a kind and their lines.

@@ -167,6 +167,27 @@ impl Node {
             Node::Hidden { part, .. } => vec![part],
         }
     }
+
+    /// The node with the nodes it names by other numbers.
+    pub fn renamed(&self, new: impl Fn(u8) -> u8) -> Node {
+        match *self {
+            Node::Chart { chart } => Node::Chart { chart },
+            Node::Composed { a, b, feedback } => Node::Composed {
+                a: new(a),
+                b: new(b),
+                feedback,
+            },
+            Node::Hidden {
+                part,
+                filtered,
+                hidden,
+            } => Node::Hidden {
+                part: new(part),
+                filtered,
+                hidden,
+            },
+        }
+    }
 }
 
 impl Model {

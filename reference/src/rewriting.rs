@@ -175,7 +175,7 @@ fn rewrite_nodes(model: &Model, calls: &[Set]) -> Vec<Node> {
             Node::Chart { chart } if model.is_master(chart) => {
                 push_master(model, calls, chart, &new_names, &mut made)
             }
-            _ => made.push(renamed(node, &new_names)),
+            _ => made.push(node.renamed(|old| new_names[usize::from(old)])),
         }
         new_names.push(last(&made));
     }
@@ -207,26 +207,4 @@ fn push_master(model: &Model, calls: &[Set], chart: u8, new_names: &[u8], made: 
 /// The number of the node made last.
 fn last(made: &[Node]) -> u8 {
     (made.len() - 1) as u8
-}
-
-/// A node that stays, with the nodes it names by their new numbers.
-fn renamed(node: &Node, new_names: &[u8]) -> Node {
-    let new = |old: u8| new_names[usize::from(old)];
-    match *node {
-        Node::Chart { chart } => Node::Chart { chart },
-        Node::Composed { a, b, feedback } => Node::Composed {
-            a: new(a),
-            b: new(b),
-            feedback,
-        },
-        Node::Hidden {
-            part,
-            filtered,
-            hidden,
-        } => Node::Hidden {
-            part: new(part),
-            filtered,
-            hidden,
-        },
-    }
 }

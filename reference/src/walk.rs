@@ -1,7 +1,7 @@
 //! Random files with slaves that are small enough to be walked through all their configurations, and
 //! what is offered to them on the way.
 
-use crate::generate::{input, model, shape, Random, Shape};
+use crate::generate::{any, input, Random, Shape};
 use crate::interface::node_input;
 use crate::limits::CHARTS;
 use crate::model::{Model, Node, Slave};
@@ -11,8 +11,7 @@ use crate::set::Set;
 /// A random file with slaves, and its shape; it has at most so many configurations.
 pub fn with_slaves(random: &mut Random, most: usize) -> (Shape, Model) {
     loop {
-        let shape = shape(random, CHARTS);
-        let model = model(random, &shape);
+        let (shape, model) = any(random, CHARTS);
         let states = model.charts.iter().map(|c| usize::from(c.states));
         if !model.slaves.is_empty() && states.product::<usize>() <= most {
             return (shape, model);

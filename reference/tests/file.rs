@@ -5,7 +5,7 @@ use reference::cases::damage::behind;
 use reference::cases::first_interface::interfaces;
 use reference::check::accept;
 use reference::file::Records;
-use reference::generate::{damaged, model, shape, Random};
+use reference::generate::{any, damaged, Random};
 use reference::limits::*;
 use reference::record::{named, KINDS};
 use reference::{check, first, interface};
@@ -39,8 +39,7 @@ fn records_are_written_as_they_were_read() {
     let mut random = Random::new(1);
     let mut read = 0;
     for _ in 0..2_000 {
-        let shape = shape(&mut random, CHARTS);
-        let model = model(&mut random, &shape);
+        let (_, model) = any(&mut random, CHARTS);
         let file = damaged(&mut random, &model);
         let number = check(&file);
         if number == refusal::SUCCESS || number > refusal::DISTANCE {
@@ -56,8 +55,7 @@ fn records_are_written_as_they_were_read() {
 fn a_model_is_read_back_from_its_file() {
     let mut random = Random::new(2);
     for _ in 0..1_000 {
-        let shape = shape(&mut random, CHARTS);
-        let model = model(&mut random, &shape);
+        let (_, model) = any(&mut random, CHARTS);
         assert_eq!(accept(&model.file()), Ok(model));
     }
 }
@@ -74,8 +72,7 @@ fn the_whole_case_is_laid_down_as_document_01_says() {
 fn front_bytes_change_no_answer() {
     let mut random = Random::new(3);
     for _ in 0..300 {
-        let shape = shape(&mut random, CHARTS);
-        let model = model(&mut random, &shape);
+        let (_, model) = any(&mut random, CHARTS);
         let file = damaged(&mut random, &model);
         let number = check(&file);
         if number != refusal::TOO_SHORT && number != refusal::DISTANCE {

@@ -5,6 +5,7 @@ use reference::command::{decode_all, Answer, Command, Op, FILL};
 use reference::limits::refusal;
 use reference::model::{Model, Node, Slave};
 use reference::record::{commands, encode, named, Kind, KINDS};
+use reference::walk::{has_several, hides_inside, is_nested};
 use reference::Set;
 use std::collections::{BTreeSet, HashSet};
 use std::sync::OnceLock;
@@ -169,8 +170,6 @@ fn given_steps() -> Vec<(Model, bool)> {
 fn random_steps_have_all_shapes() {
     let given = given_steps();
     let count = |what: &dyn Fn(&Model) -> bool| given.iter().filter(|(m, _)| what(m)).count();
-    let slaves_of = |model: &Model, chart: usize| model.slaves_of(chart as u8).count();
-    let charts = |model: &Model| 0..model.charts.len();
     let in_slave = |model: &Model, node: u8| model.nodes[usize::from(node)].clone();
     assert!(given.len() > 500);
     assert!(
@@ -180,21 +179,9 @@ fn random_steps_have_all_shapes() {
     assert!(count(&|m| m.charts.len() == 1) > 20, "one chart");
     assert!(count(&|m| m.charts.len() >= 5) > 50, "many charts");
     assert!(count(&|m| !m.slaves.is_empty()) > 200, "slaves");
-    assert!(
-        count(&|m| charts(m).any(|c| slaves_of(m, c) > 1)) > 50,
-        "several slaves"
-    );
-    assert!(
-        count(&|m| m.slaves.iter().any(|s| m.nearest_slave(s.chart).is_some())) > 50,
-        "slaves inside slaves"
-    );
-    assert!(
-        count(&|m| {
-            let hidden = |s: &Slave| matches!(in_slave(m, s.node), Node::Hidden { .. });
-            m.slaves.iter().any(hidden)
-        }) > 20,
-        "hiding in slaves"
-    );
+    assert!(count(&has_several) > 50, "several slaves");
+    assert!(count(&is_nested) > 50, "slaves inside slaves");
+    assert!(count(&hides_inside) > 20, "hiding in slaves");
     assert!(
         count(&|m| {
             let composed = |s: &Slave| matches!(in_slave(m, s.node), Node::Composed { .. });

@@ -3,7 +3,7 @@
 use reference::cases::charts::{d, p3};
 use reference::cases::damage::behind;
 use reference::check::accept;
-use reference::generate::{configuration, input, model, shape, Random, Shape};
+use reference::generate::{any, configuration, input, Random, Shape};
 use reference::limits::*;
 use reference::model::{Model, Node};
 use reference::rewriting::{calls, rewrite_model};
@@ -141,8 +141,7 @@ fn the_rewritten_file_is_accepted_has_no_slaves_and_stays_when_rewritten_again()
     let mut random = Random::new(7);
     let mut seen = 0;
     for _ in 0..2_000 {
-        let shape = shape(&mut random, CHARTS);
-        let model = model(&mut random, &shape);
+        let (_, model) = any(&mut random, CHARTS);
         if let Ok(new) = rewritten(&model.file()) {
             assert_eq!(check(&new), refusal::SUCCESS);
             let read = accept(&new).unwrap();
@@ -163,8 +162,7 @@ fn idle_transitions_of_a_slave_that_is_a_master_carry_no_call() {
     let mut random = Random::new(8);
     let mut seen = 0;
     for _ in 0..2_000 {
-        let shape = shape(&mut random, CHARTS);
-        let model = model(&mut random, &shape);
+        let (_, model) = any(&mut random, CHARTS);
         let calls = calls(&model).unwrap();
         let new = rewrite_model(&model, &calls);
         for (number, (old, new)) in model.charts.iter().zip(&new.charts).enumerate() {

@@ -2,7 +2,7 @@
 
 use reference::cases::charts::{d, whole_case};
 use reference::cases::run::whole_case_inputs;
-use reference::generate::{configuration, input, model, shape, Random};
+use reference::generate::{any, configuration, input, Random};
 use reference::limits::*;
 use reference::{run, step, Set};
 
@@ -30,8 +30,7 @@ fn a_run_is_its_steps() {
     let mut random = Random::new(9);
     let mut refused = 0;
     for _ in 0..300 {
-        let shape = shape(&mut random, 5);
-        let model = model(&mut random, &shape);
+        let (shape, model) = any(&mut random, 5);
         if model
             .charts
             .iter()

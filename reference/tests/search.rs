@@ -1,6 +1,6 @@
 //! The search leaves out only choices that are not permitted, and keeps the order.
 
-use reference::generate::{configuration, input, model, shape, Random};
+use reference::generate::{any, configuration, input, Random};
 use reference::model::Model;
 use reference::step::{Outcome, Place, Situation};
 use reference::walk::every;
@@ -27,8 +27,7 @@ fn open_choices_hold_all_permitted_ones_in_order() {
     let mut random = Random::new(4);
     let (mut compared, mut with_slaves, mut several) = (0, 0, 0);
     while compared < 400 {
-        let shape = shape(&mut random, 5);
-        let model = model(&mut random, &shape);
+        let (shape, model) = any(&mut random, 5);
         let places = model.charts.iter().map(|c| c.transitions.len() + 1);
         if places.product::<usize>() > 5_000 {
             continue;

@@ -3,7 +3,7 @@
 use super::charts::*;
 use super::damage::behind;
 use super::file::one_fault;
-use super::Case;
+use super::{configuration_rooms, Case};
 use crate::command::Command;
 use crate::limits::{refusal, CHARTS};
 use crate::model::{Model, Node};
@@ -38,13 +38,7 @@ fn firsts() -> Vec<Case> {
     let mut cases = Vec::new();
     for charts in [1, 3, CHARTS] {
         let file = starting(charts as u8).file();
-        for (word, room, number) in [
-            ("empty", 0, refusal::CONFIGURATION_ROOM),
-            ("one-short", charts - 1, refusal::CONFIGURATION_ROOM),
-            ("exact", charts, refusal::SUCCESS),
-            ("one-longer", charts + 1, refusal::SUCCESS),
-            ("much-longer", charts + 20, refusal::SUCCESS),
-        ] {
+        for (word, room, number) in configuration_rooms(charts, 20) {
             let name = format!("first-{charts}-charts-buffer-{word}");
             let command = Command::first(&name, file.clone(), room);
             cases.push(Case::new(command, number));

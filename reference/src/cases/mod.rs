@@ -11,11 +11,23 @@ pub mod run;
 pub mod step;
 
 use crate::command::Command;
+use crate::limits::refusal;
 
 /// A named call and the refusal that document 01 gives it.
 pub struct Case {
     pub command: Command,
     pub refusal: u8,
+}
+
+/// Lengths of a buffer for the configuration of so many charts, by a word, and what they give.
+pub fn configuration_rooms(charts: usize, much: usize) -> [(&'static str, usize, u8); 5] {
+    [
+        ("empty", 0, refusal::CONFIGURATION_ROOM),
+        ("one-short", charts - 1, refusal::CONFIGURATION_ROOM),
+        ("exact", charts, refusal::SUCCESS),
+        ("one-longer", charts + 1, refusal::SUCCESS),
+        ("much-longer", charts + much, refusal::SUCCESS),
+    ]
 }
 
 impl Case {

@@ -19,8 +19,27 @@ pub struct RowAnswer {
     pub result: Result,
 }
 
-/// An answer of a row, by hand.
-fn row(name: &'static str, model: Model, at: &[u8], input: &[u32], result: Result) -> RowAnswer {
+impl RowAnswer {
+    /// The call under a name, with a buffer so many bytes longer than needed.
+    pub fn case(&self, name: &str, spare: usize) -> Case {
+        let number = match self.result {
+            Some(_) => refusal::SUCCESS,
+            None => refusal::NO_STEP,
+        };
+        let (file, at) = (self.model.file(), &self.configuration);
+        let command = Command::step(name, file, at, self.input, at.len() + spare);
+        Case::new(command, number)
+    }
+}
+
+/// An answer, by hand.
+pub fn row(
+    name: &'static str,
+    model: Model,
+    at: &[u8],
+    input: &[u32],
+    result: Result,
+) -> RowAnswer {
     RowAnswer {
         name,
         model,
@@ -31,7 +50,7 @@ fn row(name: &'static str, model: Model, at: &[u8], input: &[u32], result: Resul
 }
 
 /// "1.1, {1,2}, yes" and the like.
-fn gives(next: &[u8], output: &[u32], mark: bool) -> Result {
+pub fn gives(next: &[u8], output: &[u32], mark: bool) -> Result {
     Some((next.to_vec(), Set::of(output), mark))
 }
 
@@ -73,16 +92,6 @@ pub fn rows() -> Vec<RowAnswer> {
 
 /// The seventeen answers as named calls, each with a buffer two bytes longer than needed.
 pub fn cases() -> Vec<Case> {
-    let case = |row: RowAnswer| {
-        let name = format!("row-{}", row.name);
-        let room = row.configuration.len() + 2;
-        let file = row.model.file();
-        let number = match row.result {
-            Some(_) => refusal::SUCCESS,
-            None => refusal::NO_STEP,
-        };
-        let command = Command::step(&name, file, &row.configuration, row.input, room);
-        Case::new(command, number)
-    };
+    let case = |row: RowAnswer| row.case(&format!("row-{}", row.name), 2);
     rows().into_iter().map(case).collect()
 }

@@ -3,8 +3,8 @@
 
 use super::charts::*;
 use super::file::one_fault;
-use super::rows::{Result, RowAnswer};
-use super::Case;
+use super::rows::{gives, row as meaning, RowAnswer};
+use super::{configuration_rooms, Case};
 use crate::command::Command;
 use crate::limits::*;
 use crate::model::{Chart, Model};
@@ -12,16 +12,7 @@ use crate::set::Set;
 
 /// All named cases of a step but the thirteen rows.
 pub fn cases() -> Vec<Case> {
-    let meanings = meanings().into_iter().map(|row| {
-        let number = match row.result {
-            Some(_) => refusal::SUCCESS,
-            None => refusal::NO_STEP,
-        };
-        let room = row.configuration.len() + 1;
-        let file = row.model.file();
-        let command = Command::step(row.name, file, &row.configuration, row.input, room);
-        Case::new(command, number)
-    });
+    let meanings = meanings().into_iter().map(|row| row.case(row.name, 1));
     let edges = [
         lengths(),
         states(),
@@ -32,28 +23,6 @@ pub fn cases() -> Vec<Case> {
         wide(),
     ];
     meanings.chain(edges.into_iter().flatten()).collect()
-}
-
-/// A meaning, by hand.
-fn meaning(
-    name: &'static str,
-    model: Model,
-    at: &[u8],
-    input: &[u32],
-    result: Result,
-) -> RowAnswer {
-    RowAnswer {
-        name,
-        model,
-        configuration: at.to_vec(),
-        input: Set::of(input),
-        result,
-    }
-}
-
-/// The next configuration, the output and the mark.
-fn gives(next: &[u8], output: &[u32], mark: bool) -> Result {
-    Some((next.to_vec(), Set::of(output), mark))
 }
 
 /// The answers of single sentences, written by hand.
@@ -760,13 +729,7 @@ fn states() -> Vec<Case> {
 fn rooms() -> Vec<Case> {
     let mut cases = Vec::new();
     for charts in [1, 3, CHARTS] {
-        for (word, room, number) in [
-            ("empty", 0, refusal::CONFIGURATION_ROOM),
-            ("one-short", charts - 1, refusal::CONFIGURATION_ROOM),
-            ("exact", charts, refusal::SUCCESS),
-            ("one-longer", charts + 1, refusal::SUCCESS),
-            ("much-longer", charts + 40, refusal::SUCCESS),
-        ] {
+        for (word, room, number) in configuration_rooms(charts, 40) {
             let name = format!("buffer-{word}-for-{charts}-charts");
             let file = row_of(charts as u8).file();
             let command = Command::step(&name, file, &vec![0; charts], Set::EMPTY, room);

@@ -6,10 +6,10 @@ pub mod same;
 
 use crate::cases::charts::whole_case;
 use crate::cases::run::rows_bytes;
-use crate::command::{Command, Op};
+use crate::command::{hex, Command};
 use crate::draw::Draw;
 use crate::generate::Random;
-use crate::{check, first, interface, rewrite, run, step, Set};
+use crate::Set;
 
 /// The bytes of a lent buffer's surroundings, in front and behind; the engine may not touch them.
 const MARGIN: usize = 21;
@@ -47,7 +47,7 @@ fn long_run(seed: u64) -> Command {
 
 /// Makes one call here, in the engine and through its binding for Rust.
 fn compare(command: &Command) -> Result<(), String> {
-    let expected = tell(command, here);
+    let expected = tell(command, Command::call);
     let lent = command.clone();
     for (who, call) in [
         ("engine", engine::raw as Call),
@@ -81,32 +81,6 @@ fn pattern(place: usize) -> u8 {
     (place as u8).wrapping_mul(37) ^ 0xA5
 }
 
-/// The call made here.
-fn here(command: &Command, lent: &mut [u8]) -> (u8, [u64; 2]) {
-    let file = &command.file;
-    match command.op {
-        Op::Check => (check(file), [0; 2]),
-        Op::First => (first(file, lent), [0; 2]),
-        Op::Interface => {
-            let found = interface(file);
-            (found.refusal, [found.input.0, found.output.0])
-        }
-        Op::Step => {
-            let stepped = step(file, &command.configuration, command.inputs[0], lent);
-            let mark = u64::from(stepped.mark);
-            (stepped.refusal, [stepped.output.0, mark])
-        }
-        Op::Run => {
-            let refusal = run(file, &command.configuration, &command.inputs, lent);
-            (refusal, [0; 2])
-        }
-        Op::Rewrite => {
-            let rewritten = rewrite(file, lent);
-            (rewritten.refusal, [rewritten.length as u64, 0])
-        }
-    }
-}
-
 /// A difference in words, with the call in its recorded form if it has one; `xxd -r -p` makes bytes of
 /// that, which `reference show` reads and `tests/recorded` can record.
 fn difference(command: &Command, expected: &Told, who: &str, told: &Told) -> String {
@@ -132,9 +106,4 @@ fn words(told: &Told) -> String {
     let [one, other] = told.numbers;
     let (refusal, bytes) = (told.refusal, hex(&told.bytes));
     format!("refusal {refusal}, numbers {one:x} {other:x}, lent {bytes}")
-}
-
-/// Bytes in hex.
-fn hex(bytes: &[u8]) -> String {
-    bytes.iter().map(|byte| format!("{byte:02x}")).collect()
 }

@@ -1,11 +1,10 @@
 //! Demand 3 over the proved engine: random files with slaves are rewritten by it and here, and then it
 //! answers for the old file and for the new one, from every configuration.
 
-use super::hex;
 use crate::cases::rewrite::rewritten_bytes;
 use crate::cases::run::rows_bytes;
 use crate::check::accept;
-use crate::command::FILL;
+use crate::command::{hex, FILL};
 use crate::generate::{configuration, crowd, front, input, Random, Shape};
 use crate::model::Model;
 use crate::set::Set;
