@@ -5,8 +5,10 @@ use mathlib.Core.Bool.{true, false, false≢true}
 use mathlib.Core.List.{List, [], _∷_, _++_, append-nil}
 use Prim.Native.Nat.{ℕ, zero, suc, _+_, _≤_, _<_}
 use native.Mathlib.Nat.{add-zero}
+use native.Mathlib.Numerals.{add-one}
 use native.Mathlib.Omega.{arith}
-use lib.ListN.{length, getD}
+use lib.ListN.{length, getD, drop, drop-of-length-le}
+use lib.Seq.{drop-cons}
 use Rattle.meaning.specs.Meaning.{Set, same, Chart, Tree, Move, after, permitted, upd, moves, nexts, upto, outcome, search, eqList}
 use Rattle.meaning.specs.Laws.Bools.{and-l, and-r, same-refl, same→≡, same-≢}
 
@@ -79,3 +81,17 @@ pub eqList-refl : (l : List ℕ) → eqList l l ≡ true
 unfolding eqList
 eqList-refl [] = refl
 eqList-refl (x ∷ xs) = rw (same-refl x) (eqList-refl xs)
+
+-- what is left of two lists, from i on, as a loop compares them: one more is equal, one is not, none is left
+module _ (a b : List ℕ) (i : ℕ) (p : i < length a) (q : i < length b) where
+  pub eqList-more : getD a i 0 ≡ getD b i 0 → eqList (drop i a) (drop i b) ≡ eqList (drop (i + 1) a) (drop (i + 1) b)
+  unfolding eqList
+  eqList-more e = rw (add-one, drop-cons a i 0 p, drop-cons b i 0 q, e, same-refl)
+
+  pub eqList-differ : (getD a i 0 ≡ getD b i 0 → ⊥) → eqList (drop i a) (drop i b) ≡ false
+  unfolding eqList
+  eqList-differ e = rw (drop-cons a i 0 p, drop-cons b i 0 q, same-≢ (getD a i 0) (getD b i 0) e)
+
+pub eqList-end : (a b : List ℕ) (i : ℕ) → length a ≤ i → length b ≤ i → eqList (drop i a) (drop i b) ≡ true
+unfolding eqList
+eqList-end a b i p q = rw (drop-of-length-le a p, drop-of-length-le b q)

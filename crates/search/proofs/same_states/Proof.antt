@@ -1,31 +1,13 @@
 -- `search::same_states` meets its contract: what is left from i on decides, since all before is equal.
 use mathlib.Core.Path.{_≡_, refl, sym, _∙_}
-use mathlib.Core.Bool.{true, false}
-use mathlib.Core.List.{List}
-use Prim.Native.Nat.{ℕ, _+_, _-_, _<_, _≤_}
-use native.Mathlib.Numerals.{add-one}
+use Prim.Native.Nat.{_-_, _≤_}
 use native.Mathlib.Omega.{arith}
 use borrow.Author.Needs.{needs}
-use lib.ListN.{length, getD, drop, drop-of-length-le}
-use lib.Seq.{drop-cons}
+use lib.ListN.{length, drop}
 use Rattle.meaning.specs.Meaning.{eqList}
-use Rattle.meaning.specs.Laws.Bools.{same-refl, same-≢}
+use Rattle.meaning.specs.Laws.Choices.{eqList-more, eqList-differ, eqList-end}
 use Rattle.search.proofs.same_states.Statement.{statement}
 use Rattle.search.proofs.same_states.Tie as tie
-
--- what is left of two lists, from i on
-module _ (a b : List ℕ) (i : ℕ) (p : i < length a) (q : i < length b) where
-  eqList-more : getD a i 0 ≡ getD b i 0 → eqList (drop i a) (drop i b) ≡ eqList (drop (i + 1) a) (drop (i + 1) b)
-  unfolding eqList
-  eqList-more e = rw (add-one, drop-cons a i 0 p, drop-cons b i 0 q, e, same-refl)
-
-  eqList-differ : (getD a i 0 ≡ getD b i 0 → ⊥) → eqList (drop i a) (drop i b) ≡ false
-  unfolding eqList
-  eqList-differ e = rw (drop-cons a i 0 p, drop-cons b i 0 q, same-≢ (getD a i 0) (getD b i 0) e)
-
-eqList-end : (a b : List ℕ) (i : ℕ) → length a ≤ i → length b ≤ i → eqList (drop i a) (drop i b) ≡ true
-unfolding eqList
-eqList-end a b i p q = rw (drop-of-length-le a p, drop-of-length-le b q)
 
 abbrev Inv-loop : tie.InvT-loop
 Inv-loop a b i₀ i = (i ≤ 8) × (eqList a b ≡ eqList (drop i a) (drop i b))
