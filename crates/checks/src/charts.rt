@@ -43,7 +43,7 @@ pub fn bad_charts(n: Shape, body: &[u8]) -> bool
 
 // 7, of one transition: an end is no state of its chart, or it is the ninth from its state; `left` has how many left each state before it, and then
 // counts it too.
-fn bad_transition(t: Transition, states: u8, left: &mut [u8; limits::STATES]) -> bool
+fn bad_transition(t: Transition, states: u8, left: &mut [u8; limits::MOST_STATES as usize]) -> bool
     requires { ⌜ states ≤ mostStates ⌝ }
     ensures { λ r. ⌜ (r ≡ next? t states (now (left .entry))) × (r ≡ false → now (left .exit) ≡ counted t (now (left .entry))) ⌝ }
 {
@@ -74,7 +74,7 @@ pub fn bad_transitions(n: Shape, body: &[u8]) -> bool
         let h = layout::body::head_at(n, body, c);
         let count = h.transitions;
         let states = h.states;
-        let mut left = [0u8; limits::STATES];
+        let mut left = [0u8; limits::MOST_STATES as usize];
         let mut t: u8 = 0;
         while t < count {
             if bad_transition(layout::body::transition_at(n, body, at), states, &mut left) {

@@ -1,4 +1,4 @@
-// The numbers of document 01 that have a name: limits, and refusals. Each stands here once.
+// The numbers of document 01 that have a name: limits, bytes of a record, and refusals. Each stands here once.
 
 pub const EDITION: u8 = 1;
 
@@ -11,12 +11,22 @@ pub const MOST_NODES: u8 = 64;
 pub const MOST_TRANSITIONS: u16 = 512;
 // In a chart.
 pub const MOST_STATES: u8 = 16;
-// The same as the length of a table by state.
-pub const STATES: usize = MOST_STATES as usize;
 
 pub const MOST_IN_CHART: u8 = 64;
 // Transitions from one state.
 pub const MOST_FROM_STATE: u8 = 8;
+// Bytes on the day program's standard input.
+pub const MOST_INPUT: usize = 65536;
+
+pub const HEAD_BYTES: usize = 24;
+
+pub const TRANSITION_BYTES: usize = 28;
+
+pub const SLAVE_BYTES: usize = 4;
+
+pub const NODE_BYTES: usize = 20;
+
+pub const TRAILER_BYTES: usize = 12;
 
 // No refusal.
 pub const ACCEPTED: u8 = 0;
@@ -52,6 +62,10 @@ pub const SHORT_BUFFER: u8 = 22;
 pub const NO_STEP: u8 = 23;
 
 pub const SHORT_ROWS: u8 = 27;
+
+pub const ODD_FRONT: u8 = 30;
+
+pub const TOO_LONG: u8 = 31;
 
 pub const NO_FREE_SIGNAL: u8 = 40;
 

@@ -4,9 +4,6 @@ ghost use Rattle.checks.specs.Open.{Opens};
 use crate::limits;
 use layout::body::Shape;
 
-// The trailer's bytes.
-const TRAILER: usize = 12;
-
 // What the check of a file found: its refusal, and, if there is none, the body: how many records of each kind it has, and where it stands.
 pub struct Opening {
     pub refusal: u8,
@@ -36,10 +33,10 @@ pub fn opened(file: &[u8]) -> Opening
     ensures { λ o. ⌜ Opens (now (file .entry)) o ⌝ }
 {
     let len = file.len();
-    if len < TRAILER {
+    if len < limits::TRAILER_BYTES {
         return refused(limits::TOO_SHORT);
     }
-    let end = len - TRAILER;
+    let end = len - limits::TRAILER_BYTES;
     let t = layout::record::read_trailer(file, end);
     let r = crate::trailer::refusal(t, end);
     if r != limits::ACCEPTED {

@@ -5,16 +5,11 @@ ghost use lib.ListN.{length};
 ghost use Rattle.layout.specs.Body.{Holds};
 ghost use Rattle.meaning.specs.Count.{anyUpTo};
 ghost use Rattle.meaning.specs.Check.{nonzero, zeros?};
+use crate::limits::HEAD_BYTES;
+use crate::limits::NODE_BYTES;
+use crate::limits::SLAVE_BYTES;
+use crate::limits::TRANSITION_BYTES;
 use layout::body::Shape;
-
-// The bytes of each kind of record.
-const HEAD: usize = 24;
-
-const TRANSITION: usize = 28;
-
-const SLAVE: usize = 4;
-
-const NODE: usize = 20;
 
 // Whether one of the k bytes from `at` on is not zero.
 pub fn nonzero(s: &[u8], at: usize, k: usize) -> bool
@@ -53,11 +48,11 @@ pub fn bad_zeros(n: Shape, body: &[u8]) -> bool
     requires { ⌜ Holds n (now body) ⌝ }
     ensures { λ r. ⌜ r ≡ zeros? n (now (body .entry)) ⌝ }
 {
-    let transitions = HEAD * n.charts;
-    let slaves = transitions + TRANSITION * n.transitions;
-    let nodes = slaves + SLAVE * n.slaves;
-    any_nonzero(body, 0, HEAD, n.charts, 3, 5)
-        | any_nonzero(body, transitions, TRANSITION, n.transitions, 2, 2)
-        | any_nonzero(body, slaves, SLAVE, n.slaves, 3, 1)
-        | any_nonzero(body, nodes, NODE, n.nodes, 3, 1)
+    let transitions = HEAD_BYTES * n.charts;
+    let slaves = transitions + TRANSITION_BYTES * n.transitions;
+    let nodes = slaves + SLAVE_BYTES * n.slaves;
+    any_nonzero(body, 0, HEAD_BYTES, n.charts, 3, 5)
+        | any_nonzero(body, transitions, TRANSITION_BYTES, n.transitions, 2, 2)
+        | any_nonzero(body, slaves, SLAVE_BYTES, n.slaves, 3, 1)
+        | any_nonzero(body, nodes, NODE_BYTES, n.nodes, 3, 1)
 }

@@ -8,11 +8,6 @@ ghost use Rattle.line.specs.Line.{inputsOf, linesOf, dayOf};
 ghost use Rattle.day.specs.Day.{Opened, Accepted};
 use checks::limits;
 
-// Refusals of the program's own: a front that is no whole number of inputs, and an input that is too long.
-const ODD_FRONT: u8 = 30;
-
-const TOO_LONG: u8 = 31;
-
 // What the check of an input found: its refusal, and, if there is none, how many charts it has and how many inputs stand in front of them.
 struct Front {
     refusal: u8,
@@ -42,7 +37,7 @@ fn opened(input: &[u8]) -> Front
     }
     let front = o.start;
     if front % 8 != 0 {
-        return refused(ODD_FRONT);
+        return refused(limits::ODD_FRONT);
     }
     let n = o.shape;
     Front {
@@ -134,12 +129,12 @@ fn day(input: &[u8], out: &mut [u8]) -> usize
 }
 
 fn main() {
-    let mut input = [0u8; 65536];
+    let mut input = [0u8; limits::MOST_INPUT];
     let n = io::read_full(0, &mut input);
     let mut more = [0u8; 1];
     let mut out = line_room();
     if io::read_full(0, &mut more) != 0 {
-        let len = line::refused_file(TOO_LONG, &mut out);
+        let len = line::refused_file(limits::TOO_LONG, &mut out);
         io::write_all(1, &out[..len]);
         return;
     }

@@ -9,9 +9,6 @@ ghost use Rattle.engine.specs.Rewriting.{limitTests, rewriteAfter, lengt
 use checks::limits;
 use layout::body::Shape;
 
-// The trailer's bytes.
-const TRAILER: usize = 12;
-
 // 0 or the refusal, and how long the rewritten file is.
 pub struct Rewritten {
     pub refusal: u8,
@@ -63,7 +60,7 @@ fn of_body(n: Shape, body: &[u8], out: &mut [u8]) -> Rewritten
     if r != limits::ACCEPTED {
         return refused(r);
     }
-    let size = layout::body::size(m) + TRAILER;
+    let size = layout::body::size(m) + limits::TRAILER_BYTES;
     if out.len() < size {
         return refused(limits::SHORT_OUT);
     }

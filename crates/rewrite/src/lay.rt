@@ -13,17 +13,12 @@ ghost use Rattle.meaning.specs.Rewriting.{callsBy, callsOf, count, madeFor, rew
 ghost use Rattle.rewrite.specs.Known.{Checked, CallsIn, InnerIn, NamesIn, Fits, Takes, Stands, Master, Holder, Begins, Small};
 ghost use Rattle.layout.specs.Put.{Room, Put};
 ghost use Rattle.rewrite.specs.Records.{calledWith, idleWith, partBytes, masterBytes, heldBytes, nodesBytes, trailerWith};
+use checks::limits;
 use layout::body::Shape;
 use layout::record::Head;
 use layout::record::Node;
 use layout::record::Trailer;
 use layout::record::Transition;
-
-const HEAD: usize = 24;
-
-const TRANSITION: usize = 28;
-
-const NODE: usize = 20;
 
 // Each chart's head: more transitions, the rest as it was.
 fn heads(n: Shape, body: &[u8], inner: &[u64; 8], out: &mut [u8], at: usize) -> usize
@@ -45,7 +40,7 @@ fn heads(n: Shape, body: &[u8], inner: &[u64; 8], out: &mut [u8], at: usize) -> 
             extra: h.extra,
         };
         layout::record::write_head(out, p, new);
-        p += HEAD;
+        p += limits::HEAD_BYTES;
         c += 1;
     }
     p
@@ -126,7 +121,7 @@ fn own(
         let t = layout::body::transition_at(n, body, start + k);
         let new = called(t, inner, calls_by(n, body, calls, c, t));
         layout::record::write_transition(out, p, new);
-        p += TRANSITION;
+        p += limits::TRANSITION_BYTES;
         k += 1;
     }
     p
@@ -148,7 +143,7 @@ fn idles(inner: u64, count: u8, out: &mut [u8], at: usize) -> usize
             action: 0,
         };
         layout::record::write_transition(out, p, new);
-        p += TRANSITION;
+        p += limits::TRANSITION_BYTES;
         s += 1;
     }
     p
@@ -236,7 +231,7 @@ fn put_node(out: &mut [u8], at: usize, r: Node) -> usize
     ensures { λ p. ⌜ Put (now (out .entry)) at (nodeBytes r) (now (out .exit)) p ⌝ }
 {
     layout::record::write_node(out, at, r);
-    at + NODE
+    at + limits::NODE_BYTES
 }
 
 // The nodes that compose the slaves of chart c with it, one behind another; its own is node `first`.
