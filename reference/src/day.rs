@@ -43,7 +43,7 @@ fn inputs(front: &[u8]) -> Vec<Set> {
 
 /// 01: "number from 1, output as 16 hex digits (lower case), states joined by dots, `y` or `n`; or
 /// number, `refused`, refusal. ... Fields stand one space apart and every line ends in byte 10."
-fn line(number: usize, row: &Row) -> String {
+pub fn line(number: usize, row: &Row) -> String {
     if row.refusal != refusal::SUCCESS {
         return format!("{number} refused {}\n", row.refusal);
     }

@@ -15,6 +15,7 @@
 //! - [`run`]: a run, refusal 27.
 //! - [`rewriting`]: the rewriting, refusals 40 to 45.
 //! - [`day`]: the day program, refusals 30 and 31.
+//! - [`chart`]: the command line tool's answers.
 //!
 //! What the comparison needs: [`command`] (one call as bytes, its answer as a line), [`cases`]
 //! (calls with a name and an answer written by hand), [`generate`] (random calls from fixed seeds),
@@ -24,6 +25,7 @@
 //! line.
 
 pub mod cases;
+pub mod chart;
 pub mod check;
 pub mod command;
 pub mod day;

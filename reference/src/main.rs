@@ -4,6 +4,8 @@
 //!   `run` or `rewrite`) to the file COMMANDS and the lines they answer to the file LINES.
 //! - `reference show` reads recorded calls on standard input and prints the lines they answer.
 //! - `reference day` reads the day program's input on standard input and prints what it prints.
+//! - `reference chart WORDS..` prints what the command line tool prints for words that are typed
+//!   right, a refusal by its number alone.
 //! - `reference fuzz SEED COUNT`, with the feature `engine`, makes so many random calls here and in
 //!   the proved engine and compares; the first difference is printed with the call.
 //! - `reference same SEED COUNT`, with the feature `engine`, rewrites so many random files with slaves
@@ -17,14 +19,16 @@ use std::io::{Read, Write};
 use std::process::ExitCode;
 
 /// What can be said on the command line.
-const USE: &str =
-    "use: reference record KIND COMMANDS LINES | show | day | fuzz SEED COUNT | same SEED COUNT";
+const USE: &str = "use: reference record KIND COMMANDS LINES | show | day | chart WORDS.. \
+    | fuzz SEED COUNT | same SEED COUNT";
 
 fn main() -> ExitCode {
     words::done(|words| match *words {
         ["record", kind, calls, answers] => record(kind, calls, answers),
         ["show"] => show(),
         ["day"] => day(),
+        ["chart", "rewrite", file, out] => rewrite(file, out),
+        ["chart", command, file, ref words @ ..] => chart(command, file, words),
         [command @ ("fuzz" | "same"), seed, count] => hold_engine(command, seed, count),
         _ => Err(USE.to_string()),
     })
@@ -49,6 +53,20 @@ fn show() -> Result<(), String> {
 /// Prints what the day program prints.
 fn day() -> Result<(), String> {
     print(&reference::day(&standard_input()?))
+}
+
+/// Prints the command line tool's answer.
+fn chart(command: &str, file: &str, words: &[&str]) -> Result<(), String> {
+    let answer = reference::chart::chart(command, &read(file)?, words).ok_or(USE)?;
+    print(answer.as_bytes())
+}
+
+/// The same of the rewriting, which also writes a file.
+fn rewrite(file: &str, out: &str) -> Result<(), String> {
+    if let Ok(bytes) = reference::chart::rewritten(&read(file)?) {
+        write(out, &bytes)?;
+    }
+    chart("rewrite", file, &[])
 }
 
 /// Holds the proved engine against this one on so many random calls or files.
@@ -84,6 +102,11 @@ fn standard_input() -> Result<Vec<u8>, String> {
 fn print(bytes: &[u8]) -> Result<(), String> {
     let written = std::io::stdout().write_all(bytes);
     written.map_err(|what| what.to_string())
+}
+
+/// Reads a file.
+fn read(path: &str) -> Result<Vec<u8>, String> {
+    std::fs::read(path).map_err(|what| format!("{path}: {what}"))
 }
 
 /// Writes a file.

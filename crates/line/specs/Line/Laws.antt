@@ -128,7 +128,7 @@ unfolding behind
 behind-le [] h = omega arith
 behind-le (x ∷ xs) h = rw length-append (omega (arith, byte-le x (h 0), behind-le xs (λ i. h (suc i))))
 
-dotted-le : (s : List ℕ) → AllBytes s → length (dotted s) ≤ 4 * length s
+pub dotted-le : (s : List ℕ) → AllBytes s → length (dotted s) ≤ 4 * length s
 unfolding dotted joined
 dotted-le [] h = omega arith
 dotted-le (x ∷ xs) h = rw length-append (omega (arith, byte-le x (h 0), behind-le xs (λ i. h (suc i))))

@@ -1,0 +1,54 @@
+// The command line tool. crates/typed reads what is typed, crates/engine answers, and the answer is printed here, in lines of the day program's form.
+// Answers and refusals go to standard output; what is wrong with a command or a file's name goes to standard error.
+mod ask;
+mod tell;
+mod words;
+
+ghost use mathlib.Core.Path.{_≡_};
+ghost use lib.ListN.{length};
+use ask::Command;
+
+// The longest file, as document 01 has it of the day program's input.
+const MOST_BYTES: usize = 65536;
+
+// Room for that and one byte more, which tells that a file is longer. Only the length is promised, so that no proof looks at so many zeros.
+fn file_room() -> [u8; 65537]
+    ensures { λ r. ⌜ 65537 ≡ length r ⌝ }
+{
+    [0; 65537]
+}
+
+// The answer to a command on its file.
+fn answer(c: Command, file: &[u8]) {
+    match c {
+        Command::Check => tell::check(file),
+        Command::First => tell::first(file),
+        Command::Interface => tell::interface(file),
+        Command::Step => tell::run(file),
+        Command::Run => tell::run(file),
+        Command::Rewrite => tell::rewrite(file),
+        Command::Other => words::help(libc::STDERR_FILENO),
+    }
+}
+
+fn main() {
+    if os::arg_count() < 2 {
+        words::help(libc::STDOUT_FILENO);
+        return;
+    }
+    let c = ask::which();
+    if !ask::is_whole(c) {
+        return;
+    }
+    let mut file = file_room();
+    let l = ask::load(&mut file);
+    if !l.is_read {
+        return;
+    }
+    let n = l.count;
+    if n > MOST_BYTES {
+        words::too_long();
+        return;
+    }
+    answer(c, &file[..n]);
+}

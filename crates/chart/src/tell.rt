@@ -1,0 +1,211 @@
+// The answers, printed on standard output.
+ghost use mathlib.Core.Path.{_≡_};
+ghost use Prim.Native.Nat.{_*_, _≤_};
+ghost use lib.ListN.{length};
+use crate::ask;
+use crate::words;
+use crate::words::say;
+use checks::limits;
+use libc::STDOUT_FILENO;
+
+// The most sets of one run.
+const MOST_SETS: usize = 1024;
+
+// Where a row has the refusal, and the configuration.
+const REFUSAL: usize = 9;
+
+const STATES: usize = 10;
+
+// Room for the sets of a run, for their rows of at most 18 bytes, and for a rewritten file.
+fn set_room() -> [u64; 1024]
+    ensures { λ r. ⌜ 1024 ≡ length r ⌝ }
+{
+    [0; 1024]
+}
+
+fn row_room() -> [u8; 18432]
+    ensures { λ r. ⌜ 18432 ≡ length r ⌝ }
+{
+    [0; 18432]
+}
+
+fn out_room() -> [u8; 65536]
+    ensures { λ r. ⌜ 65536 ≡ length r ⌝ }
+{
+    [0; 65536]
+}
+
+pub fn check(file: &[u8]) {
+    let r = engine::file::check(file);
+    if r == limits::ACCEPTED {
+        say(b"accepted\n");
+    } else {
+        words::refusal(r);
+    }
+}
+
+// How many charts a file has; none if it is refused, and then the refusal is printed.
+fn charts(file: &[u8]) -> usize
+    ensures { λ r. ⌜ r ≤ 8 ⌝ }
+{
+    let o = checks::opening::opened(file);
+    let r = o.refusal;
+    if r != limits::ACCEPTED {
+        words::refusal(r);
+        return 0;
+    }
+    let n = o.shape;
+    n.charts
+}
+
+// A configuration's states, with dots between.
+fn states(config: &[u8])
+    requires { ⌜ length (now config) ≤ 8 ⌝ }
+{
+    let mut out = [0u8; 64];
+    let n = line::put_states(&mut out, 0, config);
+    say(&out[..n]);
+    say(b"\n");
+}
+
+pub fn first(file: &[u8]) {
+    let n = charts(file);
+    if n == 0 {
+        return;
+    }
+    let mut config = [0u8; 8];
+    engine::file::first(file, &mut config);
+    states(&config[..n]);
+}
+
+// A set as signals, to the line's end.
+fn signals(set: u64) {
+    let mut out = [0u8; 256];
+    let n = typed::show(set, &mut out);
+    say(b"  ");
+    say(&out[..n]);
+    say(b"\n");
+}
+
+pub fn interface(file: &[u8]) {
+    let f = engine::interface::interface(file);
+    let r = f.refusal;
+    if r != limits::ACCEPTED {
+        words::refusal(r);
+        return;
+    }
+    say(b"in ");
+    io::print_hex(STDOUT_FILENO, f.input, 16);
+    signals(f.input);
+    say(b"out ");
+    io::print_hex(STDOUT_FILENO, f.output, 16);
+    signals(f.output);
+}
+
+// A row as the day program's line, and behind it the output as signals, or the refusal's words.
+fn row(number: u64, row: &[u8])
+    requires { ⌜ (10 ≤ length (now row)) × (length (now row) ≤ 26) ⌝ }
+{
+    let mut out = [0u8; 128];
+    let n = line::line(number, row, &mut out);
+    let end = n - 1;
+    say(&out[..end]);
+    let refusal = row[REFUSAL];
+    if refusal == limits::ACCEPTED {
+        signals(layout::number::le64(row, 0));
+    } else {
+        words::end_refused(refusal);
+    }
+}
+
+// n rows of w bytes each.
+fn rows(rows: &[u8], w: usize, n: usize)
+    requires { ⌜ (10 ≤ w) × (w ≤ 18) × (18 * n ≤ length (now rows)) ⌝ }
+{
+    let mut at: usize = 0;
+    let mut i: usize = 0;
+    while i < n {
+        let e = at + w;
+        row(i as u64 + 1, &rows[at..e]);
+        at = e;
+        i += 1;
+    }
+}
+
+// A run of a file with so many charts.
+fn run_of(file: &[u8], charts: usize, config: &[u8], inputs: &[u64])
+    requires { ⌜ (charts ≤ 8) × (length (now inputs) ≤ 1024) ⌝ }
+{
+    let mut space = row_room();
+    let r = engine::run::run(file, config, inputs, &mut space);
+    if r != limits::ACCEPTED {
+        words::refusal(r);
+        return;
+    }
+    rows(&space, STATES + charts, inputs.len());
+}
+
+// A run of the sets that were typed, as many as there is room for.
+fn run_typed(file: &[u8], charts: usize, config: &[u8], inputs: &mut [u64])
+    requires { ⌜ (charts ≤ 8) × (length (now inputs) ≤ 1024) ⌝ }
+{
+    if ask::sets(inputs) {
+        run_of(file, charts, config, inputs);
+    }
+}
+
+// A step is a run of one set.
+pub fn run(file: &[u8]) {
+    let n = ask::set_count();
+    if n > MOST_SETS {
+        words::too_many_sets();
+        return;
+    }
+    let c = ask::config();
+    let k = c.count;
+    if k == 0 {
+        return;
+    }
+    let charts = charts(file);
+    if charts == 0 {
+        return;
+    }
+    let config = c.states;
+    let mut inputs = set_room();
+    run_typed(file, charts, &config[..k], &mut inputs[..n]);
+}
+
+// Writes a rewritten file to where it was asked for.
+fn save(bytes: &[u8]) {
+    let mut path = io::buffer();
+    let n = ask::word(ask::OUT, &mut path);
+    let fd = os::open_overwrite(&path[..n]);
+    if fd < 0 {
+        words::failed(&path[..n]);
+        return;
+    }
+    let is_written = io::write_all(fd, bytes);
+    if !is_written {
+        words::failed(&path[..n]);
+        libc::close(fd);
+        return;
+    }
+    if libc::close(fd) < 0 {
+        words::failed(&path[..n]);
+        return;
+    }
+    io::print_decimal(STDOUT_FILENO, bytes.len() as u64);
+    say(b" bytes written\n");
+}
+
+pub fn rewrite(file: &[u8]) {
+    let mut out = out_room();
+    let w = engine::rewriting::rewriting(file, &mut out);
+    let r = w.refusal;
+    if r != limits::ACCEPTED {
+        words::refusal(r);
+        return;
+    }
+    let n = w.length;
+    save(&out[..n]);
+}

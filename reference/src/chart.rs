@@ -1,0 +1,129 @@
+//! The command line tool's answers, for words that are typed right. A refusal has its number alone,
+//! without the words behind it.
+
+use crate::check::accept;
+use crate::day::line;
+use crate::first::first_configuration;
+use crate::interface::interface;
+use crate::limits::{refusal, SIGNALS};
+use crate::rewriting::rewrite;
+use crate::run::{run_model, Row};
+use crate::set::Set;
+use crate::step::accept_configuration;
+
+/// Room for any file that the rewriting makes.
+const ROOM: usize = 65_536;
+
+/// What was refused, and the refusal.
+type Refused = (&'static str, u8);
+
+/// What is printed for a command on a file; nothing if it is no command or typed wrong.
+pub fn chart(command: &str, file: &[u8], words: &[&str]) -> Option<String> {
+    let answer = match (command, words) {
+        ("check", []) => accept(file)
+            .map(|_| "accepted\n".to_string())
+            .map_err(of_file),
+        ("first", []) => first(file),
+        ("interface", []) => faces(file),
+        ("step", [config, set]) => rows(file, &configuration(config)?, &[typed_set(set)?]),
+        ("run", [config, sets @ ..]) => {
+            let sets: Option<Vec<Set>> = sets.iter().map(|set| typed_set(set)).collect();
+            rows(file, &configuration(config)?, &sets?)
+        }
+        ("rewrite", []) => rewritten(file).map(|out| format!("{} bytes written\n", out.len())),
+        _ => return None,
+    };
+    Some(answer.unwrap_or_else(|(what, number)| format!("{what} refused {number}\n")))
+}
+
+/// The rewritten file.
+pub fn rewritten(file: &[u8]) -> Result<Vec<u8>, Refused> {
+    accept(file).map_err(of_file)?;
+    let mut out = vec![0; ROOM];
+    let done = rewrite(file, &mut out);
+    if done.refusal != refusal::SUCCESS {
+        return Err(("rewriting", done.refusal));
+    }
+    out.truncate(done.length);
+    Ok(out)
+}
+
+/// A refusal of the file.
+fn of_file(number: u8) -> Refused {
+    ("file", number)
+}
+
+/// The first configuration's line.
+fn first(file: &[u8]) -> Result<String, Refused> {
+    let model = accept(file).map_err(of_file)?;
+    let states: Vec<String> = first_configuration(&model)
+        .iter()
+        .map(u8::to_string)
+        .collect();
+    Ok(states.join(".") + "\n")
+}
+
+/// The lines of both interfaces.
+fn faces(file: &[u8]) -> Result<String, Refused> {
+    accept(file).map_err(of_file)?;
+    let found = interface(file);
+    let (input, output) = (found.input, found.output);
+    Ok(format!(
+        "in {}  {}\nout {}  {}\n",
+        input.hex(),
+        shown(input),
+        output.hex(),
+        shown(output)
+    ))
+}
+
+/// A line for each set: the day program's, and the output as signals.
+fn rows(file: &[u8], configuration: &[u8], sets: &[Set]) -> Result<String, Refused> {
+    let model = accept(file).map_err(of_file)?;
+    accept_configuration(&model, configuration).map_err(|number| ("configuration", number))?;
+    let rows = run_model(&model, configuration, sets);
+    Ok(rows
+        .iter()
+        .zip(1..)
+        .map(|(row, number)| row_line(number, row))
+        .collect())
+}
+
+fn row_line(number: usize, row: &Row) -> String {
+    let line = line(number, row);
+    if row.refusal != refusal::SUCCESS {
+        return line;
+    }
+    format!("{}  {}\n", line.trim_end(), shown(row.output))
+}
+
+/// A set as signals, `-` for none.
+fn shown(set: Set) -> String {
+    let signals: Vec<String> = set.signals().map(|signal| format!("s{signal}")).collect();
+    if signals.is_empty() {
+        return "-".to_string();
+    }
+    signals.join(",")
+}
+
+/// States with dots between.
+fn configuration(word: &str) -> Option<Vec<u8>> {
+    word.split('.').map(|state| state.parse().ok()).collect()
+}
+
+/// `-`, `0x` and hex digits, or signals with commas between.
+fn typed_set(word: &str) -> Option<Set> {
+    if word == "-" {
+        return Some(Set::EMPTY);
+    }
+    if let Some(digits) = word.strip_prefix("0x") {
+        return u64::from_str_radix(digits, 16).ok().map(Set);
+    }
+    let signals: Option<Vec<u32>> = word.split(',').map(signal).collect();
+    signals.map(|signals| Set::of(&signals))
+}
+
+fn signal(word: &str) -> Option<u32> {
+    let number: u32 = word.strip_prefix('s')?.parse().ok()?;
+    (number < SIGNALS).then_some(number)
+}
