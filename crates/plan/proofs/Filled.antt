@@ -10,7 +10,7 @@ use borrow.Rule.Slice.PartMut.{postOf, putMid}
 use lib.ListN.{length, getD, take, set, List·getD-append}
 use lib.Seq.{length-take-le, getD-append-add, getD-take, getD-set-same, getD-set-other}
 use Rattle.signals.specs.Mask.{_∪_, _∩_}
-use Rattle.signals.specs.Decide.{sets, A, B, C, D, _∪ₑ_, _∩ₑ_, _≐_}
+use Rattle.signals.specs.Decide.{sets, A, B, C, D, ∅ₑ, _∪ₑ_, _∩ₑ_, _≐_}
 use Rattle.plan.specs.Wire.{Fed}
 
 -- ── from the front ──
@@ -24,6 +24,11 @@ filled-more f l i v m e h =
 
 pub fed-none : (at s : ℕ) (u l : List ℕ) → Fed at 0 s u l l
 fed-none at s u l = record { in-row = λ d p. absurd (omega arith); below = λ k p. refl; above = λ k p. refl }
+
+-- nothing to feed
+pub fed-empty : (at n s : ℕ) (u l : List ℕ) → s ≡ 0 → Fed at n s u l l
+fed-empty at n s u l e =
+    record { in-row = λ d p. sets (getD l (at + d) 0 ∷ s ∷ getD u d 0 ∷ []) (B ≐ ∅ₑ ∷ []) (A ≐ A ∪ₑ (B ∩ₑ C)) tt e; below = λ k p. refl; above = λ k p. refl }
 
 -- one mask more
 pub fed-more : (at d s : ℕ) (u l m : List ℕ) → at + d < length m → Fed at d s u l m → Fed at (d + 1) s u l (set m (at + d) (getD m (at + d) 0 ∪ (s ∩ getD u d 0)))

@@ -1,9 +1,9 @@
 -- The walk down the nodes that notes each chart's nearest enclosing slave. Every byte that is written is the right one at its place, so that no
 -- write spoils another. In order: a write (right-set); the slaves' nodes; the nodes that a node names; a node's chart; the walk (Walked); the charts of the
--- nodes passed.
+-- nodes passed; a file without slaves (nearest-none).
 -- Assumes nothing.
 use mathlib.Core.Path.{_≡_, refl, sym, ap, _∙_}
-use mathlib.Core.Bool.{Bool, true, false, false≢true}
+use mathlib.Core.Bool.{Bool, true, false, _&&_, false≢true}
 use mathlib.Core.Logic.{_≢_}
 use mathlib.Core.List.{List}
 use mathlib.Core.Option.{Option, none, some}
@@ -19,9 +19,10 @@ use Rattle.meaning.specs.File.{File}
 use Rattle.meaning.specs.Check.Nodes.{Sound}
 use Rattle.meaning.specs.Laws.Bools.{same-refl, same→≡}
 use Rattle.meaning.specs.Laws.Trees.{Placed, Joined, Namer, left, right, inside, slave}
-use Rattle.meaning.specs.Laws.Names.{enc, kap, enc-slave, enc-last, placed, joined}
+use Rattle.search.specs.Table.{masterAt, slaveStateAt}
+use Rattle.meaning.specs.Laws.Names.{up, find, enc, kap, enc-slave, enc-last, placed, joined}
 use Rattle.wiring.specs.Near.{enc-below}
-use Rattle.plan.specs.Nearest.{masterBy, stateBy, Noted, NearestIn, numberOf, Right, Enclosers, Seeded, Seeds, Handed, Hands, Notes}
+use Rattle.plan.specs.Nearest.{masterBy, stateBy, Noted, NotedNone, NearestIn, numberOf, Right, Enclosers, Seeded, Seeds, Handed, Hands, Notes}
 use Rattle.plan.proofs.Wiring.{Is, IsSlave}
 
 -- two numbers are equal or not
@@ -270,3 +271,36 @@ module _ (F : File) (j i : ℕ) (e : i ≡ numberOf (enc F j)) where
       go : (o : Option ℕ) → enc F j ≡ o → (255 ≡ masterBy F o) × (0 ≡ stateBy F o)
       go none z = (refl, refl)
       go (some h) z = let b = enc-below F j h z in let t : i ≡ h = e ∙ ap (λ (o : Option ℕ). numberOf o) z in absurd (omega arith)
+
+-- ── no slave at all ──
+
+module _ (F : File) (z : F .slaves ≡ 0) where
+  enc-none : (j : ℕ) → enc F j ≡ none
+  enc-none j = go (enc F j) refl
+    where
+      go : (κ : Option ℕ) → enc F j ≡ κ → κ ≡ none
+      go none e = refl
+      go (some i) e = absurd (let h = enc-below F j i e in omega arith)
+
+  kap-none : (c : ℕ) → kap F c ≡ none
+  unfolding kap
+  kap-none c = go (find (F .nodes) (λ k. same (F .kind k) 0 && same (F .a k) c))
+    where
+      go : (κ : Option ℕ) → up none κ (enc F) ≡ none
+      go none = refl
+      go (some k) = enc-none k
+
+  pub nearest-none : F .charts ≤ 8 → (l : List ℕ) → NotedNone 8 l → NearestIn F l
+  unfolding masterBy stateBy
+  nearest-none few l h c p = let g = h c (omega arith) in rw (kap-none c) g
+
+pub noted-none-more : (c : ℕ) (l : List ℕ) → c < 8 → length l ≡ 96 → NotedNone c l → NotedNone (c + 1) (set (set l (72 + c) 255) (80 + c) 0)
+noted-none-more c l p n h =
+    below-more (λ (k : ℕ). (masterAt (set (set l (72 + c) 255) (80 + c) 0) k ≡ 255) × (slaveStateAt (set (set l (72 + c) 255) (80 + c) 0) k ≡ 0)) c
+    (λ k q. let g = h k q in (off (72 + k) (λ e. omega arith) (λ e. omega arith) ∙ g .0, off (80 + k) (λ e. omega arith) (λ e. omega arith) ∙ g .1)) (
+      getD-set-other (set l (72 + c) 255) (80 + c) (72 + c) 0 0 (λ e. omega arith) ∙ getD-set-same l (72 + c) 255 0 (omega arith),
+      getD-set-same (set l (72 + c) 255) (80 + c) 0 0 (rw (length-set l (72 + c) 255) (omega arith)),
+    )
+  where
+    off : (i : ℕ) → i ≢ 72 + c → i ≢ 80 + c → getD (set (set l (72 + c) 255) (80 + c) 0) i 0 ≡ getD l i 0
+    off i a b = getD-set-other (set l (72 + c) 255) (80 + c) i 0 0 b ∙ getD-set-other l (72 + c) i 255 0 a

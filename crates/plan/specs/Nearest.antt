@@ -27,6 +27,10 @@ module _ (F : File) where
   abbrev pub NearestIn : List ℕ → Type 0
   NearestIn s = (c : ℕ) → c < F .charts → Noted s c
 
+-- the first n charts stand in no slave
+abbrev pub NotedNone : ℕ → List ℕ → Type 0
+NotedNone n s = (c : ℕ) → c < n → (masterAt s c ≡ 255) × (slaveStateAt s c ≡ 0)
+
 -- ── of a node, while the nodes are walked ──
 
 -- a slave's number, 255 for none

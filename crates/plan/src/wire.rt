@@ -8,7 +8,7 @@ ghost use Rattle.meaning.specs.File.{treeOf, fileAt};
 ghost use Rattle.wiring.specs.Wire.{own};
 ghost use Rattle.meaning.specs.Laws.Names.{enc};
 ghost use Rattle.plan.specs.Wire.{Row, Joins, Fed, Wirable, Wires, Whole};
-ghost use Rattle.plan.specs.Nearest.{Right, masterBy, stateBy, Seeds, Seeded, Hands, Enclosers, Notes, NearestIn};
+ghost use Rattle.plan.specs.Nearest.{Right, masterBy, stateBy, Seeds, Seeded, Hands, Enclosers, Notes, NotedNone, NearestIn};
 ghost use Rattle.plan.specs.Wired.{Wired};
 use layout::body::Shape;
 use layout::record::Slave;
@@ -63,13 +63,22 @@ fn less_row(a: [u64; 8], x: u64) -> [u64; 8]
     r
 }
 
-// A chart by itself: everything gets down to it, and up from it.
+fn own(d: usize, c: usize) -> u64
+    ensures { λ r. ⌜ r ≡ own d c ⌝ }
+{
+    if c == d { ALL } else { 0 }
+}
+
+// A chart by itself: everything gets down to it, and up from it. Each mask is tested for, since a single store at d would be waited for.
 fn alone(d: usize) -> Rows
-    requires { ⌜ d < 8 ⌝ }
     ensures { λ r. ⌜ Row (r .down) (own d) × Row (r .up) (own d) ⌝ }
 {
     let mut m = [0u64; 8];
-    m[d] = ALL;
+    let mut c: usize = 0;
+    while c < 8 {
+        m[c] = own(d, c);
+        c += 1;
+    }
     Rows { down: m, up: m }
 }
 
@@ -98,11 +107,14 @@ fn hidden(a: Rows, x: u64, y: u64) -> Rows
     }
 }
 
-// Joins what is in m and gets down to a chart to that chart's mask, in the eight masks from `at` on.
+// Joins what is in m and gets down to a chart to that chart's mask, in the eight masks from `at` on. Most rows have nothing to feed.
 fn feed_row(back: &mut [u64], at: usize, m: u64, down: [u64; 8])
     requires { ⌜ at + 8 ≤ length (now back) ⌝ }
     ensures { λ _. ⌜ Fed at 8 m down (now (back .entry)) (now (back .exit)) ⌝ }
 {
+    if m == 0 {
+        return;
+    }
     let mut c: usize = 0;
     while c < 8 {
         back[at + c] = back[at + c] | (m & down[c]);
@@ -274,11 +286,28 @@ pub fn enclosers(n: Shape, body: &[u8]) -> [u8; 64]
     near
 }
 
-// Of each chart the master and the state of its nearest enclosing slave, in a search's small numbers.
+// Every chart stands outside all slaves.
+fn note_none(small: &mut [u8])
+    requires { ⌜ length (now small) ≡ 96 ⌝ }
+    ensures { λ _. ⌜ NotedNone 8 (now (small .exit)) ⌝ }
+{
+    let mut c: usize = 0;
+    while c < 8 {
+        small[MASTER + c] = NONE;
+        small[STATE + c] = 0;
+        c += 1;
+    }
+}
+
+// Of each chart the master and the state of its nearest enclosing slave, in a search's small numbers. Many files have no slave.
 pub fn nearest(n: Shape, body: &[u8], small: &mut [u8])
     requires { ⌜ Wirable n (now body) × (length (now small) ≡ 96) ⌝ }
     ensures { λ _. ⌜ NearestIn (fileAt n (now (body .entry))) (now (small .exit)) ⌝ }
 {
+    if n.slaves == 0 {
+        note_none(small);
+        return;
+    }
     let near = enclosers(n, body);
     let nodes = n.nodes;
     let mut j: usize = 0;

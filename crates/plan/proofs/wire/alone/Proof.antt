@@ -1,27 +1,42 @@
--- `wire::alone` meets its contract. Assumes nothing.
-use mathlib.Core.Path.{_≡_, refl, sym, ap, _∙_}
-use mathlib.Core.Bool.{Bool, true, false, cond, false≢true}
-use Prim.Native.Nat.{ℕ, _<_}
+-- `wire::alone` meets its contract: the masks below c are made. Assumes nothing.
+use mathlib.Core.Path.{_≡_, refl}
+use Prim.Native.Nat.{ℕ, _-_, _≤_, _<_}
+use native.Mathlib.Omega.{arith}
 use borrow.Author.Needs.{needs}
-use lib.ListN.{getD, set, replicate, getD-replicate}
-use lib.Seq.{getD-set-same, getD-set-other}
-use Rattle.meaning.specs.Meaning.{same}
-use Rattle.meaning.specs.Laws.Bools.{same-refl, same→≡}
-use Rattle.wiring.specs.Wire.{own, full}
-use Rattle.plan.specs.Wire.{Row}
+use lib.ListN.{length, getD, length-set}
+use Rattle.wiring.specs.Wire.{own}
+use Rattle.plan.proofs.Filled.{filled-more}
 use Rattle.plan.proofs.wire.alone.Statement.{statement}
 use Rattle.plan.proofs.wire.alone.Tie as tie
 
-own-row : (d : ℕ) → d < 8 → Row (set (replicate 8 0) d 18446744073709551615) (own d)
-unfolding own full
-own-row d l c p = go (same c d) refl
-  where
-    go : (b : Bool) → same c d ≡ b → getD (set (replicate 8 0) d 18446744073709551615) c 0 ≡ cond b full 0
-    go true e = ap (λ (k : ℕ). getD (set (replicate 8 0) d 18446744073709551615) k 0) (same→≡ c d e) ∙ getD-set-same (replicate 8 0) d 18446744073709551615 0 l
-    go false e = getD-set-other (replicate 8 0) d c 18446744073709551615 0 (λ q. false≢true (sym e ∙ ap (λ (k : ℕ). same k d) q ∙ same-refl d)) ∙ getD-replicate 8 c 0 0 p
+abbrev Inv-loop : tie.InvT-loop
+Inv-loop d m₀ c₀ m c = (c ≤ 8) × (length m ≡ 8) × ((k : ℕ) → k < c → getD m k 0 ≡ own d k)
 
-returns : tie.Need-returns
-returns c = (own-row (c .args .d) (search needs), own-row (c .args .d) (search needs))
+abbrev μ-loop : tie.MeasureT-loop
+μ-loop d m₀ c₀ m c = 8 - c
+
+loop-holds : tie.Need-loop-holds Inv-loop μ-loop
+loop-holds c = (omega arith, refl, λ k l. absurd (omega arith))
+
+loop-again : tie.Need-loop-again Inv-loop μ-loop
+loop-again c =
+    let l = c .before .before .loop in
+    (omega arith, simp length-set (l .inv .1), filled-more _ (l .m) (l .c) _ (omega arith) (c .own .ensures) (l .inv .2))
+
+returns : tie.Need-returns Inv-loop μ-loop
+returns c = (λ k l. c .before .loop .inv .2 k (omega arith), λ k l. c .before .loop .inv .2 k (omega arith))
 
 pub alone-spec : {M : Type 1} → statement M
-alone-spec = tie.close (tie.spec (λ c. search needs) (λ c. search needs) returns)
+alone-spec =
+    tie.close
+    (tie.spec
+    Inv-loop
+    μ-loop
+    loop-holds
+    (λ c κs. search needs)
+    (λ c. omega arith)
+    (λ c. omega arith)
+    (λ c. omega arith)
+    (λ c. omega arith)
+    loop-again
+    returns)

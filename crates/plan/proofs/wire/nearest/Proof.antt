@@ -6,7 +6,7 @@ use borrow.Author.Needs.{needs}
 use lib.ListN.{length}
 use Rattle.meaning.specs.File.{fileAt}
 use Rattle.plan.specs.Nearest.{Enclosers, Noted}
-use Rattle.plan.proofs.Near.{noted-more, noted-done}
+use Rattle.plan.proofs.Near.{noted-more, noted-done, nearest-none}
 use Rattle.plan.proofs.wire.nearest.Statement.{statement}
 use Rattle.plan.proofs.wire.nearest.Tie as tie
 
@@ -17,13 +17,17 @@ Inv-loop n body small₀ near nodes j₀ small j =
 abbrev μ-loop : tie.MeasureT-loop
 μ-loop n body small₀ near nodes j₀ small j = nodes - j
 
+returns : tie.Need-returns Inv-loop μ-loop
+unfolding fileAt
+returns c = let s = c .before .before .before .before .before .before .before .before in nearest-none (fileAt (s .args .n) (s .args .body .now)) (c .before .before .before .before .if1 .taken) (s .pre .0 .sized .charts) (c .before .before .note-none .last .0) (c .before .before .note-none .ensures)
+
 loop-holds : tie.Need-loop-holds Inv-loop μ-loop
 loop-holds c = (omega arith, refl, λ k p. absurd (omega arith))
 
 note-requires : tie.Need-note-requires Inv-loop μ-loop
 unfolding fileAt
 note-requires c κs =
-    let p = c .before .before .before .before .before .before .before .pre in
+    let p = c .before .before .before .before .before .before .before .before .before .pre in
     let i = c .before .before .before .loop in
     let t = c .before .before .loop-test .taken in
     (p .0, t, search needs, c .before .before .before .before .enclosers .ensures (i .j) t, i .inv .1 ∙ p .1)
@@ -32,11 +36,11 @@ loop-again : tie.Need-loop-again Inv-loop μ-loop
 unfolding fileAt
 loop-again c =
     let i = c .before .before .before .before .before .before .loop in
-    (omega arith, c .before .before .note .kept .1 .1 .1 .1 .0 ∙ i .inv .1, noted-more _ (c .before .before .before .before .before .before .before .before .before .before .pre .0 .sound) (i .j) (i .small) _ (c .before .before .before .before .before .loop-test .taken) (i .inv .2) (c .before .before .note .ensures))
+    (omega arith, c .before .before .note .kept .1 .1 .1 .1 .0 ∙ i .inv .1, noted-more _ (c .before .before .before .before .before .before .before .before .before .before .before .before .pre .0 .sound) (i .j) (i .small) _ (c .before .before .before .before .before .loop-test .taken) (i .inv .2) (c .before .before .note .ensures))
 
-returns : tie.Need-returns Inv-loop μ-loop
+returns-2 : tie.Need-returns-2 Inv-loop μ-loop
 unfolding fileAt
-returns c = noted-done _ (c .before .before .before .before .before .pre .0 .sound) (c .before .loop .j) (c .before .loop .small) (c .loop-test .left) (c .before .loop .inv .2)
+returns-2 c = noted-done _ (c .before .before .before .before .before .before .before .pre .0 .sound) (c .before .loop .j) (c .before .loop .small) (c .loop-test .left) (c .before .loop .inv .2)
 
 pub nearest-spec : {M : Type 1} → statement M
 nearest-spec =
@@ -44,7 +48,10 @@ nearest-spec =
     (tie.spec
     Inv-loop
     μ-loop
-    (λ c κs. c .before .before .pre .0)
+    (λ c κs. search needs)
+    (λ c. search needs)
+    returns
+    (λ c κs. c .before .before .before .before .pre .0)
     loop-holds
     (λ c. search needs)
     note-requires
@@ -52,4 +59,4 @@ nearest-spec =
     (λ c. omega arith)
     loop-again
     (λ c. c .before .loop .inv .1)
-    returns)
+    returns-2)

@@ -1,0 +1,44 @@
+-- `wire::note_none` meets its contract: the charts below c are noted. Assumes nothing.
+use mathlib.Core.Path.{_≡_, refl, _∙_}
+use Prim.Native.Nat.{ℕ, _-_, _≤_, _<_}
+use native.Mathlib.Omega.{arith}
+use borrow.Author.Needs.{needs}
+use lib.ListN.{length, length-set}
+use Rattle.plan.specs.Nearest.{NotedNone}
+use Rattle.plan.proofs.Near.{noted-none-more}
+use Rattle.plan.proofs.wire.note_none.Statement.{statement}
+use Rattle.plan.proofs.wire.note_none.Tie as tie
+
+abbrev Inv-loop : tie.InvT-loop
+Inv-loop small₀ c₀ small c = (c ≤ 8) × (length small ≡ length small₀) × NotedNone c small
+
+abbrev μ-loop : tie.MeasureT-loop
+μ-loop small₀ c₀ small c = 8 - c
+
+loop-holds : tie.Need-loop-holds Inv-loop μ-loop
+loop-holds c = (omega arith, refl, λ k l. absurd (omega arith))
+
+loop-again : tie.Need-loop-again Inv-loop μ-loop
+loop-again c =
+    let l = c .before .loop in
+    (omega arith, simp length-set (l .inv .1), noted-none-more (l .c) (l .small) (omega arith) (l .inv .1 ∙ c .before .before .pre) (l .inv .2))
+
+returns : tie.Need-returns Inv-loop μ-loop
+returns c k l = c .before .loop .inv .2 k (omega arith)
+
+pub note-none-spec : {M : Type 1} → statement M
+note-none-spec =
+    tie.close
+    (tie.spec
+    Inv-loop
+    μ-loop
+    loop-holds
+    (λ c. omega arith)
+    (λ c. omega arith)
+    (λ c. omega arith)
+    (λ c. simp length-set (omega arith))
+    (λ c. omega arith)
+    (λ c. omega arith)
+    loop-again
+    (λ c. c .before .loop .inv .1)
+    returns)
