@@ -12,7 +12,7 @@ pub struct Wiring {
     pub down: Row,
     /// What of each chart's action gets up to the output.
     pub up: Row,
-    /// What of chart d's action gets to chart c, at `back[c][d]`.
+    /// What of chart d's action gets to chart c, at `back[d][c]`.
     pub back: [Row; 8],
     /// Of each chart the master and the state of its nearest slave; no master outside all slaves.
     pub masters: [Option<(usize, u8)>; 8],
@@ -54,8 +54,7 @@ fn wire(body: &Body, number: usize, back: &mut [Row; 8]) -> (Row, Row) {
 
 /// The rows of a chart and its slaves.
 fn wire_chart(body: &Body, chart: usize, back: &mut [Row; 8]) -> (Row, Row) {
-    let mut own = [0; 8];
-    own[chart] = u64::MAX;
+    let own = std::array::from_fn(|c| if c == chart { u64::MAX } else { 0 });
     let mut rows = (own, own);
     for slave in body.all_slaves() {
         if usize::from(slave.chart) == chart {
@@ -74,15 +73,21 @@ fn joined(one: (Row, Row), other: (Row, Row)) -> (Row, Row) {
 
 /// Feedback of a set over a part.
 fn feed(back: &mut [Row; 8], rows: &(Row, Row), set: u64) {
-    for (row, down) in back.iter_mut().zip(rows.0) {
-        for (mask, up) in row.iter_mut().zip(rows.1) {
-            *mask |= down & up & set;
+    for (row, up) in back.iter_mut().zip(rows.1) {
+        let fed = up & set;
+        if fed != 0 {
+            for (mask, down) in row.iter_mut().zip(rows.0) {
+                *mask |= fed & down;
+            }
         }
     }
 }
 
 /// The masters of all charts.
 fn masters(body: &Body) -> [Option<(usize, u8)>; 8] {
+    if body.slaves == 0 {
+        return [None; 8];
+    }
     nearest(body).map(|slave| {
         (slave != NONE).then(|| {
             let slave = body.slave(usize::from(slave));
