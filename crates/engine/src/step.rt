@@ -10,15 +10,12 @@ ghost use Rattle.meaning.specs.Meaning.{refused as refusedAnswer};
 ghost use Rattle.meaning.specs.File.{fileAt};
 ghost use Rattle.meaning.specs.Check.{notBelow, firstOf};
 ghost use Rattle.meaning.specs.Calls.{laidOver, stepOf, nextIn};
-ghost use Rattle.search.specs.Hunt.{nothing};
-ghost use Rattle.tables.specs.Filled.{beginning};
 ghost use Rattle.plan.specs.Wire.{Row};
 ghost use Rattle.plan.specs.Candidates.{Ready};
 ghost use Rattle.engine.specs.Step.{steppedOf, configTestsIn, stepAfter, Checked, Prepared, Finds};
 use checks::limits;
 use layout::body::Shape;
 use search::Found;
-use search::Trail;
 
 // The answer of a step beside the next configuration: 0 or the refusal, the output, and whether all permitted choices agree.
 pub struct Stepped {
@@ -80,29 +77,6 @@ fn lows(down: [u64; 8], input: u64) -> [u64; 8]
     low
 }
 
-// No chart is settled.
-fn begin(low: [u64; 8]) -> Trail
-    ensures { λ r. ⌜ r ≡ beginning low ⌝ }
-{
-    Trail {
-        low,
-        choice: [0; 8],
-        next: [0; 8],
-        awake: [0; 8],
-    }
-}
-
-fn none_found() -> Found
-    ensures { λ r. ⌜ r ≡ nothing ⌝ }
-{
-    Found {
-        has: false,
-        agree: false,
-        output: 0,
-        next: [0; 8],
-    }
-}
-
 // One step of a wired body from a configuration. The tables are ready for another.
 pub fn found(
     n: Shape,
@@ -119,9 +93,9 @@ pub fn found(
     let base = lows(down, input);
     let low = plan::candidates::choose(n, body, config, base, masks, small);
     if plan::candidates::is_stuck(small, n.charts) {
-        return none_found();
+        return search::none();
     }
-    search::search(masks, small, n.charts, n.charts, begin(low), none_found())
+    search::search(masks, small, n.charts, low)
 }
 
 // The first n states, over the front of a lent buffer.

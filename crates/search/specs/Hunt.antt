@@ -1,18 +1,18 @@
 -- What a search over tables finds: the outcomes of the choices that it does not drop, in the order of choices, folded into the first of them and
 -- whether all agree with it.
+use mathlib.Core.Path.{_≡_}
 use mathlib.Core.Bool.{Bool, true, false, _&&_, _||_, cond}
 use mathlib.Core.List.{List, [], _∷_, _++_}
-use Prim.Native.Nat.{ℕ, zero, suc}
+use Prim.Native.Nat.{ℕ, zero, suc, _+_, _-_}
 use lib.Dec.{ltb}
-use lib.ListN.{getD, set, replicate}
+use lib.ListN.{getD, replicate}
 use Rattle.signals.specs.Mask.{_∪_, _∩_, within, apart}
 use Rattle.meaning.specs.Numbers.{noStep}
 use Rattle.meaning.specs.Meaning.{same, Outcome, eqList, Answer, refused, given}
 use Rattle.meaning.specs.Calls.{made}
 use Rattle.meaning.specs.Laws.Bools.{every}
-use Rattle.wiring.specs.Wire.{join}
 use Rattle.search.specs.Table.{neededAt, barredAt, actionAt, backAt, aheadAt, upAt, toAt, countAt, masterAt, slaveStateAt, stateAt}
-use Rattle.search.specs.declared.Trail.{Trail}
+use Rattle.search.specs.Trail.{Trail, trailIn, Keeps}
 use Rattle.search.specs.declared.Found.{Found}
 pub mod Laws
 
@@ -27,10 +27,11 @@ module _ (m s : List ℕ) where
   abbrev pub isAwake : Trail → ℕ → Bool
   isAwake t d = same (getD (t .awake) d 0) 1
 
-  -- chart k, the next to be settled, is active: it stands in no slave, or the slave's master is active and before or after at its state
+  -- Chart k, the next to be settled, is active: it stands in no slave, or the slave's master is active and before or after at its state. A
+  -- master has a lower number than the charts in its slaves.
   unfoldable pub wakes : Trail → ℕ → Bool
   wakes t k =
-      cond (ltb (masterAt s k) 8)
+      cond (ltb (masterAt s k) k)
       (isAwake t (masterAt s k) && (same (stateAt s (masterAt s k)) (slaveStateAt s k) || same (getD (t .next) (masterAt s k) 0) (slaveStateAt s k)))
       true
 
@@ -39,41 +40,38 @@ module _ (m s : List ℕ) where
   taken t k v =
       record {
         low = made 8 (λ c. getD (t .low) c 0 ∪ actionAt m k v ∩ backAt m c k);
-        choice = set (t .choice) k v;
-        next = set (t .next) k (toAt s k v);
-        awake = set (t .awake) k 1;
+        needed = t .needed ++ (neededAt m k v ∷ []);
+        barred = t .barred ++ (barredAt m k v ∷ []);
+        next = t .next ++ (toAt s k v ∷ []);
+        awake = t .awake ++ (1 ∷ []);
+        output = t .output ∪ actionAt m k v ∩ upAt m k;
       }
 
-  -- chart k is inactive: it takes none and keeps its state
+  -- chart k is inactive: it takes none, so that it needs and bars nothing, and keeps its state
   unfoldable pub rested : Trail → ℕ → Trail
   rested t k =
       record {
         low = t .low;
-        choice = t .choice;
-        next = set (t .next) k (stateAt s k);
-        awake = set (t .awake) k 0;
+        needed = t .needed ++ (0 ∷ []);
+        barred = t .barred ++ (0 ∷ []);
+        next = t .next ++ (stateAt s k ∷ []);
+        awake = t .awake ++ (0 ∷ []);
+        output = t .output;
       }
 
   -- Settled chart d can still be met, charts from k on being left: what it needs is in what it may be offered, and what it bars in nothing that
   -- it surely is.
   unfoldable pub passesAt : Trail → ℕ → ℕ → Bool
   passesAt t k d =
-      cond (isAwake t d)
-      (within (neededAt m d (getD (t .choice) d 0)) (getD (t .low) d 0 ∪ aheadAt m k d)
-      && apart (barredAt m d (getD (t .choice) d 0)) (getD (t .low) d 0))
-      true
+      within (getD (t .needed) d 0) (getD (t .low) d 0 ∪ aheadAt m k d) && apart (getD (t .barred) d 0) (getD (t .low) d 0)
 
   -- every chart up to k can still be met
   unfoldable pub fineAt : Trail → ℕ → Bool
   fineAt t k = every (suc k) (passesAt t (suc k))
 
-  -- the output and the next configuration of a choice in which all charts are settled
-  unfoldable pub outputAt : Trail → ℕ
-  outputAt t = join 8 (λ d. cond (isAwake t d) (actionAt m d (getD (t .choice) d 0) ∩ upAt m d) 0)
-
   -- n charts are left, k is the next
   unfoldable pub hunts : ℕ → ℕ → Trail → List Outcome
-  hunts zero k t = record { output = outputAt t; next = t .next } ∷ []
+  hunts zero k t = record { output = t .output; next = t .next ++ replicate (8 - k) 0 } ∷ []
   hunts (suc n) k t =
       cond (wakes t k)
       (each (countAt s k) (λ v. cond (fineAt (taken t k v) k) (hunts n (suc k) (taken t k v)) []))
@@ -104,3 +102,20 @@ nothing = record { has = false; agree = false; output = 0; next = replicate 8 0 
 -- what was found, as the step's answer
 abbrev pub answerIn : Found → Answer
 answerIn f = cond (f .has) (given (f .output) (f .next) (f .agree)) (refused noStep)
+
+-- ── what is lent ──
+
+-- chart k takes its candidate v: the beginning of k charts that stands in w and b stays, and in w′ and b′ stands that of one chart more
+pub record Takes (m s : List ℕ) (k v : ℕ) (w b w′ b′ : List ℕ) : Type 0 where
+  pub kept : Keeps k w b w′ b′
+  pub grown : (o : ℕ) → trailIn w′ b′ (k + 1) (o ∪ actionAt m k v ∩ upAt m k) ≡ taken m s (trailIn w b k o) k v
+
+-- the same where chart k is inactive
+pub record Rests (s : List ℕ) (k : ℕ) (w b w′ b′ : List ℕ) : Type 0 where
+  pub kept : Keeps k w b w′ b′
+  pub grown : (m : List ℕ) (o : ℕ) → trailIn w′ b′ (k + 1) o ≡ rested m s (trailIn w b k o) k
+
+-- a search for the charts left, after f was found, finds r; the beginning stays
+pub record Hunted (m s : List ℕ) (charts left o : ℕ) (f : Found) (w b : List ℕ) (r : Found) (w′ b′ : List ℕ) : Type 0 where
+  pub found : r ≡ over (hunts m s left (charts - left) (trailIn w b (charts - left) o)) f
+  pub kept : Keeps (charts - left) w b w′ b′

@@ -1,3 +1,6 @@
--- The search over tables of masks: what the tables hold (Table), and what the search finds (Hunt).
+-- The search over tables of masks: what the tables hold (Table), what a beginning of a choice is and where it stands (Trail), what the search
+-- finds (Hunt), and what settled charts ask of the next one's action (Asks).
 pub mod Table
+pub mod Trail
 pub mod Hunt
+pub mod Asks

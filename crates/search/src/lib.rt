@@ -1,22 +1,44 @@
 // The search for permitted choices over tables of masks: it settles one chart after another until none is left. It knows no file.
 ghost use mathlib.Core.Path.{_≡_};
 ghost use mathlib.Core.Bool.{true, _&&_, not, cond};
-ghost use mathlib.Core.List.{List};
+ghost use mathlib.Core.List.{List, _++_};
 ghost use Prim.Native.Nat.{ℕ, _+_, _-_, _*_, _≤_, _<_};
-ghost use lib.ListN.{length, getD};
+ghost use lib.ListN.{length, getD, replicate};
 ghost use Rattle.signals.specs.Mask.{_∪_, _∩_, within, apart};
-ghost use Rattle.meaning.specs.Meaning.{same, eqList};
+ghost use Rattle.meaning.specs.Meaning.{eqList};
 ghost use Rattle.meaning.specs.Calls.{made};
-ghost use Rattle.search.specs.Table.{Tables, neededAt, barredAt, actionAt, backAt, aheadAt, upAt};
-ghost use Rattle.search.specs.Hunt.{wakes, taken, rested, fineAt, outputAt, hunts, settleOf, over};
+ghost use Rattle.search.specs.Table.{Tables, actionAt, backAt, upAt};
+ghost use Rattle.search.specs.Trail.{trailIn, beginning, lowIn, nextIn, Room, RowPut, Lowers};
+ghost use Rattle.search.specs.Hunt.{wakes, fineAt, taken, settleOf, hunts, over, nothing, Takes, Rests, Hunted};
+ghost use Rattle.search.specs.Asks.{asksOf};
 
-// A beginning of a choice: what each chart is surely offered, and of each settled chart its candidate, its next state, and 1 if it is active.
-pub struct Trail {
-    pub low: [u64; 8],
-    pub choice: [u8; 8],
-    pub next: [u8; 8],
-    pub awake: [u8; 8],
-}
+// Where a search's tables have what it reads (specs/Table.antt). Among the masks: what candidates need, from 0 on, what they bar and put out; what
+// each chart is offered of a chart's action, and what it may still be; what comes out of the whole.
+const BARRED: usize = 64;
+
+const ACTION: usize = 128;
+
+const BACK: usize = 192;
+
+const AHEAD: usize = 256;
+
+const UP: usize = 328;
+
+// Among the small numbers: where candidates lead, from 0 on, and how many there are; the nearest slave's master and state; the present state.
+const COUNT: usize = 64;
+
+const MASTER: usize = 72;
+
+const SLAVE_STATE: usize = 80;
+
+const STATE: usize = 88;
+
+// The masks that a trail has for a chart, and where among them what the chart needs and bars is (specs/Trail.antt).
+const WIDTH: usize = 10;
+
+const NEEDS: usize = 8;
+
+const BARS: usize = 9;
 
 // What was found so far: the first permitted choice's outcome, if there is one, and whether all others agree with it.
 pub struct Found {
@@ -26,19 +48,25 @@ pub struct Found {
     pub next: [u8; 8],
 }
 
-// Whether chart k, the next to be settled, is active. A master's number from 8 on is none.
-fn wakes(small: &[u8], t: Trail, k: usize) -> bool
+// Signals that have to be in a set, and signals that must not be in it.
+pub struct Guard {
+    pub needed: u64,
+    pub barred: u64,
+}
+
+// Whether chart k, the next to be settled, is active. A master's number from k on is none.
+fn wakes(small: &[u8], moves: &[u8; 16], k: usize) -> bool
     requires { ⌜ (length (now small) ≡ 96) × (k < 8) ⌝ }
-    ensures { λ r. ⌜ ((m : List ℕ) → r ≡ wakes m (now (small .entry)) t k) ⌝ }
+    ensures { λ r. ⌜ ((m w : List ℕ) (o : ℕ) → r ≡ wakes m (now (small .entry)) (trailIn w (now (moves .entry)) k o) k) ⌝ }
 {
-    let master = small[72 + k] as usize;
-    if master < 8 {
-        if t.awake[master] != 1 {
+    let master = small[MASTER + k] as usize;
+    if master < k {
+        if moves[2 * master + 1] != 1 {
             return false;
         }
-        let state = small[80 + k];
-        let before = small[88 + master];
-        let after = t.next[master];
+        let state = small[SLAVE_STATE + k];
+        let before = small[STATE + master];
+        let after = moves[2 * master];
         if before == state {
             return true;
         }
@@ -47,115 +75,145 @@ fn wakes(small: &[u8], t: Trail, k: usize) -> bool
     true
 }
 
-// What each chart is surely offered once chart k has this action.
-fn lower(masks: &[u64], low: [u64; 8], action: u64, k: usize) -> [u64; 8]
-    requires { ⌜ (length (now masks) ≡ 336) × (k < 8) ⌝ }
-    ensures { λ r. ⌜ r ≡ made 8 (λ c. getD low c 0 ∪ action ∩ backAt (now (masks .entry)) c k) ⌝ }
+// Whether a guard holds, where what is surely offered is low and what may be offered is high.
+fn holds(g: Guard, low: u64, high: u64) -> bool
+    ensures { λ r. ⌜ r ≡ (within (g .needed) high && apart (g .barred) low) ⌝ }
 {
-    let mut lows = low;
+    if !signals::within(g.needed, high) {
+        return false;
+    }
+    signals::apart(g.barred, low)
+}
+
+// What the charts below k ask of chart k's action: what only it can put in for them, and what it must not. It contradicts itself where one of them
+// cannot be met whatever the action is.
+fn asks(masks: &[u64], trail: &[u64; 88], k: usize) -> Guard
+    requires { ⌜ (length (now masks) ≡ 336) × (k < 8) ⌝ }
+    ensures { λ r. ⌜ r ≡ asksOf (now (masks .entry)) (now (trail .entry)) k ⌝ }
+{
+    let mut needed: u64 = 0;
+    let mut barred: u64 = 0;
+    let mut d: usize = 0;
+    while d < k {
+        let low = trail[WIDTH * k + d];
+        let back = masks[BACK + (8 * k + d)];
+        let lacks = signals::less(
+            trail[WIDTH * d + NEEDS],
+            low | masks[AHEAD + (8 * (k + 1) + d)],
+        );
+        let bars = trail[WIDTH * d + BARS];
+        needed = needed | (lacks | bars & low);
+        barred = barred | (signals::less(lacks, back) | bars & (low | back));
+        d += 1;
+    }
+    Guard { needed, barred }
+}
+
+// Whether chart k may take its candidate v: its own guard and what the charts before it ask of its action can still be met.
+fn fits(masks: &[u64], trail: &[u64; 88], asked: Guard, k: usize, v: usize) -> bool
+    requires { ⌜ (length (now masks) ≡ 336) × (k < 8) × (v < 8) × (asked ≡ asksOf (now masks) (now trail) k) ⌝ }
+    ensures { λ r. ⌜ ((s b : List ℕ) (o : ℕ) →
+        r ≡ fineAt (now (masks .entry)) s (taken (now (masks .entry)) s (trailIn (now (trail .entry)) b k o) k v) k) ⌝ }
+{
+    let action = masks[ACTION + (8 * k + v)];
+    if !holds(asked, action, action) {
+        return false;
+    }
+    let own = Guard {
+        needed: masks[8 * k + v],
+        barred: masks[BARRED + (8 * k + v)],
+    };
+    let low = trail[WIDTH * k + k] | action & masks[BACK + (8 * k + k)];
+    holds(own, low, low | masks[AHEAD + (8 * (k + 1) + k)])
+}
+
+// What each chart is surely offered once chart k has this action. It is a row of its own, so that its masks are computed side by side.
+fn lowered(masks: &[u64], trail: &[u64; 88], action: u64, k: usize) -> [u64; 8]
+    requires { ⌜ (length (now masks) ≡ 336) × (k < 8) ⌝ }
+    ensures { λ r. ⌜ r ≡ made 8 (λ c. lowIn (now (trail .entry)) k c ∪ action ∩ backAt (now (masks .entry)) c k) ⌝ }
+{
+    let mut row = [0u64; 8];
     let mut c: usize = 0;
     while c < 8 {
-        lows[c] = lows[c] | action & masks[192 + (8 * k + c)];
+        row[c] = trail[WIDTH * k + c] | action & masks[BACK + (8 * k + c)];
         c += 1;
     }
-    lows
+    row
+}
+
+// Puts what each chart is surely offered before chart k is settled.
+fn put_row(trail: &mut [u64; 88], row: [u64; 8], k: usize)
+    requires { ⌜ (length (now trail) ≡ 88) × (k ≤ 8) ⌝ }
+    ensures { λ _. ⌜ RowPut k row (now (trail .entry)) (now (trail .exit)) ⌝ }
+{
+    let mut c: usize = 0;
+    while c < 8 {
+        trail[WIDTH * k + c] = row[c];
+        c += 1;
+    }
+}
+
+// Chart k has this action.
+fn lower(masks: &[u64], trail: &mut [u64; 88], action: u64, k: usize)
+    requires { ⌜ (length (now masks) ≡ 336) × (length (now trail) ≡ 88) × (k < 8) ⌝ }
+    ensures { λ _. ⌜ Lowers (now (masks .entry)) action k (now (trail .entry)) (now (trail .exit)) ⌝ }
+{
+    let row = lowered(masks, trail, action, k);
+    put_row(trail, row, k + 1);
 }
 
 // Chart k takes its candidate v.
-fn taken(masks: &[u64], small: &[u8], t: Trail, k: usize, v: usize) -> Trail
-    requires { ⌜ (length (now masks) ≡ 336) × (length (now small) ≡ 96) × (k < 8) × (v < 8) ⌝ }
-    ensures { λ r. ⌜ r ≡ taken (now (masks .entry)) (now (small .entry)) t k v ⌝ }
+fn take(
+    masks: &[u64],
+    small: &[u8],
+    trail: &mut [u64; 88],
+    moves: &mut [u8; 16],
+    k: usize,
+    v: usize,
+)
+    requires { ⌜ (length (now masks) ≡ 336) × (length (now small) ≡ 96) × Room (now trail) (now moves) × (k < 8) × (v < 8) ⌝ }
+    ensures { λ _. ⌜ Takes (now (masks .entry)) (now (small .entry)) k v (now (trail .entry)) (now (moves .entry))
+        (now (trail .exit)) (now (moves .exit)) ⌝ }
 {
-    let old = t.low;
-    let low = lower(masks, old, masks[128 + (8 * k + v)], k);
-    let mut choice = t.choice;
-    choice[k] = v as u8;
-    let mut next = t.next;
-    next[k] = small[8 * k + v];
-    let mut awake = t.awake;
-    awake[k] = 1;
-    Trail {
-        low,
-        choice,
-        next,
-        awake,
-    }
+    trail[WIDTH * k + NEEDS] = masks[8 * k + v];
+    trail[WIDTH * k + BARS] = masks[BARRED + (8 * k + v)];
+    moves[2 * k] = small[8 * k + v];
+    moves[2 * k + 1] = 1;
+    lower(masks, trail, masks[ACTION + (8 * k + v)], k);
 }
 
 // Chart k is inactive: it takes none and keeps its state.
-fn rested(small: &[u8], t: Trail, k: usize) -> Trail
-    requires { ⌜ (length (now small) ≡ 96) × (k < 8) ⌝ }
-    ensures { λ r. ⌜ ((m : List ℕ) → r ≡ rested m (now (small .entry)) t k) ⌝ }
+fn rest(masks: &[u64], small: &[u8], trail: &mut [u64; 88], moves: &mut [u8; 16], k: usize)
+    requires { ⌜ (length (now masks) ≡ 336) × (length (now small) ≡ 96) × Room (now trail) (now moves) × (k < 8) ⌝ }
+    ensures { λ _. ⌜ Rests (now (small .entry)) k (now (trail .entry)) (now (moves .entry)) (now (trail .exit)) (now (moves .exit)) ⌝ }
 {
-    let low = t.low;
-    let choice = t.choice;
-    let mut next = t.next;
-    next[k] = small[88 + k];
-    let mut awake = t.awake;
-    awake[k] = 0;
-    Trail {
-        low,
-        choice,
-        next,
-        awake,
-    }
+    trail[WIDTH * k + NEEDS] = 0;
+    trail[WIDTH * k + BARS] = 0;
+    moves[2 * k] = small[STATE + k];
+    moves[2 * k + 1] = 0;
+    lower(masks, trail, 0, k);
 }
 
-// Whether chart d, settled by its candidate v and surely offered low, can still be met, charts from k on being left (`passesAt`).
-fn passes(masks: &[u64], awake: u8, v: u8, low: u64, k: usize, d: usize) -> bool
-    requires { ⌜ (length (now masks) ≡ 336) × (k ≤ 8) × (d < 8) × (v < 8) ⌝ }
-    ensures { λ r. ⌜ r ≡ cond (same awake 1)
-        (within (neededAt (now (masks .entry)) d v) (low ∪ aheadAt (now (masks .entry)) k d) && apart (barredAt (now (masks .entry)) d v) low)
-        true ⌝ }
+// What comes out of the whole once chart k takes its candidate v.
+fn shown(masks: &[u64], output: u64, k: usize, v: usize) -> u64
+    requires { ⌜ (length (now masks) ≡ 336) × (k < 8) × (v < 8) ⌝ }
+    ensures { λ r. ⌜ r ≡ output ∪ actionAt (now (masks .entry)) k v ∩ upAt (now (masks .entry)) k ⌝ }
 {
-    if awake != 1 {
-        return true;
-    }
-    let at = 8 * d + v as usize;
-    if !signals::within(masks[at], low | masks[256 + (8 * k + d)]) {
-        return false;
-    }
-    signals::apart(masks[64 + at], low)
+    output | masks[ACTION + (8 * k + v)] & masks[UP + k]
 }
 
-// Whether every chart up to k, the last that was settled, can still be met. The last is tested first: it fails most often.
-fn fine(masks: &[u64], t: Trail, k: usize) -> bool
-    requires { ⌜ (length (now masks) ≡ 336) × (k < 8) × ((c : ℕ) → getD (t .choice) c 0 < 8) ⌝ }
-    ensures { λ r. ⌜ ((s : List ℕ) → r ≡ fineAt (now (masks .entry)) s t k) ⌝ }
+// The next states of all charts, and 0 behind them.
+fn states(moves: &[u8; 16], charts: usize) -> [u8; 8]
+    requires { ⌜ charts ≤ 8 ⌝ }
+    ensures { λ r. ⌜ r ≡ made charts (nextIn (now (moves .entry))) ++ replicate (8 - charts) 0 ⌝ }
 {
-    let mut d = k + 1;
-    while d > 0 {
-        d -= 1;
-        if !passes(masks, t.awake[d], t.choice[d], t.low[d], k + 1, d) {
-            return false;
-        }
-    }
-    true
-}
-
-// What comes out of the whole of the action of chart d, settled by its candidate v.
-fn shown(masks: &[u64], awake: u8, v: u8, d: usize) -> u64
-    requires { ⌜ (length (now masks) ≡ 336) × (d < 8) × (v < 8) ⌝ }
-    ensures { λ r. ⌜ r ≡ cond (same awake 1) (actionAt (now (masks .entry)) d v ∩ upAt (now (masks .entry)) d) 0 ⌝ }
-{
-    if awake != 1 {
-        return 0;
-    }
-    masks[128 + (8 * d + v as usize)] & masks[328 + d]
-}
-
-// What comes out of the whole, all charts being settled.
-fn output(masks: &[u64], t: Trail) -> u64
-    requires { ⌜ (length (now masks) ≡ 336) × ((c : ℕ) → getD (t .choice) c 0 < 8) ⌝ }
-    ensures { λ r. ⌜ ((s : List ℕ) → r ≡ outputAt (now (masks .entry)) s t) ⌝ }
-{
-    let mut all: u64 = 0;
+    let mut next = [0u8; 8];
     let mut d: usize = 0;
-    while d < 8 {
-        all = all | shown(masks, t.awake[d], t.choice[d], d);
+    while d < charts {
+        next[d] = moves[2 * d];
         d += 1;
     }
-    all
+    next
 }
 
 // Whether two configurations are equal.
@@ -173,32 +231,26 @@ fn same_states(a: [u8; 8], b: [u8; 8]) -> bool
 }
 
 // One outcome more.
-fn settle(masks: &[u64], t: Trail, acc: Found) -> Found
-    requires { ⌜ (length (now masks) ≡ 336) × ((c : ℕ) → getD (t .choice) c 0 < 8) ⌝ }
-    ensures { λ r. ⌜ ((s : List ℕ) → r ≡ settleOf (record { output = outputAt (now (masks .entry)) s t; next = t .next }) acc) ⌝ }
+fn settle(output: u64, next: [u8; 8], acc: Found) -> Found
+    ensures { λ r. ⌜ r ≡ settleOf (record { output = output; next = next }) acc ⌝ }
 {
-    let out = output(masks, t);
-    let next = t.next;
     if !acc.has {
         return Found {
             has: true,
             agree: true,
-            output: out,
+            output,
             next,
         };
     }
     let first = acc.next;
-    if out == acc.output {
+    if output == acc.output {
         if same_states(next, first) {
             return acc;
         }
     }
-    Found {
-        has: true,
-        agree: false,
-        output: acc.output,
-        next: first,
-    }
+    let mut both = acc;
+    both.agree = false;
+    both
 }
 
 // Whether two permitted choices that disagree were found: then nothing more can change.
@@ -208,41 +260,82 @@ fn disagree(f: Found) -> bool
     f.has & !f.agree
 }
 
-// What the charts left to be settled give, from chart charts - left on, joined to what was found before.
-pub fn search(
+// What the charts left to be settled give, from chart charts - left on, joined to what was found before. The charts before it stand in `trail` and
+// `moves`, and stay there; what it writes stands behind them. So that nothing is copied, both are lent.
+fn hunt(
     masks: &[u64],
     small: &[u8],
+    trail: &mut [u64; 88],
+    moves: &mut [u8; 16],
     charts: usize,
     left: usize,
-    t: Trail,
+    output: u64,
     acc: Found,
 ) -> Found
-    requires { ⌜ Tables charts (now masks) (now small) × (charts ≤ 8) × (left ≤ charts) × ((c : ℕ) → getD (t .choice) c 0 < 8) ⌝ }
-    ensures { λ r. ⌜ r ≡ over (hunts (now (masks .entry)) (now (small .entry)) left (charts - left) t) acc ⌝ }
+    requires { ⌜ Tables charts (now masks) (now small) × Room (now trail) (now moves) × (charts ≤ 8) × (left ≤ charts) ⌝ }
+    ensures { λ r. ⌜ Hunted (now (masks .entry)) (now (small .entry)) charts left output acc (now (trail .entry)) (now (moves .entry))
+        r (now (trail .exit)) (now (moves .exit)) ⌝ }
 {
     if left == 0 {
-        return settle(masks, t, acc);
+        return settle(output, states(moves, charts), acc);
     }
     let k = charts - left;
-    if !wakes(small, t, k) {
-        let next = rested(small, t, k);
-        if fine(masks, next, k) {
-            return search(masks, small, charts, left - 1, next, acc);
-        }
+    let asked = asks(masks, trail, k);
+    if !signals::apart(asked.needed, asked.barred) {
         return acc;
     }
-    let n = small[64 + k] as usize;
+    if !wakes(small, moves, k) {
+        if asked.needed != 0 {
+            return acc;
+        }
+        rest(masks, small, trail, moves, k);
+        return hunt(masks, small, trail, moves, charts, left - 1, output, acc);
+    }
+    let n = small[COUNT + k] as usize;
     let mut found = acc;
     let mut v: usize = 0;
     while v < n {
-        if disagree(found) {
-            return found;
-        }
-        let next = taken(masks, small, t, k, v);
-        if fine(masks, next, k) {
-            found = search(masks, small, charts, left - 1, next, found);
+        if fits(masks, trail, asked, k, v) {
+            take(masks, small, trail, moves, k, v);
+            let more = shown(masks, output, k, v);
+            found = hunt(masks, small, trail, moves, charts, left - 1, more, found);
+            if disagree(found) {
+                return found;
+            }
         }
         v += 1;
     }
     found
+}
+
+// Nothing found yet.
+pub fn none() -> Found
+    ensures { λ r. ⌜ r ≡ nothing ⌝ }
+{
+    Found {
+        has: false,
+        agree: false,
+        output: 0,
+        next: [0; 8],
+    }
+}
+
+// What a search over the charts finds, where low is what each is surely offered of the input.
+pub fn search(masks: &[u64], small: &[u8], charts: usize, low: [u64; 8]) -> Found
+    requires { ⌜ Tables charts (now masks) (now small) × (charts ≤ 8) ⌝ }
+    ensures { λ r. ⌜ r ≡ over (hunts (now (masks .entry)) (now (small .entry)) charts 0 (beginning low)) nothing ⌝ }
+{
+    let mut trail = [0u64; 88];
+    let mut moves = [0u8; 16];
+    put_row(&mut trail, low, 0);
+    hunt(
+        masks,
+        small,
+        &mut trail,
+        &mut moves,
+        charts,
+        charts,
+        0,
+        none(),
+    )
 }

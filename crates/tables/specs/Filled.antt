@@ -5,7 +5,7 @@ use mathlib.Core.Option.{Option, none, some}
 use mathlib.Core.List.{List, [], _∷_}
 use mathlib.Core.Logic.{_≢_}
 use Prim.Native.Nat.{ℕ, zero, suc, _-_, _≤_, _<_}
-use lib.ListN.{length, getD, take, replicate}
+use lib.ListN.{length, getD, take}
 use Rattle.signals.specs.Mask.{_∪_, _∩_}
 use Rattle.layout.specs.declared.record.Transition.{Transition}
 use Rattle.meaning.specs.Meaning.{Set, Chart, Tree, nth, Answer, refused, given}
@@ -14,7 +14,6 @@ use Rattle.wiring.specs.Sure.{surely}
 use Rattle.wiring.specs.Dropped.{ahead}
 use Rattle.search.specs.Table.{neededAt, barredAt, actionAt, backAt, aheadAt, upAt, toAt, countAt, masterAt, slaveStateAt, stateAt}
 use Rattle.search.specs.Hunt.{answerIn}
-use Rattle.search.specs.declared.Trail.{Trail}
 use Rattle.search.specs.declared.Found.{Found}
 
 module _ (m s : List ℕ) where
@@ -59,10 +58,6 @@ module _ (E : ℕ → Chart) (cfg : ℕ → ℕ) (N : ℕ) (enc : ℕ → Option
   -- what each chart is surely offered before any is settled: of the input, and of what charts surely put out
   abbrev pub Lows : List ℕ → Type 0
   Lows lows = (c : ℕ) → c < N → getD lows c 0 ≡ inp ∩ down t c ∪ join N (λ e. surely enc E cfg e ∩ back E t c e)
-
--- no chart is settled; low is what each is surely offered
-unfoldable pub beginning : List ℕ → Trail
-beginning low = record { low = low; choice = replicate 8 0; next = replicate 8 0; awake = replicate 8 0 }
 
 -- the answer with the states of N charts
 unfoldable pub trimmed : ℕ → Answer → Answer

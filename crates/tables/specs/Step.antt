@@ -15,8 +15,9 @@ use Rattle.meaning.specs.Laws.Trees.{Ordered, Rule11}
 use Rattle.meaning.specs.Laws.Names.{Rule10, kap}
 use Rattle.wiring.specs.Wire.{down, Small}
 use Rattle.wiring.specs.Stand.{stands}
+use Rattle.search.specs.Trail.{beginning}
 use Rattle.search.specs.Hunt.{hunts, over, nothing}
-use Rattle.tables.specs.Filled.{Rows, Lows, beginning, answerOf, trimmed}
+use Rattle.tables.specs.Filled.{Rows, Lows, answerOf, trimmed}
 use Rattle.tables.specs.Fill.{Chosen, Raised, stuck}
 use Rattle.tables.specs.Fill.Laws.{candidates, lows-are, hunts-stuck}
 use Rattle.tables.specs.Whole.{found-is}
@@ -37,4 +38,4 @@ module _ (F : File) (some-node : 0 < F .nodes) (w : Ordered F) (r : Rule10 F) (r
 
   pub step-stuck : stuck s (F .charts) ≡ true → stepIn F config inp ≡ refused noStep
   unfolding over trimmed
-  step-stuck h = sym step-found ∙ ap (λ os. answerOf (F .charts) (over os nothing)) (hunts-stuck m s (F .charts) (beginning lows) h)
+  step-stuck h = sym step-found ∙ ap (λ os. answerOf (F .charts) (over os nothing)) (hunts-stuck m s (F .charts) (beginning lows) (ro .few) h)

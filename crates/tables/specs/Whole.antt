@@ -7,7 +7,7 @@ use mathlib.Core.Logic.{_≢_}
 use Prim.Native.Nat.{ℕ, zero, suc, _+_, _-_, _≤_, _<_}
 use native.Mathlib.Omega.{arith}
 use native.Mathlib.Decide.{decLt}
-use lib.ListN.{length, getD, replicate, length-replicate, getD-replicate}
+use lib.ListN.{length, getD, replicate}
 use Rattle.signals.specs.Mask.{_∪_, _∩_, _∖_, Within}
 use Rattle.signals.specs.Decide.{sets, A, B, C, ∅ₑ, _∪ₑ_, _≐_, _⊑_}
 use Rattle.layout.specs.declared.record.Transition.{Transition}
@@ -26,10 +26,10 @@ use Rattle.wiring.specs.Hunt.{opens, fine, hunt, hunted-all, mayOf, may-of}
 use Rattle.wiring.specs.Filter.{lasts, kept}
 use Rattle.wiring.specs.Stand.{stands}
 use Rattle.search.specs.Table.{actionAt, countAt}
+use Rattle.search.specs.Trail.{Trail, beginning}
 use Rattle.search.specs.Hunt.{each, wakes, taken, rested, fineAt, hunts, over, nothing}
 use Rattle.search.specs.Hunt.Laws.{among-each}
-use Rattle.search.specs.declared.Trail.{Trail}
-use Rattle.tables.specs.Filled.{Is, Listed, start, other, fails, again, fresh, mayAt, Rows, Candidates, Lows, beginning, answerOf}
+use Rattle.tables.specs.Filled.{Is, Listed, start, other, fails, again, fresh, mayAt, Rows, Candidates, Lows, answerOf}
 use Rattle.tables.specs.Padded.{Padded, padded-none, padded-one, padded-append, padded-nothing, padded-again, Sizes, found}
 use Rattle.tables.specs.Follow.{Follows, moves-on, wakes-is, taken-follows, rested-follows, fine-is, output-is, next-is}
 
@@ -38,12 +38,6 @@ unfolding open? nth
 taking q [] p l = absurd (omega arith)
 taking q (t ∷ ts) zero l = refl
 taking q (t ∷ ts) (suc p) l = taking q ts p (omega arith)
-
-getD-zeros : (n d : ℕ) → getD (replicate n zero) d zero ≡ zero
-getD-zeros zero zero = refl
-getD-zeros zero (suc d) = refl
-getD-zeros (suc n) zero = refl
-getD-zeros (suc n) (suc d) = getD-zeros n d
 
 join-at : (n : ℕ) (f : ℕ → Set) (v : ℕ) → v < n → Within (f v) (join n f)
 unfolding join
@@ -185,7 +179,8 @@ module _ (E : ℕ → Chart) (state : ℕ → ℕ) (cfg : ℕ → ℕ) (N : ℕ)
   simulate : (n k : ℕ) (t : Trail) (ch : ℕ → ℕ) → n + k ≡ N → Follow t k ch → Padded N (hunts m s n k t) (huntOf n k ch)
   unfolding hunts hunt
   simulate zero k t ch e f = let q : k ≡ N = omega arith in let g : Follow t N ch = subst (λ z. Follow t z ch) q f in
-      padded-one N _ _ (output-is E state cfg N enc sc tree inp m s st ro t ch g (sa ch)) (next-is E state cfg N enc sc tree inp m s st ro t ch g)
+      padded-one N _ _ (output-is E state cfg N enc sc tree inp m s st ro t ch g (sa ch))
+      (ap₂ (λ (x : List ℕ) (z : ℕ). x ++ replicate (8 - z) 0) (next-is E state cfg N enc sc tree inp m s st ro t ch g) q)
   simulate (suc n) k t ch e f = go (wakes m s t k) refl (simulate n (suc k))
     where
       e′ : n + suc k ≡ N
@@ -204,11 +199,11 @@ module _ (E : ℕ → Chart) (state : ℕ → ℕ) (cfg : ℕ → ℕ) (N : ℕ)
             (C ≐ ∅ₑ ∷ []) (A ∪ₑ B ≐ B ∪ₑ (A ∪ₑ C)) tt (unfold join in refl);
         shows = λ d l. absurd (omega arith);
         active = λ d l. absurd (omega arith);
-        still = λ d l. getD-zeros 8 d;
-        asleep = λ d l. getD-zeros 8 d;
-        choices = refl;
-        nextsize = refl;
-        awakes = refl;
+        output = unfold join in refl;
+        all-needed = refl;
+        all-barred = refl;
+        all-next = refl;
+        all-awake = refl;
       }
 
   module _ (si : Small inp) (kept : (ch : ℕ → ℕ) → permitted E state cfg (moves E ch) tree inp ≡ true → (c : ℕ) → c < N → keep c (ch c) ≡ true) where

@@ -24,9 +24,10 @@ use Rattle.meaning.specs.Check.Nodes.{sound}
 use Rattle.meaning.specs.Calls.{configTests, stepRefusal, stepIn, stepOf, nextIn}
 use Rattle.meaning.specs.Laws.Names.{kap}
 use Rattle.wiring.specs.Wire.{Small, full, down}
+use Rattle.search.specs.Trail.{beginning}
 use Rattle.search.specs.Hunt.{hunts, over, nothing}
 use Rattle.search.specs.declared.Found.{Found}
-use Rattle.tables.specs.Filled.{Rows, beginning, answerOf, trimmed}
+use Rattle.tables.specs.Filled.{Rows, answerOf, trimmed}
 use Rattle.tables.specs.Fill.{stuck}
 use Rattle.tables.specs.Step.{step-found, step-stuck}
 use Rattle.checks.specs.Known.{Sized}

@@ -21,7 +21,7 @@ module _ (o : ℕ) (next : List ℕ) (acc : Found) where
   again h e q = rw (h, eq-eqb o (acc .output) e, q)
 
   abbrev Differs : Type 0
-  Differs = record { has = true; agree = false; output = acc .output; next = acc .next } ≡ settleOf (record { output = o; next = next }) acc
+  Differs = record { has = acc .has; agree = false; output = acc .output; next = acc .next } ≡ settleOf (record { output = o; next = next }) acc
 
   other-next : acc .has ≡ true → eqList next (acc .next) ≡ false → Differs
   unfolding settleOf same
@@ -32,24 +32,20 @@ module _ (o : ℕ) (next : List ℕ) (acc : Found) where
   other-output h e = rw (h, ne-eqb o (acc .output) e)
 
 returns : tie.Need-returns
-returns c s = rw (← c .before .before .before .output .ensures s) (first _ _ _ (not-true _ (c .if1 .taken)))
+returns c = first _ _ _ (not-true _ (c .if1 .taken))
 
 returns-2 : tie.Need-returns-2
-returns-2 c s =
-    rw (← c .before .before .before .before .before .before .before .before .output .ensures s)
-    (again _ _ _ (not-false _ (c .before .before .before .before .before .if1 .left)) (c .before .before .if2 .taken)
-    (sym (c .before .same-states .ensures) ∙ c .if3 .taken))
+returns-2 c =
+    let e = c .before .before in
+    again _ _ _ (not-false _ (e .before .before .before .if1 .left)) (e .if2 .taken) (sym (c .before .same-states .ensures) ∙ c .if3 .taken)
 
 returns-3 : tie.Need-returns-3
-returns-3 c s =
-    rw (← c .before .before .before .before .before .before .before .before .output .ensures s)
-    (other-next _ _ _ (not-false _ (c .before .before .before .before .before .if1 .left)) (sym (c .before .same-states .ensures) ∙ c .if3 .left))
+returns-3 c =
+    let e = c .before .before in
+    other-next _ _ _ (not-false _ (e .before .before .before .if1 .left)) (sym (c .before .same-states .ensures) ∙ c .if3 .left)
 
 returns-4 : tie.Need-returns-4
-returns-4 c s =
-    rw (← c .before .before .before .before .before .before .output .ensures s)
-    (other-output _ _ _ (not-false _ (c .before .before .before .if1 .left)) (c .if2 .left))
+returns-4 c = other-output _ _ _ (not-false _ (c .before .before .before .if1 .left)) (c .if2 .left)
 
 pub settle-spec : {M : Type 1} → statement M
-settle-spec =
-    tie.close (tie.spec (λ c κs. search needs) returns (λ c κs. search needs) returns-2 returns-3 returns-4)
+settle-spec = tie.close (tie.spec returns (λ c κs. search needs) returns-2 returns-3 returns-4)

@@ -51,6 +51,11 @@ over-stopped (o ∷ os) f h = rw (settle-stopped o f h) (over-stopped os f h)
 
 -- ── each ──
 
+pub each-none : (n : ℕ) (f : ℕ → List Outcome) → ((v : ℕ) → v < n → f v ≡ []) → each n f ≡ []
+unfolding each
+each-none zero f h = refl
+each-none (suc n) f h = rw (each-none n f (λ v l. h v (omega arith)), h n (omega arith))
+
 module _ (f : ℕ → List Outcome) (acc : Found) where
   -- one block more, as code counts
   pub over-each : (n : ℕ) → over (each (n + 1) f) acc ≡ over (f n) (over (each n f) acc)

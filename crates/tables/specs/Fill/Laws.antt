@@ -27,8 +27,9 @@ use Rattle.wiring.specs.Hunt.{mayOf}
 use Rattle.wiring.specs.Filter.{lasts}
 use Rattle.wiring.specs.Sure.{sureOf, surely, outside}
 use Rattle.search.specs.Table.{neededAt, barredAt, actionAt, backAt, aheadAt, toAt, countAt, masterAt, stateAt}
+use Rattle.search.specs.Trail.{Trail}
 use Rattle.search.specs.Hunt.{each, wakes, taken, rested, fineAt, hunts}
-use Rattle.search.specs.declared.Trail.{Trail}
+use Rattle.search.specs.Hunt.Laws.{each-none}
 use Rattle.tables.specs.Filled.{Is, Listed, start, other, fails, again, fresh, mayAt, Rows, Candidates, Lows}
 use Rattle.tables.specs.Fill.{lastsBy, othersAt, sureAt, Raised, Filling, isAt, isAgain, putMasks, putSmall, put, pickFilling, considered, listing, keepAt, Until, Chosen, AheadRow, aheadBy, AheadFrom, stuck}
 
@@ -509,12 +510,7 @@ module _ (E : ℕ → Chart) (state : ℕ → ℕ) (cfg : ℕ → ℕ) (N : ℕ)
 
 -- ── no search is needed ──
 
-each-none : (n : ℕ) (f : ℕ → List Outcome) → ((v : ℕ) → v < n → f v ≡ []) → each n f ≡ []
-unfolding each
-each-none zero f h = refl
-each-none (suc n) f h = rw (each-none n f (λ v l. h v (omega arith)), h n (omega arith))
-
-module _ (m s : List ℕ) (c : ℕ) (z : countAt s c ≡ 0) (o : 8 ≤ masterAt s c) where
+module _ (m s : List ℕ) (c : ℕ) (z : countAt s c ≡ 0) (o : c ≤ masterAt s c) where
   -- a chart that is surely active and has no candidate: nothing is found
   hunts-none : (n k : ℕ) (t : Trail) → k ≤ c → c < n + k → hunts m s n k t ≡ []
   unfolding hunts each wakes
@@ -534,12 +530,13 @@ module _ (m s : List ℕ) (c : ℕ) (z : countAt s c ≡ 0) (o : 8 ≤ masterAt 
 
       go : (b : Bool) → same k c ≡ b → ((t′ : Trail) → suc k ≤ c → c < n + suc k → hunts m s n (suc k) t′ ≡ [])
           → cond (wakes m s t k) (each (countAt s k) (λ v. block (taken m s t k v))) (block (rested m s t k)) ≡ []
-      go true e ih = rw (same→≡ k c e, le-ltb (masterAt s c) 8 o, z)
+      go true e ih = rw (same→≡ k c e, le-ltb (masterAt s c) c o, z)
       go false e ih = let w : k ≢ c = λ x. false≢true (sym e ∙ rw x (same-refl c)) in
           let end : (t′ : Trail) → block t′ ≡ [] = λ t′. both (fineAt m s t′ k) (hunts m s n (suc k) t′) (ih t′ (omega arith) (omega arith)) in
           either (wakes m s t k) _ _ (each-none (countAt s k) _ (λ v l. end (taken m s t k v))) (end (rested m s t k))
 
-pub hunts-stuck : (m s : List ℕ) (N : ℕ) (t : Trail) → stuck s N ≡ true → hunts m s N 0 t ≡ []
+pub hunts-stuck : (m s : List ℕ) (N : ℕ) (t : Trail) → N ≤ 8 → stuck s N ≡ true → hunts m s N 0 t ≡ []
 unfolding stuck
-hunts-stuck m s N t h = let u = any-one N (λ c. same (countAt s c) 0 && not (ltb (masterAt s c) 8)) h in let l = u .1 in
-    hunts-none m s (u .0) (same→≡ (countAt s (u .0)) 0 (and-l _ _ (u .2))) (ltb-false (masterAt s (u .0)) 8 (tests-not-true (ltb (masterAt s (u .0)) 8) (and-r (same (countAt s (u .0)) 0) _ (u .2)))) N 0 t (omega arith) (omega arith)
+hunts-stuck m s N t few h = let u = any-one N (λ c. same (countAt s c) 0 && not (ltb (masterAt s c) 8)) h in let l = u .1 in
+    let o = ltb-false (masterAt s (u .0)) 8 (tests-not-true (ltb (masterAt s (u .0)) 8) (and-r (same (countAt s (u .0)) 0) _ (u .2))) in
+    hunts-none m s (u .0) (same→≡ (countAt s (u .0)) 0 (and-l _ _ (u .2))) (omega arith) N 0 t (omega arith) (omega arith)

@@ -1,0 +1,435 @@
+-- `search::hunt` meets its contract. It ends since `left` falls at each call; its loop has been through the candidates below v, and may stop
+-- where two permitted choices disagree, since nothing more can change. What it writes stands behind the beginning that it was given.
+use mathlib.Core.Path.{_≡_, refl, sym, ap, ap₂, subst₂, _∙_}
+use mathlib.Core.Bool.{Bool, true, false, _&&_, not, cond, and-false}
+use mathlib.Core.List.{List, [], _∷_, _++_}
+use mathlib.Core.Logic.{⊎-elim}
+use Prim.Native.Nat.{ℕ, zero, suc, _+_, _-_, _<_, _≤_}
+use native.Mathlib.Numerals.{add-one, sub-one}
+use native.Mathlib.Omega.{arith}
+use borrow.Author.Needs.{needs}
+use borrow.Author.Tests.{not-true, not-false, eq-eqb, ne-eqb}
+use borrow.Fn.Kinds.{In}
+use borrow.Fn.PlainCycle.{Measures, is, falls, and}
+use lib.Dec.{eqb}
+use lib.ListN.{replicate}
+use Rattle.signals.specs.Mask.{_∪_, _∩_, apart}
+use Rattle.meaning.specs.Meaning.{Outcome}
+use Rattle.meaning.specs.Calls.{made}
+use Rattle.meaning.specs.Laws.Bools.{and-l, and-r}
+use Rattle.search.specs.declared.Found.{Found}
+use Rattle.search.specs.declared.Guard.{Guard}
+use Rattle.search.specs.Table.{Tables, actionAt, upAt, countAt}
+use Rattle.search.specs.Trail.{Trail, nextIn, trailIn, Keeps}
+use Rattle.search.specs.Trail.Laws.{keeps-refl, keeps-trans, keeps-fewer, keeps-room, trail-kept}
+use Rattle.search.specs.Hunt.{each, wakes, taken, rested, fineAt, hunts, settleOf, over, Takes, Hunted}
+use Rattle.search.specs.Hunt.Laws.{Stopped, each-none, over-each, over-each-stopped}
+use Rattle.search.specs.Asks.{asksOf}
+use Rattle.search.specs.Asks.Laws.{ownAt, asked-never, asked-some, asks-kept, fine-taken, fine-rested}
+use Rattle.search.proofs.hunt.Reads as hunt
+use Rattle.search.proofs.hunt.Kinds as hunt-kinds
+use Rattle.search.proofs.+hunt.Lts-hunt as lts
+use Rattle.search.proofs.asks.Reads as asks-reads
+use Rattle.search.proofs.disagree.Reads as disagree-reads
+use Rattle.search.proofs.fits.Reads as fits-reads
+use Rattle.search.proofs.rest.Reads as rest-reads
+use Rattle.search.proofs.settle.Reads as settle-reads
+use Rattle.search.proofs.shown.Reads as shown-reads
+use Rattle.search.proofs.states.Reads as states-reads
+use Rattle.search.proofs.take.Reads as take-reads
+use Rattle.search.proofs.wakes.Reads as wakes-reads
+use Rattle.signals.proofs.apart.Reads as apart-reads
+use Rattle.search.proofs.+hunt.{statement}
+use Rattle.search.proofs.+hunt.Tie.{close}
+
+-- ── one step of `hunts`, as the code counts ──
+
+-- what chart k's beginning u gives
+abbrev below : List ℕ → List ℕ → ℕ → ℕ → Trail → List Outcome
+below m s left k u = cond (fineAt m s u k) (hunts m s (left - 1) (k + 1) u) []
+
+-- what chart k's candidate v gives
+abbrev block : List ℕ → List ℕ → ℕ → ℕ → Trail → ℕ → List Outcome
+block m s left k t v = below m s left k (taken m s t k v)
+
+-- no chart is left
+ends : (m s w b : List ℕ) (charts left o : ℕ) (f : Found) → left ≡ 0 →
+    settleOf (record { output = o; next = made charts (nextIn b) ++ replicate (8 - charts) 0 }) f
+    ≡ over (hunts m s left (charts - left) (trailIn w b (charts - left) o)) f
+unfolding hunts over trailIn
+ends m s w b charts left o f e = let z : charts - left ≡ charts = omega arith in rw (z, e)
+
+hunts-step : (m s : List ℕ) (left k : ℕ) (t : Trail) → (left ≡ 0 → ⊥) →
+    hunts m s left k t ≡ cond (wakes m s t k) (each (countAt s k) (block m s left k t)) (below m s left k (rested m s t k))
+unfolding hunts
+hunts-step m s zero k t h = absurd (h refl)
+hunts-step m s (suc l) k t h =
+    ap₂ (λ (n j : ℕ). cond (wakes m s t k)
+    (each (countAt s k) (λ v. cond (fineAt m s (taken m s t k v) k) (hunts m s n j (taken m s t k v)) []))
+    (cond (fineAt m s (rested m s t k) k) (hunts m s n j (rested m s t k)) []))
+    (sym (sub-one (suc l))) (sym (add-one k))
+
+module _ (m s : List ℕ) (charts left : ℕ) (some : left ≡ 0 → ⊥) (within : left ≤ charts) (f : Found) where
+  abbrev k : ℕ
+  k = charts - left
+
+  awake : (t : Trail) → wakes m s t k ≡ true → over (hunts m s left k t) f ≡ over (each (countAt s k) (block m s left k t)) f
+  awake t w = rw (hunts-step m s left k t some, w)
+
+  asleep : (t : Trail) → wakes m s t k ≡ false → over (below m s left k (rested m s t k)) f ≡ over (hunts m s left k t) f
+  asleep t w = rw (hunts-step m s left k t some, w)
+
+  -- a beginning that can still be met, where it stands, and one that cannot
+  goes-on : (w b : List ℕ) (o : ℕ) (u : Trail) → trailIn w b (k + 1) o ≡ u → fineAt m s u k ≡ true →
+      over (hunts m s (left - 1) (charts - (left - 1)) (trailIn w b (charts - (left - 1)) o)) f ≡ over (below m s left k u) f
+  goes-on w b o u e h = let z : charts - (left - 1) ≡ k + 1 = omega arith in rw (z, e, h)
+
+  drops : (u : Trail) → fineAt m s u k ≡ false → f ≡ over (below m s left k u) f
+  unfolding over
+  drops u h = rw h
+
+  -- candidate v was taken, or left out; the beginning stands in w and b as it stood in w₀ and b₀
+  module _ (w₀ b₀ w b : List ℕ) (v o : ℕ) (kept : Keeps k w₀ b₀ w b) where
+    here : taken m s (trailIn w b k o) k v ≡ taken m s (trailIn w₀ b₀ k o) k v
+    here = ap (λ (u : Trail). taken m s u k v) (trail-kept kept o)
+
+    goes : (w₁ b₁ w₂ b₂ : List ℕ) (o₁ : ℕ) (r : Found) → true ≡ fineAt m s (taken m s (trailIn w b k o) k v) k → Takes m s k v w b w₁ b₁ →
+        o₁ ≡ o ∪ actionAt m k v ∩ upAt m k → Hunted m s charts (left - 1) o₁ f w₁ b₁ r w₂ b₂ →
+        Keeps k w₀ b₀ w₂ b₂ × (r ≡ over (block m s left k (trailIn w₀ b₀ k o) v) f)
+    goes w₁ b₁ w₂ b₂ o₁ r fine t e h =
+        let z : charts - (left - 1) ≡ k + 1 = omega arith in (
+          keeps-trans kept (keeps-trans (t .kept) (keeps-fewer (charts - (left - 1)) z (h .kept))),
+          h .found
+              ∙ goes-on w₁ b₁ o₁ (taken m s (trailIn w₀ b₀ k o) k v) (ap (trailIn w₁ b₁ (k + 1)) e ∙ t .grown o ∙ here)
+              (ap (λ (u : Trail). fineAt m s u k) (sym here) ∙ sym fine),
+        )
+
+    leaves : false ≡ fineAt m s (taken m s (trailIn w b k o) k v) k → f ≡ over (block m s left k (trailIn w₀ b₀ k o) v) f
+    leaves fine = drops (taken m s (trailIn w₀ b₀ k o) k v) (ap (λ (u : Trail). fineAt m s u k) (sym here) ∙ sym fine)
+
+  -- what the settled charts ask contradicts itself
+  module _ (few : charts ≤ 8) (w b : List ℕ) (o : ℕ) (g : Guard) (is : g ≡ asksOf m w k) where
+    never : apart (g .needed) (g .barred) ≡ false → f ≡ over (hunts m s left k (trailIn w b k o)) f
+    unfolding over
+    never h = rw (hunts-step m s left k t some, each-none (countAt s k) (block m s left k t) (λ v l. none v), no-rest) (either (wakes m s t k))
+      where
+        t : Trail
+        t = trailIn w b k o
+
+        few′ : k < 8
+        few′ = omega arith
+
+        h′ : apart (asksOf m w k .needed) (asksOf m w k .barred) ≡ false
+        h′ = ap (λ (a : Guard). apart (a .needed) (a .barred)) (sym is) ∙ h
+
+        none : (v : ℕ) → block m s left k t v ≡ []
+        none v = rw (fine-taken m s w b k o few′ v, asked-never _ _ (actionAt m k v) h′, and-false (ownAt m w k v))
+
+        no-rest : below m s left k (rested m s t k) ≡ []
+        no-rest = rw (fine-rested m s w b k o few′, asked-some _ _ h′)
+
+        either : (a : Bool) → f ≡ over (cond a [] []) f
+        either true = refl
+        either false = refl
+
+    -- what an inactive chart's beginning is tested by
+    rest-fine : (z : Bool) → eqb (g .needed) 0 ≡ z → fineAt m s (rested m s (trailIn w b k o) k) k ≡ z
+    rest-fine z h = fine-rested m s w b k o (omega arith) ∙ ap (λ (a : Guard). eqb (a .needed) 0) (sym is) ∙ h
+
+-- two that disagree were found, as the code tests it
+stopped : (f : Found) → (f .has && not (f .agree)) ≡ true → Stopped f
+stopped f h = record { has = and-l (f .has) (not (f .agree)) h; agree = not-true (f .agree) (and-r (f .has) (not (f .agree)) h) }
+
+-- ── the proof ──
+
+abbrev μ-hunt : Measures 4 hunt-kinds.ps ℕ
+μ-hunt κs a = a .1 .1 .1 .1 .1 .0
+
+abbrev Inv-loop : lts.InvT-loop
+Inv-loop masks small trail₀ moves₀ charts left output k asked n found₀ v₀ trail moves found v =
+    (v ≤ n) × Keeps k trail₀ moves₀ trail moves × (found ≡ over (each v (block masks small left k (trailIn trail₀ moves₀ k output))) found₀)
+
+abbrev μ-loop : lts.MeasureT-loop
+μ-loop masks small trail₀ moves₀ charts left output k asked n found₀ v₀ trail moves found v = n - v
+
+-- what the function is given at the measure t, and what its callees ask and give
+abbrev at : ℕ → In 4 hunt-kinds.ps
+at t = and 4 hunt-kinds.ps (is 4 hunt-kinds.ps μ-hunt t) hunt.Pre
+
+abbrev callees : ℕ → lts.Claims
+callees t = (
+  states-reads.Asked,
+  states-reads.Learnt,
+  settle-reads.Asked,
+  settle-reads.Learnt,
+  asks-reads.Asked,
+  asks-reads.Learnt,
+  apart-reads.Asked,
+  apart-reads.Learnt,
+  wakes-reads.Asked,
+  wakes-reads.Learnt,
+  rest-reads.Asked,
+  rest-reads.Learnt,
+  and 4 hunt-kinds.ps (falls 4 hunt-kinds.ps _<_ μ-hunt t) hunt.Pre,
+  hunt.Post,
+  fits-reads.Asked,
+  fits-reads.Learnt,
+  take-reads.Asked,
+  take-reads.Learnt,
+  shown-reads.Asked,
+  shown-reads.Learnt,
+  disagree-reads.Asked,
+  disagree-reads.Learnt,
+)
+
+module _ (t : ℕ) where
+  states-requires : lts.Need-states-requires (callees t) (at t) hunt.Post Inv-loop μ-loop
+  states-requires c κs = c .before .before .before .before .pre .1 .2
+
+  returns : lts.Need-returns (callees t) (at t) hunt.Post Inv-loop μ-loop
+  returns c =
+      let b = c .before .before .before .before .before .before in
+      let a = b .args in
+      let m = a .masks .now in
+      let s = a .small .now in
+      record {
+        found =
+            c .settle .ensures
+            ∙ ap (λ (l : List ℕ). settleOf (record { output = a .output; next = l }) (a .acc)) (c .before .states .ensures)
+            ∙ ends m s (a .trail .now) (a .moves .now) (a .charts) (a .left) (a .output) (a .acc) (c .before .before .before .if1 .taken);
+        kept = keeps-refl _ _ _;
+      }
+
+  -- the function's entry, from where what is asked was tested, and that some chart is left
+  abbrev entry : lts.After-apart (callees t) (at t) hunt.Post Inv-loop μ-loop → lts.Start (callees t) (at t) hunt.Post Inv-loop μ-loop
+  entry c = c .before .before .before .before .before .before
+
+  abbrev some-left : (c : lts.After-apart (callees t) (at t) hunt.Post Inv-loop μ-loop) → entry c .args .left ≡ 0 → ⊥
+  some-left c = c .before .before .before .if1 .left
+
+  asks-requires : lts.Need-asks-requires (callees t) (at t) hunt.Post Inv-loop μ-loop
+  asks-requires c κs =
+      let b = c .before .before .before .before in
+      let some = c .before .if1 .left in
+      (b .pre .1 .0 .masks, omega (arith, b .pre .1 .2, b .pre .1 .3))
+
+  returns-2 : lts.Need-returns-2 (callees t) (at t) hunt.Post Inv-loop μ-loop
+  returns-2 c =
+      let b = entry (c .before) in
+      let a = b .args in
+      let m = a .masks .now in
+      let s = a .small .now in
+      record {
+        found =
+            never m s (a .charts) (a .left) (some-left (c .before)) (b .pre .1 .3) (a .acc) (b .pre .1 .2) (a .trail .now) (a .moves .now)
+            (a .output) (c .before .before .asks .result) (c .before .before .asks .ensures)
+            (sym (c .before .apart .ensures) ∙ not-true _ (c .if2 .taken));
+        kept = keeps-refl _ _ _;
+      }
+
+  wakes-requires : lts.Need-wakes-requires (callees t) (at t) hunt.Post Inv-loop μ-loop
+  wakes-requires c κs =
+      let b = entry (c .before .before) in
+      let some = some-left (c .before .before) in
+      (b .pre .1 .0 .small, omega (arith, b .pre .1 .2, b .pre .1 .3))
+
+  returns-3 : lts.Need-returns-3 (callees t) (at t) hunt.Post Inv-loop μ-loop
+  returns-3 c =
+      let w = c .before .before .before in
+      let p = w .before .before .before in
+      let b = entry p in
+      let a = b .args in
+      let m = a .masks .now in
+      let s = a .small .now in
+      record {
+        found =
+            drops m s (a .charts) (a .left) (some-left p) (b .pre .1 .3) (a .acc) _
+            (rest-fine m s (a .charts) (a .left) (some-left p) (b .pre .1 .3) (a .acc) (b .pre .1 .2) (a .trail .now) (a .moves .now)
+            (a .output) (p .before .asks .result) (p .before .asks .ensures) false (ne-eqb _ _ (c .if4 .taken)))
+            ∙ asleep m s (a .charts) (a .left) (some-left p) (b .pre .1 .3) (a .acc)
+            (trailIn (a .trail .now) (a .moves .now) (a .charts - a .left) (a .output))
+            (sym (w .wakes .ensures m (a .trail .now) (a .output)) ∙ not-true _ (c .before .before .if3 .taken));
+        kept = keeps-refl _ _ _;
+      }
+
+  rest-requires : lts.Need-rest-requires (callees t) (at t) hunt.Post Inv-loop μ-loop
+  rest-requires c κs =
+      let p = c .before .before .before .before .before .before .before .before in
+      let b = entry p in
+      let some = some-left p in
+      (b .pre .1 .0 .masks, b .pre .1 .0 .small, b .pre .1 .1, omega (arith, b .pre .1 .2, b .pre .1 .3))
+
+  hunt-requires : lts.Need-hunt-requires (callees t) (at t) hunt.Post Inv-loop μ-loop
+  hunt-requires c κs =
+      let r = c .before .before in
+      let p = r .before .before .before .before .before .before .before .before .before in
+      let b = entry p in
+      let some = some-left p in
+      (omega (arith, b .pre .0), (b .pre .1 .0, keeps-room (r .rest .ensures .kept) (b .pre .1 .1), b .pre .1 .2, omega (arith, b .pre .1 .3)))
+
+  returns-4 : lts.Need-returns-4 (callees t) (at t) hunt.Post Inv-loop μ-loop
+  returns-4 c =
+      let r = c .before .before .before in
+      let w = r .before .before .before .before .before .before in
+      let p = w .before .before .before in
+      let b = entry p in
+      let a = b .args in
+      let m = a .masks .now in
+      let s = a .small .now in
+      let some = some-left p in
+      let z : a .charts - (a .left - 1) ≡ a .charts - a .left + 1 = omega (arith, b .pre .1 .3) in
+      record {
+        found =
+            c .hunt .ensures .found
+            ∙ goes-on m s (a .charts) (a .left) some (b .pre .1 .3) (a .acc) _ _ (a .output) _
+            (r .rest .ensures .grown m (a .output))
+            (rest-fine m s (a .charts) (a .left) some (b .pre .1 .3) (a .acc) (b .pre .1 .2) (a .trail .now) (a .moves .now)
+            (a .output) (p .before .asks .result) (p .before .asks .ensures) true (eq-eqb _ _ (r .before .before .before .if4 .left)))
+            ∙ asleep m s (a .charts) (a .left) some (b .pre .1 .3) (a .acc)
+            (trailIn (a .trail .now) (a .moves .now) (a .charts - a .left) (a .output))
+            (sym (w .wakes .ensures m (a .trail .now) (a .output)) ∙ not-true _ (r .before .before .before .before .before .if3 .taken));
+        kept = keeps-trans (r .rest .ensures .kept) (keeps-fewer (a .charts - (a .left - 1)) z (c .hunt .ensures .kept));
+      }
+
+  cast-n : lts.Need-cast-n (callees t) (at t) hunt.Post Inv-loop μ-loop
+  cast-n c =
+      let p = c .before .before .before .before .before in
+      let b = entry p in
+      let some = some-left p in
+      omega (arith, b .pre .1 .0 .counts (b .args .charts - b .args .left) (omega (arith, b .pre .1 .3)))
+
+  loop-holds : lts.Need-loop-holds (callees t) (at t) hunt.Post Inv-loop μ-loop
+  unfolding each over
+  loop-holds c = (omega arith, keeps-refl _ _ _, refl)
+
+  -- from the loop's head: where what is asked was tested; that a candidate's number is below 8
+  abbrev tested : lts.At-loop (callees t) (at t) hunt.Post Inv-loop μ-loop → lts.After-apart (callees t) (at t) hunt.Post Inv-loop μ-loop
+  tested c = c .before .before .before .before .before .before
+
+  few : (c : lts.At-loop (callees t) (at t) hunt.Post Inv-loop μ-loop) → entry (tested c) .args .charts - entry (tested c) .args .left < 8
+  few c = let b = entry (tested c) in let some = some-left (tested c) in omega (arith, b .pre .1 .2, b .pre .1 .3)
+
+  counted : (c : lts.At-loop (callees t) (at t) hunt.Post Inv-loop μ-loop) →
+      let a = entry (tested c) .args in
+      countAt (a .small .now) (a .charts - a .left) ≤ 8
+  counted c =
+      let b = entry (tested c) in
+      let some = some-left (tested c) in
+      b .pre .1 .0 .counts (b .args .charts - b .args .left) (omega (arith, b .pre .1 .3))
+
+  -- what the charts left give is what all candidates of chart k give
+  whole : (c : lts.At-loop (callees t) (at t) hunt.Post Inv-loop μ-loop) →
+      let a = entry (tested c) .args in
+      let u = trailIn (a .trail .now) (a .moves .now) (a .charts - a .left) (a .output) in
+      over (hunts (a .masks .now) (a .small .now) (a .left) (a .charts - a .left) u) (a .acc)
+      ≡ over (each (countAt (a .small .now) (a .charts - a .left)) (block (a .masks .now) (a .small .now) (a .left) (a .charts - a .left) u)) (a .acc)
+  whole c =
+      let b = entry (tested c) in
+      let a = b .args in
+      let m = a .masks .now in
+      let s = a .small .now in
+      awake m s (a .charts) (a .left) (some-left (tested c)) (b .pre .1 .3) (a .acc)
+      (trailIn (a .trail .now) (a .moves .now) (a .charts - a .left) (a .output))
+      (sym (c .before .before .before .wakes .ensures m (a .trail .now) (a .output)) ∙ not-false _ (c .before .before .if3 .left))
+
+  fits-requires : lts.Need-fits-requires (callees t) (at t) hunt.Post Inv-loop μ-loop
+  fits-requires c κs =
+      let l = c .before .before in
+      let b = entry (tested l) in (
+        b .pre .1 .0 .masks,
+        few l,
+        omega (arith, counted l),
+        tested l .before .asks .ensures ∙ sym (asks-kept (b .args .masks .now) (few l) (l .loop .inv .1)),
+      )
+
+  take-requires : lts.Need-take-requires (callees t) (at t) hunt.Post Inv-loop μ-loop
+  take-requires c κs =
+      let l = c .before .before .before .before .before .before in
+      let b = entry (tested l) in
+      (b .pre .1 .0 .masks, b .pre .1 .0 .small, keeps-room (l .loop .inv .1) (b .pre .1 .1), few l, omega (arith, counted l))
+
+  shown-requires : lts.Need-shown-requires (callees t) (at t) hunt.Post Inv-loop μ-loop
+  shown-requires c κs =
+      let l = c .before .before .before .before .before .before .before in
+      (entry (tested l) .pre .1 .0 .masks, few l, omega (arith, counted l))
+
+  hunt-requires-2 : lts.Need-hunt-requires-2 (callees t) (at t) hunt.Post Inv-loop μ-loop
+  hunt-requires-2 c κs =
+      let r = c .before .before .before in
+      let l = r .before .before .before .before .before .before .before in
+      let b = entry (tested l) in
+      let some = some-left (tested l) in (
+        omega (arith, b .pre .0),
+        (b .pre .1 .0, keeps-room (r .take .ensures .kept) (keeps-room (l .loop .inv .1) (b .pre .1 .1)), b .pre .1 .2, omega (arith, b .pre .1 .3)),
+      )
+
+  sub-left : lts.Need-sub-hunt-2 (callees t) (at t) hunt.Post Inv-loop μ-loop
+  sub-left c = let some = some-left (tested (c .before .before .before .before .before .before .before .before .before .before)) in omega arith
+
+  add-v : lts.Need-add-v (callees t) (at t) hunt.Post Inv-loop μ-loop
+  add-v c = omega (arith, counted (c .before .before .before .before))
+
+  returns-5 : lts.Need-returns-5 (callees t) (at t) hunt.Post Inv-loop μ-loop
+  returns-5 c =
+      let h = c .before .before in
+      let g = h .before .before .before in
+      let r = g .before in
+      let l = r .before .before .before .before .before .before .before in
+      let b = entry (tested l) in
+      let a = b .args in
+      let m = a .masks .now in
+      let s = a .small .now in
+      let k = a .charts - a .left in
+      let all = block m s (a .left) k (trailIn (a .trail .now) (a .moves .now) k (a .output)) in
+      let one = goes m s (a .charts) (a .left) (some-left (tested l)) (b .pre .1 .3) (l .loop .found) (a .trail .now) (a .moves .now)
+      (l .loop .trail) (l .loop .moves) (l .loop .v) (a .output) (l .loop .inv .1) _ _ _ _ _ _
+      (sym (r .before .before .before .if5 .taken) ∙ r .before .before .before .before .fits2 .ensures s (l .loop .moves) (a .output))
+      (r .take .ensures) (g .shown .ensures) (h .hunt2 .ensures) in
+      let e : h .hunt2 .result ≡ over (each (l .loop .v + 1) all) (a .acc) = rw (over-each, ← l .loop .inv .2) (one .1) in
+      let end : Stopped (h .hunt2 .result) = stopped (h .hunt2 .result) (sym (c .before .disagree .ensures) ∙ c .if6 .taken) in
+      record {
+        found = e ∙ sym (over-each-stopped all (a .acc) (countAt s k) (l .loop .v + 1)
+            (omega (arith, r .before .before .before .before .before .before .loop-test .taken)) (rw e at end)) ∙ sym (whole l);
+        kept = one .0;
+      }
+
+  loop-again : lts.Need-loop-again (callees t) (at t) hunt.Post Inv-loop μ-loop
+  loop-again c =
+      let l = c .before .before .before .before in
+      let b = entry (tested l) in
+      let a = b .args in
+      let m = a .masks .now in
+      let s = a .small .now in
+      let k = a .charts - a .left in
+      let some = some-left (tested l) in
+      let fits = c .before .fits2 .ensures s (l .loop .moves) (a .output) in
+      let e : Keeps k (a .trail .now) (a .moves .now) (c .if5 .trail) (c .if5 .moves)
+      × (c .if5 .found ≡ over (block m s (a .left) k (trailIn (a .trail .now) (a .moves .now) k (a .output)) (l .loop .v)) (l .loop .found)) =
+      ⊎-elim
+      (λ w.
+      let one = goes m s (a .charts) (a .left) some (b .pre .1 .3) (l .loop .found) (a .trail .now) (a .moves .now)
+      (l .loop .trail) (l .loop .moves) (l .loop .v) (a .output) (l .loop .inv .1) _ _ _ _ _ _ (sym (w .0 .taken) ∙ fits)
+      (w .3 .ensures) (w .4 .ensures) (w .7 .ensures) in
+      (subst₂ (λ (x y : List ℕ). Keeps k (a .trail .now) (a .moves .now) x y) (sym (w .10)) (sym (w .11)) (one .0), w .12 ∙ one .1))
+      (λ w. (
+        subst₂ (λ (x y : List ℕ). Keeps k (a .trail .now) (a .moves .now) x y) (sym (w .1)) (sym (w .2)) (l .loop .inv .1),
+        w .3 ∙ leaves m s (a .charts) (a .left) some (b .pre .1 .3) (l .loop .found) (a .trail .now) (a .moves .now)
+            (l .loop .trail) (l .loop .moves) (l .loop .v) (a .output) (l .loop .inv .1) (sym (w .0 .left) ∙ fits),
+      ))
+      (c .if5 .came) in
+      (omega arith, e .0, rw (over-each, ← l .loop .inv .2) (e .1))
+
+  returns-6 : lts.Need-returns-6 (callees t) (at t) hunt.Post Inv-loop μ-loop
+  returns-6 c =
+      let l = c .before in
+      let a = entry (tested l) .args in
+      let e : l .loop .v ≡ countAt (a .small .now) (a .charts - a .left) = omega arith in
+      record { found = rw (whole l, ← e) (l .loop .inv .2); kept = l .loop .inv .1 }
+
+pub +hunt-spec : {M : Type 1} → statement M
++hunt-spec =
+    close μ-hunt
+    (λ t. lts.spec (callees t) (at t) hunt.Post Inv-loop μ-loop (states-requires t) (λ c κs. search needs) (returns t) (λ c. omega arith)
+    (asks-requires t) (λ c κs. search needs) (returns-2 t) (wakes-requires t) (returns-3 t) (rest-requires t) (λ c. omega arith) (hunt-requires t)
+    (returns-4 t) (λ c. omega arith) (λ c. omega arith) (cast-n t) (loop-holds t) (fits-requires t) (take-requires t) (shown-requires t)
+    (sub-left t) (hunt-requires-2 t) (λ c κs. search needs) (returns-5 t) (add-v t) (λ c. omega arith) (loop-again t) (returns-6 t))

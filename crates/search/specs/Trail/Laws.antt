@@ -1,0 +1,204 @@
+-- Laws of a beginning of a choice where it stands. In order: lists that are made entry by entry (`made`); what stays (`Keeps`); one chart more
+-- (`take-in`, `rest-in`); no chart yet.
+use mathlib.Core.Path.{_≡_, refl, sym, ap, ap₂, _∙_}
+use mathlib.Core.List.{List, [], _∷_, _++_, append-assoc}
+use mathlib.Core.Logic.{_≢_}
+use Prim.Native.Nat.{ℕ, suc, _+_, _-_, _*_, _≤_, _<_}
+use native.Mathlib.Numerals.{add-one}
+use native.Mathlib.Omega.{arith}
+use lib.ListN.{length, getD, set, replicate, length-set, List·getD-append}
+use lib.Seq.{getD-append-seam, getD-set-same, getD-set-other, lt-length-set, set-at, ext-getD}
+use Rattle.signals.specs.Mask.{_∪_, _∩_}
+use Rattle.signals.specs.Decide.{sets, A, B, ∅ₑ, _∪ₑ_, _∩ₑ_, _≐_}
+use Rattle.meaning.specs.Meaning.{same}
+use Rattle.meaning.specs.Calls.{made}
+use Rattle.meaning.specs.Calls.Laws.{length-made, getD-made, made-cong}
+use Rattle.search.specs.Table.{neededAt, barredAt, actionAt, backAt, upAt, toAt, stateAt}
+use Rattle.search.specs.Trail.{Trail, beginning, lowIn, neededIn, barredIn, nextIn, awakeIn, trailIn, Room, Same, Keeps, Lowers}
+use Rattle.search.specs.Hunt.{taken, rested}
+
+-- ── made ──
+
+-- the entries of a list that is one longer: those before, and the last
+pub getD-before : (n : ℕ) (f : ℕ → ℕ) (x i : ℕ) → i < n → getD (made n f ++ (x ∷ [])) i 0 ≡ getD (made n f) i 0
+getD-before n f x i l = let h = length-made n f in List·getD-append (made n f) (x ∷ []) 0 i (omega arith)
+
+pub getD-last : (n : ℕ) (f : ℕ → ℕ) (x : ℕ) → getD (made n f ++ (x ∷ [])) n 0 ≡ x
+getD-last n f x = ap (λ (i : ℕ). getD (made n f ++ (x ∷ [])) i 0) (sym (length-made n f)) ∙ getD-append-seam (made n f) x [] 0
+
+-- one more, as code counts
+made-more : (n : ℕ) (f g : ℕ → ℕ) (x : ℕ) → ((i : ℕ) → i < n → f i ≡ g i) → f n ≡ x → made (n + 1) f ≡ made n g ++ (x ∷ [])
+unfolding made
+made-more n f g x h e = rw add-one (ap₂ (λ (l : List ℕ) (y : ℕ). l ++ (y ∷ [])) (made-cong n f g h) e)
+
+-- one more in an array that is 0 behind
+pub made-filled : (f : ℕ → ℕ) (d : ℕ) (l : List ℕ) → d < 8 → l ≡ made d f ++ replicate (8 - d) 0 →
+    set l d (f d) ≡ made (d + 1) f ++ replicate (8 - (d + 1)) 0
+unfolding made
+made-filled f d l h e =
+    let n : length (made d f) ≡ d = length-made d f in
+    let z : 8 - d ≡ suc (8 - (d + 1)) = omega arith in
+    let q : l ≡ made d f ++ 0 ∷ replicate (8 - (d + 1)) 0 = e ∙ rw z in
+    rw (q, set-at (made d f) 0 (replicate (8 - (d + 1)) 0) (f d) d n, add-one, append-assoc)
+
+pub made-list : (n : ℕ) (l : List ℕ) → length l ≡ n → made n (λ i. getD l i 0) ≡ l
+made-list n l e =
+    ext-getD 0 (made n (λ i. getD l i 0)) l (length-made n (λ i. getD l i 0) ∙ sym e)
+    (λ i h. getD-made n (λ j. getD l j 0) i (let p = length-made n (λ j. getD l j 0) in omega arith))
+
+-- ── what stays ──
+
+pub same-refl : (n : ℕ) (l : List ℕ) → Same n l l
+same-refl n l = record { long = refl; at = λ i h. refl }
+
+pub same-trans : {n : ℕ} {l l′ l″ : List ℕ} → Same n l l′ → Same n l′ l″ → Same n l l″
+same-trans p q = record { long = q .long ∙ p .long; at = λ i h. q .at i h ∙ p .at i h }
+
+pub same-fewer : {n : ℕ} {l l′ : List ℕ} (j : ℕ) → n ≤ j → Same j l l′ → Same n l l′
+same-fewer j e p = record { long = p .long; at = λ i h. p .at i (omega arith) }
+
+-- a number is written behind them
+pub same-set : (n : ℕ) (l : List ℕ) (i x : ℕ) → n ≤ i → Same n l (set l i x)
+same-set n l i x h = record { long = length-set l i x; at = λ j r. getD-set-other l i j x 0 (λ e. omega arith) }
+
+pub keeps-refl : (k : ℕ) (w b : List ℕ) → Keeps k w b w b
+keeps-refl k w b = record { masks = same-refl _ w; small = same-refl _ b }
+
+pub keeps-trans : {k : ℕ} {w b w′ b′ w″ b″ : List ℕ} → Keeps k w b w′ b′ → Keeps k w′ b′ w″ b″ → Keeps k w b w″ b″
+keeps-trans p q = record { masks = same-trans (p .masks) (q .masks); small = same-trans (p .small) (q .small) }
+
+-- what stays of one chart more
+pub keeps-fewer : {k : ℕ} {w b w′ b′ : List ℕ} (j : ℕ) → j ≡ k + 1 → Keeps j w b w′ b′ → Keeps k w b w′ b′
+keeps-fewer j e p = record { masks = same-fewer _ (omega arith) (p .masks); small = same-fewer _ (omega arith) (p .small) }
+
+pub keeps-room : {k : ℕ} {w b w′ b′ : List ℕ} → Keeps k w b w′ b′ → Room w b → Room w′ b′
+keeps-room p r = record { masks = p .masks .long ∙ r .masks; small = p .small .long ∙ r .small }
+
+-- ── one chart more ──
+
+trail-eq : {l l′ n n′ r r′ x x′ a a′ : List ℕ} (o : ℕ) → l ≡ l′ → n ≡ n′ → r ≡ r′ → x ≡ x′ → a ≡ a′ →
+    _≡_ {A = Trail} (record { low = l; needed = n; barred = r; next = x; awake = a; output = o })
+    (record { low = l′; needed = n′; barred = r′; next = x′; awake = a′; output = o })
+trail-eq o p q u v w = rw (p, q, u, v, w)
+
+module _ {k : ℕ} {w b w′ b′ : List ℕ} (h : Keeps k w b w′ b′) where
+  pub trail-kept : (o : ℕ) → trailIn w′ b′ k o ≡ trailIn w b k o
+  unfolding trailIn
+  trail-kept o =
+      trail-eq o (made-cong 8 (lowIn w′ k) (lowIn w k) (λ i l. h .masks .at (10 * k + i) (omega arith)))
+      (made-cong k (neededIn w′) (neededIn w) (λ i l. h .masks .at (10 * i + 8) (omega arith)))
+      (made-cong k (barredIn w′) (barredIn w) (λ i l. h .masks .at (10 * i + 9) (omega arith)))
+      (made-cong k (nextIn b′) (nextIn b) (λ i l. h .small .at (2 * i) (omega arith)))
+      (made-cong k (awakeIn b′) (awakeIn b) (λ i l. h .small .at (2 * i + 1) (omega arith)))
+
+  -- chart k needs n and bars r, goes to x, and is active or not; p is what each chart is surely offered then
+  grown : {n r x a : ℕ} {p : List ℕ} (o : ℕ) → made 8 (lowIn w′ (k + 1)) ≡ p →
+      neededIn w′ k ≡ n → barredIn w′ k ≡ r → nextIn b′ k ≡ x → awakeIn b′ k ≡ a →
+      trailIn w′ b′ (k + 1) o
+      ≡ record {
+        low = p;
+        needed = trailIn w b k o .needed ++ (n ∷ []);
+        barred = trailIn w b k o .barred ++ (r ∷ []);
+        next = trailIn w b k o .next ++ (x ∷ []);
+        awake = trailIn w b k o .awake ++ (a ∷ []);
+        output = o;
+      }
+  unfolding trailIn
+  grown o e₁ e₂ e₃ e₄ e₅ =
+      trail-eq o e₁ (made-more k (neededIn w′) (neededIn w) _ (λ i l. h .masks .at (10 * i + 8) (omega arith)) e₂)
+      (made-more k (barredIn w′) (barredIn w) _ (λ i l. h .masks .at (10 * i + 9) (omega arith)) e₃)
+      (made-more k (nextIn b′) (nextIn b) _ (λ i l. h .small .at (2 * i) (omega arith)) e₄)
+      (made-more k (awakeIn b′) (awakeIn b) _ (λ i l. h .small .at (2 * i + 1) (omega arith)) e₅)
+
+  taken-in : (m s : List ℕ) (v o : ℕ) → ((c : ℕ) → c < 8 → lowIn w′ (k + 1) c ≡ lowIn w k c ∪ actionAt m k v ∩ backAt m c k) →
+      neededIn w′ k ≡ neededAt m k v → barredIn w′ k ≡ barredAt m k v → nextIn b′ k ≡ toAt s k v → awakeIn b′ k ≡ 1 →
+      trailIn w′ b′ (k + 1) (o ∪ actionAt m k v ∩ upAt m k) ≡ taken m s (trailIn w b k o) k v
+  unfolding trailIn taken
+  taken-in m s v o l e₁ e₂ e₃ e₄ =
+      grown (o ∪ actionAt m k v ∩ upAt m k)
+      (made-cong 8 (lowIn w′ (k + 1)) (λ c. getD (made 8 (lowIn w k)) c 0 ∪ actionAt m k v ∩ backAt m c k)
+      (λ c p. l c p ∙ ap (λ (x : ℕ). x ∪ actionAt m k v ∩ backAt m c k) (sym (getD-made 8 (lowIn w k) c p)))) e₁ e₂ e₃ e₄
+
+  rested-in : (m s : List ℕ) (o : ℕ) → ((c : ℕ) → c < 8 → lowIn w′ (k + 1) c ≡ lowIn w k c) →
+      neededIn w′ k ≡ 0 → barredIn w′ k ≡ 0 → nextIn b′ k ≡ stateAt s k → awakeIn b′ k ≡ 0 →
+      trailIn w′ b′ (k + 1) o ≡ rested m s (trailIn w b k o) k
+  unfolding trailIn rested
+  rested-in m s o l e₁ e₂ e₃ e₄ = grown o (made-cong 8 (lowIn w′ (k + 1)) (lowIn w k) l) e₁ e₂ e₃ e₄
+
+-- two numbers are written
+module _ (l : List ℕ) (i j x y : ℕ) (apart : j ≢ i) where
+  first-written : i < length l → getD (set (set l i x) j y) i 0 ≡ x
+  first-written h = getD-set-other (set l i x) j i y 0 (λ e. apart (sym e)) ∙ getD-set-same l i x 0 h
+
+  second-written : j < length l → getD (set (set l i x) j y) j 0 ≡ y
+  second-written h = getD-set-same (set l i x) j y 0 (lt-length-set l i x h)
+
+-- chart k needs n and bars r, its action is a; it goes to x, and z is 1 if it is active
+module _ (m w b w′ : List ℕ) (k n r x z a : ℕ) (room : Room w b) (few : k < 8) (h : Lowers m a k (set (set w (10 * k + 8) n) (10 * k + 9) r) w′) where
+  abbrev moved : List ℕ
+  moved = set (set b (2 * k) x) (2 * k + 1) z
+
+  rows : (c : ℕ) → c < 8 → lowIn w′ (k + 1) c ≡ lowIn w k c ∪ a ∩ backAt m c k
+  rows c l =
+      h .rows c l
+      ∙ ap (λ (y : ℕ). y ∪ a ∩ backAt m c k)
+      (getD-set-other (set w (10 * k + 8) n) (10 * k + 9) (10 * k + c) r 0 (λ e. omega arith)
+      ∙ getD-set-other w (10 * k + 8) (10 * k + c) n 0 (λ e. omega arith))
+
+  needs : neededIn w′ k ≡ n
+  needs =
+      let q = room .masks in
+      h .kept .at (10 * k + 8) (omega arith) ∙ first-written w (10 * k + 8) (10 * k + 9) n r (λ e. omega arith) (omega arith)
+
+  bars : barredIn w′ k ≡ r
+  bars =
+      let q = room .masks in
+      h .kept .at (10 * k + 9) (omega arith) ∙ second-written w (10 * k + 8) (10 * k + 9) n r (λ e. omega arith) (omega arith)
+
+  goes : nextIn moved k ≡ x
+  goes = let q = room .small in first-written b (2 * k) (2 * k + 1) x z (λ e. omega arith) (omega arith)
+
+  wakes : awakeIn moved k ≡ z
+  wakes = let q = room .small in second-written b (2 * k) (2 * k + 1) x z (λ e. omega arith) (omega arith)
+
+  pub written-keeps : Keeps k w b w′ moved
+  written-keeps =
+      record {
+        masks =
+            same-trans (same-trans (same-set _ w (10 * k + 8) n (omega arith)) (same-set _ _ (10 * k + 9) r (omega arith)))
+            (same-fewer _ (omega arith) (h .kept));
+        small = same-trans (same-set _ b (2 * k) x (omega arith)) (same-set _ _ (2 * k + 1) z (omega arith));
+      }
+
+-- chart k takes its candidate v
+module _ (m s w b w′ : List ℕ) (k v : ℕ) (room : Room w b) (few : k < 8)
+    (h : Lowers m (actionAt m k v) k (set (set w (10 * k + 8) (neededAt m k v)) (10 * k + 9) (barredAt m k v)) w′) where
+  take-keeps : Keeps k w b w′ (set (set b (2 * k) (toAt s k v)) (2 * k + 1) 1)
+  take-keeps = written-keeps m w b w′ k (neededAt m k v) (barredAt m k v) (toAt s k v) 1 (actionAt m k v) room few h
+
+  pub take-in : (o : ℕ) →
+      trailIn w′ (set (set b (2 * k) (toAt s k v)) (2 * k + 1) 1) (k + 1) (o ∪ actionAt m k v ∩ upAt m k) ≡ taken m s (trailIn w b k o) k v
+  take-in o =
+      taken-in take-keeps m s v o (rows m w b w′ k (neededAt m k v) (barredAt m k v) (toAt s k v) 1 (actionAt m k v) room few h)
+      (needs m w b w′ k (neededAt m k v) (barredAt m k v) (toAt s k v) 1 (actionAt m k v) room few h)
+      (bars m w b w′ k (neededAt m k v) (barredAt m k v) (toAt s k v) 1 (actionAt m k v) room few h)
+      (goes m w b w′ k (neededAt m k v) (barredAt m k v) (toAt s k v) 1 (actionAt m k v) room few h)
+      (wakes m w b w′ k (neededAt m k v) (barredAt m k v) (toAt s k v) 1 (actionAt m k v) room few h)
+
+-- chart k is inactive
+module _ (m s w b w′ : List ℕ) (k : ℕ) (room : Room w b) (few : k < 8) (h : Lowers m 0 k (set (set w (10 * k + 8) 0) (10 * k + 9) 0) w′) where
+  rest-keeps : Keeps k w b w′ (set (set b (2 * k) (stateAt s k)) (2 * k + 1) 0)
+  rest-keeps = written-keeps m w b w′ k 0 0 (stateAt s k) 0 0 room few h
+
+  pub rest-in : (n : List ℕ) (o : ℕ) → trailIn w′ (set (set b (2 * k) (stateAt s k)) (2 * k + 1) 0) (k + 1) o ≡ rested n s (trailIn w b k o) k
+  rest-in n o =
+      rested-in rest-keeps n s o
+      (λ c l. rows m w b w′ k 0 0 (stateAt s k) 0 0 room few h c l ∙ sets (lowIn w k c ∷ backAt m c k ∷ []) [] (A ∪ₑ ∅ₑ ∩ₑ B ≐ A) tt)
+      (needs m w b w′ k 0 0 (stateAt s k) 0 0 room few h) (bars m w b w′ k 0 0 (stateAt s k) 0 0 room few h)
+      (goes m w b w′ k 0 0 (stateAt s k) 0 0 room few h) (wakes m w b w′ k 0 0 (stateAt s k) 0 0 room few h)
+
+-- ── no chart yet ──
+
+pub begun : (w b low : List ℕ) → length low ≡ 8 → ((c : ℕ) → c < 8 → lowIn w 0 c ≡ getD low c 0) → trailIn w b 0 0 ≡ beginning low
+unfolding trailIn beginning made
+begun w b low h e = trail-eq 0 (made-cong 8 (lowIn w 0) (λ c. getD low c 0) e ∙ made-list 8 low h) refl refl refl refl
