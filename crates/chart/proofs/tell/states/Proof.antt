@@ -9,7 +9,7 @@ use denote.Ref.{now}
 use Rattle.layout.specs.Le.{AllBytes}
 use Rattle.line.specs.Line.{dotted}
 use Rattle.line.specs.Line.Laws.{dotted-le}
-use Rattle.line.specs.Put.Laws.{put-length}
+use Rattle.layout.specs.Put.Laws.{put-length}
 use Rattle.chart.proofs.tell.states.Statement.{statement}
 use Rattle.chart.proofs.tell.states.Tie as tie
 
