@@ -4,6 +4,7 @@
 
 use bench::parts::{self, Part};
 use bench::picture::{picture, Bar};
+use reference::words;
 use std::process::ExitCode;
 
 /// What can be said on the command line.
@@ -13,22 +14,13 @@ const USE: &str = "use: bench [check | step | run | rewriting | growth] [--pictu
 const NAMES: [&str; 5] = ["check", "step", "run", "rewriting", "growth"];
 
 fn main() -> ExitCode {
-    let words: Vec<String> = std::env::args().skip(1).collect();
-    let words: Vec<&str> = words.iter().map(String::as_str).collect();
-    let done = match words[..] {
+    words::done(|words| match *words {
         [] => measure(&NAMES, None),
         ["--picture", path] => measure(&NAMES, Some(path)),
         [name] if NAMES.contains(&name) => measure(&[name], None),
         [name, "--picture", path] if NAMES.contains(&name) => measure(&[name], Some(path)),
         _ => Err(USE.to_string()),
-    };
-    match done {
-        Ok(()) => ExitCode::SUCCESS,
-        Err(what) => {
-            eprintln!("{what}");
-            ExitCode::FAILURE
-        }
-    }
+    })
 }
 
 /// Measures some parts, prints each as soon as it is measured, and draws the picture.

@@ -75,6 +75,23 @@ fn compared(label: &str, all: &[Taken]) -> (Row, Vec<Bar>) {
     (Row { label, cells }, bars)
 }
 
+/// What each subject of a family takes.
+fn taken_by(family: &[Subject], calls: impl Fn(&Subject) -> Calls<'_>) -> Vec<Taken> {
+    family
+        .iter()
+        .map(|subject| calls(subject).taken())
+        .collect()
+}
+
+/// A row of a family.
+fn row_of(
+    label: &str,
+    family: &[Subject],
+    calls: impl Fn(&Subject) -> Calls<'_>,
+) -> (Row, Vec<Bar>) {
+    compared(label, &taken_by(family, calls))
+}
+
 /// A bar.
 fn bar(label: &str, other: Other, ratio: f64) -> Bar {
     Bar {
@@ -103,10 +120,7 @@ fn part(title: &str, rows: Vec<(Row, Vec<Bar>)>) -> Part {
 
 /// Checks.
 pub fn check() -> Part {
-    let row = |label: &str, family: &[Subject]| {
-        let all: Vec<Taken> = family.iter().map(|s| check_calls(s).taken()).collect();
-        compared(label, &all)
-    };
+    let row = |label: &str, family: &[Subject]| row_of(label, family, check_calls);
     part(
         "check",
         vec![
@@ -137,22 +151,15 @@ fn check_calls(subject: &Subject) -> Calls<'_> {
 
 /// Steps.
 pub fn step() -> Part {
+    let row = |label: &str, family: &[Subject]| row_of(label, family, |s| step_calls(s, true));
     let mut rows = vec![
-        steps("everyday, 1 to 4 charts", family::everyday()),
-        steps("hard, 8 charts, 8 from a state", family::hard()),
+        row("everyday, 1 to 4 charts", &family::everyday()),
+        row("hard, 8 charts, 8 from a state", &family::hard()),
     ];
     for (label, subject) in family::special() {
-        rows.push(steps(label, vec![subject]));
+        rows.push(row(label, &[subject]));
     }
     part("step", rows)
-}
-
-/// A row of steps.
-fn steps(label: &str, family: Vec<Subject>) -> (Row, Vec<Bar>) {
-    let taken = family
-        .iter()
-        .map(|subject| step_calls(subject, true).taken());
-    compared(label, &taken.collect::<Vec<Taken>>())
 }
 
 /// A step's refusal, output, mark and next configuration.
@@ -317,10 +324,7 @@ fn step_through(file: &[u8], config: &[u8], inputs: &[mestecur::Set]) {
 
 /// Rewritings.
 pub fn rewriting() -> Part {
-    let row = |label: &str, family: &[Subject]| {
-        let all: Vec<Taken> = family.iter().map(|s| rewrite_calls(s).taken()).collect();
-        compared(label, &all)
-    };
+    let row = |label: &str, family: &[Subject]| row_of(label, family, rewrite_calls);
     part(
         "rewriting",
         vec![
@@ -382,11 +386,8 @@ pub fn growth() -> Vec<Part> {
 fn grown(title: &str, families: Vec<(String, Vec<Subject>)>) -> Part {
     let row = |(label, family): (String, Vec<Subject>)| {
         let affordable = |s: &Subject| s.choices() <= FEW_CHOICES;
-        let steps: Vec<Taken> = family
-            .iter()
-            .map(|subject| step_calls(subject, affordable(subject)).taken())
-            .collect();
-        let checks: Vec<Taken> = family.iter().map(|s| check_calls(s).taken()).collect();
+        let steps = taken_by(&family, |subject| step_calls(subject, affordable(subject)));
+        let checks = taken_by(&family, check_calls);
         let mut cells = compared(&label, &steps).0.cells;
         cells.push(time(median(checks.iter().map(|t| t.engine).collect())));
         Row { label, cells }
