@@ -192,7 +192,7 @@ module _ (E : ℕ → Chart) (state : ℕ → ℕ) (cfg : ℕ → ℕ) (N : ℕ)
     next-is t ch f = ext-getD 0 (t .next) (nexts cfg (moves E ch) zero N) (f .all-next ∙ sym (length-nexts cfg (moves E ch) zero N))
         (λ i l. let h = f .all-next in let r : i < N = omega arith in
         shows-after cfg i (isAwake m s t i) (getD (t .needed) i 0) (getD (t .barred) i 0) (getD (t .next) i 0) (moves E ch i) (f .shows i r)
-        ∙ sym (getD-nexts cfg (moves E ch) zero N i r ∙ ap (λ z. after (cfg z) (moves E ch z)) (let q : i + zero ≡ i = omega arith in q)))
+        ∙ sym (getD-nexts cfg (moves E ch) zero N i r ∙ ap (λ z. after (cfg z) (moves E ch z)) (let q : zero + i ≡ i = omega arith in q)))
 
     module _ (keep : ℕ → ℕ → Bool) (ca : Candidates E cfg N tree keep m s) where
       -- ── the test of a settled chart ──
