@@ -61,43 +61,45 @@ pub fn word(i: usize, buffer: &mut [u8]) -> usize
 {
     let n = os::arg(i, buffer);
     if os::errno() == libc::ENAMETOOLONG {
-        words::long_word();
+        words::complain(b"chart: a word is longer than 4,096 bytes.\n");
     }
     n
 }
 
-// Which command was typed.
+// How many words a command has, at least.
+fn fewest(c: Command) -> usize {
+    match c {
+        Command::Step => 5,
+        Command::Run => 5,
+        Command::Rewrite => 4,
+        _ => 3,
+    }
+}
+
+// Whether a command with so many words is whole: a run may have more than the fewest.
+fn is_whole(c: Command, count: usize) -> bool {
+    if let Command::Run = c {
+        return count >= fewest(c);
+    }
+    count == fewest(c)
+}
+
+// Which command was typed; if there is none of this name, or its words are too few or too many, the help is printed.
 pub fn which() -> Command {
     let mut buffer = io::buffer();
     let n = word(1, &mut buffer);
     let c = command_of(&buffer[..n]);
-    match c {
-        Command::Other => words::not_a_command(&buffer[..n]),
-        _ => {}
+    if let Command::Other = c {
+        words::wrong(&buffer[..n], b"\" is no command.\n\n");
+        words::help(libc::STDERR_FILENO);
+        return c;
     }
-    c
-}
-
-// Whether as many words were typed as a command takes; if not, the form that was expected is said.
-fn expect(is_right: bool, form: &[u8]) -> bool {
-    if !is_right {
-        words::expected(form);
+    if is_whole(c, os::arg_count()) {
+        return c;
     }
-    is_right
-}
-
-// Whether a command has all its words, and no more.
-pub fn is_whole(c: Command) -> bool {
-    let count = os::arg_count();
-    match c {
-        Command::Check => expect(count == 3, b"check FILE"),
-        Command::First => expect(count == 3, b"first FILE"),
-        Command::Interface => expect(count == 3, b"interface FILE"),
-        Command::Step => expect(count == 5, b"step FILE CONFIG SET"),
-        Command::Run => expect(count >= 5, b"run FILE CONFIG SET.."),
-        Command::Rewrite => expect(count == 4, b"rewrite FILE OUT"),
-        Command::Other => false,
-    }
+    words::wrong(&buffer[..n], b"\" has too few words, or too many.\n\n");
+    words::help(libc::STDERR_FILENO);
+    Command::Other
 }
 
 fn unread() -> Loaded
@@ -134,22 +136,29 @@ fn read_all(fd: i32, file: &mut [u8]) -> Loaded
     }
 }
 
-// Reads the file that was named, as far as the buffer goes.
+// Reads the file of this name, as far as the buffer goes.
+fn read_file(path: &[u8], file: &mut [u8]) -> Loaded
+    ensures { λ r. ⌜ Counts (r .count) (now (file .exit)) ⌝ }
+{
+    let fd = os::open_read(path);
+    if fd < 0 {
+        return unread();
+    }
+    let l = read_all(fd, file);
+    libc::close(fd);
+    l
+}
+
+// Reads the file that was named.
 pub fn load(file: &mut [u8]) -> Loaded
     ensures { λ r. ⌜ Counts (r .count) (now (file .exit)) ⌝ }
 {
     let mut path = io::buffer();
     let n = word(FILE, &mut path);
-    let fd = os::open_read(&path[..n]);
-    if fd < 0 {
-        words::failed(&path[..n]);
-        return unread();
-    }
-    let l = read_all(fd, file);
+    let l = read_file(&path[..n], file);
     if !l.is_read {
         words::failed(&path[..n]);
     }
-    libc::close(fd);
     l
 }
 
@@ -161,7 +170,10 @@ pub fn config() -> Configuration
     let n = word(CONFIG, &mut buffer);
     let c = typed::config(&buffer[..n]);
     if c.count == 0 {
-        words::not_a_configuration(&buffer[..n]);
+        words::wrong(
+            &buffer[..n],
+            b"\" is no configuration. Expected: the state of each chart, 0 to 255, with dots between, as 0.1; at most 64 of them.\n",
+        );
     }
     c
 }
@@ -181,7 +193,11 @@ fn set(i: usize) -> Read {
     let n = word(i, &mut buffer);
     let s = typed::set(&buffer[..n]);
     if let Read::Wrong = s {
-        words::not_a_set(&buffer[..n]);
+        words::wrong(
+            &buffer[..n],
+            b"\" is no set. Expected: signals s0 to s63 with commas between, as s0,s3; \
+              or 0x and 1 to 16 hex digits, as 0x9; or - for none.\n",
+        );
     }
     s
 }

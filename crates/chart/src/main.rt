@@ -27,7 +27,7 @@ fn answer(c: Command, file: &[u8]) {
         Command::Step => tell::run(file),
         Command::Run => tell::run(file),
         Command::Rewrite => tell::rewrite(file),
-        Command::Other => words::help(libc::STDERR_FILENO),
+        Command::Other => {}
     }
 }
 
@@ -37,7 +37,7 @@ fn main() {
         return;
     }
     let c = ask::which();
-    if !ask::is_whole(c) {
+    if let Command::Other = c {
         return;
     }
     let mut file = file_room();
@@ -47,7 +47,7 @@ fn main() {
     }
     let n = l.count;
     if n > MOST_BYTES {
-        words::too_long();
+        words::complain(b"chart: the file is longer than 65,536 bytes.\n");
         return;
     }
     answer(c, &file[..n]);

@@ -158,7 +158,7 @@ fn run_typed(file: &[u8], charts: usize, config: &[u8], inputs: &mut [u64])
 pub fn run(file: &[u8]) {
     let n = ask::set_count();
     if n > MOST_SETS {
-        words::too_many_sets();
+        words::complain(b"chart: a run takes at most 1,024 sets.\n");
         return;
     }
     let c = ask::config();
@@ -175,27 +175,27 @@ pub fn run(file: &[u8]) {
     run_typed(file, charts, &config[..k], &mut inputs[..n]);
 }
 
+// Writes a file of this name, whatever it had before.
+fn write_file(path: &[u8], bytes: &[u8]) -> bool {
+    let fd = os::open_overwrite(path);
+    if fd < 0 {
+        return false;
+    }
+    let is_written = io::write_all(fd, bytes);
+    let is_closed = libc::close(fd) == 0;
+    is_written & is_closed
+}
+
 // Writes a rewritten file to where it was asked for.
 fn save(bytes: &[u8]) {
     let mut path = io::buffer();
     let n = ask::word(ask::OUT, &mut path);
-    let fd = os::open_overwrite(&path[..n]);
-    if fd < 0 {
+    if write_file(&path[..n], bytes) {
+        io::print_decimal(STDOUT_FILENO, bytes.len() as u64);
+        say(b" bytes written\n");
+    } else {
         words::failed(&path[..n]);
-        return;
     }
-    let is_written = io::write_all(fd, bytes);
-    if !is_written {
-        words::failed(&path[..n]);
-        libc::close(fd);
-        return;
-    }
-    if libc::close(fd) < 0 {
-        words::failed(&path[..n]);
-        return;
-    }
-    io::print_decimal(STDOUT_FILENO, bytes.len() as u64);
-    say(b" bytes written\n");
 }
 
 pub fn rewrite(file: &[u8]) {

@@ -164,7 +164,7 @@ fn signal(word: &[u8]) -> Read
 }
 
 // Where the part of a word that begins at `at` ends: at the next separator, or with the word.
-fn end(word: &[u8], at: usize, separator: u8) -> usize
+pub fn end(word: &[u8], at: usize, separator: u8) -> usize
     requires { ⌜ at ≤ length (now word) ⌝ }
     ensures { λ r. ⌜ Ends separator (now (word .entry)) at r ⌝ }
 {

@@ -1,10 +1,10 @@
 -- `ask::config` meets its contract: no more states are counted than there is room for. Assumes nothing.
-use mathlib.Core.Path.{_≡_, sym, ap, _∙_}
-use mathlib.Core.List.{List, _++_}
+use mathlib.Core.Path.{_≡_, sym}
+use mathlib.Core.List.{List}
 use Prim.Native.Nat.{ℕ, _≤_}
 use native.Mathlib.Omega.{arith}
 use borrow.Author.Needs.{needs}
-use lib.ListN.{length, take, drop, replicate, length-append, length-drop}
+use lib.ListN.{length, replicate, length-append}
 use lib.Seq.{length-take-le}
 use Rattle.io.specs.Counts.{Counts}
 use Rattle.meaning.specs.Calls.{laidOver}
@@ -17,9 +17,6 @@ counts : (w : List ℕ) (r : Configuration) → r ≡ record { count = length (c
 counts w r e =
     let h : r .count ≤ length (r .states) = rw (e, length-append) (omega arith) in
     (h, sym (length-take-le (r .count) (r .states) h))
-
-returns : tie.Need-returns
-returns c = counts _ _ (c .before .before .before .before .config .ensures)
 
 returns-2 : tie.Need-returns-2
 returns-2 c = counts _ _ (c .before .before .config .ensures)
@@ -36,6 +33,7 @@ config-spec =
     (λ c κs. search needs)
     (λ c. search needs)
     (λ c. search needs)
+    (λ c. search needs)
     (λ c κs. search needs)
-    returns
+    (λ c. search needs)
     returns-2)
