@@ -14,8 +14,7 @@ pub fn opened(file: &[u8]) -> Result<Body<'_>, u8> {
     refuse(bad_transitions(&body), 7)?;
     refuse(bad_slaves(&body), 8)?;
     refuse(bad_nodes(&body), 9)?;
-    let holder = holders(&body).ok_or(10)?;
-    refuse(bad_names(&body, &holder), 10)?;
+    refuse(bad_naming(&body), 10)?;
     refuse(bad_inside(&body), 11)?;
     Ok(body)
 }
@@ -122,44 +121,50 @@ fn bad_nodes(body: &Body) -> bool {
     })
 }
 
-/// 10, first part: the node that holds each chart, if it is exactly one.
-fn holders(body: &Body) -> Option<[u8; 8]> {
-    let mut holder = [NONE; 8];
-    for number in 0..body.nodes {
-        let node = body.node(number);
-        if node.kind == 0 {
-            let held = &mut holder[usize::from(node.a)];
-            if *held != NONE {
-                return None;
-            }
-            *held = number as u8;
-        }
-    }
-    let all = holder[..body.charts].iter().all(|&node| node != NONE);
-    all.then_some(holder)
+/// What one walk over slaves and nodes counts: how often each node is named, how many nodes hold each chart, and which was the last of them.
+struct Walked {
+    named: [u8; 64],
+    held: [u8; 8],
+    holder: [u8; 8],
 }
 
-/// 10, the rest: a node named too often or not at all, or a slave's node not below its master's.
-fn bad_names(body: &Body, holder: &[u8; 8]) -> bool {
-    let mut named = [0_u8; 64];
+fn walked(body: &Body) -> Walked {
+    let mut to = Walked {
+        named: [0; 64],
+        held: [0; 8],
+        holder: [0; 8],
+    };
+    for slave in body.all_slaves() {
+        to.named[usize::from(slave.node)] += 1;
+    }
     for number in 0..body.nodes {
         let node = body.node(number);
-        if node.kind > 0 {
-            named[usize::from(node.a)] += 1;
-        }
-        if node.kind == 1 {
-            named[usize::from(node.b)] += 1;
+        let (a, b) = (usize::from(node.a), usize::from(node.b));
+        match node.kind {
+            0 => {
+                to.held[a] += 1;
+                to.holder[a] = number as u8;
+            }
+            1 => {
+                to.named[a] += 1;
+                to.named[b] += 1;
+            }
+            _ => to.named[a] += 1,
         }
     }
-    for slave in body.all_slaves() {
-        named[usize::from(slave.node)] += 1;
-    }
+    to
+}
+
+/// 10: a chart not held once, a node not named as often as is due, or a slave's node not below its master's.
+fn bad_naming(body: &Body) -> bool {
+    let found = walked(body);
     let last = body.nodes - 1;
-    named[..last].iter().any(|&times| times != 1)
-        || named[last] != 0
+    found.held[..body.charts].iter().any(|&nodes| nodes != 1)
+        || found.named[..last].iter().any(|&times| times != 1)
+        || found.named[last] != 0
         || body
             .all_slaves()
-            .any(|slave| slave.node >= holder[usize::from(slave.chart)])
+            .any(|slave| slave.node >= found.holder[usize::from(slave.chart)])
 }
 
 /// 11: a chart inside a slave that is not numbered above its master.

@@ -1,6 +1,7 @@
--- What the contracts of checks cite beyond the crate meaning: what is known of a body after each check (Known), one transition as the walk of 7 meets
--- it (Walk), what the check tells the calls (Open), tables of the nodes' values (Parts).
+-- What the contracts of checks cite beyond the crate meaning: what is known of a body after each check (Known), the walk of 7 and the table that a
+-- walk keeps (Walk), the walk of 10 (Names), what the check tells the calls (Open), tables of the nodes' values (Parts).
 pub mod Known
 pub mod Walk
+pub mod Names
 pub mod Open
 pub mod Parts

@@ -10,6 +10,7 @@ ghost use Rattle.checks.specs.Known.{Sized};
 ghost use Rattle.checks.specs.Open.{zeroTest, nodeTests};
 use crate::charts;
 use crate::limits;
+use crate::names;
 use crate::nodes;
 use crate::slaves;
 use crate::zeros;
@@ -23,7 +24,7 @@ fn nodes_refusal(n: Shape, body: &[u8]) -> u8
     if nodes::bad_nodes(n, body) {
         return limits::BAD_NODE;
     }
-    if nodes::bad_naming(n, body) {
+    if names::bad_naming(n, body) {
         return limits::BAD_NAMING;
     }
     if nodes::bad_inside(n, body) {

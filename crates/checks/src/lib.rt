@@ -2,6 +2,7 @@
 pub mod body;
 pub mod charts;
 pub mod limits;
+pub mod names;
 pub mod nodes;
 pub mod opening;
 pub mod parts;

@@ -1,5 +1,5 @@
--- Laws of tables: one more value stored in a table that is right so far (`fill-more`); a slave's node is in it (`slave-there`); what a whole table says of a node (`filled`), for the charts
--- inside (`inside-bit`).
+-- Laws of tables: one more value stored in a table that is right so far (`fill-more`); a slave's node and chart are in it (`slave-there`); what a
+-- whole table says of a node (`filled`), for the charts inside (`inside-bit`).
 use mathlib.Core.Path.{_≡_, sym, ap, _∙_}
 use mathlib.Core.List.{List}
 use mathlib.Core.Logic.{⊎-elim}
@@ -12,7 +12,7 @@ use Rattle.signals.specs.Mask.{bit, single}
 use Rattle.layout.specs.Body.{slaveAt}
 use Rattle.layout.specs.declared.body.Shape.{Shape}
 use Rattle.layout.specs.declared.record.Slave.{Slave}
-use Rattle.meaning.specs.Numbers.{mostNodes}
+use Rattle.meaning.specs.Numbers.{mostCharts, mostNodes}
 use Rattle.meaning.specs.Count.Laws.{below-suc}
 use Rattle.meaning.specs.Meaning.{Set}
 use Rattle.meaning.specs.File.{File, treeOf, Has, fileAt}
@@ -29,10 +29,12 @@ fill-more f t j v h e m k l =
     ⊎-elim (λ q. ap (λ (i : ℕ). getD (set t j v) i 0) q ∙ getD-set-same t j v 0 m ∙ e ∙ ap f (sym q))
     (λ q. getD-set-other t j k v 0 (λ s. lt-irrefl j (rw s at q)) ∙ h k q) (below-suc k j (omega arith))
 
--- a slave's node is in the table
-pub slave-there : (n : Shape) (b : List ℕ) (i : ℕ) (s : Slave) → s ≡ slaveAt n b i → Sized n b → Treed (fileAt n b) → i < n .slaves → s .node < mostNodes
+-- a slave's node and chart are there, so they are in a table
+pub slave-there : (n : Shape) (b : List ℕ) (i : ℕ) (s : Slave) → s ≡ slaveAt n b i → Sized n b
+    → (let F = fileAt n b in (h : ℕ) → h < F .slaves → (F .node h < F .nodes) × (F .master h < F .charts)) → i < n .slaves
+    → (s .node < mostNodes) × (s .chart < mostCharts)
 unfolding fileAt
-slave-there n b i s e z w l = let h = w .node-there i l .0 in let m = z .nodes in rw e (omega arith)
+slave-there n b i s e z f l = let h = f i l in let m = z .nodes in let c = z .charts in rw e (omega arith, omega arith)
 
 module _ (F : File) (w : Treed F) (own : List ℕ) (t : List ℕ) where
   -- the charts' values are asked of the file's charts alone

@@ -1,6 +1,7 @@
--- Laws of the walk of 7: its table counts (`Counts`), and what it asks of a transition is `badAt` (`next?`).
-use mathlib.Core.Path.{_≡_, refl, sym, ap, subst, _∙_}
-use mathlib.Core.Bool.{true, false, not}
+-- Laws of the walks: a table as it is filled (`Table`); of the walk of 7, that its table counts (`Counts`), and that what it asks of a transition is
+-- `badAt` (`next?`).
+use mathlib.Core.Path.{_≡_, sym, ap, _∙_}
+use mathlib.Core.Bool.{true, false, not, cond}
 use mathlib.Core.List.{List}
 use mathlib.Core.Logic.{⊎-elim}
 use Prim.Native.Nat.{ℕ, suc, _+_, _≤_, _<_}
@@ -8,47 +9,64 @@ use native.Mathlib.Numerals.{add-one}
 use native.Mathlib.Omega.{arith}
 use borrow.Author.Tests.{lt-ltb, le-ltb, ltb-true, ltb-false}
 use lib.Dec.{ltb}
-use lib.ListN.{getD, replicate, length-set, getD-replicate}
+use lib.ListN.{getD, set, replicate, length-set, length-replicate, getD-replicate}
 use lib.Seq.{getD-set-same, getD-set-other}
 use Rattle.layout.specs.Body.{headAt}
 use Rattle.layout.specs.declared.body.Shape.{Shape}
-use Rattle.layout.specs.declared.record.Transition.{Transition}
 use Rattle.meaning.specs.Numbers.{mostStates, mostFromState}
-use Rattle.meaning.specs.Check.{notBelow, inChart, ends?, leaving}
+use Rattle.meaning.specs.Count.{one}
 use Rattle.meaning.specs.Count.Laws.{or-left}
-use Rattle.meaning.specs.Check.Laws.{below, decided, eq-or-not, badAt, leaving-none, leaving-own, leaving-other}
-use Rattle.checks.specs.Walk.{next?, counted, Counts}
+use Rattle.meaning.specs.Meaning.{same}
+use Rattle.meaning.specs.Check.{notBelow, inChart, ends?, leaving}
+use Rattle.meaning.specs.Check.Laws.{below, decided, eq-or-not, badAt, leaving-none, leaving-more, leaving-own}
+use Rattle.meaning.specs.Laws.Bools.{same-refl, same-≢}
+use Rattle.checks.specs.Walk.{Table, oneMore, next?, counted, Counts}
+
+-- ── Table ──
+
+-- nothing counted
+pub table-none : (n : ℕ) (f : ℕ → ℕ) → ((i : ℕ) → f i ≡ 0) → Table n f (replicate n 0)
+table-none n f h = record { long = length-replicate n 0; at = λ i l. getD-replicate n i 0 0 l ∙ sym (h i) }
+
+-- the same values
+pub table-same : (n : ℕ) (f g : ℕ → ℕ) (t : List ℕ) → Table n f t → ((i : ℕ) → g i ≡ f i) → Table n g t
+table-same n f g t h e = record { long = h .long; at = λ i l. h .at i l ∙ sym (e i) }
+
+module _ (n : ℕ) (f g : ℕ → ℕ) (t : List ℕ) (i : ℕ) (h : Table n f t) (l : i < n) where
+  -- v stored at place i
+  pub table-set : (v : ℕ) → ((j : ℕ) → g j ≡ cond (same i j) v (f j)) → Table n g (set t i v)
+  table-set v e =
+      record {
+        long = simp length-set (h .long);
+        at =
+            λ j m.
+            ⊎-elim
+            (λ q. rw (← q) (getD-set-same t i v 0 (rw (h .long) l) ∙ sym (e i ∙ rw (same-refl i))))
+            (λ q. getD-set-other t i j v 0 (λ p. q (sym p)) ∙ h .at j m ∙ sym (e j ∙ rw (same-≢ i j q)))
+            (eq-or-not i j);
+      }
+
+  -- one more counted there
+  pub table-more : ((j : ℕ) → g j ≡ one (same i j) + f j) → Table n g (oneMore t i)
+  table-more e =
+      table-set (getD t i 0 + 1)
+      (λ j.
+      e j
+      ∙ ⊎-elim
+      (λ q. rw (← q, same-refl i, h .at i l) (omega arith))
+      (λ q. rw (same-≢ i j q) (omega arith))
+      (eq-or-not i j))
 
 module _ (n : Shape) (b : List ℕ) (c : ℕ) where
   -- ── Counts ──
 
   pub counts-none : Counts n b c (replicate 16 0) 0
-  counts-none =
-      record { long = refl; by = λ s l. getD-replicate 16 s 0 0 l ∙ sym (leaving-none n b c s) }
+  counts-none = table-none 16 _ (leaving-none n b c)
 
-  module _ (left : List ℕ) (k : ℕ) (h : Counts n b c left k) where
-    abbrev u : Transition
-    u = inChart n b c k
-
-    own : u .from < mostStates → getD (counted u left) (u .from) 0 ≡ leaving n b c (u .from) (k + 1)
-    unfolding counted
-    own l =
-        getD-set-same left (u .from) _ 0 (rw (h .long) l)
-        ∙ rw (add-one k) (omega (arith, h .by (u .from) l, leaving-own n b c k))
-
-    other : (s : ℕ) → s < mostStates → (u .from ≡ s → ⊥) → getD (counted u left) s 0 ≡ leaving n b c s (k + 1)
-    unfolding counted
-    other s l e =
-        getD-set-other left (u .from) s _ 0 (λ q. e (sym q))
-        ∙ rw (add-one k) (h .by s l ∙ sym (leaving-other n b c s k e))
-
-    pub counts-more : u .from < mostStates → Counts n b c (counted u left) (k + 1)
-    unfolding counted
-    counts-more l =
-        record {
-          long = simp length-set (h .long);
-          by = λ s m. ⊎-elim (λ q. subst (λ (x : ℕ). getD (counted u left) x 0 ≡ leaving n b c x (k + 1)) q (own l)) (other s m) (eq-or-not (u .from) s);
-        }
+  pub counts-more : (left : List ℕ) (k : ℕ) → Counts n b c left k → inChart n b c k .from < mostStates
+      → Counts n b c (counted (inChart n b c k) left) (k + 1)
+  unfolding counted
+  counts-more left k h l = rw (add-one k) (table-more _ _ _ left _ h l (λ s. leaving-more n b c s k))
 
   -- ── next? ──
 
@@ -71,7 +89,7 @@ module _ (n : Shape) (b : List ℕ) (c : ℕ) where
       (λ (e : ends? n b c k ≡ true). rw e)
       (λ (e : ends? n b c k ≡ false).
       let l = ends-in k e in
-      rw (h .by (inChart n b c k .from) (omega arith), over (leaving n b c (inChart n b c k .from) k) mostFromState, ← leaving-own n b c k))
+      rw (h .at (inChart n b c k .from) (omega arith), over (leaving n b c (inChart n b c k .from) k) mostFromState, ← leaving-own n b c k))
       (decided (ends? n b c k))
 
   -- one that is not bad is from a state of the chart

@@ -30,7 +30,7 @@ pub record Sound (F : File) : Type 0 where
 module _ (F : File) where
   -- ── 8 ──
 
-  slaves-there : slaves? F ≡ false → (i : ℕ) → i < F .slaves → (F .node i < F .nodes) × (F .master i < F .charts)
+  pub slaves-there : slaves? F ≡ false → (i : ℕ) → i < F .slaves → (F .node i < F .nodes) × (F .master i < F .charts)
   unfolding slaves? slave?
   slaves-there h i l =
       let q = or-four (notBelow (F .master i) (F .charts)) (notBelow (F .state i) (F .chart (F .master i) .states)) (notBelow (F .node i) (F .nodes))
@@ -39,33 +39,33 @@ module _ (F : File) where
 
   -- ── 9 ──
 
-  kind-at-most : (k j : ℕ) → nodeOfKind? F k j ≡ false → k ≤ 2
+  pub kind-at-most : (k j : ℕ) → nodeOfKind? F k j ≡ false → k ≤ 2
   unfolding nodeOfKind?
   kind-at-most zero j h = omega arith
   kind-at-most (suc zero) j h = omega arith
   kind-at-most (suc (suc zero)) j h = omega arith
   kind-at-most (suc (suc (suc k))) j h = absurd (true≢false h)
 
-  kind₀ : (k j : ℕ) → k ≡ 0 → nodeOfKind? F k j ≡ false → F .a j < F .charts
+  pub kind₀ : (k j : ℕ) → k ≡ 0 → nodeOfKind? F k j ≡ false → F .a j < F .charts
   unfolding nodeOfKind?
   kind₀ zero j e h = below (F .a j) (F .charts) (or-four (notBelow (F .a j) (F .charts)) (differ (F .b j) 0) (differ (F .x j) 0) (differ (F .y j) 0) h .0)
   kind₀ (suc k) j e h = absurd (omega arith)
 
-  kind₁ : (k j : ℕ) → k ≡ 1 → nodeOfKind? F k j ≡ false → (F .a j < j) × (F .b j < j)
+  pub kind₁ : (k j : ℕ) → k ≡ 1 → nodeOfKind? F k j ≡ false → (F .a j < j) × (F .b j < j)
   unfolding nodeOfKind?
   kind₁ zero j e h = absurd (omega arith)
   kind₁ (suc zero) j e h =
       let q = or-three (notBelow (F .a j) j) (notBelow (F .b j) j) (differ (F .y j) 0) h in (below (F .a j) j (q .0), below (F .b j) j (q .1))
   kind₁ (suc (suc k)) j e h = absurd (omega arith)
 
-  kind₂ : (k j : ℕ) → k ≡ 2 → nodeOfKind? F k j ≡ false → F .a j < j
+  pub kind₂ : (k j : ℕ) → k ≡ 2 → nodeOfKind? F k j ≡ false → F .a j < j
   unfolding nodeOfKind?
   kind₂ zero j e h = absurd (omega arith)
   kind₂ (suc zero) j e h = absurd (omega arith)
   kind₂ (suc (suc zero)) j e h = below (F .a j) j (or-left (notBelow (F .a j) j) (differ (F .b j) 0) h)
   kind₂ (suc (suc (suc k))) j e h = absurd (omega arith)
 
-  node-passes : nodes? F ≡ false → (j : ℕ) → j < F .nodes → nodeOfKind? F (F .kind j) j ≡ false
+  pub node-passes : nodes? F ≡ false → (j : ℕ) → j < F .nodes → nodeOfKind? F (F .kind j) j ≡ false
   unfolding nodes?
   node-passes h j l = any-never (F .nodes) (λ j. nodeOfKind? F (F .kind j) j) h j l
 

@@ -1,10 +1,11 @@
 -- Laws of `anyUpTo` and `tally`, grouped under each: first the forms that a loop which counts up uses, none passed, one more passed, one found, all
--- passed; then, of sums, those of the same, of nothing, of sums, in another order, from the front, of one place only, of fewer, of two places.
+-- passed; then, of sums, those of the same, of nothing, of sums, in another order, from the front, of one place only, of fewer, of no
+-- more than so much each, of two places.
 use mathlib.Core.Path.{_≡_, refl, sym, _∙_, ap, ap₂}
 use mathlib.Core.Bool.{Bool, true, false, _||_, false≢true}
 use mathlib.Core.Logic.{_≢_, _⊎_, inl, inr, ⊎-elim}
-use Prim.Native.Nat.{ℕ, zero, suc, _+_, _≤_, _<_}
-use native.Mathlib.Nat.{le-refl, eq-or-lt-of-le}
+use Prim.Native.Nat.{ℕ, zero, suc, _+_, _*_, _≤_, _<_}
+use native.Mathlib.Nat.{le-refl, eq-or-lt-of-le, mul-suc}
 use native.Mathlib.Numerals.{add-one}
 use native.Mathlib.Omega.{arith}
 use Rattle.meaning.specs.Count.{anyUpTo, tally}
@@ -123,6 +124,12 @@ tally-ge n f i l = let h = tally-plus n f i l in omega arith
 
 pub tally-mono : (k n : ℕ) (f : ℕ → ℕ) → k ≤ n → tally k f ≤ tally n f
 tally-mono k n f l = ⊎-elim (λ e. rw e (le-refl _)) (λ m. let h = tally-plus n f k m in omega arith) (eq-or-lt-of-le l)
+
+-- no more than m at each
+pub tally-most : (m n : ℕ) (f : ℕ → ℕ) → ((k : ℕ) → f k ≤ m) → tally n f ≤ m * n
+unfolding tally
+tally-most m zero f h = omega arith
+tally-most m (suc n) f h = rw mul-suc (omega (arith, h n, tally-most m n f h))
 
 pub tally-two : (n : ℕ) (f : ℕ → ℕ) (i j : ℕ) → i < n → j < n → i ≢ j → f i + f j ≤ tally n f
 unfolding tally

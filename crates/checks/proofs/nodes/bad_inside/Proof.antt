@@ -15,7 +15,7 @@ use Rattle.meaning.specs.Count.{anyUpTo}
 use Rattle.meaning.specs.Count.Laws.{any-none, any-more, any-at, any-done, any-cong}
 use Rattle.meaning.specs.File.{File, fileAt, treeOf, Has}
 use Rattle.meaning.specs.Check.{notBelow, inside?}
-use Rattle.meaning.specs.Check.Nodes.{Treed, treed}
+use Rattle.meaning.specs.Check.Nodes.{Treed, slaves-there, treed}
 use Rattle.checks.specs.Known.{Sized}
 use Rattle.checks.specs.Parts.{Filled}
 use Rattle.checks.specs.Parts.Laws.{slave-there, inside-bit}
@@ -44,7 +44,7 @@ abbrev μ-loop : tie.MeasureT-loop
 μ-loop n body inside i₀ i = n .slaves - i
 
 table-requires : tie.Need-table-requires Inv-loop μ-loop
-table-requires c κs = let p = c .before .before .before .pre in (p .0, treed _ (p .1 .0) (p .1 .1 .0) (p .1 .1 .1))
+table-requires c κs = let p = c .before .before .before .pre in (p .0 .sized, treed _ (p .0 .slaves) (p .0 .nodes) (p .1))
 
 loop-holds : tie.Need-loop-holds Inv-loop μ-loop
 loop-holds c = (omega arith, any-none _)
@@ -53,7 +53,7 @@ array-read-bad-below : tie.Need-array-read-bad-below Inv-loop μ-loop
 array-read-bad-below c =
     let s = c .before in
     let p = s .before .before .before .before .before .before .before .before .pre in
-    slave-there _ _ _ _ (s .slave-at .ensures) (p .0) (treed _ (p .1 .0) (p .1 .1 .0) (p .1 .1 .1)) (s .before .if1 .taken)
+    slave-there _ _ _ _ (s .slave-at .ensures) (p .0 .sized) (slaves-there _ (p .0 .slaves)) (s .before .if1 .taken) .0
 
 -- what the loop's body finds of slave i
 found : (c : tie.After-bad-below Inv-loop μ-loop) → let s = c .before .before .before in
@@ -63,7 +63,7 @@ found c =
     let s = c .before .before .before in
     let p = s .before .before .before .before .before .before .before .before .pre in
     c .bad-below .ensures
-    ∙ at _ _ _ _ _ _ (s .slave-at .ensures) (p .0) (treed _ (p .1 .0) (p .1 .1 .0) (p .1 .1 .1)) (s .before .if1 .taken)
+    ∙ at _ _ _ _ _ _ (s .slave-at .ensures) (p .0 .sized) (treed _ (p .0 .slaves) (p .0 .nodes) (p .1)) (s .before .if1 .taken)
     (s .before .before .before .before .before .before .singles .ensures) (s .before .before .before .before .table .ensures)
 
 returns : tie.Need-returns Inv-loop μ-loop

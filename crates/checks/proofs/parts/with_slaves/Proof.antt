@@ -44,7 +44,7 @@ element-copy-out-all : tie.Need-element-copy-out-all Inv-loop μ-loop
 element-copy-out-all c =
     let s = c .before .before .before in
     let p = s .before .before .before .before .before .pre in
-    slave-there _ _ _ _ (s .slave-at .ensures) (p .0) (p .1) (s .before .if1 .taken)
+    slave-there _ _ _ _ (s .slave-at .ensures) (p .0) (p .1 .node-there) (s .before .if1 .taken) .0
 
 loop-again : tie.Need-loop-again Inv-loop μ-loop
 loop-again c =

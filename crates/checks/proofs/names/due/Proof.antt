@@ -1,11 +1,11 @@
--- `nodes::due` meets its contract. Assumes nothing.
+-- `names::due` meets its contract. Assumes nothing.
 use Prim.Native.Nat.{suc}
 use native.Mathlib.Omega.{arith}
 use borrow.Author.Needs.{needs}
 use borrow.Author.Tests.{eq-eqb, ne-eqb}
 use Rattle.meaning.specs.Meaning.{same}
-use Rattle.checks.proofs.nodes.due.Statement.{statement}
-use Rattle.checks.proofs.nodes.due.Tie as tie
+use Rattle.checks.proofs.names.due.Statement.{statement}
+use Rattle.checks.proofs.names.due.Tie as tie
 
 returns : tie.Need-returns
 unfolding same
