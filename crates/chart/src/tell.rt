@@ -16,7 +16,13 @@ const REFUSAL: usize = 9;
 
 const STATES: usize = 10;
 
-// Room for the sets of a run, for their rows of at most 18 bytes, and for a rewritten file.
+// Room for a line or a set as signals, for the sets of a run, for their rows of at most 18 bytes, and for a rewritten file.
+fn text_room() -> [u8; 256]
+    ensures { λ r. ⌜ 256 ≡ length r ⌝ }
+{
+    [0; 256]
+}
+
 fn set_room() -> [u64; 1024]
     ensures { λ r. ⌜ 1024 ≡ length r ⌝ }
 {
@@ -62,7 +68,7 @@ fn charts(file: &[u8]) -> usize
 fn states(config: &[u8])
     requires { ⌜ length (now config) ≤ 8 ⌝ }
 {
-    let mut out = [0u8; 64];
+    let mut out = text_room();
     let n = line::put_states(&mut out, 0, config);
     say(&out[..n]);
     say(b"\n");
@@ -80,7 +86,7 @@ pub fn first(file: &[u8]) {
 
 // A set as signals, to the line's end.
 fn signals(set: u64) {
-    let mut out = [0u8; 256];
+    let mut out = text_room();
     let n = typed::show(set, &mut out);
     say(b"  ");
     say(&out[..n]);
@@ -106,7 +112,7 @@ pub fn interface(file: &[u8]) {
 fn row(number: u64, row: &[u8])
     requires { ⌜ (10 ≤ length (now row)) × (length (now row) ≤ 26) ⌝ }
 {
-    let mut out = [0u8; 128];
+    let mut out = text_room();
     let n = line::line(number, row, &mut out);
     let end = n - 1;
     say(&out[..end]);

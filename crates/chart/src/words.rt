@@ -35,12 +35,12 @@ fn line_of(refusal: u8) -> u8 {
         return refusal;
     }
     if refusal < limits::SHORT_ROWS {
-        return refusal - 8;
+        return 12 + (refusal - limits::WRONG_LENGTH);
     }
     if refusal < limits::NO_FREE_SIGNAL {
-        return refusal - 11;
+        return 16 + (refusal - limits::SHORT_ROWS);
     }
-    refusal - 23
+    17 + (refusal - limits::NO_FREE_SIGNAL)
 }
 
 // Document 01's words for a refusal, a line for each in the order of its table.

@@ -31,7 +31,8 @@ returns-2 : tie.Need-returns-2
 returns-2 c =
     let a = c .before .before .before .args in
     let e = c .before .before .value .ensures in
-    sym (digit-over (a .base) (a .most) (a .x) (a .b) (omega (arith, e)) (omega (arith, e, over (a .base) (a .most) (a .x) (c .before .before .value .result) (omega arith) (omega arith) (c .if2 .taken))))
+    let o = over (a .base) (a .most) (a .x) (c .before .before .value .result) (omega arith) (omega arith) (c .if2 .taken) in
+    sym (digit-over (a .base) (a .most) (a .x) (a .b) (omega (arith, e)) (omega (arith, e, o)))
 
 mul-t7 : tie.Need-mul-t7
 mul-t7 c = omega (arith, room c)

@@ -50,7 +50,8 @@ returns-2 c =
     let g = k .before .before .before in
     let e = g .before .before in
     let l = e .before .loop in
-    ap (λ (x : ℕ). Is x) (c .before .with .ensures) ∙ sym (l .inv .1 ∙ list-last (l .set) _ (l .at) _ (e .end .ensures) _ (g .signal .ensures) _ (k .before .n .given .1) (c .if1 .taken))
+    let m = list-last (l .set) _ (l .at) _ (e .end .ensures) _ (g .signal .ensures) _ (k .before .n .given .1) (c .if1 .taken) in
+    ap (λ (x : ℕ). Is x) (c .before .with .ensures) ∙ sym (l .inv .1 ∙ m)
 
 loop-again : tie.Need-loop-again Inv-loop μ-loop
 loop-again c =
@@ -58,7 +59,8 @@ loop-again c =
     let g = k .before .before .before in
     let e = g .before .before in
     let l = e .before .loop in
-    (omega (arith, e .end .ensures .within, c .if1 .left), rw (c .before .with .ensures) (l .inv .1 ∙ list-more (l .set) _ (l .at) _ (e .end .ensures) _ (g .signal .ensures) _ (k .before .n .given .1) (c .if1 .left)))
+    let m = list-more (l .set) _ (l .at) _ (e .end .ensures) _ (g .signal .ensures) _ (k .before .n .given .1) (c .if1 .left) in
+    (omega (arith, e .end .ensures .within, c .if1 .left), rw (c .before .with .ensures) (l .inv .1 ∙ m))
 
 pub signal-list-spec : {M : Type 1} → statement M
 signal-list-spec =

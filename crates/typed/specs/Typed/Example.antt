@@ -17,7 +17,8 @@ pub sets-right : map setOf
 unfolding setOf eqList same hexOf between valueOf digitOn digitsOn begun numberOf inFront split signalOf signalsOn bit single
 sets-right = refl
 
--- no word; no such signal; a zero in front; no digits; seventeen; no digit; a comma at the end, at the beginning, twice; no `s`; no number; a space; more behind `-`
+-- no word; no such signal; a zero in front; no digits; seventeen; no digit; a comma at the end, at the beginning, twice; no `s`; no number; a space;
+-- more behind `-`
 pub sets-wrong : map setOf
     (ascii "" ∷ ascii "s64" ∷ ascii "s007" ∷ ascii "0x" ∷ ascii "0x00000000000000001" ∷ ascii "0xg" ∷ ascii "s0," ∷ ascii ",s0" ∷ ascii "s0,,s1" ∷ ascii "0" ∷ ascii "s" ∷ ascii "s0, s1" ∷ ascii "--" ∷ [])
     ≡ replicate 13 Wrong

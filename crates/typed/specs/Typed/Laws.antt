@@ -1,5 +1,5 @@
--- Laws of what is typed and shown, in this order: words that are alike; digits; how large a number can be; parts of a word; signals written one after another; how long they
--- are; a set that is shown reads back as itself.
+-- Laws of what is typed and shown, in this order: words that are alike; digits; how large a number can be; parts of a word; signals written one after
+-- another; how long they are.
 use mathlib.Core.Path.{_≡_, refl, sym, ap, _∙_}
 use mathlib.Core.Bool.{Bool, true, false, cond, false≢true}
 use mathlib.Core.List.{List, [], _∷_, _++_, map, append-assoc, append-nil}
@@ -176,7 +176,9 @@ pub listed-next : (s n : ℕ) → listed (membersTo (suc n) s) ≡ listed (membe
 unfolding membersTo nextSignal
 listed-next s n = go (bit s n)
   where
-    go : (t : Bool) → listed (membersTo n s ++ cond t (n ∷ []) []) ≡ listed (membersTo n s) ++ cond t (cond (same (length (listed (membersTo n s))) 0) [] (comma ∷ []) ++ shownSignal n) []
+    go : (t : Bool)
+        → listed (membersTo n s ++ cond t (n ∷ []) [])
+        ≡ listed (membersTo n s) ++ cond t (cond (same (length (listed (membersTo n s))) 0) [] (comma ∷ []) ++ shownSignal n) []
     go true = listed-snoc (membersTo n s) n
     go false = rw (append-nil (membersTo n s), append-nil (listed (membersTo n s)))
 
@@ -198,4 +200,6 @@ next-le at s n h = go (bit s n) (same at 0)
 pub listed-le : (s n : ℕ) → n ≤ 64 → length (listed (membersTo n s)) ≤ 4 * n
 unfolding joined membersTo
 listed-le s zero h = omega arith
-listed-le s (suc n) h = rw (listed-next s n, length-append) (omega (arith, listed-le s n (omega arith), next-le (length (listed (membersTo n s))) s n (omega arith)))
+listed-le s (suc n) h =
+    rw (listed-next s n, length-append)
+    (omega (arith, listed-le s n (omega arith), next-le (length (listed (membersTo n s))) s n (omega arith)))

@@ -1,5 +1,5 @@
--- What is shown reads back as the same: a set as signals (`shown-reads`), a configuration with dots (`dotted-reads`). In this order: each signal and each
--- state by itself; parts that are joined split again; the signals of a set joined are the set; the two theorems.
+-- What is shown reads back as the same: a set as signals (`shown-reads`), a configuration with dots (`dotted-reads`). In this order: each signal and
+-- each state by itself; parts that are joined split again; the signals of a set joined are the set; the two theorems.
 use mathlib.Core.Path.{_≡_, refl, sym, ap, _∙_}
 use mathlib.Core.Bool.{Bool, true, false, not, _&&_, _||_, cond, false≢true}
 use mathlib.Core.List.{List, [], _∷_, _++_, map, append-assoc, append-nil}
@@ -44,7 +44,8 @@ says-is Wrong n e = absurd (false≢true e)
 unfoldable right : (List ℕ → Read) → (ℕ → List ℕ) → ℕ → ℕ → Bool
 right read show separator n = says (read (show n)) n && clear separator (show n)
 
-module _ (read : List ℕ → Read) (show : ℕ → List ℕ) (separator most : ℕ) (all : anyUpTo most (λ n. not (right read show separator n)) ≡ false) (n : ℕ) (h : n < most) where
+module _ (read : List ℕ → Read) (show : ℕ → List ℕ) (separator most : ℕ) (all : anyUpTo most (λ n. not (right read show separator n)) ≡ false)
+    (n : ℕ) (h : n < most) where
   is-right : right read show separator n ≡ true
   is-right = not-false _ (any-never most (λ k. not (right read show separator k)) all n h)
 
@@ -87,7 +88,8 @@ split-clear : (separator : ℕ) (p w : List ℕ) → clear separator p ≡ true 
 unfolding split clear
 split-clear separator [] w h = sym (before-none (split separator w))
 split-clear separator (b ∷ p) w h =
-    rw (not-true (same b separator) (and-l _ _ h), split-clear separator p w (and-r (not (same b separator)) _ h)) (inFront-before b p (split separator w))
+    rw (not-true (same b separator) (and-l _ _ h), split-clear separator p w (and-r (not (same b separator)) _ h))
+    (inFront-before b p (split separator w))
 
 module _ (separator : ℕ) where
   unfoldable Clear : List (List ℕ) → Type 0
@@ -169,7 +171,9 @@ members-clear zero s h = tt
 members-clear (suc n) s h = go (bit s n) (members-clear n s (omega arith))
   where
     go : (t : Bool) → Clear comma (map shownSignal (membersTo n s)) → Clear comma (map shownSignal (membersTo n s ++ cond t (n ∷ []) []))
-    go true k = rw (map-snoc shownSignal (membersTo n s) n) (clear-snoc comma (map shownSignal (membersTo n s)) (shownSignal n) k (signal-clear n (omega arith)))
+    go true k =
+        rw (map-snoc shownSignal (membersTo n s) n)
+        (clear-snoc comma (map shownSignal (membersTo n s)) (shownSignal n) k (signal-clear n (omega arith)))
     go false k = rw (append-nil (membersTo n s)) k
 
 members-read : (n s : ℕ) → n ≤ 64 → signalsOn ∅ (map shownSignal (membersTo n s)) ≡ Is (joinedTo n s)
@@ -179,13 +183,16 @@ members-read (suc n) s h = go (bit s n) (members-read n s (omega arith))
   where
     go : (t : Bool) → signalsOn ∅ (map shownSignal (membersTo n s)) ≡ Is (joinedTo n s)
         → signalsOn ∅ (map shownSignal (membersTo n s ++ cond t (n ∷ []) [])) ≡ Is (cond t (joinedTo n s ∪ single n) (joinedTo n s))
-    go true e = rw (map-snoc shownSignal (membersTo n s) n, signals-snoc ∅ (map shownSignal (membersTo n s)) (shownSignal n), e, signal-reads n (omega arith))
+    go true e =
+        rw
+        (map-snoc shownSignal (membersTo n s) n, signals-snoc ∅ (map shownSignal (membersTo n s)) (shownSignal n), e, signal-reads n (omega arith))
     go false e = rw (append-nil (membersTo n s)) e
 
 -- ---- a set
 
 -- a list of signals is no `-` and begins with no `0x`
-listed-reads : (xs : List ℕ) (s : ℕ) → (s ≡ 0 → ⊥) → Clear comma (map shownSignal xs) → signalsOn ∅ (map shownSignal xs) ≡ Is s → setOf (listed xs) ≡ Is s
+listed-reads : (xs : List ℕ) (s : ℕ) → (s ≡ 0 → ⊥) → Clear comma (map shownSignal xs) → signalsOn ∅ (map shownSignal xs) ≡ Is s
+    → setOf (listed xs) ≡ Is s
 unfolding setOf eqList same joined shownSignal signalsOn Clear
 listed-reads [] s h k e = let z : 0 ≡ s = cc in absurd (h (sym z))
 listed-reads (x ∷ xs) s h k e = ap (signalsOn ∅) (split-behind comma (shownSignal x) (map shownSignal xs) (k .0) (k .1)) ∙ e

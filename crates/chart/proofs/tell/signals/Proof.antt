@@ -18,6 +18,7 @@ pub signals-spec : {M : Type 1} → statement M
 signals-spec =
     tie.close
     (tie.spec
+    (λ c κs. search needs)
     (λ c. search needs)
     (λ c κs. search needs)
     (λ c. search needs)

@@ -21,14 +21,15 @@ short c =
 within : (c : tie.After-out2) → c .before .put-states .result ≤ length (c .before .put-states .last .0)
 within c =
     let p = c .before .put-states .ensures in
-    omega (arith, p .place, put-length p, short (c .before .before .before))
+    omega (arith, p .place, put-length p, short (c .before .before .before .before))
 
 pub states-spec : {M : Type 1} → statement M
 states-spec =
     tie.close
     (tie.spec
+    (λ c κs. search needs)
     (λ c. search needs)
-    (λ c κs. omega (arith, short (c .before)))
+    (λ c κs. omega (arith, short (c .before .before)))
     within
     (λ c. sym (length-take-le _ _ (within (c .before))))
     (λ c κs. search needs)
