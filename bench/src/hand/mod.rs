@@ -1,6 +1,7 @@
 //! The engine's own algorithm, written by hand in plain Rust, to know what the proved one costs: check,
 //! fold the tree into masks, filter the candidates and skip equal ones, settle charts in order with what
-//! each is surely offered and what it could be, stop where two permitted choices disagree.
+//! each is surely offered and could be and what the settled ones ask of the next one's action, stop
+//! where two permitted choices disagree.
 
 mod check;
 mod layout;
