@@ -144,9 +144,10 @@ fn grid(scale: &Scale, bottom: f64) -> String {
     svg
 }
 
-/// A power of ten in digits.
+/// A power of ten in digits; from a million on in words, so that it fits below its line.
 fn power_of_ten(power: i32) -> String {
     match power {
+        p if p >= 6 => format!("{} million", power_of_ten(p - 6)),
         0 | 1 => 10_u32.pow(power as u32).to_string(),
         p if p < 0 => 10_f64.powi(p).to_string(),
         p => ratio(10_f64.powi(p)),
