@@ -82,7 +82,9 @@ put-states-requires : tie.Need-put-states-requires
 put-states-requires c κs =
     let f = c .before .before .before .before .before .before in
     let e = f .before .before .before .before .before .before .before .before .before .before in
-    (e .before .before .before .before .before .pre .sized .charts, f .before .before .before .before .before .before .before .before .if2 .left)
+    let h = e .before .before .before .before .before .pre .sized .charts in
+    let l = f .before .before .before .before .before .before .before .before .if2 .left in
+    (omega arith, omega arith)
 
 returns-4 : tie.Need-returns-4
 returns-4 c =
