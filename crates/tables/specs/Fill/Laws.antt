@@ -18,6 +18,7 @@ use Rattle.signals.specs.Mask.{_∪_, _∩_, _∖_}
 use Rattle.signals.specs.Decide.{sets, A, B, C, D, E as Eₑ, F as Fₑ, ∅ₑ, _∪ₑ_, _∩ₑ_, _≐_}
 use Rattle.layout.specs.declared.record.Transition.{Transition}
 use Rattle.meaning.specs.Count.{anyUpTo, tally, one}
+use Rattle.meaning.specs.Count.Laws.{tally-plus, tally-mono}
 use Rattle.meaning.specs.Meaning.{Set, same, Chart, Tree, Move, nth, pick, actionOf, Outcome}
 use Rattle.meaning.specs.Laws.Bools.{same-refl, same→≡, same-≢, and-l, and-r}
 use Rattle.wiring.specs.Wire.{join, down, back, offered}
@@ -134,22 +135,6 @@ any-one (suc n) p h = go (anyUpTo n p) refl h (any-one n p)
     go true e h r = let u = r e in (u .0, (let l = u .1 in omega arith), u .2)
     go false e h r = (n, omega arith, h)
 
-tally-plus : (k : ℕ) (w : ℕ → ℕ) (p : ℕ) → p < k → w p + tally p w ≤ tally k w
-unfolding tally
-tally-plus zero w p l = absurd (omega arith)
-tally-plus (suc k) w p l = go (same p k) refl (tally-plus k w p)
-  where
-    go : (b : Bool) → same p k ≡ b → (p < k → w p + tally p w ≤ tally k w) → w p + tally p w ≤ w k + tally k w
-    go true e r = rw (same→≡ p k e) (omega arith)
-    go false e r = let z : p ≢ k = λ x. false≢true (sym e ∙ rw x (same-refl k)) in let h = r (omega arith) in omega arith
-
-tally-mono : (k : ℕ) (w : ℕ → ℕ) (p : ℕ) → p ≤ k → tally p w ≤ tally k w
-tally-mono k w p l = go (same p k) refl
-  where
-    go : (b : Bool) → same p k ≡ b → tally p w ≤ tally k w
-    go true e = rw (same→≡ p k e) (omega arith)
-    go false e = let z : p ≢ k = λ x. false≢true (sym e ∙ rw x (same-refl k)) in let h = tally-plus k w p (omega arith) in omega arith
-
 -- ── one transition more ──
 
 module _ (c q : ℕ) (low own others : Set) where
@@ -204,7 +189,7 @@ module _ (c q : ℕ) (low own others : Set) where
       let h = tally-plus k (λ u. one (same (g u .from) q)) p l in omega arith
 
   pub count-few : (g : ℕ → Transition) (p k : ℕ) (f : Filling) → f .count ≡ 0 → p ≤ k → leave g k ≤ 8 → listing c q low own others g p f .count ≤ 8
-  count-few g p k f z l few = let r = count-leave g p f in let h = tally-mono k (λ u. one (same (g u .from) q)) p l in omega arith
+  count-few g p k f z l few = let r = count-leave g p f in let h = tally-mono p k (λ u. one (same (g u .from) q)) l in omega arith
 
   module _ (lc : c < 8) (ts : List Transition) (keep : ℕ → Bool) (f₀ : Filling) where
     -- the filling f after p transitions
