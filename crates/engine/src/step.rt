@@ -10,7 +10,7 @@ ghost use Rattle.meaning.specs.Meaning.{refused as refusedAnswer};
 ghost use Rattle.meaning.specs.File.{fileAt};
 ghost use Rattle.meaning.specs.Check.{notBelow, firstOf};
 ghost use Rattle.meaning.specs.Calls.{laidOver, stepOf, nextIn};
-ghost use Rattle.plan.specs.Wire.{Row};
+ghost use Rattle.search.specs.Table.{Row};
 ghost use Rattle.plan.specs.Candidates.{Ready};
 ghost use Rattle.engine.specs.Step.{steppedOf, configTestsIn, stepAfter, Checked, Prepared, Finds};
 use checks::limits;

@@ -20,8 +20,7 @@ use Rattle.meaning.specs.Check.Nodes.{Sound}
 use Rattle.meaning.specs.Laws.Bools.{same-refl, same→≡}
 use Rattle.meaning.specs.Laws.Trees.{Placed, Joined, Namer, left, right, inside, slave}
 use Rattle.search.specs.Table.{masterAt, slaveStateAt}
-use Rattle.meaning.specs.Laws.Names.{up, find, enc, kap, enc-slave, enc-last, placed, joined}
-use Rattle.wiring.specs.Near.{enc-below}
+use Rattle.meaning.specs.Laws.Names.{up, find, enc, kap, enc-below, enc-slave, enc-last, placed, joined}
 use Rattle.plan.specs.Nearest.{masterBy, stateBy, Noted, NotedNone, NearestIn, numberOf, Right, Enclosers, Seeded, Seeds, Handed, Hands, Notes}
 use Rattle.plan.proofs.Wiring.{Is, IsSlave}
 

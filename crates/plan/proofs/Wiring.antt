@@ -18,7 +18,8 @@ use Rattle.meaning.specs.Meaning.{Set, Tree, Slaves}
 use Rattle.meaning.specs.File.{File, gather, treeOf, wholeOf, chartOf, fileAt}
 use Rattle.wiring.specs.Wire.{own, down, downs, up, ups, back, backs}
 use Rattle.wiring.specs.Rows.{down₀, down₁, down₂, up₀, up₁, up₂, back₀, back₁, back₂, slaves-out, downs-step, ups-step, backs-step}
-use Rattle.plan.specs.Wire.{Row, Joins, Wirable, Wires, Whole}
+use Rattle.search.specs.Table.{Row}
+use Rattle.plan.specs.Wire.{Joins, Wirable, Wires, Whole}
 use Rattle.plan.specs.declared.wire.Rows.{Rows}
 
 -- ── a record that was read ──

@@ -1,5 +1,5 @@
--- What the wiring of a file leaves in lists of masks: a row has a mask for each chart, a square one for each two charts. What the masks mean is
--- in the crate wiring (Wire).
+-- What the wiring of a file leaves in lists of masks: a row has a mask for each chart (crate search, Table), a square one for each two charts. What
+-- the masks mean is in the crate wiring (Wire).
 use mathlib.Core.Path.{_≡_}
 use mathlib.Core.List.{List}
 use Prim.Native.Nat.{ℕ, _+_, _*_, _≤_, _<_}
@@ -10,12 +10,9 @@ use Rattle.meaning.specs.Meaning.{Set, Tree}
 use Rattle.meaning.specs.File.{File, wholeOf, fileAt}
 use Rattle.meaning.specs.Check.Nodes.{Sound}
 use Rattle.wiring.specs.Wire.{down, up, back}
+use Rattle.search.specs.Table.{Row}
 use Rattle.checks.specs.Known.{Sized}
 use Rattle.plan.specs.declared.wire.Rows.{Rows}
-
--- the row l has f
-abbrev pub Row : List ℕ → (ℕ → Set) → Type 0
-Row l f = (c : ℕ) → c < 8 → getD l c 0 ≡ f c
 
 -- the square m is l with f joined to it
 abbrev pub Joins : List ℕ → List ℕ → (ℕ → ℕ → Set) → Type 0

@@ -4,8 +4,7 @@ use mathlib.Core.List.{List}
 use Prim.Native.Nat.{ℕ, _<_}
 use Rattle.meaning.specs.File.{File, wholeOf}
 use Rattle.wiring.specs.Wire.{down, up, back}
-use Rattle.search.specs.Table.{backAt, upAt}
-use Rattle.plan.specs.Wire.{Row}
+use Rattle.search.specs.Table.{backAt, upAt, Row}
 use Rattle.plan.specs.Nearest.{NearestIn}
 
 pub record Wired (F : File) (a m s : List ℕ) : Type 0 where

@@ -28,6 +28,10 @@ module _ (m : List ℕ) where
   abbrev pub upAt : ℕ → ℕ
   upAt d = getD m (328 + d) 0
 
+-- a row has a mask for each chart: l has f's
+abbrev pub Row : List ℕ → (ℕ → ℕ) → Type 0
+Row l f = (c : ℕ) → c < 8 → getD l c 0 ≡ f c
+
 -- ── small numbers ──
 module _ (s : List ℕ) where
   -- where candidate v of chart c leads

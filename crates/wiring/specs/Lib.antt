@@ -1,7 +1,7 @@
 -- How the tree of a file folds into masks, and which choices a search may leave out. In order: interfaces cut nothing off (Uncut); the tree as
 -- masks (Wire) and a choice permitted by them (Wired); how charts stand in a file's tree (Stand); what a chart surely puts out (Sure);
 -- bounds on what a chart is offered and what they rule out (Dropped, Bounded); the search that uses them (Hunt, Filter); the masks by node kind
--- (Rows); the nearest slave (Near).
+-- (Rows).
 pub mod Uncut
 pub mod Wire
 pub mod Wired
@@ -12,4 +12,3 @@ pub mod Bounded
 pub mod Hunt
 pub mod Filter
 pub mod Rows
-pub mod Near

@@ -24,6 +24,7 @@ use Rattle.meaning.specs.Check.Nodes.{sound}
 use Rattle.meaning.specs.Calls.{configTests, stepRefusal, stepIn, stepOf, nextIn}
 use Rattle.meaning.specs.Laws.Names.{kap}
 use Rattle.wiring.specs.Wire.{Small, full, down}
+use Rattle.search.specs.Table.{Row}
 use Rattle.search.specs.Trail.{beginning}
 use Rattle.search.specs.Hunt.{hunts, over, nothing}
 use Rattle.search.specs.declared.Found.{Found}
@@ -31,7 +32,7 @@ use Rattle.tables.specs.Filled.{Rows, answerOf, trimmed}
 use Rattle.tables.specs.Fill.{stuck}
 use Rattle.tables.specs.Step.{step-found, step-stuck}
 use Rattle.checks.specs.Known.{Sized}
-use Rattle.plan.specs.Wire.{Row, Wirable}
+use Rattle.plan.specs.Wire.{Wirable}
 use Rattle.plan.specs.Nearest.{masterBy, stateBy}
 use Rattle.plan.specs.Wired.{Wired}
 use Rattle.plan.specs.Candidates.{Ready, Chooses}

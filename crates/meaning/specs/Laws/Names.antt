@@ -75,6 +75,22 @@ module _ (F : File) where
   unfoldable pub kap : ℕ → Option ℕ
   kap c = up none (find (F .nodes) (λ k. same (F .kind k) 0 && same (F .a k) c)) enc
 
+  -- the nearest enclosing slave of a node is one of the file's
+  nearest-below : (f j i : ℕ) → nearest f j ≡ some i → i < F .slaves
+  unfolding nearest
+  nearest-below zero j i e = absurd (let z : _≡_ {A = ℕ} 0 1 = cc in omega arith)
+  nearest-below (suc f) j i e = go (bySlave j) refl (byNode j) e (λ k. nearest-below f k i)
+    where
+      go : (a : Option ℕ) → bySlave j ≡ a → (b : Option ℕ) → up a b (nearest f) ≡ some i → ((k : ℕ) → nearest f k ≡ some i → i < F .slaves)
+          → i < F .slaves
+      go (some h) p b e r = let z : h ≡ i = cc in let u = find-some (F .slaves) (λ i. same (F .node i) j) h p in let v = u .0 in omega arith
+      go none p (some k) e r = r k e
+      go none p none e r = absurd (let z : _≡_ {A = ℕ} 0 1 = cc in omega arith)
+
+  pub enc-below : (j i : ℕ) → enc j ≡ some i → i < F .slaves
+  unfolding enc
+  enc-below j i e = nearest-below (F .nodes) j i e
+
 module _ (F : File) (w : Ordered F) (r : Rule10 F) where
   pub at-most : (j : ℕ) → j < F .nodes → named F j ≤ 1
   at-most j l = go (same (suc j) (F .nodes)) refl

@@ -33,12 +33,11 @@ use Rattle.wiring.specs.Wire.{join, Small, full}
 use Rattle.wiring.specs.Dropped.{join-cong}
 use Rattle.wiring.specs.Sure.{sureOf, sure-small}
 use Rattle.wiring.specs.Hunt.{mayOf}
-use Rattle.search.specs.Table.{backAt}
+use Rattle.search.specs.Table.{backAt, Row}
 use Rattle.tables.specs.Fill.{Filling, considered, listing, lastsBy, isAgain, putMasks, putSmall, put, pickFilling, othersAt, sureAt, Raised, Until, AheadFrom}
 use Rattle.tables.specs.Fill.Laws.{length-masks, length-small, leave-room, count-few, until-next, chosen, raised-none, raised-next, raised-same}
 use Rattle.plan.specs.declared.candidates.Around.{Around}
 use Rattle.plan.specs.declared.candidates.Puts.{Puts}
-use Rattle.plan.specs.Wire.{Row}
 use Rattle.plan.specs.Candidates.{Ready, Tabled, Left, filling, consideredBy, listingBy, fromStart, withOne, Mays, Sided, UntilChart, NextChart, Stated, Chooses}
 
 -- ── where transitions stand ──

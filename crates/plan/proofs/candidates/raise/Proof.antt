@@ -9,9 +9,8 @@ use lib.Dec.{ltb}
 use lib.ListN.{getD}
 use Rattle.signals.specs.Mask.{_∪_, _∩_}
 use Rattle.signals.specs.Decide.{sets, A, B, C, ∅ₑ, _∪ₑ_, _∩ₑ_, _≐_}
-use Rattle.search.specs.Table.{backAt, masterAt}
+use Rattle.search.specs.Table.{backAt, masterAt, Row}
 use Rattle.tables.specs.Fill.{sureAt}
-use Rattle.plan.specs.Wire.{Row}
 use Rattle.plan.proofs.candidates.raise.Statement.{statement}
 use Rattle.plan.proofs.candidates.raise.Tie as tie
 

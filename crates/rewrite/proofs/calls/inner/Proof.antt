@@ -20,9 +20,8 @@ use Rattle.meaning.specs.Numbers.{mostSlaves}
 use Rattle.meaning.specs.File.{File, fileAt}
 use Rattle.meaning.specs.Check.Nodes.{Sound}
 use Rattle.meaning.specs.Check.Laws.{eq-or-not}
-use Rattle.meaning.specs.Laws.Names.{enc, kap, placed, joined}
+use Rattle.meaning.specs.Laws.Names.{enc, kap, enc-below, placed, joined}
 use Rattle.meaning.specs.Rewriting.{call, callIn}
-use Rattle.wiring.specs.Near.{enc-below}
 use Rattle.plan.specs.Nearest.{numberOf}
 use Rattle.rewrite.specs.Known.{Checked, CallsIn, InnerIn, Upward}
 use Rattle.rewrite.proofs.calls.inner.Statement.{statement}
