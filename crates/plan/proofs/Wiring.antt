@@ -1,5 +1,5 @@
--- What `wire` leaves of a node's part, from what it left of the parts that the node names. In order: a record that was read is the file's (Is);
--- hidden; composed; a chart and its slaves, of which the loop has joined the first k (Gathers); the whole.
+-- What `wire` leaves of a node's part, from what it left of the parts that the node names. In order: what a record that was read says; hidden;
+-- composed; a chart and its slaves, of which the loop has joined the first k (Gathers); the whole.
 -- Assumes nothing.
 use mathlib.Core.Path.{_≡_, sym, ap, ap₂, _∙_}
 use mathlib.Core.List.{List, [], _∷_}
@@ -19,44 +19,14 @@ use Rattle.meaning.specs.File.{File, gather, treeOf, wholeOf, chartOf, fileAt}
 use Rattle.wiring.specs.Wire.{own, down, downs, up, ups, back, backs}
 use Rattle.wiring.specs.Rows.{down₀, down₁, down₂, up₀, up₁, up₂, back₀, back₁, back₂, slaves-out, downs-step, ups-step, backs-step}
 use Rattle.search.specs.Table.{Row}
-use Rattle.plan.specs.Wire.{Joins, Wirable, Wires, Whole}
+use Rattle.nesting.specs.Known.{Wirable}
+use Rattle.nesting.proofs.Records.{Is, IsSlave, is-node, is-slave, lower-a, lower-b}
+use Rattle.plan.specs.Wire.{Joins, Wires, Whole}
 use Rattle.plan.specs.declared.wire.Rows.{Rows}
 
 -- ── a record that was read ──
 
-pub record Is (F : File) (j : ℕ) (r : Node) : Type 0 where
-  pub kind : r .kind ≡ F .kind j
-  pub a : r .a ≡ F .a j
-  pub b : r .b ≡ F .b j
-  pub x : r .x ≡ F .x j
-  pub y : r .y ≡ F .y j
-
-pub record IsSlave (F : File) (i : ℕ) (s : Slave) : Type 0 where
-  pub chart : s .chart ≡ F .master i
-  pub state : s .state ≡ F .state i
-  pub node : s .node ≡ F .node i
-
 module _ (n : Shape) (b : List ℕ) where
-  pub is-node : (j : ℕ) {r : Node} → r ≡ nodeAt n b j → Is (fileAt n b) j r
-  unfolding fileAt
-  is-node j e =
-      record {
-        kind = ap (λ (r : Node). r .kind) e;
-        a = ap (λ (r : Node). r .a) e;
-        b = ap (λ (r : Node). r .b) e;
-        x = ap (λ (r : Node). r .x) e;
-        y = ap (λ (r : Node). r .y) e;
-      }
-
-  pub is-slave : (i : ℕ) {s : Slave} → s ≡ slaveAt n b i → IsSlave (fileAt n b) i s
-  unfolding fileAt
-  is-slave i e =
-      record {
-        chart = ap (λ (s : Slave). s .chart) e;
-        state = ap (λ (s : Slave). s .state) e;
-        node = ap (λ (s : Slave). s .node) e;
-      }
-
   is-feedback : (c : ℕ) {h : Head} → h ≡ headAt n b c → h .feedback ≡ fileAt n b .chart c .feedback
   unfolding fileAt chartOf
   is-feedback c e = ap (λ (h : Head). h .feedback) e
@@ -65,11 +35,11 @@ module _ (n : Shape) (b : List ℕ) where
 module _ {n : Shape} {b : List ℕ} (w : Wirable n b) {j : ℕ} (p : j < n .nodes) {r : Node} (e : r ≡ nodeAt n b j) where
   pub lower-hide : r .kind ≡ 2 → r .a < j
   unfolding fileAt
-  lower-hide k = let i = is-node n b j e in let h = w .sound .ordered .lower₂ j p (sym (i .kind) ∙ k) in omega (arith, i .a)
+  lower-hide k = lower-a _ (w .sound) p (is-node n b j e) (λ z. omega arith)
 
   pub lower-comp : r .kind ≡ 1 → (r .a < j) × (r .b < j)
   unfolding fileAt
-  lower-comp k = let i = is-node n b j e in let h = w .sound .ordered .lower₁ j p (sym (i .kind) ∙ k) in (omega (arith, i .a), omega (arith, i .b))
+  lower-comp k = (lower-a _ (w .sound) p (is-node n b j e) (λ z. omega arith), lower-b _ (w .sound) p (is-node n b j e) k)
 
   module _ (k₂ : r .kind ≡ 2 → ⊥) (k₁ : r .kind ≡ 1 → ⊥) where
     pub kind-chart : fileAt n b .kind j ≡ 0

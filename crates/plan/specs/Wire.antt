@@ -5,13 +5,10 @@ use mathlib.Core.List.{List}
 use Prim.Native.Nat.{ℕ, _+_, _*_, _≤_, _<_}
 use lib.ListN.{getD}
 use Rattle.signals.specs.Mask.{_∪_, _∩_}
-use Rattle.layout.specs.declared.body.Shape.{Shape}
 use Rattle.meaning.specs.Meaning.{Set, Tree}
-use Rattle.meaning.specs.File.{File, wholeOf, fileAt}
-use Rattle.meaning.specs.Check.Nodes.{Sound}
+use Rattle.meaning.specs.File.{File, wholeOf}
 use Rattle.wiring.specs.Wire.{down, up, back}
 use Rattle.search.specs.Table.{Row}
-use Rattle.checks.specs.Known.{Sized}
 use Rattle.plan.specs.declared.wire.Rows.{Rows}
 
 -- the square m is l with f joined to it
@@ -23,11 +20,6 @@ pub record Fed (at n : ℕ) (s : Set) (u l m : List ℕ) : Type 0 where
   pub in-row : (d : ℕ) → d < n → getD m (at + d) 0 ≡ getD l (at + d) 0 ∪ (s ∩ getD u d 0)
   pub below : (k : ℕ) → k < at → getD m k 0 ≡ getD l k 0
   pub above : (k : ℕ) → at + n ≤ k → getD m k 0 ≡ getD l k 0
-
--- what the wiring needs to know of a body: it passed the file check
-pub record Wirable (n : Shape) (b : List ℕ) : Type 0 where
-  pub sized : Sized n b
-  pub sound : Sound (fileAt n b)
 
 -- the rows r are those of the tree t, and the square m is l with t's feedback joined to it
 pub record Wires (F : File) (t : Tree) (l m : List ℕ) (r : Rows) : Type 0 where

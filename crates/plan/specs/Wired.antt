@@ -5,7 +5,7 @@ use Prim.Native.Nat.{ℕ, _<_}
 use Rattle.meaning.specs.File.{File, wholeOf}
 use Rattle.wiring.specs.Wire.{down, up, back}
 use Rattle.search.specs.Table.{backAt, upAt, Row}
-use Rattle.plan.specs.Nearest.{NearestIn}
+use Rattle.plan.specs.Noted.{NearestIn}
 
 pub record Wired (F : File) (a m s : List ℕ) : Type 0 where
   pub down-is : Row a (down (wholeOf F))

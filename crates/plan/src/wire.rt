@@ -6,19 +6,17 @@ ghost use lib.ListN.{length, getD};
 ghost use Rattle.signals.specs.Mask.{_∪_, _∩_, _∖_};
 ghost use Rattle.meaning.specs.File.{treeOf, fileAt};
 ghost use Rattle.wiring.specs.Wire.{own};
-ghost use Rattle.meaning.specs.Laws.Names.{enc};
 ghost use Rattle.search.specs.Table.{Row};
-ghost use Rattle.plan.specs.Wire.{Joins, Fed, Wirable, Wires, Whole};
-ghost use Rattle.plan.specs.Nearest.{Right, masterBy, stateBy, Seeds, Seeded, Hands, Enclosers, Notes, NotedNone, NearestIn};
+ghost use Rattle.nesting.specs.Known.{Wirable};
+ghost use Rattle.nesting.specs.Nearest.{Right};
+ghost use Rattle.plan.specs.Wire.{Joins, Fed, Wires, Whole};
+ghost use Rattle.plan.specs.Noted.{Notes, NotedNone, NearestIn};
 ghost use Rattle.plan.specs.Wired.{Wired};
 use layout::body::Shape;
-use layout::record::Slave;
+use nesting::NONE;
 
 // The set of all signals.
 const ALL: u64 = 18446744073709551615;
-
-// The number of no slave and of no chart.
-const NONE: u8 = 255;
 
 // Where a search's tables have what the wiring gives: the square of feedback and the row `up` among its masks, the masters and the states of the
 // nearest slaves among its small numbers.
@@ -202,54 +200,6 @@ fn whole(n: Shape, body: &[u8], back: &mut [u64]) -> Rows
     wire(n, body, last, back)
 }
 
-// The node of each slave stands in that slave: `near` has of a node the number of its nearest enclosing slave.
-fn seed(n: Shape, body: &[u8], near: &mut [u8])
-    requires { ⌜ Wirable n (now body) × (length (now near) ≡ 64) ⌝ }
-    ensures { λ _. ⌜ Seeds (fileAt n (now (body .entry))) (n .slaves) (now (near .entry)) (now (near .exit)) ⌝ }
-{
-    let mut i: usize = 0;
-    while i < n.slaves {
-        let slave = layout::body::slave_at(n, body, i);
-        let j = slave.node as usize;
-        near[j] = i as u8;
-        i += 1;
-    }
-}
-
-// The nodes that node j names stand in the slave that j stands in.
-fn hand(n: Shape, body: &[u8], j: usize, near: &mut [u8])
-    requires { ⌜ Wirable n (now body) × (j < n .nodes) × (length (now near) ≡ 64) × Right (fileAt n (now body)) (now near) j ⌝ }
-    ensures { λ _. ⌜ Hands (fileAt n (now (body .entry))) j (now (near .entry)) (now (near .exit)) ⌝ }
-{
-    let node = layout::body::node_at(n, body, j);
-    if node.kind == 0 {
-        return;
-    }
-    let i = near[j];
-    let a = node.a as usize;
-    near[a] = i;
-    if node.kind == 1 {
-        let b = node.b as usize;
-        near[b] = i;
-    }
-}
-
-// The nearest enclosing slave of node j; of no chart if there is none.
-fn enclosing(n: Shape, body: &[u8], j: usize, near: &[u8]) -> Slave
-    requires { ⌜ Wirable n (now body) × (j < n .nodes) × (length (now near) ≡ 64) × Right (fileAt n (now body)) (now near) j ⌝ }
-    ensures { λ r. ⌜ (r .chart ≡ masterBy (fileAt n (now (body .entry))) (enc (fileAt n (now (body .entry))) j)) × (r .state ≡ stateBy (fileAt n (now (body .entry))) (enc (fileAt n (now (body .entry))) j)) ⌝ }
-{
-    let i = near[j] as usize;
-    if i < n.slaves {
-        return layout::body::slave_at(n, body, i);
-    }
-    Slave {
-        chart: NONE,
-        state: 0,
-        node: 0,
-    }
-}
-
 // A chart stands in the slave that its node stands in: its master and state are noted in a search's small numbers.
 fn note(n: Shape, body: &[u8], j: usize, near: &[u8], small: &mut [u8])
     requires { ⌜ Wirable n (now body) × (j < n .nodes) × (length (now near) ≡ 64) × Right (fileAt n (now body)) (now near) j × (length (now small) ≡ 96) ⌝ }
@@ -257,34 +207,11 @@ fn note(n: Shape, body: &[u8], j: usize, near: &[u8], small: &mut [u8])
 {
     let node = layout::body::node_at(n, body, j);
     if node.kind == 0 {
-        let slave = enclosing(n, body, j, near);
+        let slave = nesting::enclosing(n, body, j, near);
         let c = node.a as usize;
         small[MASTER + c] = slave.chart;
         small[STATE + c] = slave.state;
     }
-}
-
-// From the last node down, so that a node's slave is known before the node is come to.
-fn hand_down(n: Shape, body: &[u8], near: &mut [u8])
-    requires { ⌜ Wirable n (now body) × (length (now near) ≡ 64) × Seeded (fileAt n (now body)) (now near) ⌝ }
-    ensures { λ _. ⌜ Enclosers (fileAt n (now (body .entry))) (now (near .exit)) ⌝ }
-{
-    let mut j = n.nodes;
-    while 0 < j {
-        j -= 1;
-        hand(n, body, j, near);
-    }
-}
-
-// Of each node the number of its nearest enclosing slave, 255 for none.
-pub fn enclosers(n: Shape, body: &[u8]) -> [u8; 64]
-    requires { ⌜ Wirable n (now body) ⌝ }
-    ensures { λ r. ⌜ Enclosers (fileAt n (now (body .entry))) r ⌝ }
-{
-    let mut near = [NONE; 64];
-    seed(n, body, &mut near);
-    hand_down(n, body, &mut near);
-    near
 }
 
 // Every chart stands outside all slaves.
@@ -309,7 +236,7 @@ pub fn nearest(n: Shape, body: &[u8], small: &mut [u8])
         note_none(small);
         return;
     }
-    let near = enclosers(n, body);
+    let near = nesting::enclosers(n, body);
     let nodes = n.nodes;
     let mut j: usize = 0;
     while j < nodes {

@@ -119,7 +119,7 @@ pub fn inner(n: Shape, body: &[u8], calls: &[u64; 8]) -> [u64; 8]
     requires { ⌜ Checked n (now body) × CallsIn (fileAt n (now body)) (now calls) × Upward (fileAt n (now body)) ⌝ }
     ensures { λ r. ⌜ InnerIn (fileAt n (now (body .entry))) r ⌝ }
 {
-    let near = plan::wire::enclosers(n, body);
+    let near = nesting::enclosers(n, body);
     let nodes = n.nodes;
     let slaves = n.slaves;
     let mut inner = [0u64; 8];

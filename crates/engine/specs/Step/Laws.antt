@@ -32,8 +32,8 @@ use Rattle.tables.specs.Filled.{Rows, answerOf, trimmed}
 use Rattle.tables.specs.Fill.{stuck}
 use Rattle.tables.specs.Step.{step-found, step-stuck}
 use Rattle.checks.specs.Known.{Sized}
-use Rattle.plan.specs.Wire.{Wirable}
-use Rattle.plan.specs.Nearest.{masterBy, stateBy}
+use Rattle.nesting.specs.Known.{Wirable}
+use Rattle.nesting.specs.Nearest.{masterBy, stateBy}
 use Rattle.plan.specs.Wired.{Wired}
 use Rattle.plan.specs.Candidates.{Ready, Chooses}
 use Rattle.plan.specs.Candidates.Laws.{actions-small}

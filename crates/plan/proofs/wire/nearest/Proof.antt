@@ -5,8 +5,8 @@ use native.Mathlib.Omega.{arith}
 use borrow.Author.Needs.{needs}
 use lib.ListN.{length}
 use Rattle.meaning.specs.File.{fileAt}
-use Rattle.plan.specs.Nearest.{Enclosers, Noted}
-use Rattle.plan.proofs.Near.{noted-more, noted-done, nearest-none}
+use Rattle.plan.specs.Noted.{Noted}
+use Rattle.plan.proofs.Noted.{noted-more, noted-done, nearest-none}
 use Rattle.plan.proofs.wire.nearest.Statement.{statement}
 use Rattle.plan.proofs.wire.nearest.Tie as tie
 

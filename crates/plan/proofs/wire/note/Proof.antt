@@ -1,11 +1,12 @@
--- `wire::note` meets its contract: by whether node j holds a chart, the laws of Near. Assumes nothing.
+-- `wire::note` meets its contract: by whether node j holds a chart, the laws of Noted. Assumes nothing.
 use Prim.Native.Nat.{_<_}
 use native.Mathlib.Omega.{arith}
 use borrow.Author.Needs.{needs}
 use lib.ListN.{length-set}
 use Rattle.meaning.specs.File.{fileAt}
-use Rattle.plan.proofs.Wiring.{is-node, below-charts}
-use Rattle.plan.proofs.Near.{notes-none, notes-chart}
+use Rattle.nesting.proofs.Records.{is-node}
+use Rattle.plan.proofs.Wiring.{below-charts}
+use Rattle.plan.proofs.Noted.{notes-none, notes-chart}
 use Rattle.plan.proofs.wire.note.Statement.{statement}
 use Rattle.plan.proofs.wire.note.Tie as tie
 

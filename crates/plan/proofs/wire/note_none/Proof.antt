@@ -4,8 +4,8 @@ use Prim.Native.Nat.{ℕ, _-_, _≤_, _<_}
 use native.Mathlib.Omega.{arith}
 use borrow.Author.Needs.{needs}
 use lib.ListN.{length, length-set}
-use Rattle.plan.specs.Nearest.{NotedNone}
-use Rattle.plan.proofs.Near.{noted-none-more}
+use Rattle.plan.specs.Noted.{NotedNone}
+use Rattle.plan.proofs.Noted.{noted-none-more}
 use Rattle.plan.proofs.wire.note_none.Statement.{statement}
 use Rattle.plan.proofs.wire.note_none.Tie as tie
 

@@ -22,7 +22,7 @@ use Rattle.meaning.specs.Check.Nodes.{Sound}
 use Rattle.meaning.specs.Check.Laws.{eq-or-not}
 use Rattle.meaning.specs.Laws.Names.{enc, kap, enc-below, placed, joined}
 use Rattle.meaning.specs.Rewriting.{call, callIn}
-use Rattle.plan.specs.Nearest.{numberOf}
+use Rattle.nesting.specs.Nearest.{numberOf}
 use Rattle.rewrite.specs.Known.{Checked, CallsIn, InnerIn, Upward}
 use Rattle.rewrite.proofs.calls.inner.Statement.{statement}
 use Rattle.rewrite.proofs.calls.inner.Tie as tie

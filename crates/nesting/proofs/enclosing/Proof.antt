@@ -1,12 +1,12 @@
--- `wire::enclosing` meets its contract: a slave's number is below the number of slaves, and 255 is not. Assumes nothing.
+-- `enclosing` meets its contract: a slave's number is below the number of slaves, and 255 is not. Assumes nothing.
 use mathlib.Core.Path.{_∙_}
 use native.Mathlib.Omega.{arith}
 use borrow.Author.Needs.{needs}
 use Rattle.meaning.specs.File.{fileAt}
-use Rattle.plan.proofs.Wiring.{is-slave}
-use Rattle.plan.proofs.Near.{enclosed, alone}
-use Rattle.plan.proofs.wire.enclosing.Statement.{statement}
-use Rattle.plan.proofs.wire.enclosing.Tie as tie
+use Rattle.nesting.proofs.Records.{is-slave}
+use Rattle.nesting.proofs.Near.{enclosed, alone}
+use Rattle.nesting.proofs.enclosing.Statement.{statement}
+use Rattle.nesting.proofs.enclosing.Tie as tie
 
 cast-i : tie.Need-cast-i
 cast-i c = omega (arith, c .shared-slice-known3 .given (c .before .before .before .args .j))

@@ -1,14 +1,16 @@
--- The nearest enclosing slave of each node and of each chart (crate meaning, Laws/Names: enc and kap), in bytes.
+-- The nearest enclosing slave of each node (crate meaning, Laws/Names: enc), in bytes.
 use mathlib.Core.Path.{_≡_}
 use mathlib.Core.List.{List}
 use mathlib.Core.Option.{Option, none, some}
 use Prim.Native.Nat.{ℕ, suc, _<_}
 use lib.ListN.{getD}
 use Rattle.meaning.specs.File.{File}
-use Rattle.meaning.specs.Laws.Names.{enc, kap}
-use Rattle.search.specs.Table.{masterAt, slaveStateAt}
+use Rattle.meaning.specs.Laws.Names.{enc}
 
--- ── of a chart, as a search reads it ──
+-- a slave's number, 255 for none
+unfoldable pub numberOf : Option ℕ → ℕ
+numberOf none = 255
+numberOf (some i) = i
 
 -- a slave's master, 255 for none; and its state
 unfoldable pub masterBy : File → Option ℕ → ℕ
@@ -20,25 +22,6 @@ stateBy F none = 0
 stateBy F (some i) = F .state i
 
 module _ (F : File) where
-  abbrev pub Noted : List ℕ → ℕ → Type 0
-  Noted s c = (masterAt s c ≡ masterBy F (kap F c)) × (slaveStateAt s c ≡ stateBy F (kap F c))
-
-  -- every chart's
-  abbrev pub NearestIn : List ℕ → Type 0
-  NearestIn s = (c : ℕ) → c < F .charts → Noted s c
-
--- the first n charts stand in no slave
-abbrev pub NotedNone : ℕ → List ℕ → Type 0
-NotedNone n s = (c : ℕ) → c < n → (masterAt s c ≡ 255) × (slaveStateAt s c ≡ 0)
-
--- ── of a node, while the nodes are walked ──
-
--- a slave's number, 255 for none
-unfoldable pub numberOf : Option ℕ → ℕ
-numberOf none = 255
-numberOf (some i) = i
-
-module _ (F : File) where
   -- l has node k's
   abbrev pub Right : List ℕ → ℕ → Type 0
   Right l k = getD l k 0 ≡ numberOf (enc F k)
@@ -46,6 +29,8 @@ module _ (F : File) where
   -- l has every node's
   abbrev pub Enclosers : List ℕ → Type 0
   Enclosers l = (k : ℕ) → k < F .nodes → Right l k
+
+  -- ── while the nodes are walked ──
 
   -- m has the last node's and those of the slaves' nodes
   pub record Seeded (m : List ℕ) : Type 0 where
@@ -67,8 +52,3 @@ module _ (F : File) where
   pub record Hands (j : ℕ) (l m : List ℕ) : Type 0 where
     pub handed : Handed j m
     pub stays : (k : ℕ) → Right l k → Right m k
-
-  -- m has those of node j's chart, if it holds one, and of the charts of which l has them
-  pub record Notes (j : ℕ) (l m : List ℕ) : Type 0 where
-    pub noted : F .kind j ≡ 0 → Noted F m (F .a j)
-    pub stays : (c : ℕ) → c < F .charts → Noted F l c → Noted F m c

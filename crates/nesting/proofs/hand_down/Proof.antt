@@ -1,13 +1,13 @@
--- `wire::hand_down` meets its contract: the nodes from j on are walked, and the next one's byte is right. Assumes nothing.
+-- `hand_down` meets its contract: the nodes from j on are walked, and the next one's byte is right. Assumes nothing.
 use mathlib.Core.Path.{_≡_, refl, _∙_}
 use Prim.Native.Nat.{_-_, _≤_}
 use native.Mathlib.Omega.{arith}
 use borrow.Author.Needs.{needs}
 use lib.ListN.{length}
 use Rattle.meaning.specs.File.{fileAt}
-use Rattle.plan.proofs.Near.{Walked, walked-none, walked-right, walked-more, walked-done}
-use Rattle.plan.proofs.wire.hand_down.Statement.{statement}
-use Rattle.plan.proofs.wire.hand_down.Tie as tie
+use Rattle.nesting.proofs.Near.{Walked, walked-none, walked-right, walked-more, walked-done}
+use Rattle.nesting.proofs.hand_down.Statement.{statement}
+use Rattle.nesting.proofs.hand_down.Tie as tie
 
 abbrev Inv-loop : tie.InvT-loop
 Inv-loop n body near₀ j₀ near j = (j ≤ n .nodes) × (length near ≡ length near₀) × Walked (fileAt n body) j near

@@ -1,12 +1,12 @@
--- `wire::hand` meets its contract: by kind, the laws of Near. Assumes nothing.
+-- `hand` meets its contract: by kind, the laws of Near. Assumes nothing.
 use native.Mathlib.Omega.{arith}
 use borrow.Author.Needs.{needs}
 use lib.ListN.{length-set}
 use Rattle.meaning.specs.File.{fileAt}
-use Rattle.plan.proofs.Wiring.{is-node, lower-comp}
-use Rattle.plan.proofs.Near.{lower-a, hands-none, hands-hide, hands-comp}
-use Rattle.plan.proofs.wire.hand.Statement.{statement}
-use Rattle.plan.proofs.wire.hand.Tie as tie
+use Rattle.nesting.proofs.Records.{is-node, lower-a, lower-b}
+use Rattle.nesting.proofs.Near.{hands-none, hands-hide, hands-comp}
+use Rattle.nesting.proofs.hand.Statement.{statement}
+use Rattle.nesting.proofs.hand.Tie as tie
 
 returns : tie.Need-returns
 unfolding fileAt
@@ -20,9 +20,10 @@ slice-write-near c =
     omega (arith, p .0 .sized .nodes, p .1, p .2)
 
 slice-write-near-2 : tie.Need-slice-write-near-2
+unfolding fileAt
 slice-write-near-2 c =
     let p = c .before .before .before .before .before .before .before .before .before .before .pre in
-    let h = lower-comp (p .0) (p .1) (c .before .before .before .before .before .before .before .node-at .ensures) (c .before .if2 .taken) in
+    let h = lower-b _ (p .0 .sound) (p .1) (is-node _ _ _ (c .before .before .before .before .before .before .before .node-at .ensures)) (c .before .if2 .taken) in
     simp length-set (omega (arith, p .0 .sized .nodes, p .1, p .2))
 
 returns-2 : tie.Need-returns-2

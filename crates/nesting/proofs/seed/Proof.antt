@@ -1,15 +1,15 @@
--- `wire::seed` meets its contract: the slaves below i are seeded. Assumes nothing.
+-- `seed` meets its contract: the slaves below i are seeded. Assumes nothing.
 use mathlib.Core.Path.{_≡_, refl}
 use Prim.Native.Nat.{_-_, _≤_}
 use native.Mathlib.Omega.{arith}
 use borrow.Author.Needs.{needs}
 use lib.ListN.{length, length-set}
 use Rattle.meaning.specs.File.{fileAt}
-use Rattle.plan.specs.Nearest.{Seeds}
-use Rattle.plan.proofs.Wiring.{is-slave}
-use Rattle.plan.proofs.Near.{seeds-none, seeds-more}
-use Rattle.plan.proofs.wire.seed.Statement.{statement}
-use Rattle.plan.proofs.wire.seed.Tie as tie
+use Rattle.nesting.specs.Nearest.{Seeds}
+use Rattle.nesting.proofs.Records.{is-slave}
+use Rattle.nesting.proofs.Near.{seeds-none, seeds-more}
+use Rattle.nesting.proofs.seed.Statement.{statement}
+use Rattle.nesting.proofs.seed.Tie as tie
 
 abbrev Inv-loop : tie.InvT-loop
 Inv-loop n body near₀ i₀ near i = (i ≤ n .slaves) × (length near ≡ length near₀) × Seeds (fileAt n body) i near₀ near

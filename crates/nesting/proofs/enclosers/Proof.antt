@@ -1,10 +1,10 @@
--- `wire::enclosers` meets its contract. Assumes nothing.
+-- `enclosers` meets its contract. Assumes nothing.
 use mathlib.Core.Path.{_≡_, _∙_}
 use borrow.Author.Needs.{needs}
 use Rattle.meaning.specs.File.{fileAt}
-use Rattle.plan.proofs.Near.{seeded}
-use Rattle.plan.proofs.wire.enclosers.Statement.{statement}
-use Rattle.plan.proofs.wire.enclosers.Tie as tie
+use Rattle.nesting.proofs.Near.{seeded}
+use Rattle.nesting.proofs.enclosers.Statement.{statement}
+use Rattle.nesting.proofs.enclosers.Tie as tie
 
 hand-down-requires : tie.Need-hand-down-requires
 unfolding fileAt
