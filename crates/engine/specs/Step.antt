@@ -18,7 +18,7 @@ use Rattle.search.specs.declared.Found.{Found}
 use Rattle.tables.specs.Filled.{answerOf}
 use Rattle.checks.specs.Known.{Sized, Summed}
 use Rattle.plan.specs.Wired.{Wired}
-use Rattle.plan.specs.Candidates.{Tabled}
+use Rattle.candidates.specs.Candidates.{Tabled}
 use Rattle.engine.specs.declared.step.Stepped.{Stepped}
 pub mod Laws
 

@@ -11,7 +11,7 @@ ghost use Rattle.meaning.specs.File.{fileAt};
 ghost use Rattle.meaning.specs.Check.{notBelow, firstOf};
 ghost use Rattle.meaning.specs.Calls.{laidOver, stepOf, nextIn};
 ghost use Rattle.search.specs.Table.{Row};
-ghost use Rattle.plan.specs.Candidates.{Ready};
+ghost use Rattle.candidates.specs.Candidates.{Ready};
 ghost use Rattle.engine.specs.Step.{steppedOf, configTestsIn, stepAfter, Checked, Prepared, Finds};
 use checks::limits;
 use layout::body::Shape;
@@ -91,8 +91,8 @@ pub fn found(
     ensures { λ r. ⌜ Finds n (now (body .entry)) (now (config .entry)) input r × Prepared n (now (body .entry)) down (now (masks .exit)) (now (small .exit)) ⌝ }
 {
     let base = lows(down, input);
-    let low = plan::candidates::choose(n, body, config, base, masks, small);
-    if plan::candidates::is_stuck(small, n.charts) {
+    let low = candidates::choose(n, body, config, base, masks, small);
+    if candidates::is_stuck(small, n.charts) {
         return search::none();
     }
     search::search(masks, small, n.charts, low)

@@ -1,3 +1,2 @@
-// What a step needs of a file before it searches: the wiring, once for a file, and the candidates, once for a configuration and an input.
-pub mod candidates;
+// What a step needs of a file before it looks at a configuration: the wiring, once for a file.
 pub mod wire;

@@ -35,8 +35,8 @@ use Rattle.checks.specs.Known.{Sized}
 use Rattle.nesting.specs.Known.{Wirable}
 use Rattle.nesting.specs.Nearest.{masterBy, stateBy}
 use Rattle.plan.specs.Wired.{Wired}
-use Rattle.plan.specs.Candidates.{Ready, Chooses}
-use Rattle.plan.specs.Candidates.Laws.{actions-small}
+use Rattle.candidates.specs.Candidates.{Ready, Chooses}
+use Rattle.candidates.specs.Candidates.Laws.{actions-small}
 use Rattle.engine.specs.declared.step.Stepped.{Stepped}
 use Rattle.engine.specs.Step.{steppedOf, configTestsIn, refusalAfter, stepAfter, Checked, Prepared}
 

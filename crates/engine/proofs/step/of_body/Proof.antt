@@ -14,7 +14,7 @@ use Rattle.meaning.specs.File.{chartOf, fileAt}
 use Rattle.meaning.specs.Check.{firstOf}
 use Rattle.meaning.specs.Calls.{laidOver, nextIn}
 use Rattle.search.specs.declared.Found.{Found}
-use Rattle.plan.specs.Candidates.{Ready}
+use Rattle.candidates.specs.Candidates.{Ready}
 use Rattle.engine.specs.Step.{steppedOf, configTestsIn, stepAfter, Checked, Finds}
 use Rattle.engine.specs.Step.Laws.{config-long, config-valid, after-config, after-room, after-step, ready, answer-none, answer-given, refuses}
 use Rattle.engine.specs.declared.step.Stepped.{Stepped}

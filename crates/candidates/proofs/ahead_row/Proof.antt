@@ -1,0 +1,60 @@
+-- `ahead_row` meets its contract. The loop makes row k from row k + 1, chart by chart. Assumes nothing.
+use mathlib.Core.Path.{_≡_, refl, subst}
+use Prim.Native.Nat.{ℕ, _+_, _*_, _-_, _≤_, _<_}
+use native.Mathlib.Omega.{arith}
+use borrow.Author.Needs.{needs}
+use Rattle.tables.specs.Fill.{AheadRow, aheadBy}
+use Rattle.tables.specs.Fill.Laws.{row-none, row-next, row-value}
+use Rattle.candidates.proofs.ahead_row.Statement.{statement}
+use Rattle.candidates.proofs.ahead_row.Tie as tie
+
+abbrev Inv-loop : tie.InvT-loop
+Inv-loop masks₀ charts k u c₀ masks c = (c ≤ charts) × AheadRow k (aheadBy masks₀ k u) c masks₀ masks
+
+abbrev μ-loop : tie.MeasureT-loop
+μ-loop masks₀ charts k u c₀ masks c = charts - c
+
+loop-holds : tie.Need-loop-holds Inv-loop μ-loop
+loop-holds c = (search needs, row-none _ _ _)
+
+loop-again : tie.Need-loop-again Inv-loop μ-loop
+loop-again c =
+    let a = c .before .before .before .before .args in
+    let l = c .before .before .before .loop in
+    (omega arith, row-next (a .k) _ (l .c) _ (l .masks) _ (l .inv .1) (omega arith) (row-value (a .k) _ (l .c) _ (l .masks) (a .u) (l .inv .1) (omega arith) (omega arith)))
+
+returns : tie.Need-returns Inv-loop μ-loop
+returns c =
+    let l = c .before .loop in
+    let a = c .before .before .args in
+    let e : l .c ≡ a .charts = omega arith in
+    subst (λ n. AheadRow (a .k) (aheadBy (a .masks .now) (a .k) (a .u)) n (a .masks .now) (l .masks)) e (l .inv .1)
+
+pub ahead-row-spec : {M : Type 1} → statement M
+ahead-row-spec =
+    tie.close
+    (tie.spec
+    Inv-loop
+    μ-loop
+    loop-holds
+    (λ c. omega arith)
+    (λ c. omega arith)
+    (λ c. omega arith)
+    (λ c. omega arith)
+    (λ c. omega (arith, c .before .before .loop .inv .1 .masks))
+    (λ c. omega arith)
+    (λ c. omega arith)
+    (λ c. omega arith)
+    (λ c. omega arith)
+    (λ c. omega arith)
+    (λ c. omega (arith, c .before .before .before .loop .inv .1 .masks))
+    (λ c. omega arith)
+    (λ c. omega arith)
+    (λ c. omega arith)
+    (λ c. omega arith)
+    (λ c. omega (arith, c .before .before .before .loop .inv .1 .masks))
+    (λ c. omega arith)
+    (λ c. omega arith)
+    loop-again
+    (λ c. c .before .loop .inv .1 .masks)
+    returns)

@@ -1,0 +1,46 @@
+-- `clear_row` meets its contract. The loop clears the row, chart by chart. Assumes nothing.
+use mathlib.Core.Path.{_≡_, refl, subst}
+use Prim.Native.Nat.{ℕ, _+_, _*_, _-_, _≤_, _<_}
+use native.Mathlib.Omega.{arith}
+use borrow.Author.Needs.{needs}
+use Rattle.tables.specs.Fill.{AheadRow}
+use Rattle.tables.specs.Fill.Laws.{row-none, row-next}
+use Rattle.candidates.proofs.clear_row.Statement.{statement}
+use Rattle.candidates.proofs.clear_row.Tie as tie
+
+abbrev Inv-loop : tie.InvT-loop
+Inv-loop masks₀ charts c₀ masks c = (c ≤ charts) × AheadRow charts (λ d. 0) c masks₀ masks
+
+abbrev μ-loop : tie.MeasureT-loop
+μ-loop masks₀ charts c₀ masks c = charts - c
+
+loop-holds : tie.Need-loop-holds Inv-loop μ-loop
+loop-holds c = (search needs, row-none _ _ _)
+
+loop-again : tie.Need-loop-again Inv-loop μ-loop
+loop-again c = (omega arith, row-next _ _ _ _ _ _ (c .before .loop .inv .1) (omega arith) refl)
+
+returns : tie.Need-returns Inv-loop μ-loop
+returns c =
+    let l = c .before .loop in
+    let a = c .before .before .args in
+    let e : l .c ≡ a .charts = omega arith in
+    subst (λ n. AheadRow (a .charts) (λ d. 0) n (a .masks .now) (l .masks)) e (l .inv .1)
+
+pub clear-row-spec : {M : Type 1} → statement M
+clear-row-spec =
+    tie.close
+    (tie.spec
+    Inv-loop
+    μ-loop
+    loop-holds
+    (λ c. omega arith)
+    (λ c. omega arith)
+    (λ c. omega arith)
+    (λ c. omega arith)
+    (λ c. omega (arith, c .before .loop .inv .1 .masks))
+    (λ c. omega arith)
+    (λ c. omega arith)
+    loop-again
+    (λ c. c .before .loop .inv .1 .masks)
+    returns)

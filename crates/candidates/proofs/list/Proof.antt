@@ -1,0 +1,69 @@
+-- `list` meets its contract. The loop: p transitions were considered. Assumes nothing.
+use mathlib.Core.Path.{_≡_, refl, sym, _∙_, subst}
+use Prim.Native.Nat.{ℕ, _+_, _*_, _-_, _≤_, _<_}
+use native.Mathlib.Omega.{arith}
+use borrow.Author.Needs.{needs}
+use Rattle.candidates.specs.Candidates.{Left, Tabled, filling, listingBy, fromStart}
+use Rattle.candidates.specs.Candidates.Laws.{left-none, left-next, left-tabled, left-few, left-room}
+use Rattle.candidates.proofs.list.Statement.{statement}
+use Rattle.candidates.proofs.list.Tie as tie
+
+abbrev Inv-loop : tie.InvT-loop
+Inv-loop n body start count masks₀ small₀ a have₀ p₀ masks small have p =
+    (p ≤ count) × Left (listingBy a (fromStart n body start) p (filling masks₀ small₀ 0)) masks small have
+
+abbrev μ-loop : tie.MeasureT-loop
+μ-loop n body start count masks₀ small₀ a have₀ p₀ masks small have p = count - p
+
+loop-holds : tie.Need-loop-holds Inv-loop μ-loop
+loop-holds c = (search needs, left-none _ _ _)
+
+consider-requires : tie.Need-consider-requires Inv-loop μ-loop
+consider-requires c κs =
+    let a = c .before .before .before .before .before .before .before .args in
+    let r = c .before .before .before .before .before .before .before .pre in
+    let l = c .before .before .before .loop in (
+      r .0,
+      omega arith,
+      left-tabled (a .a) (fromStart (a .n) (a .body .now) (a .start)) (filling (a .masks .now) (a .small .now) 0) (l .p) (l .masks) (l .small) (l .have) (l .inv .1) (r .2),
+      r .3,
+      left-few (a .a) (fromStart (a .n) (a .body .now) (a .start)) (filling (a .masks .now) (a .small .now) 0) refl (a .count) (r .4) (l .p) (l .masks) (l .small) (l .have) (l .inv .1) (l .inv .0),
+      left-room (a .a) (fromStart (a .n) (a .body .now) (a .start)) (filling (a .masks .now) (a .small .now) 0) refl (a .count) (r .4) (l .p) (l .masks) (l .small) (l .have) (l .inv .1) (c .before .before .loop-test .taken),
+    )
+
+loop-again : tie.Need-loop-again Inv-loop μ-loop
+loop-again c =
+    let a = c .before .before .before .before .before .before .before .before .before .before .before .before .args in
+    let l = c .before .before .before .before .before .before .before .before .loop in
+    (omega arith, left-next (a .a) (fromStart (a .n) (a .body .now) (a .start)) (filling (a .masks .now) (a .small .now) 0) (l .p) (l .masks) (l .small) (l .have) _ _ _ (l .inv .1) (c .before .before .before .before .consider .ensures))
+
+returns : tie.Need-returns Inv-loop μ-loop
+returns c =
+    let a = c .before .before .before .before .before .args in
+    let r = c .before .before .before .before .before .pre in
+    let l = c .before .loop in
+    let e : l .p ≡ a .count = omega arith in
+    (subst (λ p. Left (listingBy (a .a) (fromStart (a .n) (a .body .now) (a .start)) p (filling (a .masks .now) (a .small .now) 0)) (l .masks) (l .small) (l .have)) e (l .inv .1), left-few (a .a) (fromStart (a .n) (a .body .now) (a .start)) (filling (a .masks .now) (a .small .now) 0) refl (a .count) (r .4) (l .p) (l .masks) (l .small) (l .have) (l .inv .1) (l .inv .0))
+
+-- the tables keep their lengths
+sized : (c : tie.After-loop Inv-loop μ-loop) → Tabled (c .before .loop .masks) (c .before .loop .small)
+sized c =
+    let a = c .before .before .before .before .before .args in
+    let l = c .before .loop in
+    left-tabled (a .a) (fromStart (a .n) (a .body .now) (a .start)) (filling (a .masks .now) (a .small .now) 0) (l .p) (l .masks) (l .small) (l .have) (l .inv .1) (c .before .before .before .before .before .pre .2)
+
+pub list-spec : {M : Type 1} → statement M
+list-spec =
+    tie.close
+    (tie.spec
+    Inv-loop
+    μ-loop
+    loop-holds
+    (λ c. omega arith)
+    consider-requires
+    (λ c. omega arith)
+    (λ c. omega arith)
+    loop-again
+    (λ c. sized c .masks ∙ sym (c .before .before .before .before .before .pre .2 .masks))
+    (λ c. sized c .small ∙ sym (c .before .before .before .before .before .pre .2 .small))
+    returns)

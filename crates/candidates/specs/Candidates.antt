@@ -1,0 +1,89 @@
+-- What the functions that choose candidates ask and leave.
+use mathlib.Core.Path.{_≡_}
+use mathlib.Core.Bool.{Bool, true, false}
+use mathlib.Core.List.{List}
+use Prim.Native.Nat.{ℕ, _+_, _≤_, _<_}
+use lib.ListN.{length, getD}
+use Rattle.signals.specs.Mask.{_∪_, _∩_}
+use Rattle.layout.specs.Body.{headAt, transitionAt, startOf, transitionsOf}
+use Rattle.layout.specs.declared.body.Shape.{Shape}
+use Rattle.layout.specs.declared.record.Transition.{Transition}
+use Rattle.meaning.specs.Numbers.{mostFromState}
+use Rattle.meaning.specs.Meaning.{Set}
+use Rattle.meaning.specs.Check.{leaving}
+use Rattle.wiring.specs.Hunt.{mayOf}
+use Rattle.search.specs.Table.{backAt, stateAt}
+use Rattle.tables.specs.Fill.{Filling, considered, listing, othersAt, Raised, Until, Chosen}
+use Rattle.checks.specs.Known.{Sized, Summed}
+use Rattle.candidates.specs.declared.Around.{Around}
+use Rattle.candidates.specs.declared.Puts.{Puts}
+pub mod Laws
+
+-- a body that passed the checks, and a configuration of it
+pub record Ready (n : Shape) (b config : List ℕ) : Type 0 where
+  pub sized : Sized n b
+  pub summed : Summed n b
+  pub configured : n .charts ≤ length config
+  pub room : (c : ℕ) → c < n .charts → leaving n b c (getD config c 0) (headAt n b c .transitions) ≤ mostFromState
+
+-- tables of the right size
+pub record Tabled (m s : List ℕ) : Type 0 where
+  pub masks : length m ≡ 336
+  pub small : length s ≡ 96
+
+-- what a filling leaves in the tables
+pub record Left (f : Filling) (m s : List ℕ) (k : ℕ) : Type 0 where
+  pub masks : m ≡ f .masks
+  pub small : s ≡ f .small
+  pub count : k ≡ f .count
+
+abbrev pub filling : List ℕ → List ℕ → ℕ → Filling
+filling m s k = record { masks = m; small = s; count = k }
+
+module _ (a : Around) where
+  abbrev pub consideredBy : Transition → Filling → Filling
+  consideredBy t f = considered (a .chart) (a .state) (a .low) (a .own) (a .others) t f
+
+  abbrev pub listingBy : (ℕ → Transition) → ℕ → Filling → Filling
+  listingBy g p f = listing (a .chart) (a .state) (a .low) (a .own) (a .others) g p f
+
+-- transition u from `start` on
+abbrev pub fromStart : Shape → List ℕ → ℕ → ℕ → Transition
+fromStart n b start u = transitionAt n b (start + u)
+
+-- one transition with the action a more
+abbrev pub withOne : Bool → Set → Puts → Puts
+withOne true a p = record { may = p .may ∪ a; sure = p .sure ∩ a }
+withOne false a p = p
+
+-- may has what each of the first k charts might put out
+abbrev pub Mays : Shape → List ℕ → List ℕ → ℕ → List ℕ → Type 0
+Mays n b config k may = (c : ℕ) → c < k → getD may c 0 ≡ mayOf (transitionsOf n b c) (getD config c 0)
+
+-- of the first k charts, and what each chart is surely offered by them, lows
+pub record Sided (n : Shape) (b config base m s : List ℕ) (k : ℕ) (may lows : List ℕ) : Type 0 where
+  pub mays : Mays n b config k may
+  pub raised : Raised (transitionsOf n b) (λ c. getD config c 0) k m s base lows
+
+-- the first k charts have their candidates
+abbrev pub UntilChart : Shape → List ℕ → List ℕ → List ℕ → List ℕ → List ℕ → ℕ → List ℕ → List ℕ → Type 0
+UntilChart n b config lows m₀ s₀ k m s = Until (transitionsOf n b) (λ c. getD config c 0) (n .charts) lows m₀ s₀ k m s
+
+-- chart c gets its candidates
+abbrev pub NextChart : Shape → List ℕ → List ℕ → List ℕ → ℕ → List ℕ → List ℕ → List ℕ → List ℕ → Type 0
+NextChart n b config lows c m s m′ s′ = (m₀ s₀ : List ℕ) → UntilChart n b config lows m₀ s₀ c m s → UntilChart n b config lows m₀ s₀ (c + 1) m′ s′
+
+-- the states of the first k charts are in the table, the rest as it was
+pub record Stated (config : List ℕ) (k : ℕ) (s₀ s : List ℕ) : Type 0 where
+  pub states : (c : ℕ) → c < k → stateAt s c ≡ getD config c 0
+  pub below : (i : ℕ) → i < 88 → getD s i 0 ≡ getD s₀ i 0
+  pub small : length s ≡ length s₀
+
+-- all charts have theirs, and the rest of the tables m₀ and s₀ is as it was: the wiring, the masters and their states
+pub record Chooses (n : Shape) (b config base lows m₀ s₀ m s : List ℕ) : Type 0 where
+  pub chosen : Chosen (transitionsOf n b) (λ c. getD config c 0) (n .charts) lows m s
+  pub raised : Raised (transitionsOf n b) (λ c. getD config c 0) (n .charts) m s base lows
+  pub wires : (i : ℕ) → 192 ≤ i → i < 256 → getD m i 0 ≡ getD m₀ i 0
+  pub ups : (i : ℕ) → 328 ≤ i → getD m i 0 ≡ getD m₀ i 0
+  pub masters : (i : ℕ) → 72 ≤ i → i < 88 → getD s i 0 ≡ getD s₀ i 0
+  pub tabled : Tabled m s

@@ -1,0 +1,329 @@
+-- Laws for choosing candidates. In order: where a chart's transitions stand (start-fits), what they put out (puts-none, puts-more, puts-done),
+-- what the other charts might (join-more, others-done), one transition (left-other to left-put), a filling by one transition more (left-none to
+-- left-room), one chart more (mays-next to chart-tabled), the present states (stated-none, stated-next), all of it (chooses), and that actions have no signal
+-- from 64 on (actions-small).
+use mathlib.Core.Path.{_≡_, refl, sym, _∙_, ap, ap₂, subst}
+use mathlib.Core.Bool.{Bool, true, false, cond, false≢true}
+use mathlib.Core.Option.{some}
+use mathlib.Core.List.{List, [], _∷_}
+use mathlib.Core.Logic.{_≢_}
+use Prim.Native.Nat.{ℕ, zero, suc, _+_, _*_, _-_, _^_, _≤_, _<_}
+use native.Mathlib.Omega.{arith}
+use native.Mathlib.Nat.{pow-suc, one-le-pow, mod-eq-of-lt}
+use native.Mathlib.Numerals.{add-one}
+use lib.Bits.{and-mask}
+use lib.Dec.{lit<}
+use lib.ListN.{length, getD, set, drop, length-set}
+use lib.Seq.{getD-set-same, getD-set-other, getD-drop}
+use Rattle.signals.specs.Mask.{_∪_, _∩_, _∖_}
+use Rattle.signals.specs.Decide.{sets, A, B, C, D, E as Eₑ, ∅ₑ, _∪ₑ_, _∩ₑ_, _≐_}
+use Rattle.layout.specs.Le.{le}
+use Rattle.layout.specs.Record.{transitionOf}
+use Rattle.layout.specs.Body.{transitionsFrom, headAt, transitionAt, startOf, transitionsOf}
+use Rattle.layout.specs.Body.{from as fromOn}
+use Rattle.layout.specs.declared.body.Shape.{Shape}
+use Rattle.layout.specs.declared.record.Transition.{Transition}
+use Rattle.layout.specs.declared.record.Head.{Head}
+use Rattle.meaning.specs.Count.{tally, one}
+use Rattle.meaning.specs.Check.{leaving}
+use Rattle.meaning.specs.Meaning.{Set, same, nth, pick, actionOf, moves}
+use Rattle.meaning.specs.File.{chartOf, fileAt}
+use Rattle.meaning.specs.Laws.Bools.{same-refl, same→≡, same-≢}
+use Rattle.wiring.specs.Wire.{join, Small, full}
+use Rattle.wiring.specs.Dropped.{join-cong}
+use Rattle.wiring.specs.Sure.{sureOf, sure-small}
+use Rattle.wiring.specs.Hunt.{mayOf}
+use Rattle.search.specs.Table.{backAt, Row}
+use Rattle.tables.specs.Fill.{Filling, considered, listing, lastsBy, isAgain, putMasks, putSmall, put, pickFilling, othersAt, sureAt, Raised, Until, AheadFrom}
+use Rattle.tables.specs.Fill.Laws.{length-masks, length-small, leave-room, count-few, until-next, chosen, raised-none, raised-next, raised-same}
+use Rattle.candidates.specs.declared.Around.{Around}
+use Rattle.candidates.specs.declared.Puts.{Puts}
+use Rattle.candidates.specs.Candidates.{Ready, Tabled, Left, filling, consideredBy, listingBy, fromStart, withOne, Mays, Sided, UntilChart, NextChart, Stated, Chooses}
+
+-- ── where transitions stand ──
+
+pub from-byte : (n : Shape) (b : List ℕ) (t : ℕ) → getD b (24 * n .charts + 28 * t) 0 ≡ transitionAt n b t .from
+unfolding transitionAt transitionOf
+from-byte n b t = sym (getD-drop (transitionsFrom n + 28 * t) b 0 0 ∙ ap (λ i. getD b i 0) (let h : transitionsFrom n + 28 * t + 0 ≡ transitionsFrom n + 28 * t = omega arith in h))
+
+pub start-next : (n : Shape) (b : List ℕ) (c start : ℕ) → start ≡ startOf n b c → start + headAt n b c .transitions ≡ startOf n b (c + 1)
+unfolding startOf
+start-next n b c start e = rw (add-one c, e)
+
+-- the transitions of chart c end where those of a later one begin, or before
+pub start-fits : (n : Shape) (b : List ℕ) (c k : ℕ) → c < k → startOf n b c + headAt n b c .transitions ≤ startOf n b k
+unfolding startOf
+start-fits n b c zero l = absurd (omega arith)
+start-fits n b c (suc k) l = go (same c k) refl (start-fits n b c k)
+  where
+    go : (x : Bool) → same c k ≡ x → (c < k → startOf n b c + headAt n b c .transitions ≤ startOf n b k) → startOf n b c + headAt n b c .transitions ≤ startOf n b k + headAt n b k .transitions
+    go true e r = rw (same→≡ c k e) (omega arith)
+    go false e r = let z : c ≢ k = λ w. false≢true (sym e ∙ rw w (same-refl k)) in let h = r (omega arith) in omega arith
+
+-- ── what transitions put out ──
+
+module _ (f : ℕ → Transition) (start count q : ℕ) where
+  abbrev left : ℕ → List Transition
+  left p = fromOn f (start + p) (count - p)
+
+  -- u is what the first p put out, some and all
+  pub record PutsLeft (p : ℕ) (u : Puts) : Type 0 where
+    pub may : u .may ∪ mayOf (left p) q ≡ mayOf (fromOn f start count) q
+    pub sure : u .sure ∩ sureOf (left p) q ≡ sureOf (fromOn f start count) q
+    pub few : Small (u .sure)
+
+  pub puts-none : PutsLeft 0 (record { may = 0; sure = full })
+  puts-none = record {
+    may = sets (mayOf (left 0) q ∷ mayOf (fromOn f start count) q ∷ []) (A ≐ B ∷ []) (∅ₑ ∪ₑ A ≐ B) tt (ap (λ ts. mayOf ts q) all);
+    sure = sets (sureOf (left 0) q ∷ sureOf (fromOn f start count) q ∷ full ∷ []) (A ≐ B ∷ B ∩ₑ C ≐ B ∷ []) (C ∩ₑ A ≐ B) tt (ap (λ ts. sureOf ts q) all) (sure-small (fromOn f start count) q);
+    few = sets (full ∷ []) [] (A ∩ₑ A ≐ A) tt;
+  }
+    where
+      all : left 0 ≡ fromOn f start count
+      all = ap₂ (fromOn f) (let h : start + 0 ≡ start = omega arith in h) (let h : count - 0 ≡ count = omega arith in h)
+
+  pub puts-more : (p : ℕ) (u v : Puts) → PutsLeft p u → p < count → v ≡ withOne (same (f (start + p) .from) q) (f (start + p) .action) u → PutsLeft (p + 1) v
+  unfolding mayOf sureOf fromOn
+  puts-more p u v h l e = subst (λ w. PutsLeft (p + 1) w) (sym e) (go (same (f (start + p) .from) q) refl)
+    where
+      a : Set
+      a = f (start + p) .action
+
+      rest : List Transition
+      rest = left (p + 1)
+
+      one : left p ≡ f (start + p) ∷ rest
+      one = ap (fromOn f (start + p)) (let x : count - p ≡ suc (count - (p + 1)) = omega arith in x) ∙ ap (λ k. f (start + p) ∷ fromOn f k (count - (p + 1))) (let x : suc (start + p) ≡ start + (p + 1) = omega arith in x)
+
+      go : (b : Bool) → same (f (start + p) .from) q ≡ b → PutsLeft (p + 1) (withOne b a u)
+      go true x = record {
+        may = sets (u .may ∷ a ∷ mayOf rest q ∷ mayOf (fromOn f start count) q ∷ cond (same (f (start + p) .from) q) a 0 ∷ []) (A ∪ₑ (C ∪ₑ Eₑ) ≐ D ∷ Eₑ ≐ B ∷ []) (A ∪ₑ B ∪ₑ C ≐ D) tt
+            (ap (λ ts. u .may ∪ mayOf ts q) (sym one) ∙ h .may) (rw x);
+        sure = sets (u .sure ∷ a ∷ sureOf rest q ∷ sureOf (fromOn f start count) q ∷ []) (A ∩ₑ (C ∩ₑ B) ≐ D ∷ []) (A ∩ₑ B ∩ₑ C ≐ D) tt
+            (ap (λ b. u .sure ∩ cond b (sureOf rest q ∩ a) (sureOf rest q)) (sym x) ∙ ap (λ ts. u .sure ∩ sureOf ts q) (sym one) ∙ h .sure);
+        few = sets (u .sure ∷ a ∷ full ∷ []) (A ∩ₑ C ≐ A ∷ []) (A ∩ₑ B ∩ₑ C ≐ A ∩ₑ B) tt (h .few);
+      }
+      go false x = record {
+        may = sets (u .may ∷ mayOf rest q ∷ mayOf (fromOn f start count) q ∷ cond (same (f (start + p) .from) q) a 0 ∷ []) (A ∪ₑ (B ∪ₑ D) ≐ C ∷ D ≐ ∅ₑ ∷ []) (A ∪ₑ B ≐ C) tt
+            (ap (λ ts. u .may ∪ mayOf ts q) (sym one) ∙ h .may) (rw x);
+        sure = ap (λ b. u .sure ∩ cond b (sureOf rest q ∩ a) (sureOf rest q)) (sym x) ∙ ap (λ ts. u .sure ∩ sureOf ts q) (sym one) ∙ h .sure;
+        few = h .few;
+      }
+
+  pub puts-done : (p : ℕ) (u : Puts) → PutsLeft p u → count ≤ p → (u .may ≡ mayOf (fromOn f start count) q) × (u .sure ≡ sureOf (fromOn f start count) q)
+  unfolding mayOf sureOf fromOn
+  puts-done p u h l = (
+    sets (u .may ∷ mayOf (fromOn f start count) q ∷ []) (A ∪ₑ ∅ₑ ≐ B ∷ []) (A ≐ B) tt (ap (λ n. u .may ∪ mayOf (fromOn f (start + p) n) q) none ∙ h .may),
+    sym (h .few) ∙ ap (λ n. u .sure ∩ sureOf (fromOn f (start + p) n) q) none ∙ h .sure,
+  )
+    where
+      none : 0 ≡ count - p
+      none = omega arith
+
+-- ── what the other charts might put in ──
+
+pub join-more : (k : ℕ) (f : ℕ → Set) (u : Set) → u ≡ join k f → u ∪ f k ≡ join (k + 1) f
+unfolding join
+join-more k f u e = rw (add-one k, e)
+
+pub others-done : (m may : List ℕ) (N c : ℕ) → c < length may → join N (λ e. getD (set may c 0) e 0 ∩ backAt m c e) ≡ othersAt m N (λ e. getD may e 0) c
+unfolding othersAt
+others-done m may N c l = join-cong N _ _ (λ e r. ap (λ z. z ∩ backAt m c e) (go e (same e c) refl))
+  where
+    go : (e : ℕ) (x : Bool) → same e c ≡ x → getD (set may c 0) e 0 ≡ cond x 0 (getD may e 0)
+    go e true y = rw (same→≡ e c y) (getD-set-same may c 0 0 l)
+    go e false y = getD-set-other may c e 0 0 (λ w. false≢true (sym y ∙ rw w (same-refl c)))
+
+-- ── one transition, by the way it goes ──
+
+module _ (a : Around) (t : Transition) (m s : List ℕ) (k x : ℕ) (ex : x ≡ t .from) where
+  -- the filling by what the three tests say
+  ways : Bool → Bool → Bool → Filling
+  ways u y z = pickFilling u (pickFilling y (pickFilling z (filling m s k) (put (a .chart) t (filling m s k))) (filling m s k)) (filling m s k)
+
+  by-ways : (u y z : Bool) → same (t .from) (a .state) ≡ u → lastsBy (a .low) (a .own) (a .others) (some t) ≡ y → isAgain m s (a .chart) k t ≡ z → ways u y z ≡ consideredBy a t (filling m s k)
+  unfolding ways considered
+  by-ways u y z p q r = sym (λ i. ways (p i) (q i) (r i))
+
+  pub left-other : (x ≡ a .state → ⊥) → Left (consideredBy a t (filling m s k)) m s k
+  unfolding ways
+  left-other h = subst (λ g. Left g m s k) (by-ways false _ _ (rw (← ex) (same-≢ x (a .state) h)) refl refl) (record { masks = refl; small = refl; count = refl })
+
+  module _ (h : x ≡ a .state) (r : Transition) (er : r ≡ t) (y : Bool) (ey : y ≡ lastsBy (a .low) (a .own) (a .others) (some r)) where
+    from-here : same (t .from) (a .state) ≡ true
+    from-here = rw (← ex, h) (same-refl (a .state))
+
+    pub left-fails : y ≡ false → Left (consideredBy a t (filling m s k)) m s k
+    unfolding ways
+    left-fails f = subst (λ g. Left g m s k) (by-ways true false _ from-here (subst (λ q. lastsBy (a .low) (a .own) (a .others) (some q) ≡ false) er (sym ey ∙ f)) refl) (record { masks = refl; small = refl; count = refl })
+
+    module _ (f : y ≡ true) (z : Bool) (ez : z ≡ isAgain m s (a .chart) k r) where
+      way : (b : Bool) → z ≡ b → ways true true b ≡ consideredBy a t (filling m s k)
+      way b g = by-ways true true b from-here (subst (λ q. lastsBy (a .low) (a .own) (a .others) (some q) ≡ true) er (sym ey ∙ f)) (subst (λ q. isAgain m s (a .chart) k q ≡ b) er (sym ez ∙ g))
+
+      pub left-again : z ≡ true → Left (consideredBy a t (filling m s k)) m s k
+      unfolding ways
+      left-again g = subst (λ g. Left g m s k) (way true g) (record { masks = refl; small = refl; count = refl })
+
+      pub left-put : z ≡ false → (m′ s′ : List ℕ) → (m′ ≡ putMasks m (a .chart) k r) × (s′ ≡ putSmall s (a .chart) k r) → Left (consideredBy a t (filling m s k)) m′ s′ (k + 1)
+      unfolding ways
+      left-put g m′ s′ p = subst (λ g. Left g m′ s′ (k + 1)) (way false g) (record { masks = p .0 ∙ ap (putMasks m (a .chart) k) er; small = p .1 ∙ ap (putSmall s (a .chart) k) er; count = refl })
+
+-- ── a filling by one transition more ──
+
+module _ (a : Around) (g : ℕ → Transition) (f : Filling) where
+  pub left-none : Left (listingBy a g 0 f) (f .masks) (f .small) (f .count)
+  unfolding listing
+  left-none = record { masks = refl; small = refl; count = refl }
+
+  pub left-next : (p : ℕ) (m s : List ℕ) (k : ℕ) (m′ s′ : List ℕ) (k′ : ℕ) → Left (listingBy a g p f) m s k → Left (consideredBy a (g p) (filling m s k)) m′ s′ k′ → Left (listingBy a g (p + 1) f) m′ s′ k′
+  unfolding listing
+  left-next p m s k m′ s′ k′ h l = rw (add-one p) (subst (λ z. Left (consideredBy a (g p) z) m′ s′ k′) (λ i. record { masks = h .masks i; small = h .small i; count = h .count i }) l)
+
+  pub left-tabled : (p : ℕ) (m s : List ℕ) (k : ℕ) → Left (listingBy a g p f) m s k → Tabled (f .masks) (f .small) → Tabled m s
+  left-tabled p m s k h t =
+      record {
+        masks = ap length (h .masks) ∙ length-masks (a .chart) (a .state) (a .low) (a .own) (a .others) g p f ∙ t .masks;
+        small = ap length (h .small) ∙ length-small (a .chart) (a .state) (a .low) (a .own) (a .others) g p f ∙ t .small;
+      }
+
+  module _ (z : f .count ≡ 0) (count : ℕ) (few : tally count (λ u. one (same (g u .from) (a .state))) ≤ 8) where
+    pub left-few : (p : ℕ) (m s : List ℕ) (k : ℕ) → Left (listingBy a g p f) m s k → p ≤ count → k ≤ 8
+    left-few p m s k h l = rw (h .count) (count-few (a .chart) (a .state) (a .low) (a .own) (a .others) g p count f z l few)
+
+    pub left-room : (p : ℕ) (m s : List ℕ) (k : ℕ) → Left (listingBy a g p f) m s k → p < count → g p .from ≡ a .state → k < 8
+    left-room p m s k h l e = rw (h .count) (leave-room (a .chart) (a .state) (a .low) (a .own) (a .others) g p count f z l few e)
+
+-- ── the charts' transitions ──
+
+length-from : (f : ℕ → Transition) (k n : ℕ) → length (fromOn f k n) ≡ n
+unfolding fromOn
+length-from f k zero = refl
+length-from f k (suc n) = ap suc (length-from f (suc k) n)
+
+nth-from : (f : ℕ → Transition) (k n u : ℕ) → u < n → nth (fromOn f k n) u ≡ some (f (k + u))
+unfolding fromOn nth
+nth-from f k zero u l = absurd (omega arith)
+nth-from f k (suc n) zero l = ap (λ z. some (f z)) (let h : k ≡ k + 0 = omega arith in h)
+nth-from f k (suc n) (suc u) l = nth-from f (suc k) n u (omega arith) ∙ ap (λ z. some (f z)) (let h : suc k + u ≡ k + suc u = omega arith in h)
+
+module _ (n : Shape) (b config : List ℕ) where
+  pub mays-next : (c : ℕ) (may : List ℕ) (v start : ℕ) (head : Head) → Mays n b config c may → c < length may → start ≡ startOf n b c → head ≡ headAt n b c
+      → v ≡ mayOf (fromOn (transitionAt n b) start (head .transitions)) (getD config c 0) → Mays n b config (c + 1) (set may c v)
+  unfolding transitionsOf
+  mays-next c may v start head h l es eh ev d r = go (same d c) refl
+    where
+      go : (x : Bool) → same d c ≡ x → getD (set may c v) d 0 ≡ mayOf (fromOn (transitionAt n b) (startOf n b d) (headAt n b d .transitions)) (getD config d 0)
+      go true e = rw (same→≡ d c e) (getD-set-same may c v 0 l ∙ ev ∙ ap₂ (λ x y. mayOf (fromOn (transitionAt n b) x (y .transitions)) (getD config c 0)) es eh)
+      go false e = let z : d ≢ c = λ w. false≢true (sym e ∙ rw w (same-refl c)) in getD-set-other may c d v 0 z ∙ h d (omega arith)
+
+  module _ (base m s : List ℕ) where
+    pub sided-none : (may : List ℕ) → Sided n b config base m s 0 may base
+    sided-none may = record { mays = λ c l. absurd (omega arith); raised = raised-none (transitionsOf n b) (λ c. getD config c 0) base m s }
+
+    -- chart c puts in what its transitions do
+    pub sided-next : (c : ℕ) (may lows lows′ : List ℕ) (start : ℕ) (head : Head) (v : Puts) → Sided n b config base m s c may lows → c < length may → start ≡ startOf n b c → head ≡ headAt n b c
+        → (v .may ≡ mayOf (fromOn (transitionAt n b) start (head .transitions)) (getD config c 0)) × (v .sure ≡ sureOf (fromOn (transitionAt n b) start (head .transitions)) (getD config c 0))
+        → Row lows′ (λ d. getD lows d 0 ∪ sureAt s c (v .sure) ∩ backAt m d c) → Sided n b config base m s (c + 1) (set may c (v .may)) lows′
+    unfolding transitionsOf
+    sided-next c may lows lows′ start head v h l es eh ev f = rw (add-one c) (
+        record {
+          mays = rw (add-one c) at (mays-next c may (v .may) start head (h .mays) l es eh (ev .0));
+          raised = raised-next (transitionsOf n b) (λ d. getD config d 0) base c m s lows lows′ (h .raised)
+              (λ d r. f d r ∙ ap (λ z. getD lows d 0 ∪ sureAt s c z ∩ backAt m d c) (ev .1 ∙ ap₂ (λ x y. sureOf (fromOn (transitionAt n b) x (y .transitions)) (getD config c 0)) es eh));
+        })
+
+  module _ (r : Ready n b config) (c start : ℕ) (head : Head) (l : c < n .charts) (es : start ≡ startOf n b c) (eh : head ≡ headAt n b c) where
+    pub chart-fits : start + head .transitions ≤ n .transitions
+    chart-fits = rw (es, eh) (let h = start-fits n b c (n .charts) l in let s = r .summed in omega arith)
+
+    pub chart-room : tally (head .transitions) (λ u. one (same (fromStart n b start u .from) (getD config c 0))) ≤ 8
+    unfolding leaving
+    chart-room = rw (es, eh) (r .room c l)
+
+  -- the table of chart c's candidates is made by its transitions
+  pub chart-next : Ready n b config → (lows may : List ℕ) → Mays n b config (n .charts) may → (m s : List ℕ) (c start : ℕ) (head : Head) (own others : Set) (m′ s′ : List ℕ) (k : ℕ)
+      → c < n .charts → start ≡ startOf n b c → head ≡ headAt n b c → own ≡ backAt m c c → others ≡ othersAt m (n .charts) (λ e. getD may e 0) c
+      → Left (listing c (getD config c 0) (getD lows c 0) own others (fromStart n b start) (head .transitions) (filling m s 0)) m′ s′ k → NextChart n b config lows c m s m′ (set s′ (64 + c) k)
+  unfolding transitionsOf leaving othersAt
+  chart-next r lows may my m s c start head own others m′ s′ k l es eh eo et h m₀ s₀ un =
+      subst (λ z. UntilChart n b config lows m₀ s₀ z m′ (set s′ (64 + c) k)) (sym (add-one c))
+      (rw (h .masks, h .small, h .count, es, eh) (subst (λ z. Until (transitionsOf n b) (λ d. getD config d 0) (n .charts) lows m₀ s₀ (suc c) (made z .masks) (set (made z .small) (64 + c) (made z .count)))
+      (length-from (transitionAt n b) (startOf n b c) (headAt n b c .transitions))
+      (until-next (transitionsOf n b) (λ d. getD config d 0) (n .charts) lows m₀ s₀ (r .sized .charts) c l m s (getD lows c 0) own others (fromStart n b (startOf n b c)) un
+      (λ u q. nth-from (transitionAt n b) (startOf n b c) (headAt n b c .transitions) u (subst (λ z. u < z) (length-from (transitionAt n b) (startOf n b c) (headAt n b c .transitions)) q))
+      (subst (λ z. tally z (λ u. one (same (fromStart n b (startOf n b c) u .from) (getD config c 0))) ≤ 8) (sym (length-from (transitionAt n b) (startOf n b c) (headAt n b c .transitions))) (r .room c l))
+      refl eo (et ∙ join-cong (n .charts) _ _ (λ e q. ap (λ z. cond (same e c) 0 z ∩ backAt m c e) (my e q))))))
+    where
+      made : ℕ → Filling
+      made p = listing c (getD config c 0) (getD lows c 0) own others (fromStart n b (startOf n b c)) p (filling m s 0)
+
+pub chart-tabled : (c q : ℕ) (low own others : Set) (g : ℕ → Transition) (p : ℕ) (m s m′ s′ : List ℕ) (k d : ℕ) → Left (listing c q low own others g p (filling m s 0)) m′ s′ k → Tabled m s → Tabled m′ (set s′ d k)
+chart-tabled c q low own others g p m s m′ s′ k d h t =
+    record {
+      masks = ap length (h .masks) ∙ length-masks c q low own others g p (filling m s 0) ∙ t .masks;
+      small = length-set s′ d k ∙ ap length (h .small) ∙ length-small c q low own others g p (filling m s 0) ∙ t .small;
+    }
+
+-- ── states ──
+
+pub stated-none : (config s : List ℕ) → Stated config 0 s s
+stated-none config s = record { states = λ c l. absurd (omega arith); below = λ i l. refl; small = refl }
+
+pub stated-next : (config : List ℕ) (c : ℕ) (s₀ s : List ℕ) → Stated config c s₀ s → 88 + c < length s₀ → Stated config (c + 1) s₀ (set s (88 + c) (getD config c 0))
+stated-next config c s₀ s h l =
+    record {
+      states = λ d r. go d r (same d c) refl;
+      below = λ i r. getD-set-other s (88 + c) i (getD config c 0) 0 (λ e. omega arith) ∙ h .below i r;
+      small = length-set s (88 + c) (getD config c 0) ∙ h .small;
+    }
+  where
+    go : (d : ℕ) → d < c + 1 → (x : Bool) → same d c ≡ x → getD (set s (88 + c) (getD config c 0)) (88 + d) 0 ≡ getD config d 0
+    go d r true e = rw (same→≡ d c e) (getD-set-same s (88 + c) (getD config c 0) 0 (let k = h .small in omega arith))
+    go d r false e = let z : d ≢ c = λ w. false≢true (sym e ∙ rw w (same-refl c)) in getD-set-other s (88 + c) (88 + d) (getD config c 0) 0 (λ w. omega arith) ∙ h .states d (omega arith)
+
+-- ── all of it ──
+
+pub chooses : (n : Shape) (b config base lows m₀ s₀ s₁ m s m′ : List ℕ) → Ready n b config → Tabled m₀ s₀ → Stated config (n .charts) s₀ s₁
+    → Raised (transitionsOf n b) (λ c. getD config c 0) (n .charts) m₀ s₁ base lows → UntilChart n b config lows m₀ s₁ (n .charts) m s → AheadFrom (n .charts) s 0 m m′
+    → Chooses n b config base lows m₀ s₀ m′ s
+chooses n b config base lows m₀ s₀ s₁ m s m′ r tb st ra un ah = let few = r .sized .charts in
+    record {
+      chosen = chosen (transitionsOf n b) (λ c. getD config c 0) (n .charts) lows m₀ s₁ few m m′ s un ah (st .states);
+      raised = raised-same (transitionsOf n b) (λ c. getD config c 0) base (n .charts) m₀ s₁ m′ s lows few (λ i p q. ah .below i q ∙ un .wires i p) (λ i p q. un .rest i (omega arith)) ra;
+      wires = λ i p q. ah .below i q ∙ un .wires i p;
+      ups = λ i p. ah .above i p ∙ un .wires i (omega arith);
+      masters = λ i p q. un .rest i (omega arith) ∙ st .below i q;
+      tabled = record { masks = ah .masks ∙ un .masks; small = un .small };
+    }
+
+-- ── actions of a file in bytes ──
+
+le-small : (n : ℕ) (s : List ℕ) → ((i : ℕ) → getD s i 0 < 256) → le n s < 256 ^ n
+unfolding le
+le-small zero s h = omega arith
+le-small (suc n) [] h = one-le-pow (suc n) 256 (lit< tt)
+le-small (suc n) (b ∷ s) h = let r = le-small n s (λ i. h (suc i)) in let q = h 0 in rw (pow-suc 256 n) (omega arith)
+
+small-below : (x : Set) → x < 2 ^ 64 → Small x
+unfolding full
+small-below x l = and-mask x 64 ∙ mod-eq-of-lt l
+
+action-small : (n : Shape) (b : List ℕ) → ((i : ℕ) → getD b i 0 < 256) → (t : ℕ) → Small (transitionAt n b t .action)
+unfolding transitionAt transitionOf
+action-small n b h t = small-below _ (le-small 8 (drop 20 (drop (transitionsFrom n + 28 * t) b)) (λ i. rw (getD-drop 20 (drop (transitionsFrom n + 28 * t) b) i 0, getD-drop (transitionsFrom n + 28 * t) b (20 + i) 0) (h _)))
+
+nth-small : (f : ℕ → Transition) → ((t : ℕ) → Small (f t .action)) → (k n u : ℕ) → Small (actionOf (nth (fromOn f k n) u))
+unfolding fromOn nth actionOf
+nth-small f g k zero u = sets (full ∷ []) [] (∅ₑ ∩ₑ A ≐ ∅ₑ) tt
+nth-small f g k (suc n) zero = g k
+nth-small f g k (suc n) (suc u) = nth-small f g (suc k) n u
+
+-- no action has a signal from 64 on
+pub actions-small : (n : Shape) (b : List ℕ) → ((i : ℕ) → getD b i 0 < 256) → (ch : ℕ → ℕ) (e : ℕ) → Small (actionOf (moves (fileAt n b .chart) ch e))
+unfolding moves fileAt chartOf transitionsOf
+actions-small n b h ch e = go (ch e)
+  where
+    go : (v : ℕ) → Small (actionOf (pick (fromOn (transitionAt n b) (startOf n b e) (headAt n b e .transitions)) v))
+    go zero = unfold pick actionOf in sets (full ∷ []) [] (∅ₑ ∩ₑ A ≐ ∅ₑ) tt
+    go (suc u) = unfold pick in nth-small (transitionAt n b) (action-small n b h) (startOf n b e) (headAt n b e .transitions) u

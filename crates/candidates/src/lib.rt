@@ -1,0 +1,394 @@
+// The candidates of a step: for each chart the transitions that it may take now, and what later charts may put out. How the tables are laid out
+// is in the crate search (Table); that a search over them answers the step is in the crate tables.
+ghost use mathlib.Core.Path.{_≡_};
+ghost use mathlib.Core.Bool.{cond};
+ghost use mathlib.Core.Option.{some};
+ghost use Prim.Native.Nat.{ℕ, _+_, _*_, _≤_, _<_};
+ghost use lib.ListN.{length, getD};
+ghost use Rattle.layout.specs.Body.{Holds, transitionAt, transitionsOf, startOf, headAt};
+ghost use Rattle.layout.specs.Body.{from as fromOn};
+ghost use Rattle.meaning.specs.Count.{tally, one};
+ghost use Rattle.meaning.specs.Meaning.{same};
+ghost use Rattle.signals.specs.Mask.{_∪_, _∩_};
+ghost use Rattle.wiring.specs.Sure.{sureOf};
+ghost use Rattle.wiring.specs.Hunt.{mayOf};
+ghost use Rattle.search.specs.Table.{backAt, countAt, Row};
+ghost use Rattle.tables.specs.Filled.{mayAt};
+ghost use Rattle.tables.specs.Fill.{lastsBy, othersAt, sureAt, isAt, isAgain, putMasks, putSmall, AheadRow, aheadBy, AheadFrom, stuck};
+ghost use Rattle.candidates.specs.Candidates.{Ready, Tabled, Left, filling, consideredBy, listingBy, fromStart, withOne, Mays, Sided, NextChart, UntilChart, Stated, Chooses};
+use layout::body::Shape;
+use layout::record::Transition;
+
+// The chart whose candidates are chosen, its present state, and what it may be offered: surely, of its own action, and of all others'.
+pub struct Around {
+    pub chart: usize,
+    pub state: u8,
+    pub low: u64,
+    pub own: u64,
+    pub others: u64,
+}
+
+// What the transitions from a state put out: some of them, and all of them.
+pub struct Puts {
+    pub may: u64,
+    pub sure: u64,
+}
+
+// What each chart might put out, and what each is surely offered.
+pub struct Sides {
+    pub may: [u64; 8],
+    pub low: [u64; 8],
+}
+
+// The set of all signals.
+const ALL: u64 = 18446744073709551615;
+
+// Where transition t starts.
+fn from_at(n: Shape, body: &[u8], t: usize) -> u8
+    requires { ⌜ Holds n (now body) × (t < n .transitions) ⌝ }
+    ensures { λ r. ⌜ r ≡ transitionAt n (now (body .entry)) t .from ⌝ }
+{
+    body[24 * n.charts + 28 * t]
+}
+
+// One transition more, if it is from the state.
+fn with_one(n: Shape, body: &[u8], t: usize, state: u8, p: Puts) -> Puts
+    requires { ⌜ Holds n (now body) × (t < n .transitions) ⌝ }
+    ensures { λ r. ⌜ r ≡ withOne (same (transitionAt n (now (body .entry)) t .from) state) (transitionAt n (now (body .entry)) t .action) p ⌝ }
+{
+    if from_at(n, body, t) == state {
+        let r = layout::body::transition_at(n, body, t);
+        return Puts {
+            may: p.may | r.action,
+            sure: p.sure & r.action,
+        };
+    }
+    p
+}
+
+// What the transitions from a state put out, of `count` from `start` on.
+fn puts_of(n: Shape, body: &[u8], start: usize, count: usize, state: u8) -> Puts
+    requires { ⌜ Holds n (now body) × (start + count ≤ n .transitions) ⌝ }
+    ensures { λ r. ⌜ (r .may ≡ mayOf (fromOn (transitionAt n (now (body .entry))) start count) state) × (r .sure ≡ sureOf (fromOn (transitionAt n (now (body .entry))) start count) state) ⌝ }
+{
+    let mut puts = Puts { may: 0, sure: ALL };
+    let mut p: usize = 0;
+    while p < count {
+        puts = with_one(n, body, start + p, state, puts);
+        p += 1;
+    }
+    puts
+}
+
+// Each chart is surely offered what it gets of u, which chart c puts out.
+fn raise_all(masks: &[u64], low: &mut [u64], c: usize, u: u64)
+    requires { ⌜ (length (now masks) ≡ 336) × (length (now low) ≡ 8) × (c < 8) ⌝ }
+    ensures { λ _. ⌜ Row (now (low .exit)) (λ d. getD (now (low .entry)) d 0 ∪ u ∩ backAt (now (masks .entry)) d c) ⌝ }
+{
+    let mut d: usize = 0;
+    while d < 8 {
+        low[d] = low[d] | u & masks[192 + (8 * c + d)];
+        d += 1;
+    }
+}
+
+// The same where u is what chart c puts out if it is active: in a slave it need not be.
+fn raise(masks: &[u64], small: &[u8], low: &mut [u64], c: usize, u: u64)
+    requires { ⌜ Tabled (now masks) (now small) × (length (now low) ≡ 8) × (c < 8) ⌝ }
+    ensures { λ _. ⌜ Row (now (low .exit)) (λ d. getD (now (low .entry)) d 0 ∪ sureAt (now (small .entry)) c u ∩ backAt (now (masks .entry)) d c) ⌝ }
+{
+    if small[72 + c] < 8 {
+        return;
+    }
+    if u != 0 {
+        raise_all(masks, low, c, u);
+    }
+}
+
+// What each chart might put out from its present state, and what each is surely offered; `base` has what it is of the input.
+fn sides_of(
+    n: Shape,
+    body: &[u8],
+    config: &[u8],
+    base: [u64; 8],
+    masks: &[u64],
+    small: &[u8],
+) -> Sides
+    requires { ⌜ Ready n (now body) (now config) × Tabled (now masks) (now small) ⌝ }
+    ensures { λ r. ⌜ Sided n (now (body .entry)) (now (config .entry)) base (now (masks .entry)) (now (small .entry)) (n .charts) (r .may) (r .low) ⌝ }
+{
+    let mut may = [0u64; 8];
+    let mut low = base;
+    let mut start: usize = 0;
+    let mut c: usize = 0;
+    while c < n.charts {
+        let head = layout::body::head_at(n, body, c);
+        let count = head.transitions as usize;
+        let puts = puts_of(n, body, start, count, config[c]);
+        may[c] = puts.may;
+        raise(masks, small, &mut low, c, puts.sure);
+        start += count;
+        c += 1;
+    }
+    Sides { may, low }
+}
+
+// What the charts other than c might put in for it.
+fn others(masks: &[u64], charts: usize, may: [u64; 8], c: usize) -> u64
+    requires { ⌜ (length (now masks) ≡ 336) × (charts ≤ 8) × (c < charts) ⌝ }
+    ensures { λ r. ⌜ r ≡ othersAt (now (masks .entry)) charts (λ e. getD may e 0) c ⌝ }
+{
+    let mut rest = may;
+    rest[c] = 0;
+    let mut u: u64 = 0;
+    let mut e: usize = 0;
+    while e < charts {
+        u = u | rest[e] & masks[192 + (8 * e + c)];
+        e += 1;
+    }
+    u
+}
+
+// Whether a transition can be met, its own action counted, whatever the others do.
+fn lasts(t: Transition, low: u64, own: u64, others: u64) -> bool
+    ensures { λ r. ⌜ r ≡ lastsBy low own others (some t) ⌝ }
+{
+    let sure = low | t.action & own;
+    signals::within(t.needed, sure | others) & signals::apart(t.barred, sure)
+}
+
+fn is_at(masks: &[u64], small: &[u8], c: usize, v: usize, t: Transition) -> bool
+    requires { ⌜ Tabled (now masks) (now small) × (c < 8) × (v < 8) ⌝ }
+    ensures { λ r. ⌜ r ≡ isAt (now (masks .entry)) (now (small .entry)) c v t ⌝ }
+{
+    let at = 8 * c + v;
+    (masks[at] == t.needed)
+        & ((masks[64 + at] == t.barred) & ((masks[128 + at] == t.action) & (small[at] == t.to)))
+}
+
+// Whether one of chart c's first n candidates is the transition.
+fn is_again(masks: &[u64], small: &[u8], c: usize, n: usize, t: Transition) -> bool
+    requires { ⌜ Tabled (now masks) (now small) × (c < 8) × (n ≤ 8) ⌝ }
+    ensures { λ r. ⌜ r ≡ isAgain (now (masks .entry)) (now (small .entry)) c n t ⌝ }
+{
+    let mut v: usize = 0;
+    while v < n {
+        if is_at(masks, small, c, v, t) {
+            return true;
+        }
+        v += 1;
+    }
+    false
+}
+
+fn put(masks: &mut [u64], small: &mut [u8], c: usize, v: usize, t: Transition)
+    requires { ⌜ Tabled (now masks) (now small) × (c < 8) × (v < 8) ⌝ }
+    ensures { λ _. ⌜ (now (masks .exit) ≡ putMasks (now (masks .entry)) c v t) × (now (small .exit) ≡ putSmall (now (small .entry)) c v t) ⌝ }
+{
+    let at = 8 * c + v;
+    masks[at] = t.needed;
+    masks[64 + at] = t.barred;
+    masks[128 + at] = t.action;
+    small[at] = t.to;
+}
+
+// One transition more: a candidate if it is from the chart's state, lasts, and is none yet.
+fn consider(
+    n: Shape,
+    body: &[u8],
+    t: usize,
+    masks: &mut [u64],
+    small: &mut [u8],
+    a: Around,
+    have: usize,
+) -> usize
+    requires { ⌜ Holds n (now body) × (t < n .transitions) × Tabled (now masks) (now small) × (a .chart < 8) × (have ≤ 8) × (transitionAt n (now body) t .from ≡ a .state → have < 8) ⌝ }
+    ensures { λ r. ⌜ Left (consideredBy a (transitionAt n (now (body .entry)) t) (filling (now (masks .entry)) (now (small .entry)) have)) (now (masks .exit)) (now (small .exit)) r ⌝ }
+{
+    if from_at(n, body, t) != a.state {
+        return have;
+    }
+    let r = layout::body::transition_at(n, body, t);
+    if !lasts(r, a.low, a.own, a.others) {
+        return have;
+    }
+    if is_again(masks, small, a.chart, have, r) {
+        return have;
+    }
+    put(masks, small, a.chart, have, r);
+    have + 1
+}
+
+// Chart a.chart's candidates, from its `count` transitions from `start` on; how many there are.
+fn list(
+    n: Shape,
+    body: &[u8],
+    start: usize,
+    count: usize,
+    masks: &mut [u64],
+    small: &mut [u8],
+    a: Around,
+) -> usize
+    requires { ⌜ Holds n (now body) × (start + count ≤ n .transitions) × Tabled (now masks) (now small) × (a .chart < 8) × (tally count (λ u. one (same (fromStart n (now body) start u .from) (a .state))) ≤ 8) ⌝ }
+    ensures { λ r. ⌜ Left (listingBy a (fromStart n (now (body .entry)) start) count (filling (now (masks .entry)) (now (small .entry)) 0)) (now (masks .exit)) (now (small .exit)) r × (r ≤ 8) ⌝ }
+{
+    let mut have: usize = 0;
+    let mut p: usize = 0;
+    while p < count {
+        have = consider(n, body, start + p, masks, small, a, have);
+        p += 1;
+    }
+    have
+}
+
+// Chart c's candidates and their number. Its transitions begin at `start`; returns where the next chart's do.
+fn list_chart(
+    n: Shape,
+    body: &[u8],
+    config: &[u8],
+    lows: [u64; 8],
+    may: [u64; 8],
+    masks: &mut [u64],
+    small: &mut [u8],
+    c: usize,
+    start: usize,
+) -> usize
+    requires { ⌜ Ready n (now body) (now config) × Mays n (now body) (now config) (n .charts) may × Tabled (now masks) (now small) × (c < n .charts) × (start ≡ startOf n (now body) c) ⌝ }
+    ensures { λ r. ⌜ (r ≡ startOf n (now (body .entry)) (c + 1)) × Tabled (now (masks .exit)) (now (small .exit)) × NextChart n (now (body .entry)) (now (config .entry)) lows c (now (masks .entry)) (now (small .entry)) (now (masks .exit)) (now (small .exit)) ⌝ }
+{
+    let head = layout::body::head_at(n, body, c);
+    let count = head.transitions as usize;
+    let own = masks[192 + (8 * c + c)];
+    let rest = others(masks, n.charts, may, c);
+    let a = Around {
+        chart: c,
+        state: config[c],
+        low: lows[c],
+        own: own,
+        others: rest,
+    };
+    let have = list(n, body, start, count, masks, small, a);
+    small[64 + c] = have as u8;
+    start + count
+}
+
+fn list_all(
+    n: Shape,
+    body: &[u8],
+    config: &[u8],
+    lows: [u64; 8],
+    may: [u64; 8],
+    masks: &mut [u64],
+    small: &mut [u8],
+)
+    requires { ⌜ Ready n (now body) (now config) × Mays n (now body) (now config) (n .charts) may × Tabled (now masks) (now small) ⌝ }
+    ensures { λ _. ⌜ UntilChart n (now (body .entry)) (now (config .entry)) lows (now (masks .entry)) (now (small .entry)) (n .charts) (now (masks .exit)) (now (small .exit)) ⌝ }
+{
+    let mut start: usize = 0;
+    let mut c: usize = 0;
+    while c < n.charts {
+        start = list_chart(n, body, config, lows, may, masks, small, c, start);
+        c += 1;
+    }
+}
+
+// What chart c's candidates put out, all together.
+fn puts_out(masks: &[u64], small: &[u8], c: usize) -> u64
+    requires { ⌜ Tabled (now masks) (now small) × (c < 8) × (countAt (now small) c ≤ 8) ⌝ }
+    ensures { λ r. ⌜ r ≡ mayAt (now (masks .entry)) (now (small .entry)) c ⌝ }
+{
+    let count = small[64 + c] as usize;
+    let mut u: u64 = 0;
+    let mut v: usize = 0;
+    while v < count {
+        u = u | masks[128 + (8 * c + v)];
+        v += 1;
+    }
+    u
+}
+
+// Nothing is left to put out after the last chart.
+fn clear_row(masks: &mut [u64], charts: usize)
+    requires { ⌜ (length (now masks) ≡ 336) × (charts ≤ 8) ⌝ }
+    ensures { λ _. ⌜ AheadRow charts (λ c. 0) charts (now (masks .entry)) (now (masks .exit)) ⌝ }
+{
+    let mut c: usize = 0;
+    while c < charts {
+        masks[256 + (8 * charts + c)] = 0;
+        c += 1;
+    }
+}
+
+// What chart k, whose candidates put out u, and the later ones may put in for each chart.
+fn ahead_row(masks: &mut [u64], charts: usize, k: usize, u: u64)
+    requires { ⌜ (length (now masks) ≡ 336) × (charts ≤ 8) × (k < 8) ⌝ }
+    ensures { λ _. ⌜ AheadRow k (aheadBy (now (masks .entry)) k u) charts (now (masks .entry)) (now (masks .exit)) ⌝ }
+{
+    let mut c: usize = 0;
+    while c < charts {
+        masks[256 + (8 * k + c)] = u & masks[192 + (8 * k + c)] | masks[256 + (8 * (k + 1) + c)];
+        c += 1;
+    }
+}
+
+fn ahead_all(masks: &mut [u64], small: &[u8], charts: usize)
+    requires { ⌜ Tabled (now masks) (now small) × (charts ≤ 8) × ((c : ℕ) → c < charts → countAt (now small) c ≤ 8) ⌝ }
+    ensures { λ _. ⌜ AheadFrom charts (now (small .entry)) 0 (now (masks .entry)) (now (masks .exit)) ⌝ }
+{
+    clear_row(masks, charts);
+    let mut k = charts;
+    while k > 0 {
+        k -= 1;
+        let u = puts_out(masks, small, k);
+        ahead_row(masks, charts, k, u);
+    }
+}
+
+// The present states.
+fn put_states(small: &mut [u8], config: &[u8], charts: usize)
+    requires { ⌜ (length (now small) ≡ 96) × (charts ≤ 8) × (charts ≤ length (now config)) ⌝ }
+    ensures { λ _. ⌜ Stated (now (config .entry)) charts (now (small .entry)) (now (small .exit)) ⌝ }
+{
+    let mut c: usize = 0;
+    while c < charts {
+        small[88 + c] = config[c];
+        c += 1;
+    }
+}
+
+// Fills in all that a search needs of a configuration and of what each chart is offered of the input, `base`. The wiring and the masters are there.
+// The result is what each chart is surely offered: of the input, and of what other charts put out whatever they do.
+pub fn choose(
+    n: Shape,
+    body: &[u8],
+    config: &[u8],
+    base: [u64; 8],
+    masks: &mut [u64],
+    small: &mut [u8],
+) -> [u64; 8]
+    requires { ⌜ Ready n (now body) (now config) × Tabled (now masks) (now small) ⌝ }
+    ensures { λ r. ⌜ Chooses n (now (body .entry)) (now (config .entry)) base r (now (masks .entry)) (now (small .entry)) (now (masks .exit)) (now (small .exit)) ⌝ }
+{
+    put_states(small, config, n.charts);
+    let known = sides_of(n, body, config, base, masks, small);
+    let low = known.low;
+    let may = known.may;
+    list_all(n, body, config, low, may, masks, small);
+    ahead_all(masks, small, n.charts);
+    low
+}
+
+// Whether a chart that is surely active has no candidate.
+pub fn is_stuck(small: &[u8], charts: usize) -> bool
+    requires { ⌜ (length (now small) ≡ 96) × (charts ≤ 8) ⌝ }
+    ensures { λ r. ⌜ r ≡ stuck (now (small .entry)) charts ⌝ }
+{
+    let mut c: usize = 0;
+    while c < charts {
+        if (small[64 + c] == 0) & !(small[72 + c] < 8) {
+            return true;
+        }
+        c += 1;
+    }
+    false
+}
