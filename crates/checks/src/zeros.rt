@@ -11,19 +11,18 @@ use crate::limits::SLAVE_BYTES;
 use crate::limits::TRANSITION_BYTES;
 use layout::body::Shape;
 
-// Whether one of the k bytes from `at` on is not zero.
+// Whether one of the k bytes from `at` on is not zero. No byte ends the loop: k is small and known, so the bytes are joined and tested once.
 pub fn nonzero(s: &[u8], at: usize, k: usize) -> bool
     requires { ⌜ at + k ≤ length (now s) ⌝ }
     ensures { λ r. ⌜ r ≡ nonzero (now (s .entry)) at k ⌝ }
 {
+    let mut found = false;
     let mut i: usize = 0;
     while i < k {
-        if s[at + i] != 0 {
-            return true;
-        }
+        found = found | (s[at + i] != 0);
         i += 1;
     }
-    false
+    found
 }
 
 // Whether one of `count` records of `size` bytes, of which the first stands at `at`, is not zero in one of the k bytes from its byte `from` on.
