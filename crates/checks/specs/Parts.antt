@@ -4,16 +4,15 @@ use mathlib.Core.List.{List}
 use Prim.Native.Nat.{ℕ, _<_}
 use lib.ListN.{getD}
 use Rattle.signals.specs.Mask.{_∪_}
-use Rattle.meaning.specs.Meaning.{Set, ∅}
+use Rattle.meaning.specs.Meaning.{Set}
 use Rattle.meaning.specs.File.{File, treeOf}
 use Rattle.meaning.specs.Laws.Folds.{fold, joins, valueOf}
 use Rattle.checks.specs.declared.parts.Off.{Off}
-use Rattle.checks.specs.declared.parts.Off.the-variants.{Nothing, Input, Output}
+use Rattle.checks.specs.declared.parts.Off.the-variants.{Input, Output}
 pub mod Laws
 
 -- what a hidden node takes off, of its sets x and y
 abbrev pub offOf : Off → Set → Set → Set
-offOf Nothing x y = ∅
 offOf Input x y = x
 offOf Output x y = y
 

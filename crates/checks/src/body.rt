@@ -9,6 +9,7 @@ ghost use Rattle.meaning.specs.Check.{firstOf, bodyTests, slaves?};
 ghost use Rattle.checks.specs.Known.{Sized};
 ghost use Rattle.checks.specs.Open.{zeroTest, nodeTests};
 use crate::charts;
+use crate::inside;
 use crate::limits;
 use crate::names;
 use crate::nodes;
@@ -27,7 +28,7 @@ fn nodes_refusal(n: Shape, body: &[u8]) -> u8
     if names::bad_naming(n, body) {
         return limits::BAD_NAMING;
     }
-    if nodes::bad_inside(n, body) {
+    if inside::bad_inside(n, body) {
         return limits::BAD_INSIDE;
     }
     limits::ACCEPTED

@@ -1,6 +1,7 @@
 // The file check: refusals 1 to 11 of document 01, each in its own module, and the opening of a file that passes them.
 pub mod body;
 pub mod charts;
+pub mod inside;
 pub mod limits;
 pub mod names;
 pub mod nodes;

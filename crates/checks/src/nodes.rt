@@ -1,16 +1,10 @@
-// Refusals 9 and 11: nodes name what is there and lower, and charts inside a slave are above its master.
+// Refusal 9: nodes name what is there and lower, and what they do not use is zero.
 ghost use mathlib.Core.Path.{_≡_};
-ghost use mathlib.Core.Bool.{_&&_, false};
-ghost use lib.ListN.{getD};
-ghost use Prim.Native.Nat.{ℕ, _≤_, _<_};
-ghost use Rattle.signals.specs.Mask.{bit, single};
+ghost use Prim.Native.Nat.{_<_};
 ghost use Rattle.layout.specs.Body.{nodeAt};
-ghost use Rattle.meaning.specs.Numbers.{mostCharts};
-ghost use Rattle.meaning.specs.Count.{anyUpTo};
 ghost use Rattle.meaning.specs.File.{fileAt};
-ghost use Rattle.meaning.specs.Check.{notBelow, nodeOfKind?, nodes?, naming?, inside?};
-ghost use Rattle.checks.specs.Known.{Sized, Ranged};
-use crate::limits::MOST_CHARTS;
+ghost use Rattle.meaning.specs.Check.{nodeOfKind?, nodes?};
+ghost use Rattle.checks.specs.Known.{Sized};
 use layout::body::Shape;
 
 fn bad_node(n: Shape, body: &[u8], j: usize) -> bool
@@ -39,53 +33,6 @@ pub fn bad_nodes(n: Shape, body: &[u8]) -> bool
             return true;
         }
         j += 1;
-    }
-    false
-}
-
-// Of each chart the set of it alone.
-fn singles() -> [u64; MOST_CHARTS as usize]
-    ensures { λ r. ⌜ ((c : ℕ) → c < mostCharts → getD r c 0 ≡ single c) ⌝ }
-{
-    let mut own = [0u64; MOST_CHARTS as usize];
-    let mut c: u8 = 0;
-    while c < MOST_CHARTS {
-        let at = c as usize;
-        own[at] = signals::single(c as u32);
-        c += 1;
-    }
-    own
-}
-
-// A chart of the set is not above the master.
-fn bad_below(set: u64, master: usize, charts: usize) -> bool
-    requires { ⌜ charts ≤ mostCharts ⌝ }
-    ensures { λ r. ⌜ r ≡ anyUpTo charts (λ c. bit set c && notBelow master c) ⌝ }
-{
-    let mut c: usize = 0;
-    while c < charts {
-        if signals::has(set, c as u32) & !(master < c) {
-            return true;
-        }
-        c += 1;
-    }
-    false
-}
-
-pub fn bad_inside(n: Shape, body: &[u8]) -> bool
-    requires { ⌜ Ranged n (now body) × (naming? (fileAt n (now body)) ≡ false) ⌝ }
-    ensures { λ r. ⌜ r ≡ inside? (fileAt n (now (body .entry))) ⌝ }
-{
-    let own = singles();
-    let inside = crate::parts::table(n, body, &own, crate::parts::Off::Nothing);
-    let mut i: usize = 0;
-    while i < n.slaves {
-        let s = layout::body::slave_at(n, body, i);
-        let node = s.node as usize;
-        if bad_below(inside[node], s.chart as usize, n.charts) {
-            return true;
-        }
-        i += 1;
     }
     false
 }

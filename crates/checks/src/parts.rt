@@ -9,9 +9,8 @@ use crate::limits::MOST_CHARTS;
 use crate::limits::MOST_NODES;
 use layout::body::Shape;
 
-// What hiding takes off: of the charts inside nothing, of an input interface x, of an output interface y.
+// What hiding takes off: of an input interface x, of an output interface y.
 pub enum Off {
-    Nothing,
     Input,
     Output,
 }
@@ -20,7 +19,6 @@ fn taken(off: Off, x: u64, y: u64) -> u64
     ensures { λ r. ⌜ r ≡ offOf off x y ⌝ }
 {
     match off {
-        Off::Nothing => 0,
         Off::Input => x,
         Off::Output => y,
     }

@@ -1,5 +1,5 @@
 -- Laws of tables: one more value stored in a table that is right so far (`fill-more`); a slave's node and chart are in it (`slave-there`); what a
--- whole table says of a node (`filled`), for the charts inside (`inside-bit`).
+-- whole table says of a node (`filled`).
 use mathlib.Core.Path.{_≡_, sym, ap, _∙_}
 use mathlib.Core.List.{List}
 use mathlib.Core.Logic.{⊎-elim}
@@ -8,20 +8,18 @@ use native.Mathlib.Nat.{lt-irrefl}
 use native.Mathlib.Omega.{arith}
 use lib.ListN.{length, getD, set}
 use lib.Seq.{getD-set-same, getD-set-other}
-use Rattle.signals.specs.Mask.{bit, single}
 use Rattle.layout.specs.Body.{slaveAt}
 use Rattle.layout.specs.declared.body.Shape.{Shape}
 use Rattle.layout.specs.declared.record.Slave.{Slave}
 use Rattle.meaning.specs.Numbers.{mostCharts, mostNodes}
 use Rattle.meaning.specs.Count.Laws.{below-suc}
 use Rattle.meaning.specs.Meaning.{Set}
-use Rattle.meaning.specs.File.{File, treeOf, Has, fileAt}
-use Rattle.meaning.specs.Laws.Folds.{fold, fold-own, has-fold}
+use Rattle.meaning.specs.File.{File, treeOf, fileAt}
+use Rattle.meaning.specs.Laws.Folds.{fold, fold-own}
 use Rattle.meaning.specs.Check.Nodes.{Treed, has-below}
 use Rattle.checks.specs.Known.{Sized}
 use Rattle.checks.specs.Parts.{offOf, Filled}
 use Rattle.checks.specs.declared.parts.Off.{Off}
-use Rattle.checks.specs.declared.parts.Off.the-variants.{Nothing}
 
 pub fill-more : (f : ℕ → ℕ) (t : List ℕ) (j v : ℕ) → ((k : ℕ) → k < j → getD t k 0 ≡ f k) → v ≡ f j → j < length t
     → (k : ℕ) → k < j + 1 → getD (set t j v) k 0 ≡ f k
@@ -41,7 +39,3 @@ module _ (F : File) (w : Treed F) (own : List ℕ) (t : List ℕ) where
   pub filled : (off : Off) (v : ℕ → Set) → Filled F own off t (F .nodes) → ((c : ℕ) → c < F .charts → getD own c 0 ≡ v c)
       → (j : ℕ) → j < F .nodes → getD t j 0 ≡ fold v (offOf off) (treeOf F j)
   filled off v f h j l = f .at j l ∙ fold-own (λ c. getD own c 0) v (offOf off) (treeOf F j) (λ c e. h c (has-below F w j c l e))
-
-  pub inside-bit : Filled F own Nothing t (F .nodes) → ((c : ℕ) → c < F .charts → getD own c 0 ≡ single c)
-      → (j c : ℕ) → j < F .nodes → bit (getD t j 0) c ≡ Has (treeOf F j) c
-  inside-bit f h j c l = ap (λ (s : Set). bit s c) (filled Nothing single f h j l) ∙ has-fold c (treeOf F j)

@@ -1,22 +1,19 @@
 -- `parts::value` meets its contract: each arm is the value at its kind, and names lower nodes. Assumes nothing.
-use mathlib.Core.Path.{_≡_, refl, sym, ap, _∙_}
+use mathlib.Core.Path.{_≡_, refl, ap, _∙_}
 use mathlib.Core.List.{List}
-use Prim.Native.Nat.{ℕ, zero, suc, _<_}
-use native.Mathlib.Omega.{arith}
+use Prim.Native.Nat.{ℕ, zero, suc}
 use borrow.Author.Needs.{needs}
 use lib.ListN.{getD}
 use Rattle.signals.specs.Mask.{_∪_, _∖_}
 use Rattle.layout.specs.Body.{nodeAt}
 use Rattle.layout.specs.declared.body.Shape.{Shape}
 use Rattle.layout.specs.declared.record.Node.{Node}
-use Rattle.meaning.specs.Numbers.{mostCharts, mostNodes}
 use Rattle.meaning.specs.Meaning.{Set}
 use Rattle.meaning.specs.File.{fileAt}
 use Rattle.meaning.specs.Laws.Folds.{setByKind, valueOf}
-use Rattle.meaning.specs.Check.Nodes.{Treed}
-use Rattle.checks.specs.Known.{Sized}
 use Rattle.checks.specs.Parts.{offOf, withSlaves, valueAt}
 use Rattle.checks.specs.declared.parts.Off.{Off}
+use Rattle.checks.proofs.Laws.{kind-is, chart₀, lower₁, lower₂}
 use Rattle.checks.proofs.parts.value.Statement.{statement}
 use Rattle.checks.proofs.parts.value.Tie as tie
 
@@ -28,34 +25,14 @@ last-kind (suc (suc k)) p q r f g = refl
 
 -- r is node j
 module _ (n : Shape) (b : List ℕ) (j : ℕ) (r : Node) (e : r ≡ nodeAt n b j) where
-  kind-is : (k : ℕ) → r .kind ≡ k → nodeAt n b j .kind ≡ k
-  kind-is k h = sym (ap (λ (x : Node). x .kind) e) ∙ h
-
-  module _ (z : Sized n b) (w : Treed (fileAt n b)) (l : j < n .nodes) where
-    chart₀ : r .kind ≡ 0 → r .a < mostCharts
-    unfolding fileAt
-    chart₀ h = let m = w .chart-there j l (kind-is 0 h) in let k = z .charts in rw e (omega arith)
-
-    lower₁ : r .kind ≡ 1 → (r .a < mostNodes) × (r .b < mostNodes)
-    unfolding fileAt
-    lower₁ h = let m = w .ordered .lower₁ j l (kind-is 1 h) in let k = z .nodes in rw e (omega arith, omega arith)
-
-    lower₂ : (r .kind ≡ 0 → ⊥) → (r .kind ≡ 1 → ⊥) → r .a < mostNodes
-    unfolding fileAt
-    lower₂ f g =
-        let t = w .ordered .kinds j l in
-        let d = ap (λ (x : Node). x .kind) e in
-        let m = w .ordered .lower₂ j l (omega arith) in
-        let k = z .nodes in rw e (omega arith)
-
   module _ (own : List ℕ) (off : Off) (t : List ℕ) where
     value₀ : r .kind ≡ 0 → withSlaves (fileAt n b) t (r .a) (getD own (r .a) 0) (n .slaves) ≡ valueAt (fileAt n b) own off t j
     unfolding withSlaves valueAt valueOf fileAt
-    value₀ h = rw (kind-is 0 h, e)
+    value₀ h = rw (kind-is n b j r e 0 h, e)
 
     value₁ : r .kind ≡ 1 → getD t (r .a) 0 ∪ getD t (r .b) 0 ≡ valueAt (fileAt n b) own off t j
     unfolding valueAt valueOf fileAt
-    value₁ h = rw (kind-is 1 h, e)
+    value₁ h = rw (kind-is n b j r e 1 h, e)
 
     value₂ : (r .kind ≡ 0 → ⊥) → (r .kind ≡ 1 → ⊥) → getD t (r .a) 0 ∖ offOf off (r .x) (r .y) ≡ valueAt (fileAt n b) own off t j
     unfolding valueAt valueOf fileAt
