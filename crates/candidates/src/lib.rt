@@ -40,9 +40,6 @@ pub struct Sides {
     pub low: [u64; 8],
 }
 
-// The set of all signals.
-const ALL: u64 = 18446744073709551615;
-
 // Where transition t starts.
 fn from_at(n: Shape, body: &[u8], t: usize) -> u8
     requires { ⌜ Holds n (now body) × (t < n .transitions) ⌝ }
@@ -71,7 +68,10 @@ fn puts_of(n: Shape, body: &[u8], start: usize, count: usize, state: u8) -> Puts
     requires { ⌜ Holds n (now body) × (start + count ≤ n .transitions) ⌝ }
     ensures { λ r. ⌜ (r .may ≡ mayOf (fromOn (transitionAt n (now (body .entry))) start count) state) × (r .sure ≡ sureOf (fromOn (transitionAt n (now (body .entry))) start count) state) ⌝ }
 {
-    let mut puts = Puts { may: 0, sure: ALL };
+    let mut puts = Puts {
+        may: 0,
+        sure: signals::ALL,
+    };
     let mut p: usize = 0;
     while p < count {
         puts = with_one(n, body, start + p, state, puts);

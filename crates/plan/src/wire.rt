@@ -15,9 +15,6 @@ ghost use Rattle.plan.specs.Wired.{Wired};
 use layout::body::Shape;
 use nesting::NONE;
 
-// The set of all signals.
-const ALL: u64 = 18446744073709551615;
-
 // Where a search's tables have what the wiring gives: the square of feedback and the row `up` among its masks, the masters and the states of the
 // nearest slaves among its small numbers.
 const BACK: usize = 192;
@@ -65,7 +62,7 @@ fn less_row(a: [u64; 8], x: u64) -> [u64; 8]
 fn own(d: usize, c: usize) -> u64
     ensures { λ r. ⌜ r ≡ own d c ⌝ }
 {
-    if c == d { ALL } else { 0 }
+    if c == d { signals::ALL } else { 0 }
 }
 
 // A chart by itself: everything gets down to it, and up from it. Each mask is tested for, since a single store at d would be waited for.

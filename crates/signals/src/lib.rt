@@ -4,6 +4,9 @@ ghost use Prim.Native.Nat.{ℕ, _<_};
 ghost use Rattle.signals.specs.Mask.{_∪_, _∩_, _∖_, bit, single, within, apart};
 ghost use Rattle.signals.specs.Lowest.{IsLowest, IsLowestFree};
 
+// The set of all signals.
+pub const ALL: u64 = 18446744073709551615;
+
 pub enum Found {
     At(u32),
     Nothing,
