@@ -1,17 +1,17 @@
--- Lists that a loop fills, one place in each turn. In order: from the front (filled); a row of a square, and the square (fed, joined); a part that
--- was lent and is back (put).
+-- Lists that a loop fills, one place in each turn. In order: from the front (filled); a row in a list, and a square of rows (row, joined); a part
+-- that was lent and is back (put).
 -- Assumes nothing.
-use mathlib.Core.Path.{_≡_, refl, sym, ap, _∙_}
+use mathlib.Core.Path.{_≡_, refl, sym, ap, ap₂, _∙_}
 use mathlib.Core.List.{List, [], _∷_, _++_}
 use Prim.Native.Nat.{ℕ, _+_, _*_, _≤_, _<_}
 use native.Mathlib.Omega.{arith}
 use borrow.Author.Count.{below-more}
 use borrow.Rule.Slice.PartMut.{postOf, putMid}
-use lib.ListN.{length, getD, take, set, List·getD-append}
+use lib.ListN.{length, getD, take, set, length-set, List·getD-append}
 use lib.Seq.{length-take-le, getD-append-add, getD-take, getD-set-same, getD-set-other}
 use Rattle.signals.specs.Mask.{_∪_, _∩_}
 use Rattle.signals.specs.Decide.{sets, A, B, C, D, ∅ₑ, _∪ₑ_, _∩ₑ_, _≐_}
-use Rattle.plan.specs.Wire.{Fed}
+use Rattle.plan.specs.Wire.{RowAt, downIn, upIn}
 
 -- ── from the front ──
 
@@ -20,30 +20,37 @@ pub filled-more : (f : ℕ → ℕ) (l : List ℕ) (i v : ℕ) → i < length l 
 filled-more f l i v m e h =
     below-more (λ (k : ℕ). getD (set l i v) k 0 ≡ f k) i (λ k p. getD-set-other l i k v 0 (λ q. omega arith) ∙ h k p) (getD-set-same l i v 0 m ∙ e)
 
--- ── a row of a square ──
+-- ── a row in a list ──
 
-pub fed-none : (at s : ℕ) (u l : List ℕ) → Fed at 0 s u l l
-fed-none at s u l = record { in-row = λ d p. absurd (omega arith); below = λ k p. refl; above = λ k p. refl }
-
--- nothing to feed
-pub fed-empty : (at n s : ℕ) (u l : List ℕ) → s ≡ 0 → Fed at n s u l l
-fed-empty at n s u l e =
-    record { in-row = λ d p. sets (getD l (at + d) 0 ∷ s ∷ getD u d 0 ∷ []) (B ≐ ∅ₑ ∷ []) (A ≐ A ∪ₑ (B ∩ₑ C)) tt e; below = λ k p. refl; above = λ k p. refl }
+pub row-none : (at : ℕ) (f : ℕ → ℕ) (l : List ℕ) → RowAt at 0 f l l
+row-none at f l = record { in-row = λ c p. absurd (omega arith); below = λ k p. refl; above = λ k p. refl; long = refl }
 
 -- one mask more
-pub fed-more : (at d s : ℕ) (u l m : List ℕ) → at + d < length m → Fed at d s u l m → Fed at (d + 1) s u l (set m (at + d) (getD m (at + d) 0 ∪ (s ∩ getD u d 0)))
-fed-more at d s u l m p f =
+pub row-more : (at c v : ℕ) (f : ℕ → ℕ) (l m : List ℕ) → at + c < length m → v ≡ f c → RowAt at c f l m → RowAt at (c + 1) f l (set m (at + c) v)
+row-more at c v f l m p e h =
     record {
       in-row =
-          below-more (λ (k : ℕ). getD (set m (at + d) v) (at + k) 0 ≡ getD l (at + k) 0 ∪ (s ∩ getD u k 0)) d
-          (λ k q. getD-set-other m (at + d) (at + k) v 0 (λ z. omega arith) ∙ f .in-row k q)
-          (getD-set-same m (at + d) v 0 p ∙ ap (λ (x : ℕ). x ∪ (s ∩ getD u d 0)) (f .above (at + d) (omega arith)));
-      below = λ k q. getD-set-other m (at + d) k v 0 (λ z. omega arith) ∙ f .below k q;
-      above = λ k q. getD-set-other m (at + d) k v 0 (λ z. omega arith) ∙ f .above k (omega arith);
+          below-more (λ (k : ℕ). getD (set m (at + c) v) (at + k) 0 ≡ f k) c
+          (λ k q. getD-set-other m (at + c) (at + k) v 0 (λ z. omega arith) ∙ h .in-row k q) (getD-set-same m (at + c) v 0 p ∙ e);
+      below = λ k q. getD-set-other m (at + c) k v 0 (λ z. omega arith) ∙ h .below k q;
+      above = λ k q. getD-set-other m (at + c) k v 0 (λ z. omega arith) ∙ h .above k (omega arith);
+      long = length-set m (at + c) v ∙ h .long;
     }
-  where
-    v : ℕ
-    v = getD m (at + d) 0 ∪ (s ∩ getD u d 0)
+
+-- the row g joined to what is there: one mask more, and nothing to join
+module _ (at : ℕ) (g : ℕ → ℕ) (l : List ℕ) where
+  pub row-join : (c w : ℕ) (m : List ℕ) → at + c < length m → w ≡ g c → RowAt at c (λ k. getD l (at + k) 0 ∪ g k) l m
+      → RowAt at (c + 1) (λ k. getD l (at + k) 0 ∪ g k) l (set m (at + c) (getD m (at + c) 0 ∪ w))
+  row-join c w m p e h = row-more at c _ _ l m p (ap₂ _∪_ (h .above (at + c) (omega arith)) e) h
+
+  pub row-empty : (n : ℕ) → ((k : ℕ) → g k ≡ 0) → RowAt at n (λ k. getD l (at + k) 0 ∪ g k) l l
+  row-empty n e =
+      record {
+        in-row = λ k p. sets (getD l (at + k) 0 ∷ g k ∷ []) (B ≐ ∅ₑ ∷ []) (A ≐ A ∪ₑ B) tt (e k);
+        below = λ k p. refl;
+        above = λ k p. refl;
+        long = refl;
+      }
 
 -- ── a square, row by row ──
 
@@ -55,18 +62,18 @@ pub record Joined (n : ℕ) (l m : List ℕ) (f : ℕ → ℕ → ℕ) : Type 0 
 pub joined-none : (l : List ℕ) (f : ℕ → ℕ → ℕ) → Joined 0 l l f
 joined-none l f = record { in-rows = λ c d p q. absurd (omega arith); rest = λ k p. refl }
 
--- one row more, of feedback in x
-pub joined-more : (n x : ℕ) (a u l m m′ : List ℕ) → Joined n l m (λ c d. getD a c 0 ∩ getD u d 0 ∩ x) → Fed (8 * n) 8 (getD u n 0 ∩ x) a m m′
-    → Joined (n + 1) l m′ (λ c d. getD a c 0 ∩ getD u d 0 ∩ x)
-joined-more n x a u l m m′ h f =
+-- one row more, of feedback in x over the rows p
+pub joined-more : (n x : ℕ) (p l m m′ : List ℕ) → Joined n l m (λ c d. downIn p c ∩ upIn p d ∩ x)
+    → RowAt (8 * n) 8 (λ c. getD m (8 * n + c) 0 ∪ (upIn p n ∩ x ∩ downIn p c)) m m′ → Joined (n + 1) l m′ (λ c d. downIn p c ∩ upIn p d ∩ x)
+joined-more n x p l m m′ h f =
     record {
-      in-rows = λ c d p q.
-          below-more (λ (d : ℕ). getD m′ (8 * d + c) 0 ≡ getD l (8 * d + c) 0 ∪ getD a c 0 ∩ getD u d 0 ∩ x) n
-          (λ k z. f .below (8 * k + c) (omega arith) ∙ h .in-rows c k p z)
-          (f .in-row c p ∙ ap (λ (y : ℕ). y ∪ (getD u n 0 ∩ x ∩ getD a c 0)) (h .rest (8 * n + c) (omega arith))
-          ∙ sets (getD l (8 * n + c) 0 ∷ getD a c 0 ∷ getD u n 0 ∷ x ∷ []) [] (A ∪ₑ (C ∩ₑ D ∩ₑ B) ≐ A ∪ₑ B ∩ₑ C ∩ₑ D) tt)
-          d q;
-      rest = λ k p. f .above k (omega arith) ∙ h .rest k (omega arith);
+      in-rows = λ c d u v.
+          below-more (λ (d : ℕ). getD m′ (8 * d + c) 0 ≡ getD l (8 * d + c) 0 ∪ downIn p c ∩ upIn p d ∩ x) n
+          (λ k z. f .below (8 * k + c) (omega arith) ∙ h .in-rows c k u z)
+          (f .in-row c u ∙ ap (λ (y : ℕ). y ∪ (upIn p n ∩ x ∩ downIn p c)) (h .rest (8 * n + c) (omega arith))
+          ∙ sets (getD l (8 * n + c) 0 ∷ downIn p c ∷ upIn p n ∷ x ∷ []) [] (A ∪ₑ (C ∩ₑ D ∩ₑ B) ≐ A ∪ₑ B ∩ₑ C ∩ₑ D) tt)
+          d v;
+      rest = λ k u. f .above k (omega arith) ∙ h .rest k (omega arith);
     }
 
 -- ── a part that was lent and is back ──

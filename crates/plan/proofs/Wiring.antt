@@ -1,14 +1,15 @@
--- What `wire` leaves of a node's part, from what it left of the parts that the node names. In order: what a record that was read says; hidden;
--- composed; a chart and its slaves, of which the loop has joined the first k (Gathers); the whole.
+-- What `wire` leaves of a node's part, from what it left of the parts that the node names. In order: what a record that was read says; rows that are
+-- joined; hidden; composed; a chart and its slaves, of which the loop has joined the first k (Gathers); the whole.
 -- Assumes nothing.
-use mathlib.Core.Path.{_≡_, sym, ap, ap₂, _∙_}
+use mathlib.Core.Path.{_≡_, sym, ap, ap₂, subst, _∙_}
 use mathlib.Core.List.{List, [], _∷_}
 use Prim.Native.Nat.{ℕ, suc, _+_, _*_, _<_}
+use native.Mathlib.Nat.{zero-add}
 use native.Mathlib.Numerals.{add-one}
 use native.Mathlib.Omega.{arith}
-use lib.ListN.{getD}
+use lib.ListN.{length, getD, replicate, getD-replicate}
 use Rattle.signals.specs.Mask.{_∪_, _∩_, _∖_}
-use Rattle.signals.specs.Decide.{sets, A, B, C, D, ∅ₑ, _∪ₑ_, _≐_}
+use Rattle.signals.specs.Decide.{sets, A, B, C, D, ∅ₑ, _∪ₑ_, _∖ₑ_, _≐_}
 use Rattle.layout.specs.Body.{headAt, slaveAt, nodeAt}
 use Rattle.layout.specs.declared.body.Shape.{Shape}
 use Rattle.layout.specs.declared.record.Head.{Head}
@@ -18,11 +19,9 @@ use Rattle.meaning.specs.Meaning.{Set, Tree, Slaves}
 use Rattle.meaning.specs.File.{File, gather, treeOf, wholeOf, chartOf, fileAt}
 use Rattle.wiring.specs.Wire.{own, down, downs, up, ups, back, backs}
 use Rattle.wiring.specs.Rows.{down₀, down₁, down₂, up₀, up₁, up₂, back₀, back₁, back₂, slaves-out, downs-step, ups-step, backs-step}
-use Rattle.search.specs.Table.{Row}
 use Rattle.nesting.specs.Known.{Wirable}
 use Rattle.nesting.proofs.Records.{Is, IsSlave, is-node, is-slave, lower-a, lower-b}
-use Rattle.plan.specs.Wire.{Joins, Wires, Whole}
-use Rattle.plan.specs.declared.wire.Rows.{Rows}
+use Rattle.plan.specs.Wire.{Joins, RowAt, downIn, upIn, AreRows, JoinsRows, Feeds, Wires, Whole}
 
 -- ── a record that was read ──
 
@@ -54,16 +53,55 @@ module _ {n : Shape} {b : List ℕ} (w : Wirable n b) {j : ℕ} (p : j < n .node
     unfolding fileAt
     lower-slave {i} q f g = let u = is-slave n b i f in let h = w .sound .ordered .lower₀ j p kind-chart i q (sym (u .chart) ∙ g ∙ is-node n b j e .a) in omega (arith, u .node)
 
--- two rows joined, and two rows less x and y
-abbrev pub Beside : Rows → Rows → Rows → Type 0
-Beside p q r = Row (r .down) (λ c. getD (p .down) c 0 ∪ getD (q .down) c 0) × Row (r .up) (λ c. getD (p .up) c 0 ∪ getD (q .up) c 0)
+-- ── rows that are joined ──
 
-abbrev pub Hidden : Rows → Set → Set → Rows → Type 0
-Hidden p x y r = Row (r .down) (λ c. getD (p .down) c 0 ∖ x) × Row (r .up) (λ c. getD (p .up) c 0 ∖ y)
+-- the same rows by another name
+pub rows-as : {l : List ℕ} {f f′ g g′ : ℕ → Set} → AreRows l f g → ((c : ℕ) → f c ≡ f′ c) → ((c : ℕ) → g c ≡ g′ c) → AreRows l f′ g′
+rows-as h e e′ = record { down-is = λ c u. h .down-is c u ∙ e c; up-is = λ c u. h .up-is c u ∙ e′ c; long = h .long }
 
--- feedback of x over the rows r
-abbrev pub Feeds : List ℕ → List ℕ → Rows → Set → Type 0
-Feeds l m r x = Joins l m (λ c d. getD (r .down) c 0 ∩ getD (r .up) d 0 ∩ x)
+-- the two rows put one after the other
+pub rows-put : {l m m′ : List ℕ} {f g : ℕ → Set} → length l ≡ 16 → RowAt 0 8 f l m → RowAt 8 8 g m m′ → AreRows m′ f g
+rows-put {l} {m} n h h′ =
+    record {
+      down-is = λ c u. h′ .below c u ∙ ap (λ (k : ℕ). getD m k 0) (sym (zero-add c)) ∙ h .in-row c u;
+      up-is = λ c u. h′ .in-row c u;
+      long = h′ .long ∙ h .long ∙ n;
+    }
+
+-- the rows q less x and y, joined one after the other
+pub rows-join : (l q : List ℕ) (x y : Set) {m m′ : List ℕ} → length l ≡ 16 → RowAt 0 8 (λ c. getD l (0 + c) 0 ∪ (getD q (0 + c) 0 ∖ x)) l m
+    → RowAt 8 8 (λ c. getD m (8 + c) 0 ∪ (getD q (8 + c) 0 ∖ y)) m m′ → JoinsRows l m′ (λ c. downIn q c ∖ x) (λ c. upIn q c ∖ y)
+rows-join l q x y n h h′ =
+    let r = rows-put n h h′ in
+    record {
+      down-is = λ c u. r .down-is c u ∙ ap (λ (k : ℕ). getD l k 0 ∪ (getD q k 0 ∖ x)) (zero-add c);
+      up-is = λ c u. r .up-is c u ∙ ap (λ (s : Set). s ∪ (upIn q c ∖ y)) (h .above (8 + c) (omega arith));
+      long = r .long;
+    }
+
+-- joined to empty rows
+pub rows-first : {m : List ℕ} {f g : ℕ → Set} → JoinsRows (replicate 16 0) m f g → AreRows m f g
+rows-first {m} {f} {g} h =
+    record {
+      down-is = λ c u. h .down-is c u ∙ first c (f c) (omega arith);
+      up-is = λ c u. h .up-is c u ∙ first (8 + c) (g c) (omega arith);
+      long = h .long;
+    }
+  where
+    first : (k : ℕ) (s : Set) → k < 16 → getD (replicate 16 0) k 0 ∪ s ≡ s
+    first k s u = ap (λ (z : Set). z ∪ s) (getD-replicate 16 k 0 0 u) ∙ sets (s ∷ []) [] (∅ₑ ∪ₑ A ≐ A) tt
+
+-- rows joined whole, which is less nothing
+rows-whole : (l q : List ℕ) {m : List ℕ} {f g : ℕ → Set} → AreRows q f g → JoinsRows l m (λ c. downIn q c ∖ 0) (λ c. upIn q c ∖ 0) → JoinsRows l m f g
+rows-whole l q h j =
+    record {
+      down-is = λ c u. j .down-is c u ∙ ap (λ (s : Set). downIn l c ∪ s) (less-none (downIn q c) ∙ h .down-is c u);
+      up-is = λ c u. j .up-is c u ∙ ap (λ (s : Set). upIn l c ∪ s) (less-none (upIn q c) ∙ h .up-is c u);
+      long = j .long;
+    }
+  where
+    less-none : (s : Set) → s ∖ 0 ≡ s
+    less-none s = sets (s ∷ []) [] (A ∖ₑ ∅ₑ ≐ A) tt
 
 module _ {n : Shape} {b : List ℕ} (w : Wirable n b) {j : ℕ} (p : j < n .nodes) {r : Node} (e : r ≡ nodeAt n b j) where
   abbrev F : File
@@ -77,20 +115,20 @@ module _ {n : Shape} {b : List ℕ} (w : Wirable n b) {j : ℕ} (p : j < n .node
 
   -- ── hidden ──
 
-  pub wires-hide : r .kind ≡ 2 → {l m : List ℕ} {q q′ : Rows} → Wires F (treeOf F (r .a)) l m q → Hidden q (r .x) (r .y) q′ → Wires F t l m q′
+  pub wires-hide : r .kind ≡ 2 → {l m q o o′ : List ℕ} → Wires F (treeOf F (r .a)) l m (replicate 16 0) q
+      → JoinsRows o o′ (λ c. downIn q c ∖ r .x) (λ c. upIn q c ∖ r .y) → Wires F t l m o o′
   unfolding fileAt
-  wires-hide e₂ {l} h g =
+  wires-hide e₂ {l} {m} {q} {o} h g =
       record {
-        down-is = λ c u.
-            g .0 c u
-            ∙ ap (λ (s : Set). s ∖ r .x) (h .down-is c u)
-            ∙ ap₂ (λ (k : ℕ) (s : Set). down (treeOf F k) c ∖ s) (is .a) (is .x)
-            ∙ sym (down₂ F (w .sound .ordered) j c p k);
-        up-is = λ c u.
-            g .1 c u
-            ∙ ap (λ (s : Set). s ∖ r .y) (h .up-is c u)
-            ∙ ap₂ (λ (k : ℕ) (s : Set). up (treeOf F k) c ∖ s) (is .a) (is .y)
-            ∙ sym (up₂ F (w .sound .ordered) j c p k);
+        rows-are = record {
+          down-is = λ c u.
+              g .down-is c u
+              ∙ ap (λ (s : Set). downIn o c ∪ s) (ap (λ (s : Set). s ∖ r .x) (hq .down-is c u) ∙ ap₂ (λ (k : ℕ) (s : Set). down (treeOf F k) c ∖ s) (is .a) (is .x) ∙ sym (down₂ F (w .sound .ordered) j c p k));
+          up-is = λ c u.
+              g .up-is c u
+              ∙ ap (λ (s : Set). upIn o c ∪ s) (ap (λ (s : Set). s ∖ r .y) (hq .up-is c u) ∙ ap₂ (λ (k : ℕ) (s : Set). up (treeOf F k) c ∖ s) (is .a) (is .y) ∙ sym (up₂ F (w .sound .ordered) j c p k));
+          long = g .long;
+        };
         back-is = λ c d u v.
             h .back-is c d u v
             ∙ ap (λ (s : Set). getD l (8 * d + c) 0 ∪ s) (ap (λ (k : ℕ). back (F .chart) (treeOf F k) c d) (is .a) ∙ sym (back₂ F (w .sound .ordered) j c d p k));
@@ -99,39 +137,47 @@ module _ {n : Shape} {b : List ℕ} (w : Wirable n b) {j : ℕ} (p : j < n .node
       k : F .kind j ≡ 2
       k = sym (is .kind) ∙ e₂
 
+      hq : AreRows q (down (treeOf F (r .a))) (up (treeOf F (r .a)))
+      hq = rows-first (h .rows-are)
+
   -- ── composed ──
 
-  pub wires-comp : r .kind ≡ 1 → {l l′ m m′ : List ℕ} {q q′ o : Rows} → Wires F (treeOf F (r .a)) l l′ q → Wires F (treeOf F (r .b)) l′ m q′ → Beside q q′ o → Feeds m m′ o (r .x) → Wires F t l m′ o
+  pub wires-comp : r .kind ≡ 1 → {l l′ m m′ q q′ o o′ : List ℕ} → Wires F (treeOf F (r .a)) l l′ (replicate 16 0) q → Wires F (treeOf F (r .b)) l′ m q q′
+      → Feeds m m′ q′ (r .x) → JoinsRows o o′ (λ c. downIn q′ c ∖ 0) (λ c. upIn q′ c ∖ 0) → Wires F t l m′ o o′
   unfolding fileAt
-  wires-comp e₁ {l} {l′} {m} {m′} {q} {q′} {o} h h′ g f =
+  wires-comp e₁ {l} {l′} {m} {m′} {q} {q′} {o} h h′ f g =
       record {
-        down-is = od;
-        up-is = ou;
+        rows-are = rows-whole o q′ both g;
         back-is = λ c d u v. f c d u v ∙ rejoin c d u v ∙ ap (λ (s : Set). getD l (8 * d + c) 0 ∪ s) (sym (back₁ F (w .sound .ordered) j c d p k));
       }
     where
       k : F .kind j ≡ 1
       k = sym (is .kind) ∙ e₁
 
-      od : Row (o .down) (down t)
-      od c u =
-          g .0 c u
-          ∙ ap₂ _∪_ (h .down-is c u ∙ ap (λ (k : ℕ). down (treeOf F k) c) (is .a)) (h′ .down-is c u ∙ ap (λ (k : ℕ). down (treeOf F k) c) (is .b))
-          ∙ sym (down₁ F (w .sound .ordered) j c p k)
+      hq : AreRows q (down (treeOf F (r .a))) (up (treeOf F (r .a)))
+      hq = rows-first (h .rows-are)
 
-      ou : Row (o .up) (up t)
-      ou c u =
-          g .1 c u
-          ∙ ap₂ _∪_ (h .up-is c u ∙ ap (λ (k : ℕ). up (treeOf F k) c) (is .a)) (h′ .up-is c u ∙ ap (λ (k : ℕ). up (treeOf F k) c) (is .b))
-          ∙ sym (up₁ F (w .sound .ordered) j c p k)
+      both : AreRows q′ (down t) (up t)
+      both =
+          record {
+            down-is = λ c u.
+                h′ .rows-are .down-is c u
+                ∙ ap₂ _∪_ (hq .down-is c u ∙ ap (λ (k : ℕ). down (treeOf F k) c) (is .a)) (ap (λ (k : ℕ). down (treeOf F k) c) (is .b))
+                ∙ sym (down₁ F (w .sound .ordered) j c p k);
+            up-is = λ c u.
+                h′ .rows-are .up-is c u
+                ∙ ap₂ _∪_ (hq .up-is c u ∙ ap (λ (k : ℕ). up (treeOf F k) c) (is .a)) (ap (λ (k : ℕ). up (treeOf F k) c) (is .b))
+                ∙ sym (up₁ F (w .sound .ordered) j c p k);
+            long = h′ .rows-are .long;
+          }
 
       -- first the left part's, then the right part's, then that between them
-      rejoin : (c d : ℕ) → c < 8 → d < 8 → getD m (8 * d + c) 0 ∪ getD (o .down) c 0 ∩ getD (o .up) d 0 ∩ r .x
+      rejoin : (c d : ℕ) → c < 8 → d < 8 → getD m (8 * d + c) 0 ∪ downIn q′ c ∩ upIn q′ d ∩ r .x
           ≡ getD l (8 * d + c) 0 ∪ ((back (F .chart) (treeOf F (F .a j)) c d ∪ back (F .chart) (treeOf F (F .b j)) c d) ∪ down t c ∩ up t d ∩ F .x j)
       rejoin c d u v =
           ap₂ _∪_
           (h′ .back-is c d u v ∙ ap₂ _∪_ (h .back-is c d u v ∙ ap (λ (k : ℕ). getD l (8 * d + c) 0 ∪ back (F .chart) (treeOf F k) c d) (is .a)) (ap (λ (k : ℕ). back (F .chart) (treeOf F k) c d) (is .b)))
-          (ap₂ _∩_ (ap₂ _∩_ (od c u) (ou d v)) (is .x))
+          (ap₂ _∩_ (ap₂ _∩_ (both .down-is c u) (both .up-is d v)) (is .x))
           ∙ sets (getD l (8 * d + c) 0 ∷ back (F .chart) (treeOf F (F .a j)) c d ∷ back (F .chart) (treeOf F (F .b j)) c d ∷ (down t c ∩ up t d ∩ F .x j) ∷ []) []
           (A ∪ₑ B ∪ₑ C ∪ₑ D ≐ A ∪ₑ (B ∪ₑ C ∪ₑ D)) tt
 
@@ -141,55 +187,58 @@ module _ {n : Shape} {b : List ℕ} (w : Wirable n b) {j : ℕ} (p : j < n .node
 abbrev mine : File → ℕ → ℕ → Slaves
 mine F d k = gather (F .master) (λ i. treeOf F (F .node i)) d k
 
--- the rows of chart d with those of its slaves among the first k, and m is l with these slaves' feedback joined to it
-pub record Gathers (F : File) (d k : ℕ) (l m : List ℕ) (r : Rows) : Type 0 where
-  pub down-is : Row (r .down) (λ c. own d c ∪ downs (mine F d k) c)
-  pub up-is : Row (r .up) (λ c. own d c ∪ ups (mine F d k) c)
+-- the rows q are chart d's with those of its slaves among the first k, and m is l with these slaves' feedback joined to it
+pub record Gathers (F : File) (d k : ℕ) (l m q : List ℕ) : Type 0 where
+  pub rows-are : AreRows q (λ c. own d c ∪ downs (mine F d k) c) (λ c. own d c ∪ ups (mine F d k) c)
   pub back-is : Joins l m (backs (F .chart) (mine F d k))
 
-pub gathers-none : (F : File) (d : ℕ) (l : List ℕ) {r : Rows} → Row (r .down) (own d) → Row (r .up) (own d) → Gathers F d 0 l l r
+pub gathers-none : (F : File) (d : ℕ) (l : List ℕ) {q : List ℕ} → AreRows q (own d) (own d) → Gathers F d 0 l l q
 unfolding gather down up back
-gathers-none F d l f g =
+gathers-none F d l h =
     record {
-      down-is = λ c u. f c u ∙ sets (own d c ∷ []) [] (A ≐ A ∪ₑ ∅ₑ) tt;
-      up-is = λ c u. g c u ∙ sets (own d c ∷ []) [] (A ≐ A ∪ₑ ∅ₑ) tt;
-      back-is = λ c e u v. sets (getD l (8 * e + c) 0 ∷ []) [] (A ≐ A ∪ₑ ∅ₑ) tt;
+      rows-are = rows-as h (λ c. with-none (own d c)) (λ c. with-none (own d c));
+      back-is = λ c e u v. with-none (getD l (8 * e + c) 0);
     }
+  where
+    with-none : (s : Set) → s ≡ s ∪ 0
+    with-none s = sets (s ∷ []) [] (A ≐ A ∪ₑ ∅ₑ) tt
 
 -- one slave record more
-module _ {n : Shape} {b : List ℕ} (w : Wirable n b) {d i : ℕ} {l m : List ℕ} {r : Rows} {s : Slave} (e : s ≡ slaveAt n b i) (h : Gathers (fileAt n b) d i l m r) where
+module _ {n : Shape} {b : List ℕ} (w : Wirable n b) {d i : ℕ} {l m q : List ℕ} {s : Slave} (e : s ≡ slaveAt n b i) (h : Gathers (fileAt n b) d i l m q) where
   abbrev G : File
   G = fileAt n b
 
   it : IsSlave G i s
   it = is-slave n b i e
 
-  pub gathers-out : (s .chart ≡ d → ⊥) → Gathers G d (i + 1) l m r
-  gathers-out q =
+  pub gathers-out : (s .chart ≡ d → ⊥) → Gathers G d (i + 1) l m q
+  gathers-out o =
       rw add-one
       (record {
-        down-is = λ c u. h .down-is c u ∙ ap (λ (ss : Slaves). own d c ∪ downs ss c) z;
-        up-is = λ c u. h .up-is c u ∙ ap (λ (ss : Slaves). own d c ∪ ups ss c) z;
+        rows-are = rows-as (h .rows-are) (λ c. ap (λ (ss : Slaves). own d c ∪ downs ss c) z) (λ c. ap (λ (ss : Slaves). own d c ∪ ups ss c) z);
         back-is = λ c e u v. h .back-is c e u v ∙ ap (λ (ss : Slaves). getD l (8 * e + c) 0 ∪ backs (G .chart) ss c e) z;
       })
     where
       z : mine G d i ≡ mine G d (suc i)
-      z = sym (slaves-out G (w .sound .ordered) d i (λ o. q (it .chart ∙ o)))
+      z = sym (slaves-out G (w .sound .ordered) d i (λ u. o (it .chart ∙ u)))
 
-  pub gathers-in : s .chart ≡ d → {m′ : List ℕ} {q r′ : Rows} → Wires G (treeOf G (s .node)) m m′ q → Beside r q r′ → Gathers G d (i + 1) l m′ r′
-  gathers-in o g y =
+  pub gathers-in : s .chart ≡ d → {m′ q′ : List ℕ} → Wires G (treeOf G (s .node)) m m′ q q′ → Gathers G d (i + 1) l m′ q′
+  gathers-in o g =
       rw add-one
       (record {
-        down-is = λ c u.
-            y .0 c u
-            ∙ ap₂ _∪_ (h .down-is c u) (g .down-is c u ∙ ap (λ (k : ℕ). down (treeOf G k) c) (it .node))
-            ∙ assoc (own d c) (downs (mine G d i) c) (down (treeOf G (G .node i)) c)
-            ∙ ap (λ (s : Set). own d c ∪ s) (sym (downs-step G (w .sound .ordered) d i c z));
-        up-is = λ c u.
-            y .1 c u
-            ∙ ap₂ _∪_ (h .up-is c u) (g .up-is c u ∙ ap (λ (k : ℕ). up (treeOf G k) c) (it .node))
-            ∙ assoc (own d c) (ups (mine G d i) c) (up (treeOf G (G .node i)) c)
-            ∙ ap (λ (s : Set). own d c ∪ s) (sym (ups-step G (w .sound .ordered) d i c z));
+        rows-are = record {
+          down-is = λ c u.
+              g .rows-are .down-is c u
+              ∙ ap₂ _∪_ (h .rows-are .down-is c u) (ap (λ (k : ℕ). down (treeOf G k) c) (it .node))
+              ∙ assoc (own d c) (downs (mine G d i) c) (down (treeOf G (G .node i)) c)
+              ∙ ap (λ (s : Set). own d c ∪ s) (sym (downs-step G (w .sound .ordered) d i c z));
+          up-is = λ c u.
+              g .rows-are .up-is c u
+              ∙ ap₂ _∪_ (h .rows-are .up-is c u) (ap (λ (k : ℕ). up (treeOf G k) c) (it .node))
+              ∙ assoc (own d c) (ups (mine G d i) c) (up (treeOf G (G .node i)) c)
+              ∙ ap (λ (s : Set). own d c ∪ s) (sym (ups-step G (w .sound .ordered) d i c z));
+          long = g .rows-are .long;
+        };
         back-is = λ c e u v.
             g .back-is c e u v
             ∙ ap₂ _∪_ (h .back-is c e u v) (ap (λ (k : ℕ). back (G .chart) (treeOf G k) c e) (it .node))
@@ -208,16 +257,16 @@ module _ {n : Shape} {b : List ℕ} (w : Wirable n b) {j : ℕ} (p : j < n .node
   abbrev H : File
   H = fileAt n b
 
-  pub wires-chart : {l m m′ : List ℕ} {q : Rows} {h : Head} → Gathers H (r .a) (n .slaves) l m q → h ≡ headAt n b (r .a) → Feeds m m′ q (h .feedback) → Wires H (treeOf H j) l m′ q
+  pub wires-chart : {i : ℕ} {l m m′ q o o′ : List ℕ} {h : Head} → i ≡ n .slaves → Gathers H (r .a) i l m q → h ≡ headAt n b (r .a) → Feeds m m′ q (h .feedback)
+      → JoinsRows o o′ (λ c. downIn q c ∖ 0) (λ c. upIn q c ∖ 0) → Wires H (treeOf H j) l m′ o o′
   unfolding fileAt
-  wires-chart {l} {m} {m′} {q} {h} g y f =
+  wires-chart {i} {l} {m} {m′} {q} {o} {o′} {h} last g₀ y f z =
       record {
-        down-is = qd;
-        up-is = qu;
+        rows-are = rows-whole o q all z;
         back-is = λ c d u v.
             f c d u v
             ∙ ap₂ _∪_ (g .back-is c d u v ∙ ap (λ (k : ℕ). getD l (8 * d + c) 0 ∪ backs (H .chart) (mine H k (n .slaves)) c d) (is-node n b j e .a))
-            (ap₂ _∩_ (ap₂ _∩_ (qd c u) (qu d v)) (is-feedback n b (r .a) y ∙ ap (λ (k : ℕ). H .chart k .feedback) (is-node n b j e .a)))
+            (ap₂ _∩_ (ap₂ _∩_ (all .down-is c u) (all .up-is d v)) (is-feedback n b (r .a) y ∙ ap (λ (k : ℕ). H .chart k .feedback) (is-node n b j e .a)))
             ∙ sets (getD l (8 * d + c) 0 ∷ backs (H .chart) (mine H (H .a j) (n .slaves)) c d ∷ (down (treeOf H j) c ∩ up (treeOf H j) d ∩ H .chart (H .a j) .feedback) ∷ []) []
             (A ∪ₑ B ∪ₑ C ≐ A ∪ₑ (B ∪ₑ C)) tt
             ∙ ap (λ (s : Set). getD l (8 * d + c) 0 ∪ s) (sym (back₀ H (w .sound .ordered) j c d p k));
@@ -226,19 +275,21 @@ module _ {n : Shape} {b : List ℕ} (w : Wirable n b) {j : ℕ} (p : j < n .node
       k : H .kind j ≡ 0
       k = kind-chart w p e k₂ k₁
 
-      qd : Row (q .down) (down (treeOf H j))
-      qd c u = g .down-is c u ∙ ap (λ (k : ℕ). own k c ∪ downs (mine H k (n .slaves)) c) (is-node n b j e .a) ∙ sym (down₀ H (w .sound .ordered) j c p k)
+      g : Gathers H (r .a) (n .slaves) l m q
+      g = subst (λ (k : ℕ). Gathers H (r .a) k l m q) last g₀
 
-      qu : Row (q .up) (up (treeOf H j))
-      qu c u = g .up-is c u ∙ ap (λ (k : ℕ). own k c ∪ ups (mine H k (n .slaves)) c) (is-node n b j e .a) ∙ sym (up₀ H (w .sound .ordered) j c p k)
+      all : AreRows q (down (treeOf H j)) (up (treeOf H j))
+      all =
+          rows-as (g .rows-are)
+          (λ c. ap (λ (k : ℕ). own k c ∪ downs (mine H k (n .slaves)) c) (is-node n b j e .a) ∙ sym (down₀ H (w .sound .ordered) j c p k))
+          (λ c. ap (λ (k : ℕ). own k c ∪ ups (mine H k (n .slaves)) c) (is-node n b j e .a) ∙ sym (up₀ H (w .sound .ordered) j c p k))
 
 -- ── the whole, from an empty square ──
 
-pub wires-whole : (F : File) (l m : List ℕ) (r : Rows) → ((k : ℕ) → k < 64 → getD l k 0 ≡ 0) → Wires F (wholeOf F) l m r → Whole F m r
+pub wires-whole : (F : File) (l m r : List ℕ) → l ≡ replicate 64 0 → Wires F (wholeOf F) l m (replicate 16 0) r → Whole F m r
 wires-whole F l m r e h =
     record {
-      down-is = h .down-is;
-      up-is = h .up-is;
-      back-is = λ c d u v. h .back-is c d u v ∙ ap (λ (s : Set). s ∪ back (F .chart) (wholeOf F) c d) (e (8 * d + c) (omega arith))
+      rows-are = rows-first (h .rows-are);
+      back-is = λ c d u v. h .back-is c d u v ∙ ap (λ (s : Set). s ∪ back (F .chart) (wholeOf F) c d) (ap (λ (l : List ℕ). getD l (8 * d + c) 0) e ∙ getD-replicate 64 (8 * d + c) 0 0 (omega arith))
           ∙ sets (back (F .chart) (wholeOf F) c d ∷ []) [] (∅ₑ ∪ₑ A ≐ A) tt;
     }

@@ -2,14 +2,14 @@
 // each two charts, what chart c gets of chart d at 8 * d + c. What the masks are is in the crate wiring (Wire), and that a step may go by them too.
 ghost use mathlib.Core.Path.{_≡_};
 ghost use Prim.Native.Nat.{ℕ, _+_, _*_, _≤_, _<_};
-ghost use lib.ListN.{length, getD};
+ghost use lib.ListN.{length, getD, replicate};
 ghost use Rattle.signals.specs.Mask.{_∪_, _∩_, _∖_};
 ghost use Rattle.meaning.specs.File.{treeOf, fileAt};
 ghost use Rattle.wiring.specs.Wire.{own};
 ghost use Rattle.search.specs.Table.{Row};
 ghost use Rattle.nesting.specs.Known.{Wirable};
 ghost use Rattle.nesting.specs.Nearest.{Right};
-ghost use Rattle.plan.specs.Wire.{Joins, Fed, Wires, Whole};
+ghost use Rattle.plan.specs.Wire.{downIn, upIn, RowAt, AreRows, JoinsRows, Feeds, Wires, Whole};
 ghost use Rattle.plan.specs.Noted.{Notes, NotedNone, NearestIn};
 ghost use Rattle.plan.specs.Wired.{Wired};
 use layout::body::Shape;
@@ -29,35 +29,9 @@ const MASTER: usize = 72;
 
 const STATE: usize = 80;
 
-// What of a set offered to a part gets down to each chart, and what of each chart's action gets up to its output.
-pub struct Rows {
-    pub down: [u64; 8],
-    pub up: [u64; 8],
-}
-
-fn union_row(a: [u64; 8], b: [u64; 8]) -> [u64; 8]
-    ensures { λ r. ⌜ Row r (λ c. getD a c 0 ∪ getD b c 0) ⌝ }
-{
-    let mut r = a;
-    let mut c: usize = 0;
-    while c < 8 {
-        r[c] = a[c] | b[c];
-        c += 1;
-    }
-    r
-}
-
-fn less_row(a: [u64; 8], x: u64) -> [u64; 8]
-    ensures { λ r. ⌜ Row r (λ c. getD a c 0 ∖ x) ⌝ }
-{
-    let mut r = a;
-    let mut c: usize = 0;
-    while c < 8 {
-        r[c] = signals::less(a[c], x);
-        c += 1;
-    }
-    r
-}
+// Where the rows of a part have what of each chart's action gets up to its output. Before it stands what of a set offered to the part gets down to
+// each chart.
+const UP_ROW: usize = 8;
 
 fn own(d: usize, c: usize) -> u64
     ensures { λ r. ⌜ r ≡ own d c ⌝ }
@@ -65,115 +39,111 @@ fn own(d: usize, c: usize) -> u64
     if c == d { signals::ALL } else { 0 }
 }
 
-// A chart by itself: everything gets down to it, and up from it. Each mask is tested for, since a single store at d would be waited for.
-fn alone(d: usize) -> Rows
-    ensures { λ r. ⌜ Row (r .down) (own d) × Row (r .up) (own d) ⌝ }
+// Chart d's own row, the eight masks from `at` on. Each mask is tested for, since a single store at d would be waited for.
+fn own_row(part: &mut [u64; 16], at: usize, d: usize)
+    requires { ⌜ (length (now part) ≡ 16) × (at ≤ 8) ⌝ }
+    ensures { λ _. ⌜ RowAt at 8 (own d) (now (part .entry)) (now (part .exit)) ⌝ }
 {
-    let mut m = [0u64; 8];
     let mut c: usize = 0;
     while c < 8 {
-        m[c] = own(d, c);
+        part[at + c] = own(d, c);
         c += 1;
     }
-    Rows { down: m, up: m }
 }
 
-fn beside(a: Rows, b: Rows) -> Rows
-    ensures { λ r. ⌜ Row (r .down) (λ c. getD (a .down) c 0 ∪ getD (b .down) c 0) × Row (r .up) (λ c. getD (a .up) c 0 ∪ getD (b .up) c 0) ⌝ }
+// A chart by itself: everything gets down to it, and up from it.
+fn alone(part: &mut [u64; 16], d: usize)
+    requires { ⌜ length (now part) ≡ 16 ⌝ }
+    ensures { λ _. ⌜ AreRows (now (part .exit)) (own d) (own d) ⌝ }
 {
-    let ad = a.down;
-    let bd = b.down;
-    let au = a.up;
-    let bu = b.up;
-    Rows {
-        down: union_row(ad, bd),
-        up: union_row(au, bu),
+    own_row(part, 0, d);
+    own_row(part, UP_ROW, d);
+}
+
+// Joins a part's row less x to the same row, the eight masks from `at` on.
+fn join_row(rows: &mut [u64; 16], part: &[u64; 16], at: usize, x: u64)
+    requires { ⌜ (length (now rows) ≡ 16) × (at ≤ 8) ⌝ }
+    ensures { λ _. ⌜ RowAt at 8 (λ c. getD (now (rows .entry)) (at + c) 0 ∪ (getD (now (part .entry)) (at + c) 0 ∖ x)) (now (rows .entry)) (now (rows .exit)) ⌝ }
+{
+    let mut c: usize = 0;
+    while c < 8 {
+        rows[at + c] = rows[at + c] | signals::less(part[at + c], x);
+        c += 1;
     }
 }
 
-// x is filtered from the input, y hidden from the output.
-fn hidden(a: Rows, x: u64, y: u64) -> Rows
-    ensures { λ r. ⌜ Row (r .down) (λ c. getD (a .down) c 0 ∖ x) × Row (r .up) (λ c. getD (a .up) c 0 ∖ y) ⌝ }
+// Joins a part's rows to those of what it stands in: x is filtered from its input, y hidden from its output.
+fn join(rows: &mut [u64; 16], part: &[u64; 16], x: u64, y: u64)
+    requires { ⌜ length (now rows) ≡ 16 ⌝ }
+    ensures { λ _. ⌜ JoinsRows (now (rows .entry)) (now (rows .exit)) (λ c. downIn (now (part .entry)) c ∖ x) (λ c. upIn (now (part .entry)) c ∖ y) ⌝ }
 {
-    let ad = a.down;
-    let au = a.up;
-    Rows {
-        down: less_row(ad, x),
-        up: less_row(au, y),
-    }
+    join_row(rows, part, 0, x);
+    join_row(rows, part, UP_ROW, y);
 }
 
 // Joins what is in m and gets down to a chart to that chart's mask, in the eight masks from `at` on. Most rows have nothing to feed.
-fn feed_row(back: &mut [u64], at: usize, m: u64, down: [u64; 8])
+fn feed_row(back: &mut [u64], at: usize, m: u64, part: &[u64; 16])
     requires { ⌜ at + 8 ≤ length (now back) ⌝ }
-    ensures { λ _. ⌜ Fed at 8 m down (now (back .entry)) (now (back .exit)) ⌝ }
+    ensures { λ _. ⌜ RowAt at 8 (λ c. getD (now (back .entry)) (at + c) 0 ∪ (m ∩ downIn (now (part .entry)) c)) (now (back .entry)) (now (back .exit)) ⌝ }
 {
     if m == 0 {
         return;
     }
     let mut c: usize = 0;
     while c < 8 {
-        back[at + c] = back[at + c] | (m & down[c]);
+        back[at + c] = back[at + c] | (m & part[c]);
         c += 1;
     }
 }
 
-// Feedback of x over a part: what gets up from d, is in x and gets down to c.
-fn feed(back: &mut [u64], a: Rows, x: u64)
+// Feedback of x over a part: what gets up from d, is in x and gets down to c. Many parts have none.
+fn feed(back: &mut [u64], part: &[u64; 16], x: u64)
     requires { ⌜ length (now back) ≡ 64 ⌝ }
-    ensures { λ _. ⌜ Joins (now (back .entry)) (now (back .exit)) (λ c d. getD (a .down) c 0 ∩ getD (a .up) d 0 ∩ x) ⌝ }
+    ensures { λ _. ⌜ Feeds (now (back .entry)) (now (back .exit)) (now (part .entry)) x ⌝ }
 {
-    let down = a.down;
-    let up = a.up;
+    if x == 0 {
+        return;
+    }
     let mut d: usize = 0;
     while d < 8 {
-        feed_row(back, 8 * d, up[d] & x, down);
+        feed_row(back, 8 * d, part[UP_ROW + d] & x, part);
         d += 1;
     }
 }
 
-// The rows of node j's part; its feedback is joined to the square `back`.
-pub fn wire(n: Shape, body: &[u8], j: usize, back: &mut [u64]) -> Rows
-    requires { ⌜ Wirable n (now body) × (j < n .nodes) × (length (now back) ≡ 64) ⌝ }
-    ensures { λ r. ⌜ Wires (fileAt n (now (body .entry))) (treeOf (fileAt n (now (body .entry))) j) (now (back .entry)) (now (back .exit)) r ⌝ }
+// Joins the rows of node j's part to `rows`, and its feedback to the square `back`. Both are lent, so that a frame has the rows of one part alone.
+pub fn wire(n: Shape, body: &[u8], j: usize, back: &mut [u64], rows: &mut [u64; 16])
+    requires { ⌜ Wirable n (now body) × (j < n .nodes) × (length (now back) ≡ 64) × (length (now rows) ≡ 16) ⌝ }
+    ensures { λ _. ⌜ Wires (fileAt n (now (body .entry))) (treeOf (fileAt n (now (body .entry))) j) (now (back .entry)) (now (back .exit)) (now (rows .entry)) (now (rows .exit)) ⌝ }
 {
     let node = layout::body::node_at(n, body, j);
     let a = node.a as usize;
+    let mut part = [0u64; 16];
     if node.kind == 2 {
-        let part = wire(n, body, a, back);
-        return hidden(part, node.x, node.y);
+        wire(n, body, a, back, &mut part);
+        join(rows, &part, node.x, node.y);
+        return;
     }
     if node.kind == 1 {
-        let left = wire(n, body, a, back);
         let b = node.b as usize;
-        let right = wire(n, body, b, back);
-        let both = beside(left, right);
-        feed(back, both, node.x);
-        return both;
+        wire(n, body, a, back, &mut part);
+        wire(n, body, b, back, &mut part);
+        feed(back, &part, node.x);
+        join(rows, &part, 0, 0);
+        return;
     }
-    let mut rows = alone(a);
+    alone(&mut part, a);
     let mut i: usize = 0;
     while i < n.slaves {
         let slave = layout::body::slave_at(n, body, i);
         if slave.chart == node.a {
-            let part = wire(n, body, slave.node as usize, back);
-            rows = beside(rows, part);
+            wire(n, body, slave.node as usize, back, &mut part);
         }
         i += 1;
     }
     let head = layout::body::head_at(n, body, a);
-    feed(back, rows, head.feedback);
-    rows
-}
-
-fn clear(m: &mut [u64])
-    ensures { λ _. ⌜ ((k : ℕ) → k < length (now (m .exit)) → getD (now (m .exit)) k 0 ≡ 0) ⌝ }
-{
-    let mut i: usize = 0;
-    while i < m.len() {
-        m[i] = 0;
-        i += 1;
-    }
+    feed(back, &part, head.feedback);
+    join(rows, &part, 0, 0);
 }
 
 fn put_row(m: &mut [u64], row: [u64; 8])
@@ -187,14 +157,29 @@ fn put_row(m: &mut [u64], row: [u64; 8])
     }
 }
 
+// One of a part's rows, the eight masks from `at` on.
+fn row_at(rows: [u64; 16], at: usize) -> [u64; 8]
+    requires { ⌜ at ≤ 8 ⌝ }
+    ensures { λ r. ⌜ Row r (λ c. getD rows (at + c) 0) ⌝ }
+{
+    let mut row = [0u64; 8];
+    let mut c: usize = 0;
+    while c < 8 {
+        row[c] = rows[at + c];
+        c += 1;
+    }
+    row
+}
+
 // The rows of the whole; `back` has its feedback.
-fn whole(n: Shape, body: &[u8], back: &mut [u64]) -> Rows
-    requires { ⌜ Wirable n (now body) × (length (now back) ≡ 64) ⌝ }
+fn whole(n: Shape, body: &[u8], back: &mut [u64]) -> [u64; 16]
+    requires { ⌜ Wirable n (now body) × (now back ≡ replicate 64 0) ⌝ }
     ensures { λ r. ⌜ Whole (fileAt n (now (body .entry))) (now (back .exit)) r ⌝ }
 {
-    clear(back);
+    let mut rows = [0u64; 16];
     let last = n.nodes - 1;
-    wire(n, body, last, back)
+    wire(n, body, last, back, &mut rows);
+    rows
 }
 
 // A chart stands in the slave that its node stands in: its master and state are noted in a search's small numbers.
@@ -242,16 +227,14 @@ pub fn nearest(n: Shape, body: &[u8], small: &mut [u8])
     }
 }
 
-// Wires a file that passed its check: the feedback and `up` go into a search's masks, the nearest slaves into its small numbers. The result is
-// what of the input gets down to each chart.
+// Wires a file that passed its check, into tables that are new: the feedback and `up` go into a search's masks, the nearest slaves into its small
+// numbers. The result is what of the input gets down to each chart.
 pub fn wired(n: Shape, body: &[u8], masks: &mut [u64], small: &mut [u8]) -> [u64; 8]
-    requires { ⌜ Wirable n (now body) × (length (now masks) ≡ 336) × (length (now small) ≡ 96) ⌝ }
+    requires { ⌜ Wirable n (now body) × (now masks ≡ replicate 336 0) × (length (now small) ≡ 96) ⌝ }
     ensures { λ r. ⌜ Wired (fileAt n (now (body .entry))) r (now (masks .exit)) (now (small .exit)) ⌝ }
 {
     let rows = whole(n, body, &mut masks[BACK..BACK_END]);
-    let up = rows.up;
-    put_row(&mut masks[UP..UP_END], up);
+    put_row(&mut masks[UP..UP_END], row_at(rows, UP_ROW));
     nearest(n, body, small);
-    let down = rows.down;
-    down
+    row_at(rows, 0)
 }

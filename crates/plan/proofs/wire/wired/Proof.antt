@@ -1,7 +1,8 @@
 -- `wire::wired` meets its contract: each part of the masks keeps what was put there. Assumes nothing.
-use mathlib.Core.Path.{_≡_, _∙_}
+use mathlib.Core.Path.{_≡_, ap, _∙_}
 use mathlib.Core.List.{List}
 use Prim.Native.Nat.{ℕ, _+_, _*_, _<_}
+use native.Mathlib.Nat.{zero-add}
 use native.Mathlib.Omega.{arith}
 use borrow.Author.Needs.{needs}
 use borrow.Rule.Slice.PartMut.{midOf, putMid, same-len-mid}
@@ -26,31 +27,34 @@ module _ (l b u : List ℕ) (n : length l ≡ 336) (nb : length b ≡ length (mi
       put-below 328 8 with-square u (omega (arith, n′)) (192 + k) (omega arith)
       ∙ put-in 192 64 l b (omega arith) k (rw nb (simp (length-take, length-drop) (omega arith)))
 
+whole-requires : tie.Need-whole-requires
+whole-requires c κs = let s = c .before .before .before .before in (s .pre .0, ap (midOf 192 64) (s .pre .1))
+
+part-put-row-end : tie.Need-part-put-row-end
+part-put-row-end c =
+    let w = c .before .before in
+    let s = w .before .before .before .before .before in
+    omega (arith, same-len-mid 192 64 (s .args .masks .now) (w .whole .last .1 .1 .0) (w .whole .kept .1 .1 .0), ap length (s .pre .1))
+
 returns : tie.Need-returns
 returns c =
-    let s = c .before .before .before .before .before .before .before .before .before .before .before .before .before .before .before .before .before in
-    let w = c .before .before .before .before .before .before .before .before .before .before .before .before .whole in
-    let r = c .before .before .before .before .before .before .before .put-row in
+    let r = c .before .before .before .before .before .before .before in
+    let w = r .before .before .before .before .before in
+    let s = w .before .before .before .before .before in
+    let l = s .args .masks .now in
+    let n : length l ≡ 336 = ap length (s .pre .1) in
+    let b = w .whole .last .1 .1 .0 in
+    let u = r .put-row .last .0 in
     record {
-      down-is = w .ensures .down-is;
-      up-is = λ d u. row-is (s .args .masks .now) (w .last .1 .1 .0) (r .last .0) (s .pre .1) (w .kept .1 .1 .0) (r .kept .0) d u ∙ r .ensures d u ∙ w .ensures .up-is d u;
-      back-is = λ a d u v. square-is (s .args .masks .now) (w .last .1 .1 .0) (r .last .0) (s .pre .1) (w .kept .1 .1 .0) (r .kept .0) (8 * d + a) (omega arith) ∙ w .ensures .back-is a d u v;
+      down-is = λ d p. c .row-at2 .ensures d p ∙ ap (λ (k : ℕ). getD (w .whole .result) k 0) (zero-add d) ∙ w .whole .ensures .rows-are .down-is d p;
+      up-is = λ d p. row-is l b u n (w .whole .kept .1 .1 .0) (r .put-row .kept .0) d p ∙ r .put-row .ensures d p ∙ r .before .row-at .ensures d p ∙ w .whole .ensures .rows-are .up-is d p;
+      back-is = λ a d p q. square-is l b u n (w .whole .kept .1 .1 .0) (r .put-row .kept .0) (8 * d + a) (omega arith) ∙ w .whole .ensures .back-is a d p q;
       nearest-is = c .before .before .before .nearest .ensures;
     }
 
 pub wired-spec : {M : Type 1} → statement M
 wired-spec =
     tie.close
-    (tie.spec
-    (λ c. search needs)
-    (λ c. search needs)
-    (λ c. search needs)
-    (λ c κs. search needs)
-    (λ c. search needs)
-    (λ c. search needs)
-    (λ c. search needs)
-    (λ c κs. search needs)
-    (λ c κs. search needs)
-    (λ c. search needs)
-    (λ c. search needs)
-    returns)
+    (tie.spec (λ c. search needs) (λ c. search needs) (λ c. omega (arith, ap length (c .before .before .before .pre .1))) whole-requires
+    (λ c. search needs) (λ c. search needs) part-put-row-end (λ c κs. search needs) (λ c κs. search needs) (λ c κs. search needs)
+    (λ c κs. search needs) (λ c. search needs) (λ c. search needs) returns)
