@@ -3,13 +3,14 @@
  * Every call takes bytes as a pointer and a length, keeps nothing and allocates nothing. It may be made with any bytes, from any thread.
  *
  * What a caller must see to, since nothing can check it:
- *   - each pointer is not null and points to as many bytes or numbers as its length says, also where the length is 0;
+ *   - each pointer is not null and points to as many bytes or numbers as its length says, also where the length is 0; `places` points to 8 bytes;
  *   - pointers to 64-bit numbers and to lengths are aligned as C asks;
  *   - memory that a call writes overlaps nothing else that is lent to the same call.
  *
  * Every call returns 0, or the number of its refusal. A refused call leaves every lent buffer (`config`, `next`, `rows`, `out`) as it was. The
  * single numbers behind pointers (`input`, `output`, `mark`, `length`) are answers: they are always written, and are 0 where the call is
- * refused. Where a call succeeds, the bytes of a buffer behind what it has to say keep their values.
+ * refused; so are all 8 `places`, and they are MESTECUR_NO_PLACE then. Where a call succeeds, the bytes of a buffer behind what it has to say keep
+ * their values.
  *
  * A set of signals is a 64-bit number: bit n stands for signal n, 0 to 63. A configuration is one byte for each chart, its present state. */
 #ifndef MESTECUR_H
@@ -31,11 +32,15 @@ uint8_t mestecur_first(const uint8_t *file, size_t file_len, uint8_t *config, si
 /* Gives the signals that the whole looks at, `input`, and those that it can put out, `output`. Refusals: 1 to 11. */
 uint8_t mestecur_interface(const uint8_t *file, size_t file_len, uint64_t *input, uint64_t *output);
 
+/* In `places`: no transition was taken. */
+enum { MESTECUR_NO_PLACE = 255 };
+
 /* Makes one step from a configuration under an input. Writes the next configuration to the front of `next`, what the whole puts out to `output`,
  * and to `mark` 1 if every permitted choice leads to the same output and the same next configuration, else 0. The step is the first permitted
- * choice in document 01's order. Refusals: 1 to 11, 20, 21, 22, 23. */
+ * choice in document 01's order; `places` says which: at c the place of the transition that chart c took in its own list, from 0 on, or
+ * MESTECUR_NO_PLACE if it took none or there is no chart c. Refusals: 1 to 11, 20, 21, 22, 23. */
 uint8_t mestecur_step(const uint8_t *file, size_t file_len, const uint8_t *config, size_t config_len, uint64_t input, uint8_t *next,
-                      size_t next_len, uint64_t *output, uint8_t *mark);
+                      size_t next_len, uint64_t *output, uint8_t *mark, uint8_t places[8]);
 
 /* Takes the inputs in turn, from a configuration on, and writes a row for each to `rows`, without a gap: the output (8 bytes, little-endian), the
  * mark (1 byte), 0 or the refusal of this step (1 byte), then the configuration after it (one byte a chart). A step that is refused (23) has

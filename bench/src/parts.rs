@@ -162,25 +162,33 @@ pub fn step() -> Part {
     part("step", rows)
 }
 
-/// A step's refusal, output, mark and next configuration.
-type Stepped = (u8, u64, bool, Vec<u8>);
+/// A step's answer and next configuration; a refused one has no answer.
+type Stepped = (Result<mestecur::Step, u8>, Vec<u8>);
 
 /// The engine's step.
 fn engine_step(subject: &Subject) -> Stepped {
     let mut next = vec![0; subject.config.len()];
     let input = mestecur::Set(subject.input);
-    match mestecur::step(&subject.file, &subject.config, input, &mut next) {
-        Ok(step) => (0, step.output.0, step.mark, next),
-        Err(refusal) => (refusal.number(), 0, false, next),
-    }
+    let answer = mestecur::step(&subject.file, &subject.config, input, &mut next);
+    (answer.map_err(mestecur::Refusal::number), next)
 }
 
 /// The step by hand.
 fn hand_step(subject: &Subject) -> Stepped {
     let mut next = vec![0; subject.config.len()];
     let (file, config) = (&subject.file, &subject.config);
-    let (refusal, output, mark) = hand::step(file, config, subject.input, &mut next);
-    (refusal, output, mark, next)
+    let stepped = hand::step(file, config, subject.input, &mut next);
+    if stepped.refusal != 0 {
+        return (Err(stepped.refusal), next);
+    }
+    let step = mestecur::Step {
+        output: mestecur::Set(stepped.output),
+        mark: stepped.mark,
+        places: stepped
+            .places
+            .map(|place| (place != hand::NO_PLACE).then_some(place)),
+    };
+    (Ok(step), next)
 }
 
 /// The three steps of a file.

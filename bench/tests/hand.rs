@@ -1,11 +1,11 @@
 //! The engine written by hand answers as the reference does, so that its times can be compared.
 
 use bench::hand;
-use reference::command::{Command, Op, FILL};
+use reference::command::{Command, Numbers, Op, FILL};
 use reference::draw::Draw;
 
 /// What a call tells: refusal, numbers, and the lent buffer.
-type Told = (u8, [u64; 2], Vec<u8>);
+type Told = (u8, Numbers, Vec<u8>);
 
 /// The call in the reference.
 fn expected(command: &Command) -> Told {
@@ -21,15 +21,19 @@ fn by_hand(command: &Command) -> Told {
     let inputs: Vec<u64> = command.inputs.iter().map(|set| set.0).collect();
     let (refusal, numbers) = match command.op {
         Op::Step => {
-            let (refusal, output, mark) = hand::step(file, at, inputs[0], &mut lent);
-            (refusal, [output, u64::from(mark)])
+            let stepped = hand::step(file, at, inputs[0], &mut lent);
+            let numbers = Numbers {
+                two: [stepped.output, u64::from(stepped.mark)],
+                places: stepped.places,
+            };
+            (stepped.refusal, numbers)
         }
-        Op::Run => (hand::run(file, at, &inputs, &mut lent), [0; 2]),
+        Op::Run => (hand::run(file, at, &inputs, &mut lent), Numbers::NONE),
         Op::Rewrite => {
             let (refusal, length) = hand::rewrite(file, &mut lent);
-            (refusal, [length as u64, 0])
+            (refusal, Numbers::two(length as u64, 0))
         }
-        _ => (hand::check(file), [0; 2]),
+        _ => (hand::check(file), Numbers::NONE),
     };
     (refusal, numbers, lent)
 }

@@ -9,7 +9,7 @@ use crate::limits::{refusal, SIGNALS};
 use crate::rewriting::rewrite;
 use crate::run::{run_model, Row};
 use crate::set::Set;
-use crate::step::accept_configuration;
+use crate::step::{accept_configuration, step_model, Place};
 
 /// Room for any file that the rewriting makes.
 const ROOM: usize = 65_536;
@@ -25,7 +25,7 @@ pub fn chart(command: &str, file: &[u8], words: &[&str]) -> Option<String> {
             .map_err(of_file),
         ("first", []) => first(file),
         ("interface", []) => faces(file),
-        ("step", [config, set]) => rows(file, &configuration(config)?, &[typed_set(set)?]),
+        ("step", [config, set]) => one_step(file, &configuration(config)?, typed_set(set)?),
         ("run", [config, sets @ ..]) => {
             let sets: Option<Vec<Set>> = sets.iter().map(|set| typed_set(set)).collect();
             rows(file, &configuration(config)?, &sets?)
@@ -87,6 +87,23 @@ fn rows(file: &[u8], configuration: &[u8], sets: &[Set]) -> Result<String, Refus
         .zip(1..)
         .map(|(row, number)| row_line(number, row))
         .collect())
+}
+
+/// The line of a run of one set, and a line for each chart: which transition it took.
+fn one_step(file: &[u8], configuration: &[u8], set: Set) -> Result<String, Refused> {
+    let row = rows(file, configuration, &[set])?;
+    let model = accept(file).map_err(of_file)?;
+    let verdict = step_model(&model, configuration, set);
+    let choice = verdict.map_or(vec![], |verdict| verdict.choice);
+    let took = choice.iter().enumerate().map(took);
+    Ok(row + &took.collect::<String>())
+}
+
+fn took((chart, place): (usize, &Place)) -> String {
+    match place {
+        Some(place) => format!("chart {chart} took transition {place}\n"),
+        None => format!("chart {chart} took no transition\n"),
+    }
 }
 
 fn row_line(number: usize, row: &Row) -> String {

@@ -6,7 +6,8 @@
 //! bytes each). Before the call each byte of the lent buffer is [`FILL`].
 
 use crate::set::Set;
-use crate::{check, first, interface, rewrite, run, step};
+use crate::step::NO_PLACES;
+use crate::{check, first, interface, rewrite, run, step, Places};
 
 /// The value of each lent byte before a call.
 pub const FILL: u8 = 0xA5;
@@ -47,6 +48,27 @@ pub struct Command {
     pub configuration: Vec<u8>,
     pub room: usize,
     pub inputs: Vec<Set>,
+}
+
+/// What a call answers beside its refusal and its lent buffer: up to two numbers, 0 where it has
+/// none, and a step's places.
+#[derive(Clone, Copy, PartialEq, Eq, Debug)]
+pub struct Numbers {
+    pub two: [u64; 2],
+    pub places: Places,
+}
+
+impl Numbers {
+    /// The numbers of a call that answers none, or is refused.
+    pub const NONE: Numbers = Numbers::two(0, 0);
+
+    /// The numbers of a call that is no step.
+    pub const fn two(one: u64, other: u64) -> Numbers {
+        Numbers {
+            two: [one, other],
+            places: NO_PLACES,
+        }
+    }
 }
 
 /// The answer of a call: the refusal, and the line that is printed for it.
@@ -169,7 +191,8 @@ impl Command {
     }
 
     /// The fields of a line behind the refusal: the call's numbers, and its lent buffer.
-    fn fields(&self, [one, other]: [u64; 2], lent: &[u8]) -> Vec<String> {
+    fn fields(&self, numbers: Numbers, lent: &[u8]) -> Vec<String> {
+        let [one, other] = numbers.two;
         let mark = if other == 1 { "y" } else { "n" };
         let lent = if lent.is_empty() {
             "-".to_string()
@@ -180,30 +203,34 @@ impl Command {
             Op::Check => vec![],
             Op::First | Op::Run => vec![lent],
             Op::Interface => vec![Set(one).hex(), Set(other).hex()],
-            Op::Step => vec![Set(one).hex(), mark.to_string(), lent],
+            Op::Step => vec![Set(one).hex(), mark.to_string(), hex(&numbers.places), lent],
             Op::Rewrite => vec![one.to_string(), lent],
         }
     }
 
     /// Makes the call: its refusal, and the numbers that it answers.
-    pub fn call(&self, lent: &mut [u8]) -> (u8, [u64; 2]) {
+    pub fn call(&self, lent: &mut [u8]) -> (u8, Numbers) {
         let (file, at) = (&self.file, &self.configuration);
         match self.op {
-            Op::Check => (check(file), [0; 2]),
-            Op::First => (first(file, lent), [0; 2]),
+            Op::Check => (check(file), Numbers::NONE),
+            Op::First => (first(file, lent), Numbers::NONE),
             Op::Interface => {
                 let found = interface(file);
-                (found.refusal, [found.input.0, found.output.0])
+                (found.refusal, Numbers::two(found.input.0, found.output.0))
             }
             Op::Step => {
                 let stepped = step(file, at, self.inputs[0], lent);
-                let mark = u64::from(stepped.mark);
-                (stepped.refusal, [stepped.output.0, mark])
+                let numbers = Numbers {
+                    two: [stepped.output.0, u64::from(stepped.mark)],
+                    places: stepped.places,
+                };
+                (stepped.refusal, numbers)
             }
-            Op::Run => (run(file, at, &self.inputs, lent), [0; 2]),
+            Op::Run => (run(file, at, &self.inputs, lent), Numbers::NONE),
             Op::Rewrite => {
                 let rewritten = rewrite(file, lent);
-                (rewritten.refusal, [rewritten.length as u64, 0])
+                let length = rewritten.length as u64;
+                (rewritten.refusal, Numbers::two(length, 0))
             }
         }
     }

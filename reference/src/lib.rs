@@ -1,6 +1,7 @@
-//! A chart engine in plain Rust, written from the words of document 01 (`01-scope.md`) and of the
-//! paper on mu-Charts that it points to (003), as naively as its sentences allow. It is made to be
-//! read beside document 01 and to be compared with other engines, not to be fast.
+//! A chart engine in plain Rust, written from the words of document 01 (`01-scope.md`), of the
+//! requests in document 02 and of the paper on mu-Charts that 01 points to (003), as naively as its
+//! sentences allow. It is made to be read beside document 01 and to be compared with other engines,
+//! not to be fast.
 //!
 //! In the order of document 01:
 //!
@@ -11,9 +12,10 @@
 //! - [`check`]: refusals 1 to 11.
 //! - [`first`]: the first configuration.
 //! - [`interface`]: input and output interface.
-//! - [`step`]: the meaning of a step, refusals 20 to 23.
+//! - [`step`]: the meaning of a step, refusals 20 to 23; the places of 02, No. 1.
 //! - [`run`]: a run, refusal 27.
 //! - [`rewriting`]: the rewriting, refusals 40 to 45.
+//! - [`agreement`]: the places of a step of the rewritten file (02, No. 1).
 //! - [`day`]: the day program, refusals 30 and 31.
 //! - [`chart`]: the command line tool's answers.
 //!
@@ -24,6 +26,7 @@
 //! which holds the proved engine against this one. [`words`] is what a program does with its command
 //! line.
 
+pub mod agreement;
 pub mod cases;
 pub mod chart;
 pub mod check;
@@ -53,4 +56,4 @@ pub use interface::{interface, Interface};
 pub use rewriting::{rewrite, Rewritten};
 pub use run::run;
 pub use set::Set;
-pub use step::{step, Stepped};
+pub use step::{step, Places, Stepped};

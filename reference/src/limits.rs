@@ -19,6 +19,8 @@ pub const CHART_TRANSITIONS: usize = 64;
 pub const STATE_TRANSITIONS: usize = 8;
 /// 01: "bit n stands for signal n, 0 to 63".
 pub const SIGNALS: u32 = 64;
+/// 02, No. 1: "the place of the transition taken in that chart's own list, or 255 for none".
+pub const NO_PLACE: u8 = 255;
 /// 01: "It reads standard input, at most 65,536 bytes".
 pub const DAY_INPUT: usize = 65_536;
 

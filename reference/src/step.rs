@@ -1,9 +1,9 @@
 //! 01, "The meaning of a step (003, sections 2.6 and 3)": every choice is made in order and held
-//! against all the equations; no output is grown or guessed.
+//! against all the equations; no output is grown or guessed. And 02, No. 1: which transitions moved.
 
 use crate::check::{accept, refuse_if};
 use crate::interface::{chart_input, node_input};
-use crate::limits::refusal;
+use crate::limits::{refusal, CHARTS, NO_PLACE};
 use crate::model::{Chart, Model, Node, Transition};
 use crate::set::Set;
 
@@ -13,23 +13,33 @@ pub struct Stepped {
     pub refusal: u8,
     pub output: Set,
     pub mark: bool,
+    pub places: Places,
 }
+
+/// 02, No. 1: "for each chart, the place of the transition taken in that chart's own list, or 255
+/// for none. Entries past the last chart are 255".
+pub type Places = [u8; CHARTS];
+
+/// 02, No. 1: "Refused steps carry 255 throughout."
+pub const NO_PLACES: Places = [NO_PLACE; CHARTS];
 
 /// A chart's part of a choice: the place of a transition in its own list, or none. 01: "A choice
 /// gives each chart one of its transitions or none." And "none comes before transition 0", as
 /// `None` does in Rust's order.
 pub type Place = Option<usize>;
 
-/// What a permitted choice leads to.
+/// What a permitted choice leads to, as far as the mark asks: which transitions lead there is not in
+/// it.
 #[derive(Clone, PartialEq, Eq, Debug)]
 pub struct Outcome {
     pub output: Set,
     pub next: Vec<u8>,
 }
 
-/// What all permitted choices together lead to: the first one's outcome, and the mark.
+/// What all permitted choices together lead to: the first one, its outcome, and the mark.
 #[derive(Clone, PartialEq, Eq, Debug)]
 pub struct Verdict {
+    pub choice: Vec<Place>,
     pub outcome: Outcome,
     pub mark: bool,
 }
@@ -46,14 +56,25 @@ pub fn step(file: &[u8], configuration: &[u8], input: Set, next: &mut [u8]) -> S
                 refusal: refusal::SUCCESS,
                 output: verdict.outcome.output,
                 mark: verdict.mark,
+                places: places(&verdict.choice),
             }
         }
         Err(number) => Stepped {
             refusal: number,
             output: Set::EMPTY,
             mark: false,
+            places: NO_PLACES,
         },
     }
+}
+
+/// A choice as 02, No. 1 has it in a step's answer.
+fn places(choice: &[Place]) -> Places {
+    let mut places = NO_PLACES;
+    for (entry, place) in places.iter_mut().zip(choice) {
+        *entry = place.map_or(NO_PLACE, |place| place as u8);
+    }
+    places
 }
 
 /// The verdict of a step, or the refusal.
@@ -85,8 +106,12 @@ pub fn step_model(model: &Model, configuration: &[u8], input: Set) -> Option<Ver
         if let Some(outcome) = situation.permitted(choice) {
             match &mut verdict {
                 None => {
-                    let mark = true;
-                    verdict = Some(Verdict { outcome, mark });
+                    let (choice, mark) = (choice.to_vec(), true);
+                    verdict = Some(Verdict {
+                        choice,
+                        outcome,
+                        mark,
+                    });
                 }
                 Some(first) => first.mark &= first.outcome == outcome,
             }

@@ -111,7 +111,7 @@ fn recordings_are_of_moderate_size() {
 }
 
 /// 01: "A refusal returns its number, empty sets, mark no, length 0, and leaves lent memory
-/// untouched."
+/// untouched." 02, No. 1: "Refused steps carry 255 throughout."
 #[test]
 fn a_refusal_leaves_all_lent_bytes_and_gives_empty_answers() {
     for kind in KINDS {
@@ -126,13 +126,13 @@ fn a_refusal_leaves_all_lent_bytes_and_gives_empty_answers() {
                 0 => "-".to_string(),
                 room => format!("{FILL:02x}").repeat(room),
             };
-            let zeros = "0".repeat(16);
+            let (zeros, none) = ("0".repeat(16), "f".repeat(16));
             let (name, number) = (&command.name, answer.refusal);
             let expected = match command.op {
                 Op::Check => format!("{name} check {number}\n"),
                 Op::First => format!("{name} first {number} {untouched}\n"),
                 Op::Interface => format!("{name} interface {number} {zeros} {zeros}\n"),
-                Op::Step => format!("{name} step {number} {zeros} n {untouched}\n"),
+                Op::Step => format!("{name} step {number} {zeros} n {none} {untouched}\n"),
                 Op::Run => format!("{name} run {number} {untouched}\n"),
                 Op::Rewrite => format!("{name} rewrite {number} 0 {untouched}\n"),
             };
@@ -219,11 +219,11 @@ fn lines_by_hand() {
     );
     assert_eq!(
         line(Command::step("s", file.clone(), &[0, 0], Set(1), 4)),
-        "s step 0 0000000000000006 y 0101a5a5\n"
+        "s step 0 0000000000000006 y 0000ffffffffffff 0101a5a5\n"
     );
     assert_eq!(
         line(Command::step("s", file.clone(), &[0, 1], Set(1), 2)),
-        "s step 23 0000000000000000 n a5a5\n"
+        "s step 23 0000000000000000 n ffffffffffffffff a5a5\n"
     );
     assert_eq!(
         line(Command::run("r", file.clone(), &[0, 1], &[Set(1)], 13)),

@@ -1,5 +1,6 @@
 //! The rewriting: D byte for byte, and the same steps on random files.
 
+use reference::agreement::Agreement;
 use reference::cases::charts::{d, p3};
 use reference::cases::damage::behind;
 use reference::check::accept;
@@ -7,8 +8,9 @@ use reference::generate::{any, configuration, input, Random, Shape};
 use reference::limits::*;
 use reference::model::{Model, Node};
 use reference::rewriting::{calls, rewrite_model};
+use reference::step::NO_PLACES;
 use reference::walk::{configurations, inputs, is_nested, with_slaves};
-use reference::{check, rewrite, run, step, Set};
+use reference::{check, rewrite, run, step, Set, Stepped};
 
 /// The rewritten file, if there is one.
 fn rewritten(file: &[u8]) -> Result<Vec<u8>, u8> {
@@ -93,14 +95,21 @@ fn small_with_slaves(random: &mut Random) -> (Shape, Model) {
     }
 }
 
+/// A step's answer as a row has it.
+fn row(stepped: &Stepped) -> (u8, Set, bool) {
+    (stepped.refusal, stepped.output, stepped.mark)
+}
+
 #[test]
 fn the_rewritten_file_steps_as_the_old_one() {
     let mut random = Random::new(5);
-    let (mut given, mut refused, mut doubtful, mut nested) = (0, 0, 0, 0);
+    let (mut given, mut refused, mut doubtful, mut idle, mut nested) = (0, 0, 0, 0, 0);
     for _ in 0..250 {
         let (shape, model) = small_with_slaves(&mut random);
         let old = model.file();
         let new = rewritten(&old).unwrap();
+        let read = accept(&new).unwrap();
+        let agreement = Agreement::new(&model, &read);
         nested += usize::from(is_nested(&model));
         for at in configurations(&model) {
             for input in inputs(&mut random, &shape, &model) {
@@ -108,15 +117,59 @@ fn the_rewritten_file_steps_as_the_old_one() {
                 let mut new_next = old_next.clone();
                 let old_answer = step(&old, &at, input, &mut old_next);
                 let new_answer = step(&new, &at, input, &mut new_next);
-                assert_eq!(old_answer, new_answer);
+                assert_eq!(row(&old_answer), row(&new_answer));
                 assert_eq!(old_next, new_next);
+                let (old_places, new_places) = (&old_answer.places, &new_answer.places);
+                assert!(agreement.holds(&at, old_answer.refusal, old_places, new_places));
+                idle += usize::from(old_places != new_places);
                 given += usize::from(old_answer.refusal == refusal::SUCCESS);
                 refused += usize::from(old_answer.refusal == refusal::NO_STEP);
                 doubtful += usize::from(old_answer.refusal == 0 && !old_answer.mark);
             }
         }
     }
-    assert!(given > 2_000 && refused > 2_000 && doubtful > 300 && nested > 40);
+    assert!(given > 2_000 && refused > 2_000 && doubtful > 300 && idle > 500 && nested > 40);
+}
+
+/// 01's D: chart 1 has two transitions of its own, so its idle ones stand at 2 and 3.
+#[test]
+fn the_places_of_d_rewritten_by_hand() {
+    let (old, new) = (d().file(), d_by_hand());
+    let places = |file: &[u8], at: &[u8; 2], input: &[u32]| {
+        let stepped = step(file, at, Set::of(input), &mut [0; 2]);
+        [stepped.places[0], stepped.places[1]]
+    };
+    for (at, input, before, after) in [
+        ([0, 0], &[0][..], [0, 0], [0, 0]),
+        ([0, 0], &[], [1, 255], [1, 2]),
+        ([0, 1], &[], [1, 255], [1, 3]),
+        ([1, 1], &[3], [2, 1], [2, 1]),
+        ([0, 1], &[0, 3], [0, 1], [0, 1]),
+        ([0, 1], &[0], [255, 255], [255, 255]),
+    ] {
+        assert_eq!(places(&old, &at, input), before, "{at:?} {input:?}");
+        assert_eq!(places(&new, &at, input), after, "{at:?} {input:?}");
+    }
+}
+
+/// What would not agree: another state's idle transition, an own one, none, a place past the last
+/// chart, and an idle transition in a refused step.
+#[test]
+fn other_places_do_not_agree() {
+    let (old, new) = (d(), accept(&d_by_hand()).unwrap());
+    let agreement = Agreement::new(&old, &new);
+    let places = |list: &[u8]| {
+        let mut places = NO_PLACES;
+        places[..list.len()].copy_from_slice(list);
+        places
+    };
+    let holds = |number: u8, before: &[u8], after: &[u8]| {
+        agreement.holds(&[0, 0], number, &places(before), &places(after))
+    };
+    assert!(holds(0, &[1], &[1, 2]) && holds(0, &[0, 0], &[0, 0]) && holds(23, &[], &[]));
+    assert!(!holds(0, &[1], &[1, 3]) && !holds(0, &[1], &[1, 0]) && !holds(0, &[1], &[1]));
+    assert!(!holds(0, &[1], &[1, 2, 0]) && !holds(0, &[0, 0], &[0, 2]));
+    assert!(!holds(23, &[], &[255, 2]) && !holds(0, &[], &[1, 2]));
 }
 
 #[test]

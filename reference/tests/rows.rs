@@ -1,8 +1,9 @@
 //! The thirteen rows of document 01, and the meanings written by hand, as lent bytes.
 
 use reference::cases::rows::{rows, RowAnswer};
-use reference::cases::step::meanings;
-use reference::limits::refusal;
+use reference::cases::step::{cases, meanings};
+use reference::limits::{refusal, CHARTS, NO_PLACE};
+use reference::step::NO_PLACES;
 use reference::{step, Set};
 
 /// A lent byte that no state is.
@@ -25,6 +26,7 @@ fn hold(row: &RowAnswer) {
             assert_eq!(stepped.refusal, refusal::NO_STEP, "{}", row.name);
             assert_eq!(stepped.output, Set::EMPTY, "{}", row.name);
             assert!(!stepped.mark, "{}", row.name);
+            assert_eq!(stepped.places, NO_PLACES, "{}", row.name);
             assert_eq!(next, vec![FILL; charts + 1], "{}", row.name);
         }
     }
@@ -38,6 +40,53 @@ fn the_thirteen_rows_have_seventeen_answers() {
     names.dedup();
     assert_eq!(names.len(), 13);
     rows.iter().for_each(hold);
+}
+
+/// Which transitions move the rows that are given, from document 01's words: D's chart 1 is inactive
+/// in D2, and a choice of two transitions takes the first one in N1 and N2.
+#[test]
+fn the_places_of_the_rows() {
+    let expected: [(&str, &[u8]); 11] = [
+        ("L1", &[0]),
+        ("P1", &[0, 0]),
+        ("P3-0", &[0, 0]),
+        ("P4", &[0, 0]),
+        ("N1", &[0]),
+        ("N2", &[0]),
+        ("D1-0", &[0, 0]),
+        ("D1-0-9", &[0, 0]),
+        ("D2", &[1, NO_PLACE]),
+        ("D3", &[2, 1]),
+        ("D4-0-3", &[0, 1]),
+    ];
+    let rows = rows();
+    let given = rows.iter().filter(|row| row.result.is_some());
+    assert_eq!(given.clone().count(), expected.len());
+    for (row, (name, places)) in given.zip(expected) {
+        assert_eq!(row.name, name);
+        let (file, at) = (row.model.file(), &row.configuration);
+        let stepped = step(&file, at, row.input, &mut vec![0; at.len()]);
+        assert_eq!(&stepped.places[..places.len()], places, "{name}");
+        assert_eq!(
+            stepped.places[places.len()..],
+            NO_PLACES[..CHARTS - places.len()],
+            "{name}"
+        );
+    }
+}
+
+/// The cases of places by hand, as lines have them.
+#[test]
+fn the_places_of_named_cases() {
+    let line = |name: &str| {
+        let named = cases().into_iter().find(|case| case.command.name == name);
+        named.unwrap().command.answer().line
+    };
+    assert!(line("place-63").contains(" 1e3fffffffffffff "));
+    assert!(line("place-of-equal-transitions").contains(" y 01ffffffffffffff "));
+    assert!(line("states-all-highest").contains(" y 0001020304050607 "));
+    assert!(line("wide-last-choice-alone").contains(" y 070707070707ffff "));
+    assert!(line("wide-all-alike").contains(" y 000000000000ffff "));
 }
 
 #[test]

@@ -3,7 +3,7 @@
 #include <stdio.h>
 #include "mestecur.h"
 
-enum { CHARTS = 1, INPUTS = 3, ROW = 10 + CHARTS };
+enum { CHARTS = 1, INPUTS = 3, ROW = 10 + CHARTS, PLACES = 8 };
 
 /* One chart of 2 states; 0 to 1 needs {0} and puts out {1}; 1 to 0 needs {1}. */
 static const uint8_t file[] = {
@@ -27,12 +27,14 @@ static void print_set(const char *words, uint64_t set) {
 
 /* One step from `state`; the state after it. */
 static uint8_t step(uint8_t state, uint64_t input) {
-    uint8_t next = state, mark = 9;
+    uint8_t next = state, mark = 9, places[PLACES] = {0};
     uint64_t output = 9;
-    uint8_t refusal = mestecur_step(file, sizeof file, &state, CHARTS, input, &next, CHARTS, &output, &mark);
+    uint8_t refusal = mestecur_step(file, sizeof file, &state, CHARTS, input, &next, CHARTS, &output, &mark, places);
     printf("step %d: %d", (int)input, refusal);
     print_set(", output ", output);
-    printf(", state %d, mark %d\n", next, mark);
+    printf(", state %d, mark %d, places", next, mark);
+    for (size_t c = 0; c < PLACES; c++) printf(" %d", places[c]);
+    printf("\n");
     return next;
 }
 

@@ -10,6 +10,7 @@ mod search;
 mod wire;
 
 pub use rewriting::rewrite;
+pub use search::NO_PLACE;
 
 use check::opened;
 use layout::Body;
@@ -21,11 +22,30 @@ pub fn check(file: &[u8]) -> u8 {
     opened(file).err().unwrap_or(0)
 }
 
-/// One step; the refusal, the output and the mark.
-pub fn step(file: &[u8], config: &[u8], input: u64, next: &mut [u8]) -> (u8, u64, bool) {
+/// The answer of a step.
+#[derive(Clone, Copy, PartialEq, Eq, Debug)]
+pub struct Stepped {
+    pub refusal: u8,
+    pub output: u64,
+    pub mark: bool,
+    pub places: [u8; 8],
+}
+
+/// One step.
+pub fn step(file: &[u8], config: &[u8], input: u64, next: &mut [u8]) -> Stepped {
     match stepped(file, config, input, next) {
-        Ok(found) => (0, found.output, found.agree),
-        Err(number) => (number, 0, false),
+        Ok(found) => Stepped {
+            refusal: 0,
+            output: found.output,
+            mark: found.agree,
+            places: found.places,
+        },
+        Err(refusal) => Stepped {
+            refusal,
+            output: 0,
+            mark: false,
+            places: [NO_PLACE; 8],
+        },
     }
 }
 

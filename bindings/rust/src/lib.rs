@@ -13,6 +13,9 @@
 //! first(&file, &mut now)?;
 //! let done = step(&file, &now, Set::from([0, 3]), &mut next)?;
 //! println!("puts out {} and goes to {next:?}", done.output);
+//! if let Some(place) = done.places[0] {
+//!     println!("chart 0 took transition {place} of its list");
+//! }
 //! # Ok(())
 //! # }
 //! ```
@@ -23,7 +26,7 @@ mod row;
 mod set;
 
 pub use refusal::Refusal;
-pub use row::{rows, rows_bytes, Row};
+pub use row::{rows, rows_bytes, Given, Row};
 pub use set::{Set, Signals};
 
 /// The signals that a file's whole looks at, and those that it can put out.
@@ -33,13 +36,21 @@ pub struct Interface {
     pub output: Set,
 }
 
-/// What a step gives beside the next configuration: what the whole puts out, and whether every
-/// permitted choice leads to the same output and the same next configuration.
+/// Of each chart the place, in its own list, of the transition that it took; none if it took none, or
+/// if there is no chart of this number.
+pub type Places = [Option<u8>; 8];
+
+/// What a step gives beside the next configuration: what the whole puts out, whether every permitted
+/// choice leads to the same output and the same next configuration, and which transitions were taken.
 #[derive(Clone, Copy, PartialEq, Eq, Debug)]
 pub struct Step {
     pub output: Set,
     pub mark: bool,
+    pub places: Places,
 }
+
+/// What the engine has for the place of no transition.
+const NO_PLACE: u8 = 255;
 
 /// Whether a file holds a chart. Refusals 1 to 11.
 pub fn check(file: &[u8]) -> Result<(), Refusal> {
@@ -72,9 +83,9 @@ pub fn interface(file: &[u8]) -> Result<Interface, Refusal> {
 /// One step from a configuration under an input; writes the next configuration to the front of the
 /// buffer. Refusals 1 to 11, 20 to 23.
 pub fn step(file: &[u8], config: &[u8], input: Set, next: &mut [u8]) -> Result<Step, Refusal> {
-    let (mut output, mut mark) = (0, 0);
-    // SAFETY: the pointers are those of slices with these lengths and of two numbers of our own; the
-    // slice written is lent alone.
+    let (mut output, mut mark, mut places) = (0, 0, [NO_PLACE; 8]);
+    // SAFETY: the pointers are those of slices with these lengths, of two numbers and of eight bytes of
+    // our own; the slice written is lent alone.
     Refusal::unless_zero(unsafe {
         raw::mestecur_step(
             file.as_ptr(),
@@ -86,11 +97,13 @@ pub fn step(file: &[u8], config: &[u8], input: Set, next: &mut [u8]) -> Result<S
             next.len(),
             &mut output,
             &mut mark,
+            &mut places,
         )
     })?;
     Ok(Step {
         output: Set(output),
         mark: mark == 1,
+        places: places.map(|place| (place != NO_PLACE).then_some(place)),
     })
 }
 

@@ -31,6 +31,7 @@ extern "C" {
         next_len: usize,
         output: *mut u64,
         mark: *mut u8,
+        places: *mut [u8; 8],
     ) -> u8;
 
     /// Makes a step for each input in turn.

@@ -1,14 +1,23 @@
 //! The rows of a run.
 
-use crate::{Refusal, Set, Step};
+use crate::{Refusal, Set};
 
 /// The bytes of a row in front of its configuration: output (8), mark (1), refusal (1).
 const HEAD_BYTES: usize = 10;
 
+/// What a row has of a step that was given: what the whole puts out, and whether every permitted
+/// choice leads to the same output and the same next configuration. Which transitions were taken is in
+/// no row.
+#[derive(Clone, Copy, PartialEq, Eq, Debug)]
+pub struct Given {
+    pub output: Set,
+    pub mark: bool,
+}
+
 /// One row of a run: the step's answer, and the configuration after it.
 #[derive(Clone, Copy, PartialEq, Eq, Debug)]
 pub struct Row<'a> {
-    pub answer: Result<Step, Refusal>,
+    pub answer: Result<Given, Refusal>,
     pub config: &'a [u8],
 }
 
@@ -26,10 +35,10 @@ pub fn rows(buffer: &[u8], charts: usize) -> impl Iterator<Item = Row<'_>> {
 fn row(bytes: &[u8]) -> Row<'_> {
     let (head, config) = bytes.split_at(HEAD_BYTES);
     let output = head[..8].iter().rev();
-    let step = Step {
+    let given = Given {
         output: Set(output.fold(0, |set, &byte| set << 8 | u64::from(byte))),
         mark: head[8] == 1,
     };
-    let answer = Refusal::of(head[9]).map_or(Ok(step), Err);
+    let answer = Refusal::of(head[9]).map_or(Ok(given), Err);
     Row { answer, config }
 }

@@ -3,7 +3,7 @@
 mod charts;
 
 use charts::*;
-use mestecur::{step, Set, Step};
+use mestecur::{step, Set};
 
 /// What a row says of one input: the next configuration, the output and the mark, or refusal 23.
 type Says<'a> = Option<(&'a [u8], &'a [u8], bool)>;
@@ -21,7 +21,8 @@ fn hold(name: &str, file: &[u8], at: &[u8], input: &[u8], says: Says) {
         }
         Some((after, output, mark)) => {
             let output: Set = output.iter().copied().collect();
-            assert_eq!(answer, Ok(Step { output, mark }), "{name}");
+            let row = answer.map(|step| (step.output, step.mark));
+            assert_eq!(row, Ok((output, mark)), "{name}");
             assert_eq!(states, after, "{name}");
         }
     }
@@ -92,4 +93,22 @@ fn a_master_and_its_slave() {
     hold("D3", &d, &[1, 1], &[3], Some((&[0, 1], &[4], true)));
     hold("D4", &d, &[0, 1], &[0], None);
     hold("D4", &d, &[0, 1], &[0, 3], Some((&[1, 1], &[1, 4], true)));
+}
+
+/// Which transitions move D's rows: chart 1 takes none while it is inactive, and there is no chart 2.
+#[test]
+fn the_transitions_of_a_master_and_its_slave() {
+    let took = |at: &[u8], input: &[u8]| {
+        let input = input.iter().copied().collect();
+        step(&d(), at, input, &mut [0; 2]).unwrap().places
+    };
+    let places = |master: u8, slave: Option<u8>| {
+        let mut places = [None; 8];
+        (places[0], places[1]) = (Some(master), slave);
+        places
+    };
+    assert_eq!(took(&[0, 0], &[0]), places(0, Some(0)));
+    assert_eq!(took(&[0, 0], &[]), places(1, None));
+    assert_eq!(took(&[1, 1], &[3]), places(2, Some(1)));
+    assert_eq!(took(&[0, 1], &[0, 3]), places(0, Some(1)));
 }

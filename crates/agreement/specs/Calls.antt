@@ -1,7 +1,8 @@
 -- What the rewriting promises (demand 3), over the calls: where it is not refused, its bytes are a file that passes 1 to 11, has no slaves, and is
 -- answered like the file by every other call, for every configuration, input and buffer.
 use mathlib.Core.Path.{_≡_, refl, sym, _∙_, ap, ap₂}
-use mathlib.Core.Bool.{Bool, true, false, cond}
+use mathlib.Core.Bool.{Bool, true, false, cond, false≢true}
+use mathlib.Core.Logic.{inl}
 use mathlib.Core.List.{List, [], _∷_, _++_, append-assoc}
 use Prim.Native.Nat.{ℕ, _+_, _*_, _-_, _≤_, _<_}
 use native.Mathlib.Omega.{arith}
@@ -18,12 +19,13 @@ use Rattle.meaning.specs.File.{endOf, trailer, bodyOf, shapeOf, chartOf, fileAt
 use Rattle.meaning.specs.Numbers.{mostTransitions, mostNodes, wrongLength, badState, shortBuffer, shortRows}
 use Rattle.meaning.specs.Check.Laws.{below, alike, firstOf-passes, Passed, passed, call-passed, counted, charted}
 use Rattle.meaning.specs.Check.{Test, firstOf, differ, notBelow, fileTests, refusalOf}
-use Rattle.meaning.specs.Calls.{made, laidOver, firstRefusal, initials, firstBytes, inputOf, outputOf, configTests, stepRefusal, stepIn, stepOf, runRefusal, rowsOf, runBytes}
+use Rattle.meaning.specs.Calls.{made, laidOver, firstRefusal, initials, firstBytes, inputOf, outputOf, configTests, stepRefusal, stepIn, stepOf, allPlaces, placesIn, placesOf, runRefusal, rowsOf, runBytes}
 use Rattle.meaning.specs.Calls.Laws.{made-cong}
 use Rattle.meaning.specs.Rewriting.{chartWith, rewrittenChart, rewriteTests, rewriteBytes, rewriteRefusal, rewrite, rewriteLength, shapeIn}
 use Rattle.meaning.specs.Laws.Bools.{same-refl, same→≡}
 use Rattle.meaning.specs.Laws.Runs.{Valid}
 use Rattle.agreement.specs.Step.{Rewritten, step-is}
+use Rattle.agreement.specs.Taken.{PlacesAgree, taken-agree}
 use Rattle.agreement.specs.Run.{run-is}
 use Rattle.agreement.specs.Faces.{input-is, output-is}
 use Rattle.agreement.specs.Passed.{front, in-front, ended, smalls, body-bytes, ready}
@@ -186,6 +188,27 @@ module _ (f : List ℕ) (ab : AllBytes f) (room : ℕ) (ok : rewriteRefusal f ro
       answer-same config _ _ (ap (λ n. record { number = shortBuffer; applies = ltb left n }) (r .charts)) (stepIn (fileOf f) config i)
       (stepIn (fileOf f′) config i) refused
       (λ v. step-is (fileOf f) (rg .ready) (fileOf f′) r config v i)
+
+  -- the places of a step's transitions
+  pub same-places : (config : List ℕ) (i : Set) (left : ℕ)
+      → PlacesAgree (fileOf f) (fileOf f′) config (stepOf f config i left) (placesOf f config i left) (placesOf f′ config i left)
+  unfolding stepOf placesOf stepRefusal
+  same-places config i left = rw (tests-same config u u′ us) (go (same (n config u u′ us) 0) refl)
+    where
+      u : Test
+      u = record { number = shortBuffer; applies = ltb left (fileOf f .charts) }
+
+      u′ : Test
+      u′ = record { number = shortBuffer; applies = ltb left (fileOf f′ .charts) }
+
+      us : u′ ≡ u
+      us = ap (λ n. record { number = shortBuffer; applies = ltb left n }) (r .charts)
+
+      go : (b : Bool) → same (n config u u′ us) 0 ≡ b
+          → PlacesAgree (fileOf f) (fileOf f′) config (cond b (stepIn (fileOf f) config i) (refused (n config u u′ us)))
+          (cond b (placesIn (fileOf f) config i) (allPlaces [])) (cond b (placesIn (fileOf f′) config i) (allPlaces []))
+      go true e = taken-agree (fileOf f) (fileOf f′) (rg .ready) r config (valid config (u ∷ []) (sym (tests config u u′ us) ∙ same→≡ _ 0 e)) i
+      go false e = record { long = refl; each = λ c. inl refl; taken = λ z. absurd (false≢true (sym e ∙ ap (λ n. same n 0) z ∙ same-refl 0)) }
 
   -- the run
   rowsTest : ℕ → ℕ → ℕ → Test

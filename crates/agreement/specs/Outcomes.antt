@@ -1,9 +1,10 @@
--- The rewritten tree has the outcomes of the tree, in the same order: so first, output, next configuration, mark and refusal are the same.
+-- The rewritten tree has the outcomes of the tree, in the same order, with their places turned: so first, output, next configuration, mark and refusal
+-- are the same.
 use mathlib.Core.Path.{_≡_, refl, sym, _∙_, ap, ap₂, subst, subst₂}
 use mathlib.Core.Bool.{Bool, true, false, true≢false, false≢true}
 use mathlib.Core.Option.{Option, none, some}
 use mathlib.Core.Logic.{_≢_}
-use mathlib.Core.List.{List, [], _∷_}
+use mathlib.Core.List.{List, [], _∷_, map}
 use Prim.Native.Nat.{ℕ, zero, suc, _+_, _≤_, _<_}
 use native.Mathlib.Nat.{zero-add}
 use native.Mathlib.Omega.{arith}
@@ -11,7 +12,8 @@ use lib.ListN.{length}
 use Rattle.signals.specs.Mask.{_∩_}
 use Rattle.signals.specs.Decide.{sets, A, B, ∅ₑ, _∪ₑ_, _∩ₑ_, _≐_}
 use Rattle.layout.specs.declared.record.Transition.{Transition}
-use Rattle.meaning.specs.Meaning.{Set, same, Chart, Tree, Slaves, leaf, comp, hide, dec, nil, snoc, Move, nth, pick, after, inFaceChart, inFace, out, ok, permitted, upd, moves, nexts, Outcome, upto, outcome, search, outcomes}
+use Rattle.meaning.specs.Meaning.{Set, same, Chart, Tree, Slaves, leaf, comp, hide, dec, nil, snoc, Move, nth, pick, after, inFaceChart, inFace, out, ok, permitted, upd, moves, nexts, placesFrom, Outcome, upto, outcomeOf, outcome, search, outcomes}
+use Rattle.meaning.specs.Numbers.{noPlace}
 use Rattle.meaning.specs.File.{Has}
 use Rattle.meaning.specs.Rewriting.{callIn, idle, called, chartWith}
 use Rattle.meaning.specs.Laws.Bools.{same→≡, same→≢, not-true}
@@ -23,6 +25,7 @@ use Rattle.agreement.specs.Active.{active, some?, ok-active, active-agre
 use Rattle.agreement.specs.Upto.{merge}
 use Rattle.agreement.specs.Charts.{place, idle-at, pick-moved, places, places-none, face-is, OldChart, old-pick, old-faceChart}
 use Rattle.agreement.specs.Fit.{Fit, FitS}
+use Rattle.agreement.specs.Places.{turned, places-turned, map-cond, map-upto}
 
 after-moved : (sig : ℕ → ℕ) (κ : Option ℕ) (T : Transition → Set) (s : ℕ) (m : Move) → after s (moveR sig κ T s m) ≡ after s m
 unfolding after moveR called idle
@@ -40,7 +43,8 @@ module _ (sig state : ℕ → ℕ) (inj : (i j : ℕ) → sig i ≡ sig j → i 
     (cfg : ℕ → ℕ) (t : Tree) (inp : Set)
     (same-chart : (c : ℕ) → c < N → E′ c ≡ chartWith sig (kap c) (touch sig state (slv c)) (E c)) (fit : Fit sig kap slv N t none) (above : Above t)
     (has : (c : ℕ) → c < N → Has t c ≡ true)
-    (old : (c : ℕ) → c < N → OldChart sig (E c)) (sound : (c : ℕ) → c < N → cfg c < E c .states) where
+    (old : (c : ℕ) → c < N → OldChart sig (E c)) (sound : (c : ℕ) → c < N → cfg c < E c .states)
+    (few : (c : ℕ) → c < N → length (E c .transitions) ≤ noPlace) where
   abbrev fbs : ℕ → Set
   fbs c = E c .feedback
 
@@ -98,9 +102,20 @@ module _ (sig state : ℕ → ℕ) (inj : (i j : ℕ) → sig i ≡ sig j → i 
       ap₂ _∷_ (rw (moved-is ch ch′ g c (omega arith)) (after-moved sig (kap c) (touch sig state (slv c)) (cfg c) (moves E ch c)))
       (same-nexts ch ch′ g (suc c) n (omega arith))
 
-  same-outcome : (ch ch′ : ℕ → ℕ) → Good N ch ch′ → outcome E′ state cfg (tree sig fbs t) inp N ch′ ≡ outcome E state cfg t inp N ch
-  unfolding outcome
-  same-outcome ch ch′ g = rw (same-permitted ch ch′ g, same-out, same-nexts ch ch′ g zero N (omega arith))
+  -- an outcome with its places turned
+  abbrev turn : Outcome → Outcome
+  turn = turned kap (λ c. length (E c .transitions)) cfg
+
+  same-outcome : (ch ch′ : ℕ → ℕ) → Good N ch ch′ → outcome E′ state cfg (tree sig fbs t) inp N ch′ ≡ map turn (outcome E state cfg t inp N ch)
+  unfolding outcome outcomeOf turned
+  same-outcome ch ch′ g =
+      rw (
+        same-permitted ch ch′ g,
+        same-out,
+        same-nexts ch ch′ g zero N (omega arith),
+        places-turned kap (λ c. length (E c .transitions)) cfg ch ch′ zero N (λ i l m. (g i (omega arith) .0, few i (omega arith), g i (omega arith) .1)),
+      )
+      (sym (map-cond turn (permitted E state cfg (moves E ch) t inp) (outcomeOf E cfg t N ch)))
     where
       same-out : out (moves E′ ch′) (tree sig fbs t) ≡ out (moves E ch) t
       same-out = out-t sig state inj cfg E E′ (moves E ch) (moves E′ ch′) t none (rw-t ch ch′ g t none fit)
@@ -144,18 +159,22 @@ module _ (sig state : ℕ → ℕ) (inj : (i j : ℕ) → sig i ≡ sig j → i 
       (λ d e. ap (pick (E d .transitions)) (b d (omega arith) ∙ upd-off ch c v d e)) t true above (has c l))))
 
   same-search : (n c : ℕ) (ch ch′ : ℕ → ℕ) → c + n ≡ N → Good c ch ch′
-      → search E′ state cfg (tree sig fbs t) inp N n c ch′ ≡ search E state cfg t inp N n c ch
+      → search E′ state cfg (tree sig fbs t) inp N n c ch′ ≡ map turn (search E state cfg t inp N n c ch)
   unfolding search place pick some? idle
   same-search zero c ch ch′ e g = same-outcome ch ch′ (λ i l. g i (omega arith))
   same-search (suc n) c ch ch′ e g =
       go (kap c) refl (λ v l. same-search n (suc c) (upd ch c v) (upd ch′ c (place (kap c) (length (E c .transitions)) (cfg c) v)) (omega arith)
       (good-step ch ch′ c v g l))
+      ∙ sym (map-upto turn m old-from)
     where
       m : ℕ
       m = length (E c .transitions)
 
+      old-from : ℕ → List Outcome
+      old-from v = search E state cfg t inp N n (suc c) (upd ch c v)
+
       f : ℕ → List Outcome
-      f v = search E state cfg t inp N n (suc c) (upd ch c v)
+      f v = map turn (old-from v)
 
       f′ : ℕ → List Outcome
       f′ v = search E′ state cfg (tree sig fbs t) inp N n (suc c) (upd ch′ c v)
@@ -169,8 +188,8 @@ module _ (sig state : ℕ → ℕ) (inj : (i j : ℕ) → sig i ≡ sig j → i 
           (subst (λ κ. f′ (place κ m (cfg c) zero) ≡ f zero) p (ih zero (omega arith)))
           (λ q h ne. dead n c (suc (m + q)) ch′ l (λ lv. ne (subst (Live (cfg c)) (at q h) lv)))
           (active state cfg (moves E ch) t true c)
-          (λ b. settled n c zero ch l (λ q. false≢true (q ∙ b)))
-          (λ b j h. settled n c (suc j) ch l (λ q. true≢false (sym (some-nth (E c .transitions) j h) ∙ q ∙ b))))
+          (λ b. ap (map turn) (settled n c zero ch l (λ q. false≢true (q ∙ b))))
+          (λ b j h. ap (map turn) (settled n c (suc j) ch l (λ q. true≢false (sym (some-nth (E c .transitions) j h) ∙ q ∙ b)))))
         where
           l : c < N
           l = omega arith
@@ -181,7 +200,7 @@ module _ (sig state : ℕ → ℕ) (inj : (i j : ℕ) → sig i ≡ sig j → i 
           at : (q : ℕ) → q < E c .states → pick (E′ c .transitions) (suc (m + q)) ≡ some (idle sig i q)
           at q h = ap (λ C. pick (C .transitions) (suc (m + q))) (same-chart c l) ∙ rw p (idle-at sig i (touch sig state (slv c)) (E c) q h)
 
-  -- the theorem: the same outcomes in the same order
-  pub same-outcomes : outcomes E′ state cfg (tree sig fbs t) inp N ≡ outcomes E state cfg t inp N
+  -- the theorem: the same outcomes in the same order, but for the places of idle transitions
+  pub same-outcomes : outcomes E′ state cfg (tree sig fbs t) inp N ≡ map turn (outcomes E state cfg t inp N)
   unfolding outcomes
   same-outcomes = same-search N zero (λ c. zero) (λ c. zero) (zero-add N) (λ i l. absurd (omega arith))

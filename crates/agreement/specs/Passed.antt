@@ -16,7 +16,7 @@ use Rattle.signals.specs.Mask.Laws.{union-lt}
 use Rattle.layout.specs.Le.{AllBytes}
 use Rattle.layout.specs.Le.Laws.{bytes-drop}
 use Rattle.layout.specs.Body.{headAt, transitionAt, startOf, transitionsOf}
-use Rattle.layout.specs.Body.Laws.{headAt-fits, transitionAt-fits, nodeAt-fits}
+use Rattle.layout.specs.Body.Laws.{length-from, headAt-fits, transitionAt-fits, nodeAt-fits}
 use Rattle.layout.specs.declared.body.Shape.{Shape}
 use Rattle.layout.specs.declared.record.Transition.{Transition}
 use Rattle.meaning.specs.Count.{anyUpTo}
@@ -115,12 +115,15 @@ module _ (f : List ℕ) (p : Passed f) where
     -- ── all of it ──
 
     pub ready : Ready (fileOf f)
-    unfolding fileOf fileAt chartOf shapeOf
+    unfolding fileOf fileAt chartOf shapeOf transitionsOf
     ready = record {
       sound = sound (fileOf f) (p .slaves) (p .nodes) (p .naming) (p .inside);
       some-node = counted (trailer f) (p .counts) .some-node;
       some-state = λ c l. charted n b (p .charts) c l .some-state;
       ends = λ c l. every-imp (λ t. (t .from < headAt n b c .states) × (t .to < headAt n b c .states)) (λ t. t .to < headAt n b c .states)
           (λ t h. h .1) (transitionsOf n b c) (ended c l);
+      few = λ c l. let h = charted n b (p .charts) c l .transitions in
+          let g = charted n b (p .charts) c l .states in
+          let e = length-from (transitionAt n b) (startOf n b c) (headAt n b c .transitions) in omega arith;
       small = used-small;
     }

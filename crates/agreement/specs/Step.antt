@@ -1,16 +1,17 @@
--- The rewritten file steps as the file does, from each valid configuration and for each input (`step-is`). What is asked of the file is in Ready;
--- its runs are in Run, its interfaces in Faces.
+-- The rewritten file steps as the file does, from each valid configuration and for each input (`step-is`), and takes the same transitions but for
+-- idle ones (`places-are`, and Taken). What is asked of the file is in Ready; its runs are in Run, its interfaces in Faces.
 use mathlib.Core.Path.{_≡_, refl, sym, _∙_, ap, ap₂, subst, fun-ext}
 use mathlib.Core.Bool.{true, _&&_}
 use mathlib.Core.Option.{none}
-use mathlib.Core.List.{List}
-use Prim.Native.Nat.{ℕ, zero, suc, _-_, _^_, _≤_, _<_}
+use mathlib.Core.List.{List, map}
+use Prim.Native.Nat.{ℕ, zero, suc, _+_, _-_, _^_, _≤_, _<_}
 use native.Mathlib.Omega.{arith}
 use lib.ListN.{length, getD}
 use Rattle.signals.specs.Mask.{_∪_, _∩_, _∖_}
-use Rattle.meaning.specs.Meaning.{Set, Chart, Move, Tree, Slaves, leaf, comp, hide, dec, nil, snoc, inFace, ok, permitted, moves, upd, upto, outcome, search, outcomes, answer}
+use Rattle.meaning.specs.Meaning.{Set, Chart, Move, Tree, Slaves, leaf, comp, hide, dec, nil, snoc, inFace, ok, permitted, moves, upd, upto, Outcome, outcome, search, outcomes, answer, firstPlaces}
 use Rattle.meaning.specs.File.{File, treeOf, wholeOf, Has}
-use Rattle.meaning.specs.Calls.{stepIn}
+use Rattle.meaning.specs.Numbers.{noPlace}
+use Rattle.meaning.specs.Calls.{outcomesIn, stepIn}
 use Rattle.meaning.specs.Rewriting.{used, call, chartWith, nearestSlave, rewrittenChart, start, newName, rewrite}
 use Rattle.meaning.specs.Check.Nodes.{Sound}
 use Rattle.meaning.specs.Laws.Runs.{Valid}
@@ -19,6 +20,7 @@ use Rattle.meaning.specs.Laws.Names.{enc, kap, placed, joined, enc-last}
 use Rattle.agreement.specs.Every.{Every}
 use Rattle.agreement.specs.Tree.{calls, tree, nest, touch}
 use Rattle.agreement.specs.Fit.{slavesOf, Fit, fit-node, nearest-fit}
+use Rattle.agreement.specs.Places.{turnedPlaces, turned, answer-turned, first-turned}
 use Rattle.agreement.specs.Outcomes.{same-outcomes}
 use Rattle.agreement.specs.Free.{call-inj, old-chart, old-x}
 use Rattle.agreement.specs.Renamed.{touch-of, tree-ren}
@@ -55,6 +57,8 @@ pub record Ready (F : File) : Type 0 where
   pub some-node : 1 ≤ F .nodes
   pub some-state : (c : ℕ) → c < F .charts → 0 < F .chart c .states
   pub ends : (c : ℕ) → c < F .charts → Every (λ t. t .to < F .chart c .states) (F .chart c .transitions)
+  -- so few that 255 is no transition's place, with an idle one for each state
+  pub few : (c : ℕ) → c < F .charts → length (F .chart c .transitions) + F .chart c .states < noPlace
   -- its sets are of 64 signals
   pub small : used F < 2 ^ 64
 
@@ -110,17 +114,34 @@ module _ (F : File) (rd : Ready F) where
 
     -- ── the step ──
 
-    pub step-is : (config : List ℕ) → Valid F config → (inp : Set) → stepIn F′ config inp ≡ stepIn F config inp
-    unfolding stepIn outcomes permitted
-    step-is config v inp = let s = rd .sound in ap answer (rw (whole-is, rw′ .charts)
+    -- what an outcome is turned into
+    abbrev turn : List ℕ → Outcome → Outcome
+    turn config = turned (kap F) (λ c. length (F .chart c .transitions)) (λ c. getD config c 0)
+
+    outcomes-are : (config : List ℕ) → Valid F config → (inp : Set) → outcomesIn F′ config inp ≡ map (turn config) (outcomesIn F config inp)
+    unfolding outcomes permitted
+    outcomes-are config v inp = let s = rd .sound in rw (whole-is, rw′ .charts)
         (free-search (F′ .chart) (F′ .state) (F .state) cfg T inp (F .charts)
         (λ M. free-t (call F) fbs (F′ .chart) (F′ .state) (F .state) cfg M (wholeOf F) (inp ∩ inFace (F′ .chart) T)) (F .charts) zero (λ c. zero)
         ∙ same-outcomes (call F) (F .state) (call-inj F) (kap F) (slavesOf F) (F .charts) (F .chart) (F′ .chart) cfg (wholeOf F) inp chart-is fits
         (above-node F (s .ordered) (s .rule11) (F .nodes) last (let h = is-last in omega arith) (let h = is-last in omega arith)) has
-        (old-chart F (rd .small)) (v .states)))
+        (old-chart F (rd .small)) (v .states) (λ c l. let h = rd .few c l in omega arith))
       where
         cfg : ℕ → ℕ
         cfg c = getD config c 0
 
         T : Tree
         T = tree (call F) (λ c. F .chart c .feedback) (wholeOf F)
+
+    pub step-is : (config : List ℕ) → Valid F config → (inp : Set) → stepIn F′ config inp ≡ stepIn F config inp
+    unfolding stepIn
+    step-is config v inp = ap answer (outcomes-are config v inp)
+        ∙ answer-turned (kap F) (λ c. length (F .chart c .transitions)) (λ c. getD config c 0) (outcomesIn F config inp)
+
+    -- ── the places ──
+
+    -- the places of the first permitted choice
+    pub places-are : (config : List ℕ) → Valid F config → (inp : Set) → firstPlaces (outcomesIn F′ config inp)
+        ≡ turnedPlaces (kap F) (λ c. length (F .chart c .transitions)) (λ c. getD config c 0) zero (firstPlaces (outcomesIn F config inp))
+    places-are config v inp = ap firstPlaces (outcomes-are config v inp)
+        ∙ first-turned (kap F) (λ c. length (F .chart c .transitions)) (λ c. getD config c 0) (outcomesIn F config inp)

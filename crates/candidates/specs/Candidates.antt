@@ -29,7 +29,7 @@ pub record Ready (n : Shape) (b config : List ℕ) : Type 0 where
 -- tables of the right size
 pub record Tabled (m s : List ℕ) : Type 0 where
   pub masks : length m ≡ 336
-  pub small : length s ≡ 96
+  pub small : length s ≡ 160
 
 -- what a filling leaves in the tables
 pub record Left (f : Filling) (m s : List ℕ) (k : ℕ) : Type 0 where
@@ -41,8 +41,8 @@ abbrev pub filling : List ℕ → List ℕ → ℕ → Filling
 filling m s k = record { masks = m; small = s; count = k }
 
 module _ (a : Around) where
-  abbrev pub consideredBy : Transition → Filling → Filling
-  consideredBy t f = considered (a .chart) (a .state) (a .low) (a .own) (a .others) t f
+  abbrev pub consideredBy : ℕ → Transition → Filling → Filling
+  consideredBy p t f = considered (a .chart) (a .state) (a .low) (a .own) (a .others) p t f
 
   abbrev pub listingBy : (ℕ → Transition) → ℕ → Filling → Filling
   listingBy g p f = listing (a .chart) (a .state) (a .low) (a .own) (a .others) g p f

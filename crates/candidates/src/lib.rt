@@ -181,29 +181,31 @@ fn is_again(masks: &[u64], small: &[u8], c: usize, n: usize, t: Transition) -> b
     false
 }
 
-fn put(masks: &mut [u64], small: &mut [u8], c: usize, v: usize, t: Transition)
+fn put(masks: &mut [u64], small: &mut [u8], c: usize, v: usize, place: u8, t: Transition)
     requires { ⌜ Tabled (now masks) (now small) × (c < 8) × (v < 8) ⌝ }
-    ensures { λ _. ⌜ (now (masks .exit) ≡ putMasks (now (masks .entry)) c v t) × (now (small .exit) ≡ putSmall (now (small .entry)) c v t) ⌝ }
+    ensures { λ _. ⌜ (now (masks .exit) ≡ putMasks (now (masks .entry)) c v t) × (now (small .exit) ≡ putSmall (now (small .entry)) c v place t) ⌝ }
 {
     let at = 8 * c + v;
     masks[at] = t.needed;
     masks[64 + at] = t.barred;
     masks[128 + at] = t.action;
     small[at] = t.to;
+    small[96 + at] = place;
 }
 
-// One transition more: a candidate if it is from the chart's state, lasts, and is none yet.
+// One transition more, at its place in its chart's list: a candidate if it is from the chart's state, lasts, and is none yet.
 fn consider(
     n: Shape,
     body: &[u8],
     t: usize,
+    place: u8,
     masks: &mut [u64],
     small: &mut [u8],
     a: Around,
     have: usize,
 ) -> usize
     requires { ⌜ Holds n (now body) × (t < n .transitions) × Tabled (now masks) (now small) × (a .chart < 8) × (have ≤ 8) × (transitionAt n (now body) t .from ≡ a .state → have < 8) ⌝ }
-    ensures { λ r. ⌜ Left (consideredBy a (transitionAt n (now (body .entry)) t) (filling (now (masks .entry)) (now (small .entry)) have)) (now (masks .exit)) (now (small .exit)) r ⌝ }
+    ensures { λ r. ⌜ Left (consideredBy a place (transitionAt n (now (body .entry)) t) (filling (now (masks .entry)) (now (small .entry)) have)) (now (masks .exit)) (now (small .exit)) r ⌝ }
 {
     if from_at(n, body, t) != a.state {
         return have;
@@ -215,7 +217,7 @@ fn consider(
     if is_again(masks, small, a.chart, have, r) {
         return have;
     }
-    put(masks, small, a.chart, have, r);
+    put(masks, small, a.chart, have, place, r);
     have + 1
 }
 
@@ -229,13 +231,13 @@ fn list(
     small: &mut [u8],
     a: Around,
 ) -> usize
-    requires { ⌜ Holds n (now body) × (start + count ≤ n .transitions) × Tabled (now masks) (now small) × (a .chart < 8) × (tally count (λ u. one (same (fromStart n (now body) start u .from) (a .state))) ≤ 8) ⌝ }
+    requires { ⌜ Holds n (now body) × (start + count ≤ n .transitions) × (count < 256) × Tabled (now masks) (now small) × (a .chart < 8) × (tally count (λ u. one (same (fromStart n (now body) start u .from) (a .state))) ≤ 8) ⌝ }
     ensures { λ r. ⌜ Left (listingBy a (fromStart n (now (body .entry)) start) count (filling (now (masks .entry)) (now (small .entry)) 0)) (now (masks .exit)) (now (small .exit)) r × (r ≤ 8) ⌝ }
 {
     let mut have: usize = 0;
     let mut p: usize = 0;
     while p < count {
-        have = consider(n, body, start + p, masks, small, a, have);
+        have = consider(n, body, start + p, p as u8, masks, small, a, have);
         p += 1;
     }
     have
@@ -346,7 +348,7 @@ fn ahead_all(masks: &mut [u64], small: &[u8], charts: usize)
 
 // The present states.
 fn put_states(small: &mut [u8], config: &[u8], charts: usize)
-    requires { ⌜ (length (now small) ≡ 96) × (charts ≤ 8) × (charts ≤ length (now config)) ⌝ }
+    requires { ⌜ (length (now small) ≡ 160) × (charts ≤ 8) × (charts ≤ length (now config)) ⌝ }
     ensures { λ _. ⌜ Stated (now (config .entry)) charts (now (small .entry)) (now (small .exit)) ⌝ }
 {
     let mut c: usize = 0;
@@ -380,7 +382,7 @@ pub fn choose(
 
 // Whether a chart that is surely active has no candidate.
 pub fn is_stuck(small: &[u8], charts: usize) -> bool
-    requires { ⌜ (length (now small) ≡ 96) × (charts ≤ 8) ⌝ }
+    requires { ⌜ (length (now small) ≡ 160) × (charts ≤ 8) ⌝ }
     ensures { λ r. ⌜ r ≡ stuck (now (small .entry)) charts ⌝ }
 {
     let mut c: usize = 0;

@@ -61,7 +61,7 @@ fn print_byte(b: u8) {
     io::print_hex(STDOUT_FILENO, b as u64, 2);
 }
 
-// A lent buffer after the call, all of it; `-` if it is empty.
+// A step's places, or a lent buffer after the call, all of it; `-` if it is empty.
 fn print_buffer(buffer: &[u8]) {
     space();
     if buffer.len() == 0 {
@@ -110,6 +110,8 @@ fn print_step(file: &[u8], config: &[u8], input: u64, next: &mut [u8]) {
     print_refusal(b" step ", s.refusal);
     print_set(s.output);
     print_mark(s.mark);
+    let places = s.places;
+    print_buffer(&places);
     print_buffer(next);
     end_line();
 }

@@ -151,17 +151,54 @@ fn run_of(file: &[u8], charts: usize, config: &[u8], inputs: &[u64])
     rows(&space, STATES + charts, inputs.len());
 }
 
-// A run of the sets that were typed, as many as there is room for.
-fn run_typed(file: &[u8], charts: usize, config: &[u8], inputs: &mut [u64])
-    requires { ⌜ (charts ≤ 8) × (length (now inputs) ≤ 1024) ⌝ }
+// What a chart took: the place of a transition in its own list, or none.
+fn took(chart: usize, place: u8) {
+    say(b"chart ");
+    io::print_decimal(STDOUT_FILENO, chart as u64);
+    if place == search::NO_PLACE {
+        say(b" took no transition\n");
+        return;
+    }
+    say(b" took transition ");
+    io::print_decimal(STDOUT_FILENO, place as u64);
+    say(b"\n");
+}
+
+// What each of so many charts took in a step that is given, a line each.
+fn taken(file: &[u8], charts: usize, config: &[u8], input: u64)
+    requires { ⌜ charts ≤ 8 ⌝ }
 {
-    if ask::sets(inputs) {
-        run_of(file, charts, config, inputs);
+    let mut next = [0u8; 8];
+    let s = engine::step::step(file, config, input, &mut next);
+    if s.refusal != limits::ACCEPTED {
+        return;
+    }
+    let places = s.places;
+    let mut c: usize = 0;
+    while c < charts {
+        took(c, places[c]);
+        c += 1;
     }
 }
 
-// A step is a run of one set.
-pub fn run(file: &[u8]) {
+// A run of the sets that were typed, as many as there is room for; a step also says what each chart took.
+fn run_typed(file: &[u8], charts: usize, config: &[u8], inputs: &mut [u64], is_step: bool)
+    requires { ⌜ (charts ≤ 8) × (length (now inputs) ≤ 1024) ⌝ }
+{
+    if !ask::sets(inputs) {
+        return;
+    }
+    run_of(file, charts, config, inputs);
+    if !is_step {
+        return;
+    }
+    if inputs.len() > 0 {
+        taken(file, charts, config, inputs[0]);
+    }
+}
+
+// A step's row is that of a run of one set.
+pub fn run(file: &[u8], is_step: bool) {
     let n = ask::set_count();
     if n > MOST_SETS {
         words::complain(b"chart: a run takes at most 1,024 sets.\n");
@@ -178,7 +215,7 @@ pub fn run(file: &[u8]) {
     }
     let config = c.states;
     let mut inputs = set_room();
-    run_typed(file, charts, &config[..k], &mut inputs[..n]);
+    run_typed(file, charts, &config[..k], &mut inputs[..n], is_step);
 }
 
 // Writes a file of this name, whatever it had before.

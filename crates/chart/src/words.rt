@@ -123,12 +123,13 @@ pub fn help(fd: i32) {
           chart check FILE               whether the file is in order\n  \
           chart first FILE               the first configuration\n  \
           chart interface FILE           the signals that it takes in, and those that it puts out\n  \
-          chart step FILE CONFIG SET     one step from a configuration\n  \
+          chart step FILE CONFIG SET     one step from a configuration, and which transition each chart took\n  \
           chart run FILE CONFIG SET..    a step for each set in turn\n  \
           chart rewrite FILE OUT         writes the same chart without slaves to the file OUT\n\
           \n\
           A CONFIG is the state of each chart, as 0.1. A SET is signals, as s0,s3; or a number in hex, as 0x9; or - for none.\n\
           A step is shown as its number, what it puts out, the configuration after it, y if all permitted choices agree, else n,\n\
-          and what it puts out as signals; or as its number and why it is refused.\n",
+          and what it puts out as signals; or as its number and why it is refused. A transition's number is its place in its chart's\n\
+          own list, from 0 on.\n",
     );
 }

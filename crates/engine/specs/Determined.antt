@@ -6,7 +6,7 @@ use Prim.Native.Nat.{ℕ}
 use lib.ListN.{length}
 use Rattle.meaning.specs.Meaning.{Set}
 use Rattle.meaning.specs.Check.{refusalOf}
-use Rattle.meaning.specs.Calls.{firstRefusal, firstBytes, inputOf, outputOf, stepOf, nextIn, runRefusal, runBytes}
+use Rattle.meaning.specs.Calls.{firstRefusal, firstBytes, inputOf, outputOf, stepOf, placesOf, nextIn, runRefusal, runBytes}
 use Rattle.meaning.specs.Rewriting.{rewriteRefusal, rewriteLength, rewriteOut}
 use Rattle.engine.specs.Step.{steppedOf}
 use Rattle.engine.specs.declared.interface.Faces.{Faces}
@@ -36,8 +36,8 @@ module _ (f : List ℕ) where
   first-determined b = both
 
   pub step-determined : (config : List ℕ) (i : Set) (b : List ℕ) (r r′ : Stepped) (c c′ : List ℕ)
-      → (r ≡ steppedOf (stepOf f config i (length b))) × (c ≡ nextIn (stepOf f config i (length b)) b)
-      → (r′ ≡ steppedOf (stepOf f config i (length b))) × (c′ ≡ nextIn (stepOf f config i (length b)) b) → (r ≡ r′) × (c ≡ c′)
+      → (r ≡ steppedOf (stepOf f config i (length b)) (placesOf f config i (length b))) × (c ≡ nextIn (stepOf f config i (length b)) b)
+      → (r′ ≡ steppedOf (stepOf f config i (length b)) (placesOf f config i (length b))) × (c′ ≡ nextIn (stepOf f config i (length b)) b) → (r ≡ r′) × (c ≡ c′)
   step-determined config i b = both
 
   pub run-determined : (config : List ℕ) (inputs : List Set) (b : List ℕ) (r r′ : ℕ) (c c′ : List ℕ)

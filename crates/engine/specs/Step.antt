@@ -13,7 +13,7 @@ use Rattle.meaning.specs.Meaning.{Set, same, Answer, refused}
 use Rattle.meaning.specs.File.{File, fileAt}
 use Rattle.meaning.specs.Check.{Test, firstOf, differ, notBelow, transitions?}
 use Rattle.meaning.specs.Check.Nodes.{Sound}
-use Rattle.meaning.specs.Calls.{stepIn, refusalIn, outputIn, markIn}
+use Rattle.meaning.specs.Calls.{stepIn, allPlaces, placesIn, refusalIn, outputIn, markIn}
 use Rattle.search.specs.declared.Found.{Found}
 use Rattle.tables.specs.Filled.{answerOf}
 use Rattle.checks.specs.Known.{Sized, Summed}
@@ -22,9 +22,9 @@ use Rattle.candidates.specs.Candidates.{Tabled}
 use Rattle.engine.specs.declared.step.Stepped.{Stepped}
 pub mod Laws
 
--- an answer in numbers
-abbrev pub steppedOf : Answer → Stepped
-steppedOf r = record { refusal = refusalIn r; output = outputIn r; mark = markIn r }
+-- an answer in numbers, and the places of its transitions
+abbrev pub steppedOf : Answer → List ℕ → Stepped
+steppedOf r places = record { refusal = refusalIn r; output = outputIn r; mark = markIn r; places = places }
 
 -- 20 and 21
 unfoldable pub configTestsIn : File → List ℕ → List Test
@@ -40,6 +40,9 @@ refusalAfter F config room = firstOf (configTestsIn F config ++ (record { number
 unfoldable pub stepAfter : File → List ℕ → Set → ℕ → Answer
 stepAfter F config i room = cond (same (refusalAfter F config room) 0) (stepIn F config i) (refused (refusalAfter F config room))
 
+unfoldable pub placesAfter : File → List ℕ → Set → ℕ → List ℕ
+placesAfter F config i room = cond (same (refusalAfter F config room) 0) (placesIn F config i) (allPlaces [])
+
 -- a body that passed 1 to 11
 pub record Checked (n : Shape) (b : List ℕ) : Type 0 where
   pub sized : Sized n b
@@ -52,6 +55,7 @@ pub record Prepared (n : Shape) (b a m s : List ℕ) : Type 0 where
   pub wired : Wired (fileAt n b) a m s
   pub tabled : Tabled m s
 
--- what was found answers the step
-abbrev pub Finds : Shape → List ℕ → List ℕ → Set → Found → Type 0
-Finds n b config i f = answerOf (n .charts) f ≡ stepIn (fileAt n b) config i
+-- what was found answers the step, and has its places
+pub record Finds (n : Shape) (b config : List ℕ) (i : Set) (f : Found) : Type 0 where
+  pub answers : answerOf (n .charts) f ≡ stepIn (fileAt n b) config i
+  pub places : f .places ≡ placesIn (fileAt n b) config i

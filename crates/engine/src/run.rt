@@ -140,7 +140,7 @@ fn of_body(n: Shape, body: &[u8], config: &[u8], inputs: &[u64], rows: &mut [u8]
     }
     let start = states_of(config);
     let mut masks = [0u64; 336];
-    let mut small = [0u8; 96];
+    let mut small = [0u8; 160];
     let down = plan::wire::wired(n, body, &mut masks, &mut small);
     put_rows(n, body, start, inputs, down, &mut masks, &mut small, rows);
     limits::ACCEPTED

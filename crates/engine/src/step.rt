@@ -1,6 +1,7 @@
 // The step (document 01, "The meaning of a step"): check, wire, choose candidates, search.
 ghost use mathlib.Core.Path.{_≡_};
 ghost use mathlib.Core.Bool.{false};
+ghost use mathlib.Core.List.{[]};
 ghost use Prim.Native.Nat.{ℕ, _≤_, _<_};
 ghost use lib.ListN.{length, take, getD};
 ghost use Rattle.signals.specs.Mask.{_∩_};
@@ -9,28 +10,31 @@ ghost use Rattle.meaning.specs.Count.{anyUpTo};
 ghost use Rattle.meaning.specs.Meaning.{refused as refusedAnswer};
 ghost use Rattle.meaning.specs.File.{fileAt};
 ghost use Rattle.meaning.specs.Check.{notBelow, firstOf};
-ghost use Rattle.meaning.specs.Calls.{laidOver, stepOf, nextIn};
+ghost use Rattle.meaning.specs.Calls.{laidOver, stepOf, allPlaces, placesOf, nextIn};
 ghost use Rattle.search.specs.Table.{Row};
 ghost use Rattle.candidates.specs.Candidates.{Ready};
-ghost use Rattle.engine.specs.Step.{steppedOf, configTestsIn, stepAfter, Checked, Prepared, Finds};
+ghost use Rattle.engine.specs.Step.{steppedOf, configTestsIn, stepAfter, placesAfter, Checked, Prepared, Finds};
 use checks::limits;
 use layout::body::Shape;
 use search::Found;
 
-// The answer of a step beside the next configuration: 0 or the refusal, the output, and whether all permitted choices agree.
+// The answer of a step beside the next configuration: 0 or the refusal, the output, whether all permitted choices agree, and of each chart the
+// place of the transition taken in its list, 255 for none.
 pub struct Stepped {
     pub refusal: u8,
     pub output: u64,
     pub mark: bool,
+    pub places: [u8; 8],
 }
 
 fn refused(r: u8) -> Stepped
-    ensures { λ s. ⌜ s ≡ record { refusal = r; output = 0; mark = false } ⌝ }
+    ensures { λ s. ⌜ s ≡ record { refusal = r; output = 0; mark = false; places = allPlaces [] } ⌝ }
 {
     Stepped {
         refusal: r,
         output: 0,
         mark: false,
+        places: [search::NO_PLACE; 8],
     }
 }
 
@@ -113,7 +117,7 @@ pub fn put_states(buffer: &mut [u8], states: [u8; 8], n: usize)
 // A step of a body that passed 1 to 11.
 fn of_body(n: Shape, body: &[u8], config: &[u8], input: u64, next: &mut [u8]) -> Stepped
     requires { ⌜ Checked n (now body) ⌝ }
-    ensures { λ r. ⌜ (r ≡ steppedOf (stepAfter (fileAt n (now (body .entry))) (now (config .entry)) input (length (now (next .entry))))) × (now (next .exit) ≡ nextIn (stepAfter (fileAt n (now (body .entry))) (now (config .entry)) input (length (now (next .entry)))) (now (next .entry))) ⌝ }
+    ensures { λ r. ⌜ (r ≡ steppedOf (stepAfter (fileAt n (now (body .entry))) (now (config .entry)) input (length (now (next .entry)))) (placesAfter (fileAt n (now (body .entry))) (now (config .entry)) input (length (now (next .entry))))) × (now (next .exit) ≡ nextIn (stepAfter (fileAt n (now (body .entry))) (now (config .entry)) input (length (now (next .entry)))) (now (next .entry))) ⌝ }
 {
     let r = config_refusal(n, body, config);
     if r != limits::ACCEPTED {
@@ -123,7 +127,7 @@ fn of_body(n: Shape, body: &[u8], config: &[u8], input: u64, next: &mut [u8]) ->
         return refused(limits::SHORT_BUFFER);
     }
     let mut masks = [0u64; 336];
-    let mut small = [0u8; 96];
+    let mut small = [0u8; 160];
     let down = plan::wire::wired(n, body, &mut masks, &mut small);
     let f = found(n, body, config, input, down, &mut masks, &mut small);
     if !f.has {
@@ -131,16 +135,18 @@ fn of_body(n: Shape, body: &[u8], config: &[u8], input: u64, next: &mut [u8]) ->
     }
     let states = f.next;
     put_states(next, states, n.charts);
+    let places = f.places;
     Stepped {
         refusal: limits::ACCEPTED,
         output: f.output,
         mark: f.agree,
+        places,
     }
 }
 
-// One step from a configuration under an input: the output and the mark, and the next configuration in `next`.
+// One step from a configuration under an input: the output, the mark and the places, and the next configuration in `next`.
 pub fn step(file: &[u8], config: &[u8], input: u64, next: &mut [u8]) -> Stepped
-    ensures { λ r. ⌜ (r ≡ steppedOf (stepOf (now (file .entry)) (now (config .entry)) input (length (now (next .entry))))) × (now (next .exit) ≡ nextIn (stepOf (now (file .entry)) (now (config .entry)) input (length (now (next .entry)))) (now (next .entry))) ⌝ }
+    ensures { λ r. ⌜ (r ≡ steppedOf (stepOf (now (file .entry)) (now (config .entry)) input (length (now (next .entry)))) (placesOf (now (file .entry)) (now (config .entry)) input (length (now (next .entry))))) × (now (next .exit) ≡ nextIn (stepOf (now (file .entry)) (now (config .entry)) input (length (now (next .entry)))) (now (next .entry))) ⌝ }
 {
     let o = checks::opening::opened(file);
     let r = o.refusal;

@@ -1,11 +1,11 @@
 // The engine for programs in C and Rust (include/mestecur.h). A slice passes as a pointer and a length. Each function returns 0 or the refusal;
-// a single number behind a pointer is an answer, and is 0 where the call is refused.
+// a single number behind a pointer is an answer, and is 0 where the call is refused; so are places, and they are 255 then.
 ghost use mathlib.Core.Path.{_≡_};
 ghost use lib.ListN.{length};
 ghost use Rattle.meaning.specs.Count.{one};
 ghost use Rattle.meaning.specs.Check.{refusalOf};
 ghost use Rattle.meaning.specs.Rewriting.{rewriteRefusal, rewriteLength, rewriteOut};
-ghost use Rattle.meaning.specs.Calls.{firstRefusal, firstBytes, inputOf, outputOf, stepOf, refusalIn, outputIn, markIn, nextIn, runRefusal, runBytes};
+ghost use Rattle.meaning.specs.Calls.{firstRefusal, firstBytes, inputOf, outputOf, stepOf, placesOf, refusalIn, outputIn, markIn, nextIn, runRefusal, runBytes};
 
 #[no_mangle]
 pub extern "C" fn mestecur_check(file: &[u8]) -> u8
@@ -41,16 +41,20 @@ pub extern "C" fn mestecur_step(
     next: &mut [u8],
     output: &mut u64,
     mark: &mut u8,
+    places: &mut [u8; 8],
 ) -> u8
     ensures { λ r. ⌜ r ≡ refusalIn (stepOf (now (file .entry)) (now (config .entry)) input (length (now (next .entry)))) ⌝ }
     ensures { λ r. ⌜ now (next .exit)
         ≡ nextIn (stepOf (now (file .entry)) (now (config .entry)) input (length (now (next .entry)))) (now (next .entry)) ⌝ }
     ensures { λ r. ⌜ now (output .exit) ≡ outputIn (stepOf (now (file .entry)) (now (config .entry)) input (length (now (next .entry)))) ⌝ }
     ensures { λ r. ⌜ now (mark .exit) ≡ one (markIn (stepOf (now (file .entry)) (now (config .entry)) input (length (now (next .entry))))) ⌝ }
+    ensures { λ r. ⌜ now (places .exit) ≡ placesOf (now (file .entry)) (now (config .entry)) input (length (now (next .entry))) ⌝ }
 {
     let s = engine::step::step(file, config, input, next);
     *output = s.output;
     *mark = number(s.mark);
+    let taken = s.places;
+    *places = taken;
     s.refusal
 }
 

@@ -2,13 +2,13 @@
 -- of tests, in the order in which document 01 names them. A refusal leaves lent bytes as they were.
 use mathlib.Core.Bool.{Bool, false, cond}
 use mathlib.Core.List.{List, [], _∷_, _++_}
-use Prim.Native.Nat.{ℕ, zero, suc, _+_, _*_}
+use Prim.Native.Nat.{ℕ, zero, suc, _+_, _-_, _*_}
 use lib.Dec.{ltb}
-use lib.ListN.{length, getD, drop}
+use lib.ListN.{length, getD, drop, replicate}
 use Rattle.layout.specs.Le.{bytes}
-use Rattle.meaning.specs.Numbers.{wrongLength, badState, shortBuffer, shortRows}
+use Rattle.meaning.specs.Numbers.{mostCharts, noPlace, wrongLength, badState, shortBuffer, shortRows}
 use Rattle.meaning.specs.Count.{anyUpTo, one}
-use Rattle.meaning.specs.Meaning.{Set, ∅, same, Answer, refused, given, inFace, outFace, outcomes, answer}
+use Rattle.meaning.specs.Meaning.{Set, ∅, same, Outcome, Answer, refused, given, inFace, outFace, outcomes, answer, firstPlaces}
 use Rattle.meaning.specs.File.{File, wholeOf, fileOf}
 use Rattle.meaning.specs.Check.{Test, firstOf, fileTests, refusalOf, differ, notBelow}
 pub mod Laws
@@ -55,13 +55,27 @@ unfoldable pub stepRefusal : List ℕ → List ℕ → ℕ → ℕ
 stepRefusal f config room =
     firstOf (fileTests f ++ configTests f config ++ (record { number = shortBuffer; applies = ltb room (fileOf f .charts) } ∷ []))
 
--- a step of a file that is in order from a configuration that is: given, or refused with 23
+-- what a step of a file that is in order may give, from a configuration that is
+abbrev pub outcomesIn : File → List ℕ → Set → List Outcome
+outcomesIn F config i = outcomes (F .chart) (F .state) (λ c. getD config c 0) (wholeOf F) i (F .charts)
+
+-- such a step: given, or refused with 23
 unfoldable pub stepIn : File → List ℕ → Set → Answer
-stepIn F config i = answer (outcomes (F .chart) (F .state) (λ c. getD config c 0) (wholeOf F) i (F .charts))
+stepIn F config i = answer (outcomesIn F config i)
 
 unfoldable pub stepOf : List ℕ → List ℕ → Set → ℕ → Answer
 stepOf f config i room =
     cond (same (stepRefusal f config room) 0) (stepIn (fileOf f) config i) (refused (stepRefusal f config room))
+
+-- the places of the transitions taken; "entries past the last chart are 255", "refused steps carry 255 throughout" (document 02, No. 1)
+abbrev pub allPlaces : List ℕ → List ℕ
+allPlaces ps = ps ++ replicate (mostCharts - length ps) noPlace
+
+unfoldable pub placesIn : File → List ℕ → Set → List ℕ
+placesIn F config i = allPlaces (firstPlaces (outcomesIn F config i))
+
+unfoldable pub placesOf : List ℕ → List ℕ → Set → ℕ → List ℕ
+placesOf f config i room = cond (same (stepRefusal f config room) 0) (placesIn (fileOf f) config i) (allPlaces [])
 
 -- what an answer says: its refusal, output, mark, and the bytes left in a lent buffer for the next configuration
 abbrev pub refusalIn : Answer → ℕ

@@ -9,7 +9,7 @@ use lib.Dec.{eqb}
 use lib.ListN.{length}
 use Rattle.signals.specs.Mask.{_∪_, _∩_, _∖_, within, apart}
 use Rattle.layout.specs.declared.record.Transition.{Transition}
-use Rattle.meaning.specs.Numbers.{noStep}
+use Rattle.meaning.specs.Numbers.{noStep, noPlace}
 
 -- a set of signals, as a mask; the empty set
 abbrev pub Set : Type 0
@@ -180,10 +180,24 @@ unfoldable pub nexts : (ℕ → ℕ) → (ℕ → Move) → ℕ → ℕ → List
 nexts cfg M c zero = []
 nexts cfg M c (suc n) = after (cfg c) (M c) ∷ nexts cfg M (suc c) n
 
--- what a permitted choice gives: the output of the whole, and the next configuration
+-- "for each chart, the place of the transition taken in that chart's own list, or 255 for none" (document 02, No. 1): 0 is none, suc k is transition
+-- k; of charts c, c + 1, .. (n of them)
+unfoldable pub placeOf : ℕ → ℕ
+placeOf zero = noPlace
+placeOf (suc k) = k
+
+unfoldable pub placesFrom : (ℕ → ℕ) → ℕ → ℕ → List ℕ
+placesFrom ch c zero = []
+placesFrom ch c (suc n) = placeOf (ch c) ∷ placesFrom ch (suc c) n
+
+-- what a permitted choice gives: the output of the whole, the next configuration, and the places of the transitions taken
 pub record Outcome : Type 0 where
   pub output : Set
   pub next : List ℕ
+  pub places : List ℕ
+
+unfoldable pub outcomeOf : (ℕ → Chart) → (ℕ → ℕ) → Tree → ℕ → (ℕ → ℕ) → Outcome
+outcomeOf E cfg t N ch = record { output = out (moves E ch) t; next = nexts cfg (moves E ch) zero N; places = placesFrom ch zero N }
 
 module _ {A : Type 0} where
   -- f 0 ++ f 1 ++ .. ++ f m
@@ -194,8 +208,7 @@ module _ {A : Type 0} where
 module _ (E : ℕ → Chart) (state : ℕ → ℕ) (cfg : ℕ → ℕ) (t : Tree) (i : Set) (N : ℕ) where
   -- a choice's outcome, if it is permitted
   unfoldable pub outcome : (ℕ → ℕ) → List Outcome
-  outcome ch = cond (permitted E state cfg (moves E ch) t i)
-      (record { output = out (moves E ch) t; next = nexts cfg (moves E ch) zero N } ∷ []) []
+  outcome ch = cond (permitted E state cfg (moves E ch) t i) (outcomeOf E cfg t N ch ∷ []) []
 
   -- "Choices are ordered by chart 0's place, then chart 1's and so on": n charts are left, c is the next
   unfoldable pub search : ℕ → ℕ → (ℕ → ℕ) → List Outcome
@@ -206,7 +219,7 @@ module _ (E : ℕ → Chart) (state : ℕ → ℕ) (cfg : ℕ → ℕ) (t : Tree
   unfoldable pub outcomes : List Outcome
   outcomes = search N zero (λ c. zero)
 
--- ── the step's answer: the first permitted choice's outcome, and the mark ──
+-- ── the step's answer: the first permitted choice's outcome, and the mark, for which places do not count ──
 
 pub data Answer : Type 0 where
   refused : ℕ → Answer
@@ -227,3 +240,8 @@ agree a (b ∷ bs) = (same (a .output) (b .output) && eqList (a .next) (b .next)
 unfoldable pub answer : List Outcome → Answer
 answer [] = refused noStep
 answer (a ∷ as′) = given (a .output) (a .next) (agree a as′)
+
+-- the places of the first permitted choice
+unfoldable pub firstPlaces : List Outcome → List ℕ
+firstPlaces [] = []
+firstPlaces (a ∷ as′) = a .places

@@ -33,6 +33,10 @@ mostInChart = 64
 abbrev pub mostFromState : ℕ
 mostFromState = 8
 
+-- in a step's places: no transition was taken
+abbrev pub noPlace : ℕ
+noPlace = 255
+
 -- bytes on the day program's standard input
 abbrev pub mostInput : ℕ
 mostInput = 65536

@@ -29,7 +29,7 @@ module _ (F : File) (s : Sound F) where
     pub notes-none : (n .kind ≡ 0 → ⊥) → Notes F j l l
     notes-none k = record { noted = λ e. absurd (k (is .kind ∙ e)); stays = λ c u h. h }
 
-    pub notes-chart : n .kind ≡ 0 → F .charts ≤ 8 → length l ≡ 96 → {x y : ℕ} → x ≡ masterBy F (enc F j) → y ≡ stateBy F (enc F j) → Notes F j l (set (set l (72 + n .a) x) (80 + n .a) y)
+    pub notes-chart : n .kind ≡ 0 → F .charts ≤ 8 → length l ≡ 160 → {x y : ℕ} → x ≡ masterBy F (enc F j) → y ≡ stateBy F (enc F j) → Notes F j l (set (set l (72 + n .a) x) (80 + n .a) y)
     notes-chart e₀ u v {x} {y} ex ey =
         record {
           noted = λ e. here (F .a j) (sym (is .a));
@@ -98,7 +98,7 @@ module _ (F : File) (z : F .slaves ≡ 0) where
   unfolding masterBy stateBy
   nearest-none few l h c p = let g = h c (omega arith) in rw (kap-none c) g
 
-pub noted-none-more : (c : ℕ) (l : List ℕ) → c < 8 → length l ≡ 96 → NotedNone c l → NotedNone (c + 1) (set (set l (72 + c) 255) (80 + c) 0)
+pub noted-none-more : (c : ℕ) (l : List ℕ) → c < 8 → length l ≡ 160 → NotedNone c l → NotedNone (c + 1) (set (set l (72 + c) 255) (80 + c) 0)
 noted-none-more c l p n h =
     below-more (λ (k : ℕ). (masterAt (set (set l (72 + c) 255) (80 + c) 0) k ≡ 255) × (slaveStateAt (set (set l (72 + c) 255) (80 + c) 0) k ≡ 0)) c
     (λ k q. let g = h k q in (off (72 + k) (λ e. omega arith) (λ e. omega arith) ∙ g .0, off (80 + k) (λ e. omega arith) (λ e. omega arith) ∙ g .1)) (

@@ -184,7 +184,7 @@ fn whole(n: Shape, body: &[u8], back: &mut [u64]) -> [u64; 16]
 
 // A chart stands in the slave that its node stands in: its master and state are noted in a search's small numbers.
 fn note(n: Shape, body: &[u8], j: usize, near: &[u8], small: &mut [u8])
-    requires { ⌜ Wirable n (now body) × (j < n .nodes) × (length (now near) ≡ 64) × Right (fileAt n (now body)) (now near) j × (length (now small) ≡ 96) ⌝ }
+    requires { ⌜ Wirable n (now body) × (j < n .nodes) × (length (now near) ≡ 64) × Right (fileAt n (now body)) (now near) j × (length (now small) ≡ 160) ⌝ }
     ensures { λ _. ⌜ Notes (fileAt n (now (body .entry))) j (now (small .entry)) (now (small .exit)) ⌝ }
 {
     let node = layout::body::node_at(n, body, j);
@@ -198,7 +198,7 @@ fn note(n: Shape, body: &[u8], j: usize, near: &[u8], small: &mut [u8])
 
 // Every chart stands outside all slaves.
 fn note_none(small: &mut [u8])
-    requires { ⌜ length (now small) ≡ 96 ⌝ }
+    requires { ⌜ length (now small) ≡ 160 ⌝ }
     ensures { λ _. ⌜ NotedNone 8 (now (small .exit)) ⌝ }
 {
     let mut c: usize = 0;
@@ -211,7 +211,7 @@ fn note_none(small: &mut [u8])
 
 // Of each chart the master and the state of its nearest enclosing slave, in a search's small numbers. Many files have no slave.
 pub fn nearest(n: Shape, body: &[u8], small: &mut [u8])
-    requires { ⌜ Wirable n (now body) × (length (now small) ≡ 96) ⌝ }
+    requires { ⌜ Wirable n (now body) × (length (now small) ≡ 160) ⌝ }
     ensures { λ _. ⌜ NearestIn (fileAt n (now (body .entry))) (now (small .exit)) ⌝ }
 {
     if n.slaves == 0 {
@@ -230,7 +230,7 @@ pub fn nearest(n: Shape, body: &[u8], small: &mut [u8])
 // Wires a file that passed its check, into tables that are new: the feedback and `up` go into a search's masks, the nearest slaves into its small
 // numbers. The result is what of the input gets down to each chart.
 pub fn wired(n: Shape, body: &[u8], masks: &mut [u64], small: &mut [u8]) -> [u64; 8]
-    requires { ⌜ Wirable n (now body) × (now masks ≡ replicate 336 0) × (length (now small) ≡ 96) ⌝ }
+    requires { ⌜ Wirable n (now body) × (now masks ≡ replicate 336 0) × (length (now small) ≡ 160) ⌝ }
     ensures { λ r. ⌜ Wired (fileAt n (now (body .entry))) r (now (masks .exit)) (now (small .exit)) ⌝ }
 {
     let rows = whole(n, body, &mut masks[BACK..BACK_END]);

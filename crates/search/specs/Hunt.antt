@@ -7,12 +7,12 @@ use Prim.Native.Nat.{ℕ, zero, suc, _+_, _-_}
 use lib.Dec.{ltb}
 use lib.ListN.{getD, replicate}
 use Rattle.signals.specs.Mask.{_∪_, _∩_, within, apart}
-use Rattle.meaning.specs.Numbers.{noStep}
+use Rattle.meaning.specs.Numbers.{noStep, noPlace}
 use Rattle.meaning.specs.Meaning.{same, Outcome, eqList, Answer, refused, given}
 use Rattle.meaning.specs.Calls.{made}
 use Rattle.meaning.specs.Laws.Bools.{every}
-use Rattle.search.specs.Table.{neededAt, barredAt, actionAt, backAt, aheadAt, upAt, toAt, countAt, masterAt, slaveStateAt, stateAt}
-use Rattle.search.specs.Trail.{Trail, trailIn, Keeps}
+use Rattle.search.specs.Table.{neededAt, barredAt, actionAt, backAt, aheadAt, upAt, toAt, countAt, masterAt, slaveStateAt, stateAt, placeAt}
+use Rattle.search.specs.Trail.{Trail, nextIn, placeIn, trailIn, Keeps}
 use Rattle.search.specs.declared.Found.{Found}
 pub mod Laws
 
@@ -44,6 +44,7 @@ module _ (m s : List ℕ) where
         barred = t .barred ++ (barredAt m k v ∷ []);
         next = t .next ++ (toAt s k v ∷ []);
         awake = t .awake ++ (1 ∷ []);
+        places = t .places ++ (placeAt s k v ∷ []);
         output = t .output ∪ actionAt m k v ∩ upAt m k;
       }
 
@@ -56,6 +57,7 @@ module _ (m s : List ℕ) where
         barred = t .barred ++ (0 ∷ []);
         next = t .next ++ (stateAt s k ∷ []);
         awake = t .awake ++ (0 ∷ []);
+        places = t .places ++ (noPlace ∷ []);
         output = t .output;
       }
 
@@ -71,11 +73,16 @@ module _ (m s : List ℕ) where
 
   -- n charts are left, k is the next
   unfoldable pub hunts : ℕ → ℕ → Trail → List Outcome
-  hunts zero k t = record { output = t .output; next = t .next ++ replicate (8 - k) 0 } ∷ []
+  hunts zero k t = record { output = t .output; next = t .next ++ replicate (8 - k) 0; places = t .places ++ replicate (8 - k) noPlace } ∷ []
   hunts (suc n) k t =
       cond (wakes t k)
       (each (countAt s k) (λ v. cond (fineAt (taken t k v) k) (hunts n (suc k) (taken t k v)) []))
       (cond (fineAt (rested t k) k) (hunts n (suc k) (rested t k)) [])
+
+-- the outcome of N charts that are all settled, o coming out of the whole
+abbrev pub outcomeIn : List ℕ → ℕ → ℕ → Outcome
+outcomeIn b N o =
+    record { output = o; next = made N (nextIn b) ++ replicate (8 - N) 0; places = made N (placeIn b) ++ replicate (8 - N) noPlace }
 
 -- ── what is kept of the outcomes ──
 
@@ -88,8 +95,8 @@ unfoldable pub settleOf : Outcome → Found → Found
 settleOf o f =
     pickFound (f .has)
     (pickFound (same (o .output) (f .output) && eqList (o .next) (f .next)) f
-    (record { has = true; agree = false; output = f .output; next = f .next }))
-    (record { has = true; agree = true; output = o .output; next = o .next })
+    (record { has = true; agree = false; output = f .output; next = f .next; places = f .places }))
+    (record { has = true; agree = true; output = o .output; next = o .next; places = o .places })
 
 unfoldable pub over : List Outcome → Found → Found
 over [] f = f
@@ -97,7 +104,7 @@ over (o ∷ os) f = over os (settleOf o f)
 
 -- nothing found yet
 abbrev pub nothing : Found
-nothing = record { has = false; agree = false; output = 0; next = replicate 8 0 }
+nothing = record { has = false; agree = false; output = 0; next = replicate 8 0; places = replicate 8 noPlace }
 
 -- what was found, as the step's answer
 abbrev pub answerIn : Found → Answer

@@ -53,8 +53,12 @@ module _ (s : List ℕ) where
   abbrev pub stateAt : ℕ → ℕ
   stateAt c = getD s (88 + c) 0
 
+  -- the place of candidate v in chart c's own list
+  abbrev pub placeAt : ℕ → ℕ → ℕ
+  placeAt c v = getD s (96 + (8 * c + v)) 0
+
 -- what a search over N charts asks of its tables
 pub record Tables (N : ℕ) (m s : List ℕ) : Type 0 where
   pub masks : length m ≡ 336
-  pub small : length s ≡ 96
+  pub small : length s ≡ 160
   pub counts : (c : ℕ) → c < N → countAt s c ≤ 8

@@ -12,17 +12,18 @@ pub mod Laws
 pub record Trail : Type 0 where
   -- what each chart is surely offered
   pub low : List ℕ
-  -- of each settled chart what it needs and bars, its next state, and 1 if it is active
+  -- of each settled chart what it needs and bars, its next state, 1 if it is active, and the place of its transition, 255 for none
   pub needed : List ℕ
   pub barred : List ℕ
   pub next : List ℕ
   pub awake : List ℕ
+  pub places : List ℕ
   -- what comes out of the whole
   pub output : ℕ
 
 -- no chart is settled; low is what each is surely offered
 unfoldable pub beginning : List ℕ → Trail
-beginning low = record { low = low; needed = []; barred = []; next = []; awake = []; output = 0 }
+beginning low = record { low = low; needed = []; barred = []; next = []; awake = []; places = []; output = 0 }
 
 -- ── where it stands ──
 
@@ -37,13 +38,16 @@ module _ (w : List ℕ) where
   abbrev pub barredIn : ℕ → ℕ
   barredIn d = getD w (10 * d + 9) 0
 
--- two small numbers for each chart
+-- three small numbers for each chart
 module _ (b : List ℕ) where
   abbrev pub nextIn : ℕ → ℕ
-  nextIn d = getD b (2 * d) 0
+  nextIn d = getD b (3 * d) 0
 
   abbrev pub awakeIn : ℕ → ℕ
-  awakeIn d = getD b (2 * d + 1) 0
+  awakeIn d = getD b (3 * d + 1) 0
+
+  abbrev pub placeIn : ℕ → ℕ
+  placeIn d = getD b (3 * d + 2) 0
 
 -- the charts below k are settled, and o comes out of them
 unfoldable pub trailIn : List ℕ → List ℕ → ℕ → ℕ → Trail
@@ -54,13 +58,14 @@ trailIn w b k o =
       barred = made k (barredIn w);
       next = made k (nextIn b);
       awake = made k (awakeIn b);
+      places = made k (placeIn b);
       output = o;
     }
 
 -- the room that is lent for it
 pub record Room (w b : List ℕ) : Type 0 where
   pub masks : length w ≡ 88
-  pub small : length b ≡ 16
+  pub small : length b ≡ 24
 
 -- ── what stays ──
 
@@ -72,7 +77,7 @@ pub record Same (n : ℕ) (l l′ : List ℕ) : Type 0 where
 -- the beginning of k charts stays as it was
 pub record Keeps (k : ℕ) (w b w′ b′ : List ℕ) : Type 0 where
   pub masks : Same (10 * k + 8) w w′
-  pub small : Same (2 * k) b b′
+  pub small : Same (3 * k) b b′
 
 -- what each chart is surely offered before chart k is settled is the row r
 pub record RowPut (k : ℕ) (r w w′ : List ℕ) : Type 0 where

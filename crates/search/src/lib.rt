@@ -5,11 +5,12 @@ ghost use mathlib.Core.List.{List, _++_};
 ghost use Prim.Native.Nat.{ℕ, _+_, _-_, _*_, _≤_, _<_};
 ghost use lib.ListN.{length, getD, replicate};
 ghost use Rattle.signals.specs.Mask.{_∪_, _∩_, within, apart};
+ghost use Rattle.meaning.specs.Numbers.{noPlace};
 ghost use Rattle.meaning.specs.Meaning.{eqList};
 ghost use Rattle.meaning.specs.Calls.{made};
 ghost use Rattle.search.specs.Table.{Tables, actionAt, backAt, upAt};
-ghost use Rattle.search.specs.Trail.{trailIn, beginning, lowIn, nextIn, Room, RowPut, Lowers};
-ghost use Rattle.search.specs.Hunt.{wakes, fineAt, taken, settleOf, hunts, over, nothing, Takes, Rests, Hunted};
+ghost use Rattle.search.specs.Trail.{trailIn, beginning, lowIn, nextIn, placeIn, Room, RowPut, Lowers};
+ghost use Rattle.search.specs.Hunt.{wakes, fineAt, taken, settleOf, hunts, outcomeIn, over, nothing, Takes, Rests, Hunted};
 ghost use Rattle.search.specs.Asks.{asksOf};
 
 // Where a search's tables have what it reads (specs/Table.antt). Among the masks: what candidates need, from 0 on, what they bar and put out; what
@@ -24,7 +25,8 @@ const AHEAD: usize = 256;
 
 const UP: usize = 328;
 
-// Among the small numbers: where candidates lead, from 0 on, and how many there are; the nearest slave's master and state; the present state.
+// Among the small numbers: where candidates lead, from 0 on, and how many there are; the nearest slave's master and state; the present state; the
+// places of candidates in their chart's list.
 const COUNT: usize = 64;
 
 const MASTER: usize = 72;
@@ -33,6 +35,8 @@ const SLAVE_STATE: usize = 80;
 
 const STATE: usize = 88;
 
+const PLACE: usize = 96;
+
 // The masks that a trail has for a chart, and where among them what the chart needs and bars is (specs/Trail.antt).
 const WIDTH: usize = 10;
 
@@ -40,12 +44,23 @@ const NEEDS: usize = 8;
 
 const BARS: usize = 9;
 
-// What was found so far: the first permitted choice's outcome, if there is one, and whether all others agree with it.
+// The small numbers that it has for a chart: its next state, and where among them are 1 if it is active, and its transition's place.
+const STEPS: usize = 3;
+
+const AWAKE: usize = 1;
+
+const TAKEN: usize = 2;
+
+// The place of no transition.
+pub const NO_PLACE: u8 = 255;
+
+// What was found so far: the first permitted choice's outcome, if there is one, and whether all others agree with it. Places do not count for that.
 pub struct Found {
     pub has: bool,
     pub agree: bool,
     pub output: u64,
     pub next: [u8; 8],
+    pub places: [u8; 8],
 }
 
 // Signals that have to be in a set, and signals that must not be in it.
@@ -55,18 +70,18 @@ pub struct Guard {
 }
 
 // Whether chart k, the next to be settled, is active. A master's number from k on is none.
-fn wakes(small: &[u8], moves: &[u8; 16], k: usize) -> bool
-    requires { ⌜ (length (now small) ≡ 96) × (k < 8) ⌝ }
+fn wakes(small: &[u8], moves: &[u8; 24], k: usize) -> bool
+    requires { ⌜ (length (now small) ≡ 160) × (k < 8) ⌝ }
     ensures { λ r. ⌜ ((m w : List ℕ) (o : ℕ) → r ≡ wakes m (now (small .entry)) (trailIn w (now (moves .entry)) k o) k) ⌝ }
 {
     let master = small[MASTER + k] as usize;
     if master < k {
-        if moves[2 * master + 1] != 1 {
+        if moves[STEPS * master + AWAKE] != 1 {
             return false;
         }
         let state = small[SLAVE_STATE + k];
         let before = small[STATE + master];
-        let after = moves[2 * master];
+        let after = moves[STEPS * master];
         if before == state {
             return true;
         }
@@ -167,30 +182,32 @@ fn take(
     masks: &[u64],
     small: &[u8],
     trail: &mut [u64; 88],
-    moves: &mut [u8; 16],
+    moves: &mut [u8; 24],
     k: usize,
     v: usize,
 )
-    requires { ⌜ (length (now masks) ≡ 336) × (length (now small) ≡ 96) × Room (now trail) (now moves) × (k < 8) × (v < 8) ⌝ }
+    requires { ⌜ (length (now masks) ≡ 336) × (length (now small) ≡ 160) × Room (now trail) (now moves) × (k < 8) × (v < 8) ⌝ }
     ensures { λ _. ⌜ Takes (now (masks .entry)) (now (small .entry)) k v (now (trail .entry)) (now (moves .entry))
         (now (trail .exit)) (now (moves .exit)) ⌝ }
 {
     trail[WIDTH * k + NEEDS] = masks[8 * k + v];
     trail[WIDTH * k + BARS] = masks[BARRED + (8 * k + v)];
-    moves[2 * k] = small[8 * k + v];
-    moves[2 * k + 1] = 1;
+    moves[STEPS * k] = small[8 * k + v];
+    moves[STEPS * k + AWAKE] = 1;
+    moves[STEPS * k + TAKEN] = small[PLACE + (8 * k + v)];
     lower(masks, trail, masks[ACTION + (8 * k + v)], k);
 }
 
 // Chart k is inactive: it takes none and keeps its state.
-fn rest(masks: &[u64], small: &[u8], trail: &mut [u64; 88], moves: &mut [u8; 16], k: usize)
-    requires { ⌜ (length (now masks) ≡ 336) × (length (now small) ≡ 96) × Room (now trail) (now moves) × (k < 8) ⌝ }
+fn rest(masks: &[u64], small: &[u8], trail: &mut [u64; 88], moves: &mut [u8; 24], k: usize)
+    requires { ⌜ (length (now masks) ≡ 336) × (length (now small) ≡ 160) × Room (now trail) (now moves) × (k < 8) ⌝ }
     ensures { λ _. ⌜ Rests (now (small .entry)) k (now (trail .entry)) (now (moves .entry)) (now (trail .exit)) (now (moves .exit)) ⌝ }
 {
     trail[WIDTH * k + NEEDS] = 0;
     trail[WIDTH * k + BARS] = 0;
-    moves[2 * k] = small[STATE + k];
-    moves[2 * k + 1] = 0;
+    moves[STEPS * k] = small[STATE + k];
+    moves[STEPS * k + AWAKE] = 0;
+    moves[STEPS * k + TAKEN] = NO_PLACE;
     lower(masks, trail, 0, k);
 }
 
@@ -203,17 +220,31 @@ fn shown(masks: &[u64], output: u64, k: usize, v: usize) -> u64
 }
 
 // The next states of all charts, and 0 behind them.
-fn states(moves: &[u8; 16], charts: usize) -> [u8; 8]
+fn states(moves: &[u8; 24], charts: usize) -> [u8; 8]
     requires { ⌜ charts ≤ 8 ⌝ }
     ensures { λ r. ⌜ r ≡ made charts (nextIn (now (moves .entry))) ++ replicate (8 - charts) 0 ⌝ }
 {
     let mut next = [0u8; 8];
     let mut d: usize = 0;
     while d < charts {
-        next[d] = moves[2 * d];
+        next[d] = moves[STEPS * d];
         d += 1;
     }
     next
+}
+
+// The places of the transitions that all charts take, and 255 behind them.
+fn places(moves: &[u8; 24], charts: usize) -> [u8; 8]
+    requires { ⌜ charts ≤ 8 ⌝ }
+    ensures { λ r. ⌜ r ≡ made charts (placeIn (now (moves .entry))) ++ replicate (8 - charts) noPlace ⌝ }
+{
+    let mut taken = [NO_PLACE; 8];
+    let mut d: usize = 0;
+    while d < charts {
+        taken[d] = moves[STEPS * d + TAKEN];
+        d += 1;
+    }
+    taken
 }
 
 // Whether two configurations are equal.
@@ -230,16 +261,20 @@ fn same_states(a: [u8; 8], b: [u8; 8]) -> bool
     true
 }
 
-// One outcome more.
-fn settle(output: u64, next: [u8; 8], acc: Found) -> Found
-    ensures { λ r. ⌜ r ≡ settleOf (record { output = output; next = next }) acc ⌝ }
+// One outcome more: all charts are settled.
+fn settle(output: u64, moves: &[u8; 24], charts: usize, acc: Found) -> Found
+    requires { ⌜ charts ≤ 8 ⌝ }
+    ensures { λ r. ⌜ r ≡ settleOf (outcomeIn (now (moves .entry)) charts output) acc ⌝ }
 {
+    let next = states(moves, charts);
     if !acc.has {
+        let taken = places(moves, charts);
         return Found {
             has: true,
             agree: true,
             output,
             next,
+            places: taken,
         };
     }
     let first = acc.next;
@@ -266,7 +301,7 @@ fn hunt(
     masks: &[u64],
     small: &[u8],
     trail: &mut [u64; 88],
-    moves: &mut [u8; 16],
+    moves: &mut [u8; 24],
     charts: usize,
     left: usize,
     output: u64,
@@ -277,7 +312,7 @@ fn hunt(
         r (now (trail .exit)) (now (moves .exit)) ⌝ }
 {
     if left == 0 {
-        return settle(output, states(moves, charts), acc);
+        return settle(output, moves, charts, acc);
     }
     let k = charts - left;
     let asked = asks(masks, trail, k);
@@ -317,6 +352,7 @@ pub fn none() -> Found
         agree: false,
         output: 0,
         next: [0; 8],
+        places: [NO_PLACE; 8],
     }
 }
 
@@ -326,7 +362,7 @@ pub fn search(masks: &[u64], small: &[u8], charts: usize, low: [u64; 8]) -> Foun
     ensures { λ r. ⌜ r ≡ over (hunts (now (masks .entry)) (now (small .entry)) charts 0 (beginning low)) nothing ⌝ }
 {
     let mut trail = [0u64; 88];
-    let mut moves = [0u8; 16];
+    let mut moves = [0u8; 24];
     put_row(&mut trail, low, 0);
     hunt(
         masks,

@@ -51,11 +51,12 @@ isAgain m s c n t = anyUpTo n (λ v. isAt m s c v t)
 unfoldable pub putMasks : List ℕ → ℕ → ℕ → Transition → List ℕ
 putMasks m c v t = set (set (set m (8 * c + v) (t .needed)) (64 + (8 * c + v)) (t .barred)) (128 + (8 * c + v)) (t .action)
 
-unfoldable pub putSmall : List ℕ → ℕ → ℕ → Transition → List ℕ
-putSmall s c v t = set s (8 * c + v) (t .to)
+-- where it leads, and its place p
+unfoldable pub putSmall : List ℕ → ℕ → ℕ → ℕ → Transition → List ℕ
+putSmall s c v p t = set (set s (8 * c + v) (t .to)) (96 + (8 * c + v)) p
 
-abbrev pub put : ℕ → Transition → Filling → Filling
-put c t f = record { masks = putMasks (f .masks) c (f .count) t; small = putSmall (f .small) c (f .count) t; count = f .count + 1 }
+abbrev pub put : ℕ → ℕ → Transition → Filling → Filling
+put c p t f = record { masks = putMasks (f .masks) c (f .count) t; small = putSmall (f .small) c (f .count) p t; count = f .count + 1 }
 
 abbrev pub pickFilling : Bool → Filling → Filling → Filling
 pickFilling true a b = a
@@ -63,16 +64,17 @@ pickFilling false a b = b
 
 -- chart c is at q
 module _ (c q : ℕ) (low own others : Set) where
-  unfoldable pub considered : Transition → Filling → Filling
-  considered t f =
+  -- the transition at place p
+  unfoldable pub considered : ℕ → Transition → Filling → Filling
+  considered p t f =
       pickFilling (same (t .from) q)
-      (pickFilling (lastsBy low own others (some t)) (pickFilling (isAgain (f .masks) (f .small) c (f .count) t) f (put c t f)) f)
+      (pickFilling (lastsBy low own others (some t)) (pickFilling (isAgain (f .masks) (f .small) c (f .count) t) f (put c p t f)) f)
       f
 
   -- the first p transitions of g
   unfoldable pub listing : (ℕ → Transition) → ℕ → Filling → Filling
   listing g zero f = f
-  listing g (suc p) f = considered (g p) (listing g p f)
+  listing g (suc p) f = considered p (g p) (listing g p f)
 
 -- ── all charts ──
 
@@ -91,9 +93,9 @@ module _ (ts : ℕ → List Transition) (cfg : ℕ → ℕ) (N : ℕ) (lows : Li
     pub listed : (c : ℕ) → c < k → Listed m s c (ts c) (cfg c) (keepAt m₀ c) (length (ts c)) (countAt s c)
     pub counts : (c : ℕ) → c < k → countAt s c ≤ 8
     pub wires : (i : ℕ) → 192 ≤ i → getD m i 0 ≡ getD m₀ i 0
-    pub rest : (i : ℕ) → 64 + k ≤ i → getD s i 0 ≡ getD s₀ i 0
+    pub rest : (i : ℕ) → 64 + k ≤ i → i < 96 → getD s i 0 ≡ getD s₀ i 0
     pub masks : length m ≡ 336
-    pub small : length s ≡ 96
+    pub small : length s ≡ 160
 
   -- all of it
   pub record Chosen (m s : List ℕ) : Type 0 where

@@ -12,7 +12,7 @@ use Rattle.meaning.specs.Meaning.{Set, Chart, Tree, nth, Answer, refused, given
 use Rattle.wiring.specs.Wire.{join, down, up, back}
 use Rattle.wiring.specs.Sure.{surely}
 use Rattle.wiring.specs.Dropped.{ahead}
-use Rattle.search.specs.Table.{neededAt, barredAt, actionAt, backAt, aheadAt, upAt, toAt, countAt, masterAt, slaveStateAt, stateAt}
+use Rattle.search.specs.Table.{neededAt, barredAt, actionAt, backAt, aheadAt, upAt, toAt, countAt, masterAt, slaveStateAt, stateAt, placeAt}
 use Rattle.search.specs.Hunt.{answerIn}
 use Rattle.search.specs.declared.Found.{Found}
 
@@ -25,14 +25,14 @@ module _ (m s : List ℕ) where
     pub to : toAt s c v ≡ t .to
 
   -- The first p of chart c's transitions ts give n candidates, q being the chart's present state: a transition is from another state, or is not
-  -- kept (its place is one more), or is an earlier candidate again, or is a candidate of its own.
+  -- kept (its place is one more), or is an earlier candidate again, or is a candidate of its own, which has its place.
   pub data Listed (c : ℕ) (ts : List Transition) (q : ℕ) (keep : ℕ → Bool) : ℕ → ℕ → Type 0 where
     start : Listed c ts q keep zero zero
     other : {p n : ℕ} → Listed c ts q keep p n → (t : Transition) → nth ts p ≡ some t → t .from ≢ q → Listed c ts q keep (suc p) n
     fails : {p n : ℕ} → Listed c ts q keep p n → keep (suc p) ≡ false → Listed c ts q keep (suc p) n
     again : {p n : ℕ} → Listed c ts q keep p n → (t : Transition) → nth ts p ≡ some t → (v : ℕ) → v < n → Is c v t → Listed c ts q keep (suc p) n
     fresh : {p n : ℕ} → Listed c ts q keep p n → (t : Transition) → nth ts p ≡ some t → t .from ≡ q → keep (suc p) ≡ true → Is c n t
-        → Listed c ts q keep (suc p) (suc n)
+        → placeAt s c n ≡ p → Listed c ts q keep (suc p) (suc n)
 
   -- what chart c's candidates put out, all together
   unfoldable pub mayAt : ℕ → Set

@@ -13,15 +13,16 @@ use borrow.Author.Tests.{lt-ltb, le-ltb, eq-eqb}
 use Rattle.signals.specs.Mask.{_∪_, _∩_, _∖_, within, apart}
 use Rattle.signals.specs.Decide.{sets, A, B, C, D, ∅ₑ, _∪ₑ_, _∩ₑ_, _≐_, _⊑_, _⊥ₑ_}
 use Rattle.layout.specs.declared.record.Transition.{Transition}
-use Rattle.meaning.specs.Meaning.{Set, ∅, same, Chart, Tree, Move, nth, pick, actionOf, after, meets, upd, moves, nexts, out}
+use Rattle.meaning.specs.Meaning.{Set, ∅, same, Chart, Tree, Move, nth, pick, actionOf, after, meets, upd, moves, nexts, placeOf, placesFrom, out}
+use Rattle.meaning.specs.Numbers.{noPlace}
 use Rattle.meaning.specs.Calls.Laws.{getD-made}
 use Rattle.meaning.specs.Laws.Bools.{same-refl, same→≡, and-i, every}
-use Rattle.meaning.specs.Laws.Choices.{upd-at, upd-off, length-nexts, getD-nexts}
+use Rattle.meaning.specs.Laws.Choices.{upd-at, upd-off, length-nexts, getD-nexts, places-upd}
 use Rattle.wiring.specs.Wire.{join, down, up, back, offered, awakeBy, Small, out-wired}
 use Rattle.wiring.specs.Wired.{awake, awake-by, Stands, offer}
 use Rattle.wiring.specs.Dropped.{ahead, test, sures, low, high, passes, join-cong}
 use Rattle.wiring.specs.Hunt.{awake-below, every-cong}
-use Rattle.search.specs.Table.{neededAt, barredAt, actionAt, backAt, aheadAt, upAt, toAt, masterAt, slaveStateAt, stateAt}
+use Rattle.search.specs.Table.{neededAt, barredAt, actionAt, backAt, aheadAt, upAt, toAt, masterAt, slaveStateAt, stateAt, placeAt}
 use Rattle.search.specs.Trail.{Trail}
 use Rattle.search.specs.Hunt.{isAwake, wakes, taken, rested, passesAt, fineAt}
 use Rattle.tables.specs.Filled.{Is, mayAt, Rows, Candidates}
@@ -77,6 +78,18 @@ module _ (E : ℕ → Chart) (state : ℕ → ℕ) (cfg : ℕ → ℕ) (N : ℕ)
     pub all-barred : length (t .barred) ≡ k
     pub all-next : length (t .next) ≡ k
     pub all-awake : length (t .awake) ≡ k
+
+  -- its places are the choice's
+  abbrev pub Placed : Trail → ℕ → (ℕ → ℕ) → Type 0
+  Placed t k ch = t .places ≡ placesFrom ch zero k
+
+  pub taken-placed : (t : Trail) (k : ℕ) (ch : ℕ → ℕ) (v p : ℕ) → Placed t k ch → placeAt s k v ≡ p → Placed (taken m s t k v) (suc k) (upd ch k (suc p))
+  unfolding taken placeOf
+  taken-placed t k ch v p h e = ap₂ (λ l x. l ++ (x ∷ [])) h e ∙ sym (places-upd ch k (suc p))
+
+  pub rested-placed : (t : Trail) (k : ℕ) (ch : ℕ → ℕ) → Placed t k ch → Placed (rested m s t k) (suc k) (upd ch k zero)
+  unfolding rested placeOf
+  rested-placed t k ch h = ap (λ l. l ++ (noPlace ∷ [])) h ∙ sym (places-upd ch k zero)
 
   module _ (st : Stands N enc sc tree) (ro : Rows E state cfg N enc sc tree m s) where
     -- ── the next chart's activity ──

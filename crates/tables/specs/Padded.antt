@@ -1,5 +1,6 @@
--- Lists of outcomes that say the same: one of a search over tables, whose configurations have 8 states, zeros behind; one of the meaning. Laws: of
--- one outcome, of ++, of what comes again (padded-one to padded-again), and of the answer (found).
+-- Lists of outcomes that say the same: one of a search over tables, whose configurations have 8 states, zeros behind, and whose places are 8, with
+-- 255s behind; one of the meaning. Laws: of one outcome, of ++, of what comes again (padded-one to padded-again), of the answer (found) and of the
+-- places (found-places).
 use mathlib.Core.Path.{_≡_, refl, sym, _∙_, ap, ap₂}
 use mathlib.Core.Bool.{Bool, _&&_}
 use mathlib.Core.List.{List, [], _∷_, _++_, map, map-append, append-nil}
@@ -7,45 +8,57 @@ use Prim.Native.Nat.{ℕ, _-_}
 use native.Mathlib.Omega.{arith}
 use lib.ListN.{length, take, replicate}
 use lib.Seq.{take-at}
-use Rattle.meaning.specs.Meaning.{same, Outcome, eqList, agree, Answer, given, answer}
+use Rattle.meaning.specs.Numbers.{noPlace}
+use Rattle.meaning.specs.Meaning.{same, Outcome, eqList, agree, Answer, given, answer, firstPlaces}
+use Rattle.meaning.specs.Calls.{allPlaces}
 use Rattle.search.specs.Hunt.{over, nothing}
 use Rattle.meaning.specs.Laws.Choices.{eqList-refl}
-use Rattle.search.specs.Hunt.Laws.{Alike, alike-refl, alike-path, alike-sym, alike-trans, alike-append, alike-answer, Among, alike-drop, answer-over}
+use Rattle.search.specs.Hunt.Laws.{head, over-first, Alike, alike-refl, alike-one, alike-sym, alike-trans, alike-fewer, alike-append, alike-answer, Among, among-alike, alike-drop, answer-over}
 use Rattle.tables.specs.Filled.{answerOf, trimmed}
 
 -- ── outcomes of 8 states ──
 
 module _ (N : ℕ) where
   unfoldable pub pad : Outcome → Outcome
-  pad o = record { output = o .output; next = o .next ++ replicate (8 - N) 0 }
+  pad o = record { output = o .output; next = o .next ++ replicate (8 - N) 0; places = o .places ++ replicate (8 - N) noPlace }
 
-  -- padded, ys is like xs
-  pub record Padded (xs ys : List Outcome) : Type 0 where
-    alike : Alike xs (map pad ys)
+  -- padded, ys is like xs; under P the first has the same places too
+  pub record Padded (P : Type 0) (xs ys : List Outcome) : Type 0 where
+    alike : Alike P xs (map pad ys)
 
-  pub padded-none : Padded [] []
-  padded-none = record { alike = alike-refl [] }
+  pub padded-fewer : {P Q : Type 0} {xs ys : List Outcome} → (P → Q) → Padded Q xs ys → Padded P xs ys
+  padded-fewer f p = record { alike = alike-fewer f (p .alike) }
 
-  pub padded-one : (a b : Outcome) → a .output ≡ b .output → a .next ≡ b .next ++ replicate (8 - N) 0 → Padded (a ∷ []) (b ∷ [])
-  unfolding pad
-  padded-one a b p q = record { alike = alike-path (λ i. record { output = p i; next = q i } ∷ []) }
+  module _ {P : Type 0} where
+    pub padded-none : Padded P [] []
+    padded-none = record { alike = alike-refl [] }
 
-  pub padded-append : (xs ys zs ws : List Outcome) → Padded xs ys → Padded zs ws → Padded (xs ++ zs) (ys ++ ws)
-  padded-append xs ys zs ws p q = record { alike = rw (map-append pad ys ws) (alike-append (p .alike) (q .alike)) }
+    pub padded-one : (a b : Outcome) → a .output ≡ b .output → a .next ≡ b .next ++ replicate (8 - N) 0
+        → (P → a .places ≡ b .places ++ replicate (8 - N) noPlace) → Padded P (a ∷ []) (b ∷ [])
+    unfolding pad
+    padded-one a b p q r = record { alike = alike-one a (pad b) p q r }
 
-  pub padded-nothing : (xs ys ws : List Outcome) → Padded xs ys → ws ≡ [] → Padded xs (ys ++ ws)
-  padded-nothing xs ys ws p e = rw (e, append-nil ys) p
+    pub padded-append : (xs ys zs ws : List Outcome) → Padded P xs ys → Padded P zs ws → Padded P (xs ++ zs) (ys ++ ws)
+    padded-append xs ys zs ws p q = record { alike = rw (map-append pad ys ws) (alike-append (p .alike) (q .alike)) }
 
-  -- what is in the list already may come again
-  pub padded-again : (xs ys zs ws : List Outcome) → Padded xs ys → Padded zs ws → Among zs xs → Padded xs (ys ++ ws)
-  padded-again xs ys zs ws p q i = record { alike = alike-trans (alike-sym (alike-drop xs zs i)) (padded-append xs ys zs ws p q .alike) }
+    pub padded-nothing : (xs ys ws : List Outcome) → Padded P xs ys → ws ≡ [] → Padded P xs (ys ++ ws)
+    padded-nothing xs ys ws p e = rw (e, append-nil ys) p
+
+    -- what is in the list already may come again, at other places too
+    pub padded-again : {Q : Type 0} (xs ys zs ws : List Outcome) → Padded P xs ys → Padded Q zs ws → Among zs xs → Padded P xs (ys ++ ws)
+    padded-again xs ys zs ws p q i =
+        record {
+          alike =
+              rw (map-append pad ys ws)
+              (alike-trans (alike-sym (alike-drop xs (map pad ws) (among-alike (q .alike) i))) (alike-append (p .alike) (alike-refl (map pad ws))));
+        }
 
   -- ── the answer ──
 
-  -- every outcome is of N states
+  -- every outcome is of N states and places
   abbrev pub Sizes : List Outcome → Type 0
   Sizes [] = Unit {0}
-  Sizes (o ∷ os) = (length (o .next) ≡ N) × Sizes os
+  Sizes (o ∷ os) = (length (o .next) ≡ N) × (length (o .places) ≡ N) × Sizes os
 
   -- what stands behind lists of one length says nothing
   eqList-behind : (a b z : List ℕ) → length a ≡ length b → eqList (a ++ z) (b ++ z) ≡ eqList a b
@@ -58,12 +71,21 @@ module _ (N : ℕ) where
   agree-pad : (a : Outcome) (os : List Outcome) → length (a .next) ≡ N → Sizes os → agree (pad a) (map pad os) ≡ agree a os
   unfolding agree pad
   agree-pad a [] l s = refl
-  agree-pad a (o ∷ os) l s = ap₂ (λ x y. (same (a .output) (o .output) && x) && y) (eqList-behind (a .next) (o .next) (replicate (8 - N) 0) (l ∙ sym (s .0))) (agree-pad a os l (s .1))
+  agree-pad a (o ∷ os) l s = ap₂ (λ x y. (same (a .output) (o .output) && x) && y) (eqList-behind (a .next) (o .next) (replicate (8 - N) 0) (l ∙ sym (s .0))) (agree-pad a os l (s .2))
 
   answer-pad : (os : List Outcome) → Sizes os → trimmed N (answer (map pad os)) ≡ answer os
   unfolding answer trimmed pad
   answer-pad [] s = refl
-  answer-pad (o ∷ os) s = ap₂ (given (o .output)) (take-at (o .next) (replicate (8 - N) 0) N (s .0)) (agree-pad o os (s .0) (s .1))
+  answer-pad (o ∷ os) s = ap₂ (given (o .output)) (take-at (o .next) (replicate (8 - N) 0) N (s .0)) (agree-pad o os (s .0) (s .2))
 
-  pub found : (xs ys : List Outcome) → Padded xs ys → Sizes ys → answerOf N (over xs nothing) ≡ answer ys
-  found xs ys p s = ap (trimmed N) (answer-over xs ∙ alike-answer xs (map pad ys) (p .alike)) ∙ answer-pad ys s
+  module _ {P : Type 0} where
+    pub found : (xs ys : List Outcome) → Padded P xs ys → Sizes ys → answerOf N (over xs nothing) ≡ answer ys
+    found xs ys p s = ap (trimmed N) (answer-over xs ∙ alike-answer xs (map pad ys) (p .alike)) ∙ answer-pad ys s
+
+    pub found-places : P → (xs ys : List Outcome) → Padded P xs ys → Sizes ys → over xs nothing .places ≡ allPlaces (firstPlaces ys)
+    unfolding head firstPlaces over pad
+    found-places q [] [] p s = refl
+    found-places q [] (y ∷ ys) p s = let h = p .alike .first in cc
+    found-places q (x ∷ xs) [] p s = let h = p .alike .first in cc
+    found-places q (x ∷ xs) (y ∷ ys) p s = ap (λ f. f .places) (over-first x xs) ∙ p .alike .places q
+        ∙ ap (λ n. y .places ++ replicate (8 - n) noPlace) (sym (s .1))

@@ -1,5 +1,5 @@
 -- A step by tables, for a file that rules 9 to 11 allow: where the wiring is in the tables and the candidates are chosen, a search over them
--- answers the step, and where a chart is stuck there is nothing to search.
+-- answers the step and has its places, and where a chart is stuck there is nothing to search.
 use mathlib.Core.Path.{_≡_, refl, sym, _∙_, ap}
 use mathlib.Core.Bool.{true}
 use mathlib.Core.List.{List}
@@ -7,20 +7,20 @@ use Prim.Native.Nat.{ℕ, zero, _-_, _≤_, _<_}
 use native.Mathlib.Omega.{arith}
 use lib.ListN.{getD}
 use Rattle.signals.specs.Mask.{_∩_}
-use Rattle.meaning.specs.Numbers.{noStep}
-use Rattle.meaning.specs.Meaning.{Set, actionOf, moves, refused}
+use Rattle.meaning.specs.Meaning.{Set, actionOf, moves}
 use Rattle.meaning.specs.File.{File, wholeOf}
-use Rattle.meaning.specs.Calls.{stepIn}
+use Rattle.meaning.specs.Calls.{stepIn, placesIn}
 use Rattle.meaning.specs.Laws.Trees.{Ordered, Rule11}
 use Rattle.meaning.specs.Laws.Names.{Rule10, kap}
 use Rattle.wiring.specs.Wire.{down, Small}
 use Rattle.wiring.specs.Stand.{stands}
 use Rattle.search.specs.Trail.{beginning}
 use Rattle.search.specs.Hunt.{hunts, over, nothing}
-use Rattle.tables.specs.Filled.{Rows, Lows, answerOf, trimmed}
+use Rattle.search.specs.declared.Found.{Found}
+use Rattle.tables.specs.Filled.{Rows, Candidates, Lows, answerOf}
 use Rattle.tables.specs.Fill.{Chosen, Raised, stuck}
 use Rattle.tables.specs.Fill.Laws.{candidates, lows-are, hunts-stuck}
-use Rattle.tables.specs.Whole.{found-is}
+use Rattle.tables.specs.Whole.{keeps, found-is, places-is}
 
 module _ (F : File) (some-node : 0 < F .nodes) (w : Ordered F) (r : Rule10 F) (r11 : Rule11 F)
     (chart-there : (j : ℕ) → j < F .nodes → F .kind j ≡ 0 → F .a j < F .charts) (node-there : (i : ℕ) → i < F .slaves → (F .node i < F .nodes) × (F .master i < F .charts))
@@ -31,11 +31,21 @@ module _ (F : File) (some-node : 0 < F .nodes) (w : Ordered F) (r : Rule10 F) (r
   lw : Lows (F .chart) (λ c. getD config c 0) (F .charts) (kap F) (wholeOf F) inp lows
   lw = lows-are (F .chart) (F .state) (λ c. getD config c 0) (F .charts) (kap F) (F .master) (wholeOf F) inp m s base lows (stands F w r r11 chart-there node-there (F .nodes - 1) (omega arith)) ro bs ra
 
-  pub step-found : answerOf (F .charts) (over (hunts m s (F .charts) zero (beginning lows)) nothing) ≡ stepIn F config inp
-  unfolding stepIn
-  step-found = found-is F some-node w r r11 chart-there node-there (λ c. getD config c 0) inp si sa m s lows ro
-      (candidates (F .chart) (F .state) (λ c. getD config c 0) (F .charts) (kap F) (F .master) (wholeOf F) inp m s lows ro lw ch) lw
+  ca : Candidates (F .chart) (λ c. getD config c 0) (F .charts) (wholeOf F) (keeps F (λ c. getD config c 0) inp) m s
+  ca = candidates (F .chart) (F .state) (λ c. getD config c 0) (F .charts) (kap F) (F .master) (wholeOf F) inp m s lows ro lw ch
 
-  pub step-stuck : stuck s (F .charts) ≡ true → stepIn F config inp ≡ refused noStep
-  unfolding over trimmed
-  step-stuck h = sym step-found ∙ ap (λ os. answerOf (F .charts) (over os nothing)) (hunts-stuck m s (F .charts) (beginning lows) (ro .few) h)
+  abbrev searched : Found
+  searched = over (hunts m s (F .charts) zero (beginning lows)) nothing
+
+  pub step-found : answerOf (F .charts) searched ≡ stepIn F config inp
+  unfolding stepIn
+  step-found = found-is F some-node w r r11 chart-there node-there (λ c. getD config c 0) inp si sa m s lows ro ca lw
+
+  pub step-places : searched .places ≡ placesIn F config inp
+  unfolding placesIn
+  step-places = places-is F some-node w r r11 chart-there node-there (λ c. getD config c 0) inp si sa m s lows ro ca lw
+
+  -- a chart is stuck: nothing is found
+  pub none-found : stuck s (F .charts) ≡ true → searched ≡ nothing
+  unfolding over
+  none-found h = ap (λ os. over os nothing) (hunts-stuck m s (F .charts) (beginning lows) (ro .few) h)

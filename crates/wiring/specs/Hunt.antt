@@ -9,7 +9,7 @@ use native.Mathlib.Omega.{arith}
 use lib.ListN.{length}
 use Rattle.signals.specs.Mask.{_∪_, _∩_, _∖_, Within}
 use Rattle.signals.specs.Decide.{sets, A, B, C, D, ∅ₑ, _∪ₑ_, _∩ₑ_, _∖ₑ_, _≐_, _⊑_}
-use Rattle.meaning.specs.Meaning.{Set, ∅, same, Chart, Tree, Move, nth, pick, actionOf, out, nexts, permitted, upd, moves, upto, Outcome, outcome, search, meets}
+use Rattle.meaning.specs.Meaning.{Set, ∅, same, Chart, Tree, Move, nth, pick, actionOf, permitted, upd, moves, upto, Outcome, outcomeOf, outcome, search, meets}
 use Rattle.meaning.specs.Laws.Bools.{same-refl, same→≡, every, every-intro, every-elim, and-l, and-r, and-i, not-true}
 use Rattle.meaning.specs.Laws.Choices.{upto-cong, upd-at, upd-off, Below, search-empty}
 use Rattle.layout.specs.declared.record.Transition.{Transition}
@@ -59,7 +59,7 @@ module _ (E : ℕ → Chart) (state : ℕ → ℕ) (cfg : ℕ → ℕ) (N : ℕ)
   fine ch n k = opens ch k && every (suc k) (passes E state cfg N enc sc t inp may ch n (suc k))
 
   unfoldable pub hunt : ℕ → ℕ → (ℕ → ℕ) → List Outcome
-  hunt zero k ch = record { output = out (moves E ch) t; next = nexts cfg (moves E ch) zero N } ∷ []
+  hunt zero k ch = outcomeOf E cfg t N ch ∷ []
   hunt (suc n) k ch = upto (length (E k .transitions)) (λ v. cond (keep k v && fine (upd ch k v) n k) (hunt n (suc k) (upd ch k v)) [])
 
   module _ (s : Stands N enc sc t) (m : Bounds E state cfg N t inp may) (si : Small inp) (sa : (ch : ℕ → ℕ) (e : ℕ) → Small (actionOf (moves E ch e)))

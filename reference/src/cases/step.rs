@@ -21,6 +21,7 @@ pub fn cases() -> Vec<Case> {
         files(),
         inputs(),
         wide(),
+        places(),
     ];
     meanings.chain(edges.into_iter().flatten()).collect()
 }
@@ -887,6 +888,37 @@ fn wide() -> Vec<Case> {
         step("wide-last-choice-alone", last_alone, refusal::SUCCESS),
         step("wide-no-choice", last_never, refusal::NO_STEP),
         step("wide-all-alike", alike, refusal::SUCCESS),
+    ]
+}
+
+/// 02, No. 1: the highest place that there is, and one in the middle of a list; the first of three
+/// equal transitions, behind one that is not met.
+fn places() -> Vec<Case> {
+    let step = |name: &str, charts: Vec<Chart>, at: &[u8]| {
+        let file = row_of_charts(charts).file();
+        let command = Command::step(name, file, at, Set::EMPTY, at.len());
+        Case::new(command, refusal::SUCCESS)
+    };
+    let full = spread(STATES as u8, CHART_TRANSITIONS);
+    let only = |place: usize| {
+        let mut chart = full.clone();
+        let others = chart.transitions.iter_mut().enumerate();
+        for (_, transition) in others.filter(|&(other, _)| other != place) {
+            transition.needed = Set::one(60);
+        }
+        chart
+    };
+    let never = go(0, 0, &[60], &[], &[]);
+    let equal = vec![go(0, 0, &[], &[], &[1]); 3];
+    let behind = chart(1, &[], [vec![never], equal].concat());
+    let state = |place: usize| full.transitions[place].from;
+    vec![
+        step(
+            "place-63",
+            vec![only(30), only(63)],
+            &[state(30), state(63)],
+        ),
+        step("place-of-equal-transitions", vec![behind], &[0]),
     ]
 }
 

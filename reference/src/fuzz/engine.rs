@@ -1,64 +1,86 @@
 //! A call made in the proved engine: by its own functions, and through its binding for Rust.
 
-use crate::command::{Command, Op};
+use crate::command::{Command, Numbers, Op};
+use crate::limits::{CHARTS, NO_PLACE};
+use crate::step::Places;
 use mestecur::raw::*;
-use mestecur::{Refusal, Set};
+use mestecur::{Refusal, Set, Step};
 
 /// What a number behind a pointer is before a call.
 const BEFORE: u64 = 0x5A5A_5A5A_5A5A_5A5A;
 
 /// The call by the engine's own functions; the numbers are those that it leaves behind the pointers.
-pub fn raw(command: &Command, lent: &mut [u8]) -> (u8, [u64; 2]) {
+pub fn raw(command: &Command, lent: &mut [u8]) -> (u8, Numbers) {
     let (file, long) = (command.file.as_ptr(), command.file.len());
     let (config, charts) = (command.configuration.as_ptr(), command.configuration.len());
     let inputs: Vec<u64> = command.inputs.iter().map(|set| set.0).collect();
     let (out, room) = (lent.as_mut_ptr(), lent.len());
     let (mut one, mut other, mut mark, mut length) =
         (BEFORE, BEFORE, BEFORE as u8, BEFORE as usize);
+    let mut places = [BEFORE as u8; CHARTS];
     // SAFETY: each pointer is that of a slice with the length beside it, or of a number of our own; what
     // is written is lent alone.
     unsafe {
         match command.op {
-            Op::Check => (mestecur_check(file, long), [0; 2]),
-            Op::First => (mestecur_first(file, long, out, room), [0; 2]),
+            Op::Check => (mestecur_check(file, long), Numbers::NONE),
+            Op::First => (mestecur_first(file, long, out, room), Numbers::NONE),
             Op::Interface => {
                 let refusal = mestecur_interface(file, long, &mut one, &mut other);
-                (refusal, [one, other])
+                (refusal, Numbers::two(one, other))
             }
             Op::Step => {
                 let refusal = mestecur_step(
-                    file, long, config, charts, inputs[0], out, room, &mut one, &mut mark,
+                    file,
+                    long,
+                    config,
+                    charts,
+                    inputs[0],
+                    out,
+                    room,
+                    &mut one,
+                    &mut mark,
+                    &mut places,
                 );
-                (refusal, [one, u64::from(mark)])
+                let two = [one, u64::from(mark)];
+                (refusal, Numbers { two, places })
             }
             Op::Run => {
                 let (list, count) = (inputs.as_ptr(), inputs.len());
                 let refusal = mestecur_run(file, long, config, charts, list, count, out, room);
-                (refusal, [0; 2])
+                (refusal, Numbers::NONE)
             }
             Op::Rewrite => {
                 let refusal = mestecur_rewrite(file, long, out, room, &mut length);
-                (refusal, [length as u64, 0])
+                (refusal, Numbers::two(length as u64, 0))
             }
         }
     }
 }
 
 /// The call through the binding; a refusal has no numbers.
-pub fn binding(command: &Command, lent: &mut [u8]) -> (u8, [u64; 2]) {
+pub fn binding(command: &Command, lent: &mut [u8]) -> (u8, Numbers) {
     let (file, config) = (&command.file, &command.configuration);
     let inputs: Vec<Set> = command.inputs.iter().map(|set| Set(set.0)).collect();
     let answer = match command.op {
-        Op::Check => mestecur::check(file).map(|()| [0; 2]),
-        Op::First => mestecur::first(file, lent).map(|()| [0; 2]),
-        Op::Interface => mestecur::interface(file).map(|found| [found.input.0, found.output.0]),
-        Op::Step => mestecur::step(file, config, inputs[0], lent)
-            .map(|step| [step.output.0, u64::from(step.mark)]),
-        Op::Run => mestecur::run(file, config, &inputs, lent).map(|()| [0; 2]),
-        Op::Rewrite => mestecur::rewrite(file, lent).map(|length| [length as u64, 0]),
+        Op::Check => mestecur::check(file).map(|()| Numbers::NONE),
+        Op::First => mestecur::first(file, lent).map(|()| Numbers::NONE),
+        Op::Interface => {
+            mestecur::interface(file).map(|found| Numbers::two(found.input.0, found.output.0))
+        }
+        Op::Step => mestecur::step(file, config, inputs[0], lent).map(|step| Numbers {
+            two: [step.output.0, u64::from(step.mark)],
+            places: places(&step),
+        }),
+        Op::Run => mestecur::run(file, config, &inputs, lent).map(|()| Numbers::NONE),
+        Op::Rewrite => mestecur::rewrite(file, lent).map(|length| Numbers::two(length as u64, 0)),
     };
     answer.map_or_else(
-        |refusal: Refusal| (refusal.number(), [0; 2]),
+        |refusal: Refusal| (refusal.number(), Numbers::NONE),
         |numbers| (0, numbers),
     )
+}
+
+/// The places of a step that the binding gives, as 02 has them.
+pub fn places(step: &Step) -> Places {
+    step.places.map(|place| place.unwrap_or(NO_PLACE))
 }

@@ -6,7 +6,7 @@ pub mod same;
 
 use crate::cases::charts::whole_case;
 use crate::cases::run::rows_bytes;
-use crate::command::{hex, Command};
+use crate::command::{hex, Command, Numbers};
 use crate::draw::Draw;
 use crate::generate::Random;
 use crate::Set;
@@ -14,12 +14,12 @@ use crate::Set;
 /// The bytes of a lent buffer's surroundings, in front and behind; the engine may not touch them.
 const MARGIN: usize = 21;
 
-/// What a call tells: its refusal, the single numbers that it answers, and all bytes of the lent
+/// What a call tells: its refusal, the numbers that it answers, and all bytes of the lent
 /// buffer and around it.
 #[derive(Clone, PartialEq, Eq, Debug)]
 pub struct Told {
     pub refusal: u8,
-    pub numbers: [u64; 2],
+    pub numbers: Numbers,
     pub bytes: Vec<u8>,
 }
 
@@ -62,7 +62,7 @@ fn compare(command: &Command) -> Result<(), String> {
 }
 
 /// How a call is made: with a lent buffer, giving the refusal and the numbers.
-type Call = fn(&Command, &mut [u8]) -> (u8, [u64; 2]);
+type Call = fn(&Command, &mut [u8]) -> (u8, Numbers);
 
 /// Makes a call with a buffer that has a pattern in it and around it.
 fn tell(command: &Command, call: Call) -> Told {
@@ -103,7 +103,8 @@ fn difference(command: &Command, expected: &Told, who: &str, told: &Told) -> Str
 
 /// What was told, on a line.
 fn words(told: &Told) -> String {
-    let [one, other] = told.numbers;
+    let [one, other] = told.numbers.two;
+    let places = hex(&told.numbers.places);
     let (refusal, bytes) = (told.refusal, hex(&told.bytes));
-    format!("refusal {refusal}, numbers {one:x} {other:x}, lent {bytes}")
+    format!("refusal {refusal}, numbers {one:x} {other:x}, places {places}, lent {bytes}")
 }

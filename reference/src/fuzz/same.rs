@@ -1,6 +1,8 @@
 //! Demand 3 over the proved engine: random files with slaves are rewritten by it and here, and then it
 //! answers for the old file and for the new one, from every configuration.
 
+use super::engine::places;
+use crate::agreement::Agreement;
 use crate::cases::rewrite::rewritten_bytes;
 use crate::cases::run::rows_bytes;
 use crate::check::accept;
@@ -8,6 +10,7 @@ use crate::command::{hex, FILL};
 use crate::generate::{configuration, crowd, front, input, Random, Shape};
 use crate::model::Model;
 use crate::set::Set;
+use crate::step::{Places, NO_PLACES};
 use crate::walk::{configurations, has_several, hides_inside, inputs, is_nested, with_slaves};
 use mestecur::{Refusal, Step};
 use std::fmt::{self, Debug, Display, Formatter};
@@ -33,6 +36,8 @@ pub struct Compared {
     pub given: usize,
     /// Of the steps given those marked no.
     pub doubtful: usize,
+    /// Of the steps given those that take an idle transition in the new file.
+    pub idle: usize,
     pub refused: usize,
     pub rows: usize,
 }
@@ -42,8 +47,8 @@ impl Display for Compared {
         write!(
             out,
             "{} files with slaves, {} rewritten ({} nested, {} with several slaves of a master, \
-             {} hiding inside a slave); {} configurations, {} steps given ({} marked no), \
-             {} refused, {} rows of runs",
+             {} hiding inside a slave); {} configurations, {} steps given ({} marked no, \
+             {} with an idle transition), {} refused, {} rows of runs",
             self.files,
             self.rewritten,
             self.nested,
@@ -52,6 +57,7 @@ impl Display for Compared {
             self.configurations,
             self.given,
             self.doubtful,
+            self.idle,
             self.refused,
             self.rows
         )
@@ -67,12 +73,13 @@ impl Compared {
         self.hiding += usize::from(hides_inside(model));
     }
 
-    /// Counts a step.
-    fn add_step(&mut self, answer: Result<Step, Refusal>) {
+    /// Counts a step of a file with so many charts.
+    fn add_step(&mut self, charts: usize, answer: Result<Step, Refusal>) {
         match answer {
             Ok(step) => {
                 self.given += 1;
                 self.doubtful += usize::from(!step.mark);
+                self.idle += usize::from(step.places[..charts].contains(&None));
             }
             Err(_) => self.refused += 1,
         }
@@ -87,6 +94,7 @@ impl Compared {
             && kinds.iter().all(|&files| files >= self.rewritten / 5)
             && self.given.min(self.refused) >= steps / 5
             && self.doubtful >= self.given / 50
+            && self.idle >= self.given / 5
     }
 }
 
@@ -120,17 +128,20 @@ fn compare(
         return Ok(());
     };
     compared.add_rewritten(model);
+    let charts = model.charts.len();
+    let read = accept(&new).map_err(|number| format!("the new file: {number}"))?;
     let pair = Pair {
         old,
         new: &new,
-        charts: model.charts.len(),
+        charts,
+        agreement: Agreement::new(model, &read),
     };
     pair.hold_file()?;
     let inputs = inputs(random, shape, model);
     for at in configurations(model) {
         compared.configurations += 1;
         for &input in &inputs {
-            compared.add_step(pair.hold_step(&at, input)?);
+            compared.add_step(charts, pair.hold_step(&at, input)?);
         }
     }
     compared.rows += ROWS;
@@ -174,6 +185,29 @@ struct Pair<'a> {
     old: &'a [u8],
     new: &'a [u8],
     charts: usize,
+    agreement: Agreement<'a>,
+}
+
+/// A step's answer, and its lent buffer.
+type Stepped = (Result<Step, Refusal>, Lent);
+
+/// What a step told, but for its places.
+fn without_places((answer, next): &Stepped) -> (Result<(mestecur::Set, bool), Refusal>, &Lent) {
+    (answer.map(|step| (step.output, step.mark)), next)
+}
+
+/// The places of a step.
+fn places_of((answer, _): &Stepped) -> Places {
+    answer.map_or(NO_PLACES, |step| places(&step))
+}
+
+/// The answer for both files, if it is the same.
+fn alike<T: PartialEq + Debug>(what: fmt::Arguments, old: T, new: T) -> Result<T, String> {
+    if old == new {
+        Ok(old)
+    } else {
+        Err(format!("{what}: {old:?}, rewritten {new:?}"))
+    }
 }
 
 impl Pair<'_> {
@@ -183,12 +217,7 @@ impl Pair<'_> {
         what: fmt::Arguments,
         call: impl Fn(&[u8]) -> T,
     ) -> Result<T, String> {
-        let (old, new) = (call(self.old), call(self.new));
-        if old == new {
-            Ok(old)
-        } else {
-            Err(format!("{what}: {old:?}, rewritten {new:?}"))
-        }
+        alike(what, call(self.old), call(self.new))
     }
 
     /// The new file passes, has no slaves and is rewritten into itself; first configuration and
@@ -212,14 +241,26 @@ impl Pair<'_> {
         Ok(())
     }
 
-    /// The answer of a step, and all of its lent buffer, are those of the old file.
+    /// A step of one of the files: its answer, and its lent buffer.
+    fn step(&self, file: &[u8], at: &[u8], input: Set) -> Stepped {
+        let mut next = vec![FILL; self.charts + 1];
+        let answer = mestecur::step(file, at, mestecur::Set(input.0), &mut next);
+        (answer, Lent(next))
+    }
+
+    /// A step's refusal, output and mark, and all of its lent buffer, are those of the old file, and
+    /// the places agree.
     fn hold_step(&self, at: &[u8], input: Set) -> Result<Result<Step, Refusal>, String> {
-        let told = self.same(format_args!("step from {at:?} under {input:x?}"), |file| {
-            let mut next = vec![FILL; self.charts + 1];
-            let answer = mestecur::step(file, at, mestecur::Set(input.0), &mut next);
-            (answer, Lent(next))
-        })?;
-        Ok(told.0)
+        let what = format_args!("step from {at:?} under {input:x?}");
+        let old = self.step(self.old, at, input);
+        let new = self.step(self.new, at, input);
+        let _ = alike(what, without_places(&old), without_places(&new))?;
+        let number = old.0.map_or_else(Refusal::number, |_| 0);
+        let (here, there) = (places_of(&old), places_of(&new));
+        match self.agreement.holds(at, number, &here, &there) {
+            true => Ok(old.0),
+            false => Err(format!("{what}: places {here:?}, rewritten {there:?}")),
+        }
     }
 
     /// A run has the old file's rows.

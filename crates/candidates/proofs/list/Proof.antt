@@ -25,10 +25,10 @@ consider-requires c κs =
     let l = c .before .before .before .loop in (
       r .0,
       omega arith,
-      left-tabled (a .a) (fromStart (a .n) (a .body .now) (a .start)) (filling (a .masks .now) (a .small .now) 0) (l .p) (l .masks) (l .small) (l .have) (l .inv .1) (r .2),
-      r .3,
-      left-few (a .a) (fromStart (a .n) (a .body .now) (a .start)) (filling (a .masks .now) (a .small .now) 0) refl (a .count) (r .4) (l .p) (l .masks) (l .small) (l .have) (l .inv .1) (l .inv .0),
-      left-room (a .a) (fromStart (a .n) (a .body .now) (a .start)) (filling (a .masks .now) (a .small .now) 0) refl (a .count) (r .4) (l .p) (l .masks) (l .small) (l .have) (l .inv .1) (c .before .before .loop-test .taken),
+      left-tabled (a .a) (fromStart (a .n) (a .body .now) (a .start)) (filling (a .masks .now) (a .small .now) 0) (l .p) (l .masks) (l .small) (l .have) (l .inv .1) (r .3),
+      r .4,
+      left-few (a .a) (fromStart (a .n) (a .body .now) (a .start)) (filling (a .masks .now) (a .small .now) 0) refl (a .count) (r .5) (l .p) (l .masks) (l .small) (l .have) (l .inv .1) (l .inv .0),
+      left-room (a .a) (fromStart (a .n) (a .body .now) (a .start)) (filling (a .masks .now) (a .small .now) 0) refl (a .count) (r .5) (l .p) (l .masks) (l .small) (l .have) (l .inv .1) (c .before .before .loop-test .taken),
     )
 
 loop-again : tie.Need-loop-again Inv-loop μ-loop
@@ -43,14 +43,14 @@ returns c =
     let r = c .before .before .before .before .before .pre in
     let l = c .before .loop in
     let e : l .p ≡ a .count = omega arith in
-    (subst (λ p. Left (listingBy (a .a) (fromStart (a .n) (a .body .now) (a .start)) p (filling (a .masks .now) (a .small .now) 0)) (l .masks) (l .small) (l .have)) e (l .inv .1), left-few (a .a) (fromStart (a .n) (a .body .now) (a .start)) (filling (a .masks .now) (a .small .now) 0) refl (a .count) (r .4) (l .p) (l .masks) (l .small) (l .have) (l .inv .1) (l .inv .0))
+    (subst (λ p. Left (listingBy (a .a) (fromStart (a .n) (a .body .now) (a .start)) p (filling (a .masks .now) (a .small .now) 0)) (l .masks) (l .small) (l .have)) e (l .inv .1), left-few (a .a) (fromStart (a .n) (a .body .now) (a .start)) (filling (a .masks .now) (a .small .now) 0) refl (a .count) (r .5) (l .p) (l .masks) (l .small) (l .have) (l .inv .1) (l .inv .0))
 
 -- the tables keep their lengths
 sized : (c : tie.After-loop Inv-loop μ-loop) → Tabled (c .before .loop .masks) (c .before .loop .small)
 sized c =
     let a = c .before .before .before .before .before .args in
     let l = c .before .loop in
-    left-tabled (a .a) (fromStart (a .n) (a .body .now) (a .start)) (filling (a .masks .now) (a .small .now) 0) (l .p) (l .masks) (l .small) (l .have) (l .inv .1) (c .before .before .before .before .before .pre .2)
+    left-tabled (a .a) (fromStart (a .n) (a .body .now) (a .start)) (filling (a .masks .now) (a .small .now) 0) (l .p) (l .masks) (l .small) (l .have) (l .inv .1) (c .before .before .before .before .before .pre .3)
 
 pub list-spec : {M : Type 1} → statement M
 list-spec =
@@ -60,10 +60,11 @@ list-spec =
     μ-loop
     loop-holds
     (λ c. omega arith)
+    (λ c. omega (arith, c .before .before .before .before .before .pre .2))
     consider-requires
     (λ c. omega arith)
     (λ c. omega arith)
     loop-again
-    (λ c. sized c .masks ∙ sym (c .before .before .before .before .before .pre .2 .masks))
-    (λ c. sized c .small ∙ sym (c .before .before .before .before .before .pre .2 .small))
+    (λ c. sized c .masks ∙ sym (c .before .before .before .before .before .pre .3 .masks))
+    (λ c. sized c .small ∙ sym (c .before .before .before .before .before .pre .3 .small))
     returns)

@@ -15,6 +15,7 @@ list-requires c κs =
     let few = r .0 .sized .charts in (
       r .0 .sized .holds,
       chart-fits (a .n) (a .body .now) (a .config .now) (r .0) (a .c) (a .start) _ (r .3) (r .4) h,
+      search needs,
       r .2,
       omega arith,
       chart-room (a .n) (a .body .now) (a .config .now) (r .0) (a .c) (a .start) _ (r .3) (r .4) h,

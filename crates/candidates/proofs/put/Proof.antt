@@ -1,4 +1,4 @@
--- `put` meets its contract: four stores. Assumes nothing.
+-- `put` meets its contract: five stores. Assumes nothing.
 use mathlib.Core.Path.{_≡_, refl}
 use native.Mathlib.Omega.{arith}
 use lib.ListN.{length-set}
@@ -26,6 +26,8 @@ put-spec =
     (λ c. search needs)
     (λ c. simp length-set (omega arith))
     (λ c. search needs)
+    (λ c. search needs)
+    (λ c. simp length-set (omega arith))
     (λ c. search needs)
     (λ c. search needs)
     returns)

@@ -136,16 +136,16 @@ others-done m may N c l = join-cong N _ _ (λ e r. ap (λ z. z ∩ backAt m c e)
 
 -- ── one transition, by the way it goes ──
 
-module _ (a : Around) (t : Transition) (m s : List ℕ) (k x : ℕ) (ex : x ≡ t .from) where
+module _ (a : Around) (w : ℕ) (t : Transition) (m s : List ℕ) (k x : ℕ) (ex : x ≡ t .from) where
   -- the filling by what the three tests say
   ways : Bool → Bool → Bool → Filling
-  ways u y z = pickFilling u (pickFilling y (pickFilling z (filling m s k) (put (a .chart) t (filling m s k))) (filling m s k)) (filling m s k)
+  ways u y z = pickFilling u (pickFilling y (pickFilling z (filling m s k) (put (a .chart) w t (filling m s k))) (filling m s k)) (filling m s k)
 
-  by-ways : (u y z : Bool) → same (t .from) (a .state) ≡ u → lastsBy (a .low) (a .own) (a .others) (some t) ≡ y → isAgain m s (a .chart) k t ≡ z → ways u y z ≡ consideredBy a t (filling m s k)
+  by-ways : (u y z : Bool) → same (t .from) (a .state) ≡ u → lastsBy (a .low) (a .own) (a .others) (some t) ≡ y → isAgain m s (a .chart) k t ≡ z → ways u y z ≡ consideredBy a w t (filling m s k)
   unfolding ways considered
   by-ways u y z p q r = sym (λ i. ways (p i) (q i) (r i))
 
-  pub left-other : (x ≡ a .state → ⊥) → Left (consideredBy a t (filling m s k)) m s k
+  pub left-other : (x ≡ a .state → ⊥) → Left (consideredBy a w t (filling m s k)) m s k
   unfolding ways
   left-other h = subst (λ g. Left g m s k) (by-ways false _ _ (rw (← ex) (same-≢ x (a .state) h)) refl refl) (record { masks = refl; small = refl; count = refl })
 
@@ -153,21 +153,21 @@ module _ (a : Around) (t : Transition) (m s : List ℕ) (k x : ℕ) (ex : x ≡ 
     from-here : same (t .from) (a .state) ≡ true
     from-here = rw (← ex, h) (same-refl (a .state))
 
-    pub left-fails : y ≡ false → Left (consideredBy a t (filling m s k)) m s k
+    pub left-fails : y ≡ false → Left (consideredBy a w t (filling m s k)) m s k
     unfolding ways
     left-fails f = subst (λ g. Left g m s k) (by-ways true false _ from-here (subst (λ q. lastsBy (a .low) (a .own) (a .others) (some q) ≡ false) er (sym ey ∙ f)) refl) (record { masks = refl; small = refl; count = refl })
 
     module _ (f : y ≡ true) (z : Bool) (ez : z ≡ isAgain m s (a .chart) k r) where
-      way : (b : Bool) → z ≡ b → ways true true b ≡ consideredBy a t (filling m s k)
+      way : (b : Bool) → z ≡ b → ways true true b ≡ consideredBy a w t (filling m s k)
       way b g = by-ways true true b from-here (subst (λ q. lastsBy (a .low) (a .own) (a .others) (some q) ≡ true) er (sym ey ∙ f)) (subst (λ q. isAgain m s (a .chart) k q ≡ b) er (sym ez ∙ g))
 
-      pub left-again : z ≡ true → Left (consideredBy a t (filling m s k)) m s k
+      pub left-again : z ≡ true → Left (consideredBy a w t (filling m s k)) m s k
       unfolding ways
       left-again g = subst (λ g. Left g m s k) (way true g) (record { masks = refl; small = refl; count = refl })
 
-      pub left-put : z ≡ false → (m′ s′ : List ℕ) → (m′ ≡ putMasks m (a .chart) k r) × (s′ ≡ putSmall s (a .chart) k r) → Left (consideredBy a t (filling m s k)) m′ s′ (k + 1)
+      pub left-put : z ≡ false → (m′ s′ : List ℕ) → (m′ ≡ putMasks m (a .chart) k r) × (s′ ≡ putSmall s (a .chart) k w r) → Left (consideredBy a w t (filling m s k)) m′ s′ (k + 1)
       unfolding ways
-      left-put g m′ s′ p = subst (λ g. Left g m′ s′ (k + 1)) (way false g) (record { masks = p .0 ∙ ap (putMasks m (a .chart) k) er; small = p .1 ∙ ap (putSmall s (a .chart) k) er; count = refl })
+      left-put g m′ s′ p = subst (λ g. Left g m′ s′ (k + 1)) (way false g) (record { masks = p .0 ∙ ap (putMasks m (a .chart) k) er; small = p .1 ∙ ap (putSmall s (a .chart) k w) er; count = refl })
 
 -- ── a filling by one transition more ──
 
@@ -176,9 +176,9 @@ module _ (a : Around) (g : ℕ → Transition) (f : Filling) where
   unfolding listing
   left-none = record { masks = refl; small = refl; count = refl }
 
-  pub left-next : (p : ℕ) (m s : List ℕ) (k : ℕ) (m′ s′ : List ℕ) (k′ : ℕ) → Left (listingBy a g p f) m s k → Left (consideredBy a (g p) (filling m s k)) m′ s′ k′ → Left (listingBy a g (p + 1) f) m′ s′ k′
+  pub left-next : (p : ℕ) (m s : List ℕ) (k : ℕ) (m′ s′ : List ℕ) (k′ : ℕ) → Left (listingBy a g p f) m s k → Left (consideredBy a p (g p) (filling m s k)) m′ s′ k′ → Left (listingBy a g (p + 1) f) m′ s′ k′
   unfolding listing
-  left-next p m s k m′ s′ k′ h l = rw (add-one p) (subst (λ z. Left (consideredBy a (g p) z) m′ s′ k′) (λ i. record { masks = h .masks i; small = h .small i; count = h .count i }) l)
+  left-next p m s k m′ s′ k′ h l = rw (add-one p) (subst (λ z. Left (consideredBy a p (g p) z) m′ s′ k′) (λ i. record { masks = h .masks i; small = h .small i; count = h .count i }) l)
 
   pub left-tabled : (p : ℕ) (m s : List ℕ) (k : ℕ) → Left (listingBy a g p f) m s k → Tabled (f .masks) (f .small) → Tabled m s
   left-tabled p m s k h t =
@@ -290,10 +290,10 @@ pub chooses : (n : Shape) (b config base lows m₀ s₀ s₁ m s m′ : List ℕ
 chooses n b config base lows m₀ s₀ s₁ m s m′ r tb st ra un ah = let few = r .sized .charts in
     record {
       chosen = chosen (transitionsOf n b) (λ c. getD config c 0) (n .charts) lows m₀ s₁ few m m′ s un ah (st .states);
-      raised = raised-same (transitionsOf n b) (λ c. getD config c 0) base (n .charts) m₀ s₁ m′ s lows few (λ i p q. ah .below i q ∙ un .wires i p) (λ i p q. un .rest i (omega arith)) ra;
+      raised = raised-same (transitionsOf n b) (λ c. getD config c 0) base (n .charts) m₀ s₁ m′ s lows few (λ i p q. ah .below i q ∙ un .wires i p) (λ i p q. un .rest i (omega arith) (omega arith)) ra;
       wires = λ i p q. ah .below i q ∙ un .wires i p;
       ups = λ i p. ah .above i p ∙ un .wires i (omega arith);
-      masters = λ i p q. un .rest i (omega arith) ∙ st .below i q;
+      masters = λ i p q. un .rest i (omega arith) (omega arith) ∙ st .below i q;
       tabled = record { masks = ah .masks ∙ un .masks; small = un .small };
     }
 

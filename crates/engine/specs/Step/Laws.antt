@@ -21,7 +21,8 @@ use Rattle.meaning.specs.File.{File, trailer, shapeOf, bodyOf, chartOf, fileAt,
 use Rattle.meaning.specs.Check.{Test, firstOf, fileTests, refusalOf, notBelow, ends?, leaving, transitions?}
 use Rattle.meaning.specs.Check.Laws.{below, alike, call-refused, call-passed, passed, Passes, firstOf-passes, firstOf-++, firstOf-before, firstOf-here, firstOf-next, firstOf-[]}
 use Rattle.meaning.specs.Check.Nodes.{sound}
-use Rattle.meaning.specs.Calls.{configTests, stepRefusal, stepIn, stepOf, nextIn}
+use Rattle.meaning.specs.Calls.{configTests, stepRefusal, stepIn, stepOf, allPlaces, placesIn, placesOf, nextIn}
+use Rattle.meaning.specs.Calls.Laws.{behind-refused as places-refused}
 use Rattle.meaning.specs.Laws.Names.{kap}
 use Rattle.wiring.specs.Wire.{Small, full, down}
 use Rattle.search.specs.Table.{Row}
@@ -30,7 +31,7 @@ use Rattle.search.specs.Hunt.{hunts, over, nothing}
 use Rattle.search.specs.declared.Found.{Found}
 use Rattle.tables.specs.Filled.{Rows, answerOf, trimmed}
 use Rattle.tables.specs.Fill.{stuck}
-use Rattle.tables.specs.Step.{step-found, step-stuck}
+use Rattle.tables.specs.Step.{step-found, step-places, none-found}
 use Rattle.checks.specs.Known.{Sized}
 use Rattle.nesting.specs.Known.{Wirable}
 use Rattle.nesting.specs.Nearest.{masterBy, stateBy}
@@ -38,7 +39,7 @@ use Rattle.plan.specs.Wired.{Wired}
 use Rattle.candidates.specs.Candidates.{Ready, Chooses}
 use Rattle.candidates.specs.Candidates.Laws.{actions-small}
 use Rattle.engine.specs.declared.step.Stepped.{Stepped}
-use Rattle.engine.specs.Step.{steppedOf, configTestsIn, refusalAfter, stepAfter, Checked, Prepared}
+use Rattle.engine.specs.Step.{steppedOf, configTestsIn, refusalAfter, stepAfter, placesAfter, Checked, Prepared, Finds}
 
 -- ── behind 1 to 11 ──
 
@@ -60,6 +61,10 @@ step-refused f config i room h = rw (behind-refused f config _ h, ne-eqb (refusa
 pub step-passed : (f config : List ℕ) (i : Set) (room : ℕ) → refusalOf f ≡ 0 → stepOf f config i room ≡ stepAfter (fileOf f) config i room
 unfolding stepOf stepRefusal stepAfter refusalAfter
 step-passed f config i room h = rw (behind-passed f config _ h)
+
+pub places-passed : (f config : List ℕ) (i : Set) (room : ℕ) → refusalOf f ≡ 0 → placesOf f config i room ≡ placesAfter (fileOf f) config i room
+unfolding placesOf stepRefusal placesAfter refusalAfter
+places-passed f config i room h = rw (behind-passed f config _ h)
 
 -- ── 20 to 22 ──
 
@@ -92,6 +97,15 @@ module _ (F : File) (config : List ℕ) where
     pub after-step : firstOf (configTestsIn F config) ≡ 0 → F .charts ≤ room → stepAfter F config i room ≡ stepIn F config i
     unfolding stepAfter refusalAfter same
     after-step h l = rw (firstOf-++ (configTestsIn F config) (room-test ∷ []) (config-passes h), firstOf-next room-test [] (le-ltb room (F .charts) l), firstOf-[])
+
+    -- the places, likewise
+    pub after-places : firstOf (configTestsIn F config) ≡ 0 → F .charts ≤ room → placesAfter F config i room ≡ placesIn F config i
+    unfolding placesAfter refusalAfter same
+    after-places h l = rw (firstOf-++ (configTestsIn F config) (room-test ∷ []) (config-passes h), firstOf-next room-test [] (le-ltb room (F .charts) l), firstOf-[])
+
+    pub after-refused : (r : ℕ) → stepAfter F config i room ≡ refused r → placesAfter F config i room ≡ allPlaces []
+    unfolding stepAfter placesAfter
+    after-refused r e = places-refused r (refusalAfter F config room) F config i e
 
 -- the body that a file is opened to
 pub checked : (f : List ℕ) (n : Shape) (b : List ℕ) → refusalOf f ≡ 0 → n ≡ shapeOf (trailer f) → b ≡ bodyOf f → Sized n b → startOf n b (n .charts) ≡ n .transitions → Checked n b
@@ -176,18 +190,21 @@ module _ (n : Shape) (b a m s m′ s′ config base lows : List ℕ) (sz : Sized
     unfolding full
     small-input = cut-all 64 inp fits
 
-    pub found-here : answerOf (n .charts) (over (hunts m′ s′ (n .charts) 0 (beginning lows)) nothing) ≡ stepIn (fileAt n b) config inp
+    pub found-here : Finds n b config inp (over (hunts m′ s′ (n .charts) 0 (beginning lows)) nothing)
     unfolding fileAt chartOf
     found-here =
         let t = k .sound in
-        step-found F (sz .some-node) (t .ordered) (t .rule10) (t .rule11) (t .chart-there) (t .node-there) config inp small-input (actions-small n b all) m′ s′ base lows rows (ch .chosen) (ch .raised) base-is
+        record {
+          answers = step-found F (sz .some-node) (t .ordered) (t .rule10) (t .rule11) (t .chart-there) (t .node-there) config inp small-input (actions-small n b all) m′ s′ base lows rows (ch .chosen) (ch .raised) base-is;
+          places = step-places F (sz .some-node) (t .ordered) (t .rule10) (t .rule11) (t .chart-there) (t .node-there) config inp small-input (actions-small n b all) m′ s′ base lows rows (ch .chosen) (ch .raised) base-is;
+        }
 
     -- no search is needed
-    pub found-stuck : stuck s′ (n .charts) ≡ true → stepIn (fileAt n b) config inp ≡ refused noStep
+    pub found-stuck : stuck s′ (n .charts) ≡ true → Finds n b config inp nothing
     unfolding fileAt chartOf
-    found-stuck =
+    found-stuck h =
         let t = k .sound in
-        step-stuck F (sz .some-node) (t .ordered) (t .rule10) (t .rule11) (t .chart-there) (t .node-there) config inp small-input (actions-small n b all) m′ s′ base lows rows (ch .chosen) (ch .raised) base-is
+        rw (← none-found F (sz .some-node) (t .ordered) (t .rule10) (t .rule11) (t .chart-there) (t .node-there) config inp small-input (actions-small n b all) m′ s′ base lows rows (ch .chosen) (ch .raised) base-is h) found-here
 
 -- ── what was found ──
 
@@ -200,6 +217,6 @@ unfolding trimmed
 answer-given N f h = rw h
 
 -- a refusal gives nothing and leaves the buffer
-pub refuses : (a : Answer) (b : List ℕ) (r : ℕ) (s : Stepped) → a ≡ refused r → s ≡ record { refusal = r; output = 0; mark = false }
-    → (s ≡ steppedOf a) × (b ≡ nextIn a b)
-refuses a b r s e h = rw (e, h) (refl, refl)
+pub refuses : (a : Answer) (places b : List ℕ) (r : ℕ) (s : Stepped) → a ≡ refused r → places ≡ allPlaces []
+    → s ≡ record { refusal = r; output = 0; mark = false; places = allPlaces [] } → (s ≡ steppedOf a places) × (b ≡ nextIn a b)
+refuses a places b r s e q h = rw (e, q, h) (refl, refl)

@@ -1,5 +1,5 @@
 -- Choices in order. In this order: lists one behind another (`upto`); a choice with one place more (`upd`), and which go on from it (`Below`); a
--- beginning that has no permitted choice (`search-empty`); the states after a choice (`nexts`), and equal ones (`eqList`).
+-- beginning that has no permitted choice (`search-empty`); the states after a choice (`nexts`), and equal ones (`eqList`); its places.
 use mathlib.Core.Path.{_≡_, refl, sym, _∙_, ap, ap₂}
 use mathlib.Core.Bool.{true, false, false≢true}
 use mathlib.Core.List.{List, [], _∷_, _++_, append-nil}
@@ -9,7 +9,7 @@ use native.Mathlib.Numerals.{add-one}
 use native.Mathlib.Omega.{arith}
 use lib.ListN.{length, getD, drop, drop-of-length-le}
 use lib.Seq.{drop-cons}
-use Rattle.meaning.specs.Meaning.{Set, same, Chart, Tree, Move, after, permitted, upd, moves, nexts, upto, outcome, search, eqList}
+use Rattle.meaning.specs.Meaning.{Set, same, Chart, Tree, Move, after, permitted, upd, moves, nexts, placeOf, placesFrom, upto, outcome, search, eqList}
 use Rattle.meaning.specs.Laws.Bools.{and-l, and-r, same-refl, same→≡, same-≢}
 
 -- ── upto ──
@@ -95,3 +95,28 @@ module _ (a b : List ℕ) (i : ℕ) (p : i < length a) (q : i < length b) where
 pub eqList-end : (a b : List ℕ) (i : ℕ) → length a ≤ i → length b ≤ i → eqList (drop i a) (drop i b) ≡ true
 unfolding eqList
 eqList-end a b i p q = rw (drop-of-length-le a p, drop-of-length-le b q)
+
+-- ── placesFrom ──
+
+pub length-places : (ch : ℕ → ℕ) (c n : ℕ) → length (placesFrom ch c n) ≡ n
+unfolding placesFrom
+length-places ch c zero = refl
+length-places ch c (suc n) = ap suc (length-places ch (suc c) n)
+
+pub places-cong : (ch ch₂ : ℕ → ℕ) (c n : ℕ) → ((i : ℕ) → c ≤ i → i < c + n → ch₂ i ≡ ch i) → placesFrom ch₂ c n ≡ placesFrom ch c n
+unfolding placesFrom
+places-cong ch ch₂ c zero h = refl
+places-cong ch ch₂ c (suc n) h =
+    ap₂ _∷_ (ap placeOf (h c (omega arith) (omega arith))) (places-cong ch ch₂ (suc c) n (λ i l m. h i (omega arith) (omega arith)))
+
+places-more : (ch : ℕ → ℕ) (c n : ℕ) → placesFrom ch c (suc n) ≡ placesFrom ch c n ++ (placeOf (ch (c + n)) ∷ [])
+unfolding placesFrom
+places-more ch c zero = ap (λ z. placeOf (ch z) ∷ []) (sym (add-zero c))
+places-more ch c (suc n) = ap (λ l. placeOf (ch c) ∷ l)
+    (places-more ch (suc c) n ∙ ap (λ z. placesFrom ch (suc c) n ++ (placeOf (ch z) ∷ [])) (let e : suc c + n ≡ c + suc n = omega arith in e))
+
+-- one chart more is settled
+pub places-upd : (ch : ℕ → ℕ) (k v : ℕ) → placesFrom (upd ch k v) zero (suc k) ≡ placesFrom ch zero k ++ (placeOf v ∷ [])
+places-upd ch k v = places-more (upd ch k v) zero k
+    ∙ ap₂ (λ l x. l ++ (placeOf x ∷ [])) (places-cong ch (upd ch k v) zero k (λ i l m. upd-off ch k v i (omega arith)))
+    (ap (upd ch k v) (let e : zero + k ≡ k = omega arith in e) ∙ upd-at ch k v)

@@ -14,7 +14,7 @@ use native.Mathlib.Nat.{zero-add}
 use Rattle.layout.specs.declared.record.Transition.{Transition}
 use Rattle.signals.specs.Mask.{_∩_, _∖_}
 use Rattle.meaning.specs.Numbers.{noStep}
-use Rattle.meaning.specs.Meaning.{Set, same, Chart, Tree, Slaves, leaf, comp, hide, dec, nil, snoc, Move, nth, pick, after, out, okChart, ok, oks, permitted, inFace, upd, moves, nexts, Outcome, upto, outcome, search, outcomes, Answer, refused, given, eqList, agree, answer}
+use Rattle.meaning.specs.Meaning.{Set, same, Chart, Tree, Slaves, leaf, comp, hide, dec, nil, snoc, Move, nth, pick, after, out, okChart, ok, oks, permitted, inFace, upd, moves, nexts, placesFrom, Outcome, outcomeOf, firstPlaces, upto, outcome, search, outcomes, Answer, refused, given, eqList, agree, answer}
 use Rattle.meaning.specs.File.{Has, HasS}
 use Rattle.meaning.specs.Laws.Bools.{or-elim, same-refl, same→≡, and-l, and-r}
 use Rattle.meaning.specs.Laws.Choices.{upd-at, upd-other, upd-off, Below, length-nexts, getD-nexts, eqList→≡, eqList-refl}
@@ -97,8 +97,11 @@ module _ (E : ℕ → Chart) (state : ℕ → ℕ) (cfg : ℕ → ℕ) (t : Tree
   abbrev pub nextBy : (ℕ → ℕ) → List ℕ
   nextBy ch = nexts cfg (moves E ch) zero N
 
+  abbrev pub placesBy : (ℕ → ℕ) → List ℕ
+  placesBy ch = placesFrom ch zero N
+
   abbrev by : (ℕ → ℕ) → Outcome
-  by ch = record { output = outputBy ch; next = nextBy ch }
+  by ch = record { output = outputBy ch; next = nextBy ch; places = placesBy ch }
 
   -- "Choices are ordered by chart 0's place, then chart 1's and so on"
   pub record Before (ch ch₂ : ℕ → ℕ) : Type 0 where
@@ -141,7 +144,7 @@ module _ (E : ℕ → Chart) (state : ℕ → ℕ) (cfg : ℕ → ℕ) (t : Tree
   -- ── each permitted choice has its outcome in the list ──
   has : (n k : ℕ) (ch ch₂ : ℕ → ℕ) → n + k ≡ N → Begun k ch → Choice ch₂ → Below k ch ch₂ → Permitted ch₂
       → List·Memᴰ (by ch₂) (search E state cfg t inp N n k ch)
-  unfolding search outcome
+  unfolding search outcome outcomeOf
   has zero k ch ch₂ e b q g p =
       subst (λ z. List·Memᴰ (by ch₂) (outcome E state cfg t inp N z)) (settled k ch ch₂ (omega arith) b q g) (rw p (List·Memᴰ·head refl))
   has (suc n) k ch ch₂ e b q g p =
@@ -167,7 +170,7 @@ module _ (E : ℕ → Chart) (state : ℕ → ℕ) (cfg : ℕ → ℕ) (t : Tree
   one-outcome k ch x false e f b h = absurd (List·Memᴰ·not-nil h)
 
   only : (n k : ℕ) (ch : ℕ → ℕ) (x : Outcome) → n + k ≡ N → Begun k ch → List·Memᴰ x (search E state cfg t inp N n k ch) → From k ch x
-  unfolding search outcome In-one
+  unfolding search outcome outcomeOf In-one
   only zero k ch x e b h = one-outcome k ch x (permitted E state cfg (moves E ch) t inp) refl (omega arith) b h
   only (suc n) k ch x e b h =
       let u = upto-out (length (E k .transitions)) (λ v. search E state cfg t inp N n (suc k) (upd ch k v)) x h in
@@ -261,31 +264,35 @@ module _ (E : ℕ → Chart) (state : ℕ → ℕ) (cfg : ℕ → ℕ) (t : Tree
     pub permits : Permitted choice
     pub output : o ≡ outputBy choice
     pub next : n ≡ nextBy choice
+    pub places : firstPlaces (outcomes E state cfg t inp N) ≡ placesBy choice
     pub first : (ch : ℕ → ℕ) → Choice ch → Permitted ch → Before ch choice → ⊥
 
   -- an answer that gives a step, as the list of outcomes that it stands for
-  listed : (l : List Outcome) (o : Set) (n : List ℕ) (m : Bool) → answer l ≡ given o n m
-      → (xs : List Outcome) × (l ≡ record { output = o; next = n } ∷ xs) × (agree (record { output = o; next = n }) xs ≡ m)
+  pub record Listed (l : List Outcome) (o : Set) (n : List ℕ) (m : Bool) : Type 0 where
+    pub head : Outcome
+    pub rest : List Outcome
+    pub is : l ≡ head ∷ rest
+    pub output : head .output ≡ o
+    pub next : head .next ≡ n
+    pub mark : agree head rest ≡ m
+
+  listed : (l : List Outcome) (o : Set) (n : List ℕ) (m : Bool) → answer l ≡ given o n m → Listed l o n m
   unfolding answer
   listed [] o n m e = absurd (let z : _≡_ {A = ℕ} 0 1 = cc in omega arith)
-  listed (x ∷ xs) o n m e =
-      let p : x .output ≡ o = cc in
-      let q : x .next ≡ n = cc in
-      let r : agree x xs ≡ m = cc in
-      let s : x ≡ record { output = o; next = n } = ap₂ (λ a b. record { output = a; next = b }) p q in
-      (xs, ap (λ z. z ∷ xs) s, subst (λ z. agree z xs ≡ m) s r)
+  listed (x ∷ xs) o n m e = record { head = x; rest = xs; is = refl; output = cc; next = cc; mark = cc }
 
   pub given-first : (o : Set) (n : List ℕ) (m : Bool) → the-answer ≡ given o n m → Given o n
-  unfolding outcomes
+  unfolding outcomes firstPlaces
   given-first o n m e =
       let l = listed (outcomes E state cfg t inp N) o n m e in
-      let r = first-of N zero (λ c. zero) (record { output = o; next = n }) (l .0) (omega arith) nowhere (l .1) in
+      let r = first-of N zero (λ c. zero) (l .head) (l .rest) (omega arith) nowhere (l .is) in
       record {
         choice = r .from .choice;
         chosen = r .from .chosen;
         permits = r .from .permits;
-        output = ap (λ x. x .output) (r .from .is);
-        next = ap (λ x. x .next) (r .from .is);
+        output = sym (l .output) ∙ ap (λ x. x .output) (r .from .is);
+        next = sym (l .next) ∙ ap (λ x. x .next) (r .from .is);
+        places = ap firstPlaces (l .is) ∙ ap (λ x. x .places) (r .from .is);
         first = λ ch q p w. r .first ch q p (λ c b. absurd (omega arith)) w;
       }
 
@@ -345,9 +352,10 @@ module _ (E : ℕ → Chart) (state : ℕ → ℕ) (cfg : ℕ → ℕ) (t : Tree
   unfolding outcomes
   mark-yes e ch q p =
       let l = listed E state cfg t inp N (outcomes E state cfg t inp N) o n true e in
-      agree-all (record { output = o; next = n }) (l .0) (l .2) (by E state cfg t inp N ch)
-      (subst (λ z. List·Memᴰ (by E state cfg t inp N ch) z) (l .1)
-      (has E state cfg t inp N N zero (λ c. zero) ch (omega arith) (nowhere E state cfg t inp N) q (λ c l. absurd (omega arith)) p))
+      let a = agree-all (l .head) (l .rest) (l .mark) (by E state cfg t inp N ch)
+      (subst (λ z. List·Memᴰ (by E state cfg t inp N ch) z) (l .is)
+      (has E state cfg t inp N N zero (λ c. zero) ch (omega arith) (nowhere E state cfg t inp N) q (λ c l. absurd (omega arith)) p)) in
+      (a .0 ∙ l .output, a .1 ∙ l .next)
 
   -- no: some permitted choice has another output or next configuration
   pub mark-no : answer (outcomes E state cfg t inp N) ≡ given o n false
@@ -356,10 +364,14 @@ module _ (E : ℕ → Chart) (state : ℕ → ℕ) (cfg : ℕ → ℕ) (t : Tree
   unfolding outcomes
   mark-no e =
       let l = listed E state cfg t inp N (outcomes E state cfg t inp N) o n false e in
-      let u = agree-odd (record { output = o; next = n }) (l .0) (l .2) in
+      let u = agree-odd (l .head) (l .rest) (l .mark) in
       let r = only E state cfg t inp N N zero (λ c. zero) (u .0) (omega arith) (nowhere E state cfg t inp N)
-      (subst (λ z. List·Memᴰ (u .0) z) (sym (l .1)) (List·Memᴰ·tail (u .1))) in
-      (r .choice, r .chosen, r .permits, λ w. u .2 (ap (λ x. x .output) (r .is) ∙ w .0, ap (λ x. x .next) (r .is) ∙ w .1))
+      (subst (λ z. List·Memᴰ (u .0) z) (sym (l .is)) (List·Memᴰ·tail (u .1))) in (
+        r .choice,
+        r .chosen,
+        r .permits,
+        λ w. u .2 (ap (λ x. x .output) (r .is) ∙ w .0 ∙ sym (l .output), ap (λ x. x .next) (r .is) ∙ w .1 ∙ sym (l .next)),
+      )
 
 -- ── a part that is inactive takes none, so that its charts stay in their states and put out nothing ──
 module _ (E : ℕ → Chart) (state : ℕ → ℕ) (cfg : ℕ → ℕ) (M : ℕ → Move) where

@@ -13,7 +13,7 @@ use Rattle.layout.specs.declared.record.Node.{Node}
 use Rattle.layout.specs.declared.record.Slave.{Slave}
 use Rattle.layout.specs.declared.record.Transition.{Transition}
 use Rattle.meaning.specs.Count.{anyUpTo, tally}
-use Rattle.meaning.specs.Meaning.{Set, same, Answer, refused, given, nth, pick, actionOf, after, guards, inFaceChart, inFace, inFaces, out, outs, okChart, meets, ok, oks, permitted, upd, moves, nexts, upto, outcome, search, outcomes, eqList, agree, answer}
+use Rattle.meaning.specs.Meaning.{Set, same, Answer, refused, given, nth, pick, actionOf, after, guards, inFaceChart, inFace, inFaces, out, outs, okChart, meets, ok, oks, permitted, upd, moves, nexts, placeOf, placesFrom, upto, outcomeOf, outcome, search, outcomes, eqList, agree, answer}
 use Rattle.meaning.specs.File.{gather, build, treeOf, Has, HasS, trailer, bodyOf, shapeOf, chartOf, fileAt, fileOf}
 use Rattle.meaning.specs.Check.{firstOf, counts?, distance?, nonzero, zeros?, chart?, charts?, ends?, leaving, transitions?, rising, slave?, slaves?, nodeOfKind?, nodes?, names, named, held, naming?, inside?, fileTests, refusalOf}
 use Rattle.meaning.specs.Calls.{configTests, stepRefusal, stepIn, stepOf}
@@ -191,5 +191,5 @@ table =
     ∷ []
 
 pub thirteen : answers ≡ table
-unfolding answers table single le bytes trailerOf headOf transitionOf slaveOf nodeOf trailerBytes headBytes transitionBytes slaveBytes nodeBytes headAt transitionAt slaveAt nodeAt startOf from transitionsOf anyUpTo tally same nth pick actionOf after guards inFaceChart inFace inFaces out outs okChart meets ok oks permitted upd moves nexts upto outcome search outcomes eqList agree answer gather build treeOf Has HasS trailer bodyOf shapeOf chartOf fileAt fileOf firstOf counts? distance? nonzero zeros? chart? charts? ends? leaving transitions? rising slave? slaves? nodeOfKind? nodes? names named held naming? inside? fileTests refusalOf configTests stepRefusal stepIn stepOf
+unfolding answers table single le bytes trailerOf headOf transitionOf slaveOf nodeOf trailerBytes headBytes transitionBytes slaveBytes nodeBytes headAt transitionAt slaveAt nodeAt startOf from transitionsOf anyUpTo tally same nth pick actionOf after guards inFaceChart inFace inFaces out outs okChart meets ok oks permitted upd moves nexts placeOf placesFrom upto outcomeOf outcome search outcomes eqList agree answer gather build treeOf Has HasS trailer bodyOf shapeOf chartOf fileAt fileOf firstOf counts? distance? nonzero zeros? chart? charts? ends? leaving transitions? rising slave? slaves? nodeOfKind? nodes? names named held naming? inside? fileTests refusalOf configTests stepRefusal stepIn stepOf
 thirteen = refl

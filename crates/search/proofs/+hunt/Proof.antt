@@ -12,17 +12,15 @@ use borrow.Author.Tests.{not-true, not-false, eq-eqb, ne-eqb}
 use borrow.Fn.Kinds.{In}
 use borrow.Fn.PlainCycle.{Measures, is, falls, and}
 use lib.Dec.{eqb}
-use lib.ListN.{replicate}
 use Rattle.signals.specs.Mask.{_∪_, _∩_, apart}
 use Rattle.meaning.specs.Meaning.{Outcome}
-use Rattle.meaning.specs.Calls.{made}
 use Rattle.meaning.specs.Laws.Bools.{and-l, and-r}
 use Rattle.search.specs.declared.Found.{Found}
 use Rattle.search.specs.declared.Guard.{Guard}
 use Rattle.search.specs.Table.{Tables, actionAt, upAt, countAt}
-use Rattle.search.specs.Trail.{Trail, nextIn, trailIn, Keeps}
+use Rattle.search.specs.Trail.{Trail, trailIn, Keeps}
 use Rattle.search.specs.Trail.Laws.{keeps-refl, keeps-trans, keeps-fewer, keeps-room, trail-kept}
-use Rattle.search.specs.Hunt.{each, wakes, taken, rested, fineAt, hunts, settleOf, over, Takes, Hunted}
+use Rattle.search.specs.Hunt.{each, wakes, taken, rested, fineAt, hunts, outcomeIn, settleOf, over, Takes, Hunted}
 use Rattle.search.specs.Hunt.Laws.{Stopped, each-none, over-each, over-each-stopped}
 use Rattle.search.specs.Asks.{asksOf}
 use Rattle.search.specs.Asks.Laws.{ownAt, asked-never, asked-some, asks-kept, fine-taken, fine-rested}
@@ -35,7 +33,6 @@ use Rattle.search.proofs.fits.Reads as fits-reads
 use Rattle.search.proofs.rest.Reads as rest-reads
 use Rattle.search.proofs.settle.Reads as settle-reads
 use Rattle.search.proofs.shown.Reads as shown-reads
-use Rattle.search.proofs.states.Reads as states-reads
 use Rattle.search.proofs.take.Reads as take-reads
 use Rattle.search.proofs.wakes.Reads as wakes-reads
 use Rattle.signals.proofs.apart.Reads as apart-reads
@@ -54,7 +51,7 @@ block m s left k t v = below m s left k (taken m s t k v)
 
 -- no chart is left
 ends : (m s w b : List ℕ) (charts left o : ℕ) (f : Found) → left ≡ 0 →
-    settleOf (record { output = o; next = made charts (nextIn b) ++ replicate (8 - charts) 0 }) f
+    settleOf (outcomeIn b charts o) f
     ≡ over (hunts m s left (charts - left) (trailIn w b (charts - left) o)) f
 unfolding hunts over trailIn
 ends m s w b charts left o f e = let z : charts - left ≡ charts = omega arith in rw (z, e)
@@ -158,8 +155,6 @@ at t = and 4 hunt-kinds.ps (is 4 hunt-kinds.ps μ-hunt t) hunt.Pre
 
 abbrev callees : ℕ → lts.Claims
 callees t = (
-  states-reads.Asked,
-  states-reads.Learnt,
   settle-reads.Asked,
   settle-reads.Learnt,
   asks-reads.Asked,
@@ -183,20 +178,19 @@ callees t = (
 )
 
 module _ (t : ℕ) where
-  states-requires : lts.Need-states-requires (callees t) (at t) hunt.Post Inv-loop μ-loop
-  states-requires c κs = c .before .before .before .before .pre .1 .2
+  settle-requires : lts.Need-settle-requires (callees t) (at t) hunt.Post Inv-loop μ-loop
+  settle-requires c κs = c .before .before .before .before .pre .1 .2
 
   returns : lts.Need-returns (callees t) (at t) hunt.Post Inv-loop μ-loop
   returns c =
-      let b = c .before .before .before .before .before .before in
+      let b = c .before .before .before .before .before in
       let a = b .args in
       let m = a .masks .now in
       let s = a .small .now in
       record {
         found =
             c .settle .ensures
-            ∙ ap (λ (l : List ℕ). settleOf (record { output = a .output; next = l }) (a .acc)) (c .before .states .ensures)
-            ∙ ends m s (a .trail .now) (a .moves .now) (a .charts) (a .left) (a .output) (a .acc) (c .before .before .before .if1 .taken);
+            ∙ ends m s (a .trail .now) (a .moves .now) (a .charts) (a .left) (a .output) (a .acc) (c .before .before .if1 .taken);
         kept = keeps-refl _ _ _;
       }
 
@@ -429,7 +423,7 @@ module _ (t : ℕ) where
 pub +hunt-spec : {M : Type 1} → statement M
 +hunt-spec =
     close μ-hunt
-    (λ t. lts.spec (callees t) (at t) hunt.Post Inv-loop μ-loop (states-requires t) (λ c κs. search needs) (returns t) (λ c. omega arith)
+    (λ t. lts.spec (callees t) (at t) hunt.Post Inv-loop μ-loop (settle-requires t) (returns t) (λ c. omega arith)
     (asks-requires t) (λ c κs. search needs) (returns-2 t) (wakes-requires t) (returns-3 t) (rest-requires t) (λ c. omega arith) (hunt-requires t)
     (returns-4 t) (λ c. omega arith) (λ c. omega arith) (cast-n t) (loop-holds t) (fits-requires t) (take-requires t) (shown-requires t)
     (sub-left t) (hunt-requires-2 t) (λ c κs. search needs) (returns-5 t) (add-v t) (λ c. omega arith) (loop-again t) (returns-6 t))

@@ -27,7 +27,7 @@ loop-again c =
     let l = c .before .before .before .loop in
     let a = c .before .before .before .before .args in
     let f : ℕ → ℕ = λ d. lowIn (a .trail .now) (a .k) d ∪ a .action ∩ backAt (a .masks .now) d (a .k) in
-    (omega arith, made-filled f (l .c) (l .row) (omega arith) (l .inv .1))
+    (omega arith, made-filled 0 f (l .c) (l .row) (omega arith) (l .inv .1))
 
 returns : tie.Need-returns Inv-loop μ-loop
 returns c = let e : c .before .loop .c ≡ 8 = omega arith in rw e at (c .before .loop .inv .1) ∙ append-nil _

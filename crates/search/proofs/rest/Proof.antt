@@ -14,13 +14,11 @@ returns c =
     let k = e .args .k in
     let l = c .lower .last .1 .0 in
     record {
-      kept = written-keeps m w b l k _ _ _ _ _ (e .pre .2) (e .pre .3) (c .lower .ensures);
+      kept = written-keeps m w b l k _ _ _ _ _ _ (e .pre .2) (e .pre .3) (c .lower .ensures);
       grown = rest-in m s w b l k (e .pre .2) (e .pre .3) (c .lower .ensures);
     }
 
 pub rest-spec : {M : Type 1} → statement M
 rest-spec =
     tie.close
-    (tie.spec (λ c. search needs) (λ c. search needs) (λ c. search needs) (λ c. search needs) (λ c. search needs) (λ c. search needs)
-    (λ c. search needs) (λ c. search needs) (λ c. search needs) (λ c. search needs) (λ c. search needs) (λ c. search needs) (λ c. search needs)
-    (λ c. search needs) (λ c. search needs) (λ c κs. search needs) returns)
+    (tie.spec (λ c. search needs) (λ c. search needs) (λ c. search needs) (λ c. search needs) (λ c. search needs) (λ c. search needs) (λ c. search needs) (λ c. search needs) (λ c. search needs) (λ c. search needs) (λ c. search needs) (λ c. search needs) (λ c. search needs) (λ c. search needs) (λ c. search needs) (λ c. search needs) (λ c. search needs) (λ c. search needs) (λ c κs. search needs) returns)

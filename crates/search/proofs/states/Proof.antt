@@ -24,7 +24,7 @@ loop-again : tie.Need-loop-again Inv-loop μ-loop
 loop-again c =
     let l = c .before .before .loop in
     let a = c .before .before .before .args in
-    (omega arith, made-filled (nextIn (a .moves .now)) (l .d) (l .next) (omega arith) (l .inv .1))
+    (omega arith, made-filled 0 (nextIn (a .moves .now)) (l .d) (l .next) (omega arith) (l .inv .1))
 
 returns : tie.Need-returns Inv-loop μ-loop
 returns c = let e : c .before .loop .d ≡ c .before .before .args .charts = omega arith in rw e at (c .before .loop .inv .1)

@@ -10,11 +10,11 @@ use lib.ListN.{length, getD, set, replicate, length-set, List·getD-append}
 use lib.Seq.{getD-append-seam, getD-set-same, getD-set-other, lt-length-set, set-at, ext-getD}
 use Rattle.signals.specs.Mask.{_∪_, _∩_}
 use Rattle.signals.specs.Decide.{sets, A, B, ∅ₑ, _∪ₑ_, _∩ₑ_, _≐_}
-use Rattle.meaning.specs.Meaning.{same}
+use Rattle.meaning.specs.Numbers.{noPlace}
 use Rattle.meaning.specs.Calls.{made}
 use Rattle.meaning.specs.Calls.Laws.{length-made, getD-made, made-cong}
-use Rattle.search.specs.Table.{neededAt, barredAt, actionAt, backAt, upAt, toAt, stateAt}
-use Rattle.search.specs.Trail.{Trail, beginning, lowIn, neededIn, barredIn, nextIn, awakeIn, trailIn, Room, Same, Keeps, Lowers}
+use Rattle.search.specs.Table.{neededAt, barredAt, actionAt, backAt, upAt, toAt, stateAt, placeAt}
+use Rattle.search.specs.Trail.{Trail, beginning, lowIn, neededIn, barredIn, nextIn, awakeIn, placeIn, trailIn, Room, Same, Keeps, Lowers}
 use Rattle.search.specs.Hunt.{taken, rested}
 
 -- ── made ──
@@ -31,15 +31,15 @@ made-more : (n : ℕ) (f g : ℕ → ℕ) (x : ℕ) → ((i : ℕ) → i < n →
 unfolding made
 made-more n f g x h e = rw add-one (ap₂ (λ (l : List ℕ) (y : ℕ). l ++ (y ∷ [])) (made-cong n f g h) e)
 
--- one more in an array that is 0 behind
-pub made-filled : (f : ℕ → ℕ) (d : ℕ) (l : List ℕ) → d < 8 → l ≡ made d f ++ replicate (8 - d) 0 →
-    set l d (f d) ≡ made (d + 1) f ++ replicate (8 - (d + 1)) 0
+-- one more in an array that is x behind
+pub made-filled : (x : ℕ) (f : ℕ → ℕ) (d : ℕ) (l : List ℕ) → d < 8 → l ≡ made d f ++ replicate (8 - d) x →
+    set l d (f d) ≡ made (d + 1) f ++ replicate (8 - (d + 1)) x
 unfolding made
-made-filled f d l h e =
+made-filled x f d l h e =
     let n : length (made d f) ≡ d = length-made d f in
     let z : 8 - d ≡ suc (8 - (d + 1)) = omega arith in
-    let q : l ≡ made d f ++ 0 ∷ replicate (8 - (d + 1)) 0 = e ∙ rw z in
-    rw (q, set-at (made d f) 0 (replicate (8 - (d + 1)) 0) (f d) d n, add-one, append-assoc)
+    let q : l ≡ made d f ++ x ∷ replicate (8 - (d + 1)) x = e ∙ rw z in
+    rw (q, set-at (made d f) x (replicate (8 - (d + 1)) x) (f d) d n, add-one, append-assoc)
 
 pub made-list : (n : ℕ) (l : List ℕ) → length l ≡ n → made n (λ i. getD l i 0) ≡ l
 made-list n l e =
@@ -76,10 +76,10 @@ keeps-room p r = record { masks = p .masks .long ∙ r .masks; small = p .small 
 
 -- ── one chart more ──
 
-trail-eq : {l l′ n n′ r r′ x x′ a a′ : List ℕ} (o : ℕ) → l ≡ l′ → n ≡ n′ → r ≡ r′ → x ≡ x′ → a ≡ a′ →
-    _≡_ {A = Trail} (record { low = l; needed = n; barred = r; next = x; awake = a; output = o })
-    (record { low = l′; needed = n′; barred = r′; next = x′; awake = a′; output = o })
-trail-eq o p q u v w = rw (p, q, u, v, w)
+trail-eq : {l l′ n n′ r r′ x x′ a a′ t t′ : List ℕ} (o : ℕ) → l ≡ l′ → n ≡ n′ → r ≡ r′ → x ≡ x′ → a ≡ a′ → t ≡ t′ →
+    _≡_ {A = Trail} (record { low = l; needed = n; barred = r; next = x; awake = a; places = t; output = o })
+    (record { low = l′; needed = n′; barred = r′; next = x′; awake = a′; places = t′; output = o })
+trail-eq o p q u v w z = rw (p, q, u, v, w, z)
 
 module _ {k : ℕ} {w b w′ b′ : List ℕ} (h : Keeps k w b w′ b′) where
   pub trail-kept : (o : ℕ) → trailIn w′ b′ k o ≡ trailIn w b k o
@@ -88,12 +88,13 @@ module _ {k : ℕ} {w b w′ b′ : List ℕ} (h : Keeps k w b w′ b′) where
       trail-eq o (made-cong 8 (lowIn w′ k) (lowIn w k) (λ i l. h .masks .at (10 * k + i) (omega arith)))
       (made-cong k (neededIn w′) (neededIn w) (λ i l. h .masks .at (10 * i + 8) (omega arith)))
       (made-cong k (barredIn w′) (barredIn w) (λ i l. h .masks .at (10 * i + 9) (omega arith)))
-      (made-cong k (nextIn b′) (nextIn b) (λ i l. h .small .at (2 * i) (omega arith)))
-      (made-cong k (awakeIn b′) (awakeIn b) (λ i l. h .small .at (2 * i + 1) (omega arith)))
+      (made-cong k (nextIn b′) (nextIn b) (λ i l. h .small .at (3 * i) (omega arith)))
+      (made-cong k (awakeIn b′) (awakeIn b) (λ i l. h .small .at (3 * i + 1) (omega arith)))
+      (made-cong k (placeIn b′) (placeIn b) (λ i l. h .small .at (3 * i + 2) (omega arith)))
 
-  -- chart k needs n and bars r, goes to x, and is active or not; p is what each chart is surely offered then
-  grown : {n r x a : ℕ} {p : List ℕ} (o : ℕ) → made 8 (lowIn w′ (k + 1)) ≡ p →
-      neededIn w′ k ≡ n → barredIn w′ k ≡ r → nextIn b′ k ≡ x → awakeIn b′ k ≡ a →
+  -- chart k needs n and bars r, goes to x, is active or not, and takes the transition at t; p is what each chart is surely offered then
+  grown : {n r x a t : ℕ} {p : List ℕ} (o : ℕ) → made 8 (lowIn w′ (k + 1)) ≡ p →
+      neededIn w′ k ≡ n → barredIn w′ k ≡ r → nextIn b′ k ≡ x → awakeIn b′ k ≡ a → placeIn b′ k ≡ t →
       trailIn w′ b′ (k + 1) o
       ≡ record {
         low = p;
@@ -101,29 +102,31 @@ module _ {k : ℕ} {w b w′ b′ : List ℕ} (h : Keeps k w b w′ b′) where
         barred = trailIn w b k o .barred ++ (r ∷ []);
         next = trailIn w b k o .next ++ (x ∷ []);
         awake = trailIn w b k o .awake ++ (a ∷ []);
+        places = trailIn w b k o .places ++ (t ∷ []);
         output = o;
       }
   unfolding trailIn
-  grown o e₁ e₂ e₃ e₄ e₅ =
+  grown o e₁ e₂ e₃ e₄ e₅ e₆ =
       trail-eq o e₁ (made-more k (neededIn w′) (neededIn w) _ (λ i l. h .masks .at (10 * i + 8) (omega arith)) e₂)
       (made-more k (barredIn w′) (barredIn w) _ (λ i l. h .masks .at (10 * i + 9) (omega arith)) e₃)
-      (made-more k (nextIn b′) (nextIn b) _ (λ i l. h .small .at (2 * i) (omega arith)) e₄)
-      (made-more k (awakeIn b′) (awakeIn b) _ (λ i l. h .small .at (2 * i + 1) (omega arith)) e₅)
+      (made-more k (nextIn b′) (nextIn b) _ (λ i l. h .small .at (3 * i) (omega arith)) e₄)
+      (made-more k (awakeIn b′) (awakeIn b) _ (λ i l. h .small .at (3 * i + 1) (omega arith)) e₅)
+      (made-more k (placeIn b′) (placeIn b) _ (λ i l. h .small .at (3 * i + 2) (omega arith)) e₆)
 
   taken-in : (m s : List ℕ) (v o : ℕ) → ((c : ℕ) → c < 8 → lowIn w′ (k + 1) c ≡ lowIn w k c ∪ actionAt m k v ∩ backAt m c k) →
-      neededIn w′ k ≡ neededAt m k v → barredIn w′ k ≡ barredAt m k v → nextIn b′ k ≡ toAt s k v → awakeIn b′ k ≡ 1 →
+      neededIn w′ k ≡ neededAt m k v → barredIn w′ k ≡ barredAt m k v → nextIn b′ k ≡ toAt s k v → awakeIn b′ k ≡ 1 → placeIn b′ k ≡ placeAt s k v →
       trailIn w′ b′ (k + 1) (o ∪ actionAt m k v ∩ upAt m k) ≡ taken m s (trailIn w b k o) k v
   unfolding trailIn taken
-  taken-in m s v o l e₁ e₂ e₃ e₄ =
+  taken-in m s v o l e₁ e₂ e₃ e₄ e₅ =
       grown (o ∪ actionAt m k v ∩ upAt m k)
       (made-cong 8 (lowIn w′ (k + 1)) (λ c. getD (made 8 (lowIn w k)) c 0 ∪ actionAt m k v ∩ backAt m c k)
-      (λ c p. l c p ∙ ap (λ (x : ℕ). x ∪ actionAt m k v ∩ backAt m c k) (sym (getD-made 8 (lowIn w k) c p)))) e₁ e₂ e₃ e₄
+      (λ c p. l c p ∙ ap (λ (x : ℕ). x ∪ actionAt m k v ∩ backAt m c k) (sym (getD-made 8 (lowIn w k) c p)))) e₁ e₂ e₃ e₄ e₅
 
   rested-in : (m s : List ℕ) (o : ℕ) → ((c : ℕ) → c < 8 → lowIn w′ (k + 1) c ≡ lowIn w k c) →
-      neededIn w′ k ≡ 0 → barredIn w′ k ≡ 0 → nextIn b′ k ≡ stateAt s k → awakeIn b′ k ≡ 0 →
+      neededIn w′ k ≡ 0 → barredIn w′ k ≡ 0 → nextIn b′ k ≡ stateAt s k → awakeIn b′ k ≡ 0 → placeIn b′ k ≡ noPlace →
       trailIn w′ b′ (k + 1) o ≡ rested m s (trailIn w b k o) k
   unfolding trailIn rested
-  rested-in m s o l e₁ e₂ e₃ e₄ = grown o (made-cong 8 (lowIn w′ (k + 1)) (lowIn w k) l) e₁ e₂ e₃ e₄
+  rested-in m s o l e₁ e₂ e₃ e₄ e₅ = grown o (made-cong 8 (lowIn w′ (k + 1)) (lowIn w k) l) e₁ e₂ e₃ e₄ e₅
 
 -- two numbers are written
 module _ (l : List ℕ) (i j x y : ℕ) (apart : j ≢ i) where
@@ -133,10 +136,10 @@ module _ (l : List ℕ) (i j x y : ℕ) (apart : j ≢ i) where
   second-written : j < length l → getD (set (set l i x) j y) j 0 ≡ y
   second-written h = getD-set-same (set l i x) j y 0 (lt-length-set l i x h)
 
--- chart k needs n and bars r, its action is a; it goes to x, and z is 1 if it is active
-module _ (m w b w′ : List ℕ) (k n r x z a : ℕ) (room : Room w b) (few : k < 8) (h : Lowers m a k (set (set w (10 * k + 8) n) (10 * k + 9) r) w′) where
+-- chart k needs n and bars r, its action is a; it goes to x, z is 1 if it is active, and it takes the transition at t
+module _ (m w b w′ : List ℕ) (k n r x z t a : ℕ) (room : Room w b) (few : k < 8) (h : Lowers m a k (set (set w (10 * k + 8) n) (10 * k + 9) r) w′) where
   abbrev moved : List ℕ
-  moved = set (set b (2 * k) x) (2 * k + 1) z
+  moved = set (set (set b (3 * k) x) (3 * k + 1) z) (3 * k + 2) t
 
   rows : (c : ℕ) → c < 8 → lowIn w′ (k + 1) c ≡ lowIn w k c ∪ a ∩ backAt m c k
   rows c l =
@@ -156,10 +159,19 @@ module _ (m w b w′ : List ℕ) (k n r x z a : ℕ) (room : Room w b) (few : k 
       h .kept .at (10 * k + 9) (omega arith) ∙ second-written w (10 * k + 8) (10 * k + 9) n r (λ e. omega arith) (omega arith)
 
   goes : nextIn moved k ≡ x
-  goes = let q = room .small in first-written b (2 * k) (2 * k + 1) x z (λ e. omega arith) (omega arith)
+  goes = let q = room .small in
+      getD-set-other (set (set b (3 * k) x) (3 * k + 1) z) (3 * k + 2) (3 * k) t 0 (λ e. omega arith)
+      ∙ first-written b (3 * k) (3 * k + 1) x z (λ e. omega arith) (omega arith)
 
   wakes : awakeIn moved k ≡ z
-  wakes = let q = room .small in second-written b (2 * k) (2 * k + 1) x z (λ e. omega arith) (omega arith)
+  wakes = let q = room .small in
+      getD-set-other (set (set b (3 * k) x) (3 * k + 1) z) (3 * k + 2) (3 * k + 1) t 0 (λ e. omega arith)
+      ∙ second-written b (3 * k) (3 * k + 1) x z (λ e. omega arith) (omega arith)
+
+  takes : placeIn moved k ≡ t
+  takes = let q = room .small in
+      getD-set-same (set (set b (3 * k) x) (3 * k + 1) z) (3 * k + 2) t 0
+      (lt-length-set (set b (3 * k) x) (3 * k + 1) z (lt-length-set b (3 * k) x (omega arith)))
 
   pub written-keeps : Keeps k w b w′ moved
   written-keeps =
@@ -167,38 +179,39 @@ module _ (m w b w′ : List ℕ) (k n r x z a : ℕ) (room : Room w b) (few : k 
         masks =
             same-trans (same-trans (same-set _ w (10 * k + 8) n (omega arith)) (same-set _ _ (10 * k + 9) r (omega arith)))
             (same-fewer _ (omega arith) (h .kept));
-        small = same-trans (same-set _ b (2 * k) x (omega arith)) (same-set _ _ (2 * k + 1) z (omega arith));
+        small =
+            same-trans (same-trans (same-set _ b (3 * k) x (omega arith)) (same-set _ _ (3 * k + 1) z (omega arith)))
+            (same-set _ _ (3 * k + 2) t (omega arith));
       }
 
 -- chart k takes its candidate v
 module _ (m s w b w′ : List ℕ) (k v : ℕ) (room : Room w b) (few : k < 8)
     (h : Lowers m (actionAt m k v) k (set (set w (10 * k + 8) (neededAt m k v)) (10 * k + 9) (barredAt m k v)) w′) where
-  take-keeps : Keeps k w b w′ (set (set b (2 * k) (toAt s k v)) (2 * k + 1) 1)
-  take-keeps = written-keeps m w b w′ k (neededAt m k v) (barredAt m k v) (toAt s k v) 1 (actionAt m k v) room few h
-
   pub take-in : (o : ℕ) →
-      trailIn w′ (set (set b (2 * k) (toAt s k v)) (2 * k + 1) 1) (k + 1) (o ∪ actionAt m k v ∩ upAt m k) ≡ taken m s (trailIn w b k o) k v
+      trailIn w′ (set (set (set b (3 * k) (toAt s k v)) (3 * k + 1) 1) (3 * k + 2) (placeAt s k v)) (k + 1) (o ∪ actionAt m k v ∩ upAt m k)
+      ≡ taken m s (trailIn w b k o) k v
   take-in o =
-      taken-in take-keeps m s v o (rows m w b w′ k (neededAt m k v) (barredAt m k v) (toAt s k v) 1 (actionAt m k v) room few h)
-      (needs m w b w′ k (neededAt m k v) (barredAt m k v) (toAt s k v) 1 (actionAt m k v) room few h)
-      (bars m w b w′ k (neededAt m k v) (barredAt m k v) (toAt s k v) 1 (actionAt m k v) room few h)
-      (goes m w b w′ k (neededAt m k v) (barredAt m k v) (toAt s k v) 1 (actionAt m k v) room few h)
-      (wakes m w b w′ k (neededAt m k v) (barredAt m k v) (toAt s k v) 1 (actionAt m k v) room few h)
+      taken-in (written-keeps m w b w′ k (neededAt m k v) (barredAt m k v) (toAt s k v) 1 (placeAt s k v) (actionAt m k v) room few h) m s v o
+      (rows m w b w′ k (neededAt m k v) (barredAt m k v) (toAt s k v) 1 (placeAt s k v) (actionAt m k v) room few h)
+      (needs m w b w′ k (neededAt m k v) (barredAt m k v) (toAt s k v) 1 (placeAt s k v) (actionAt m k v) room few h)
+      (bars m w b w′ k (neededAt m k v) (barredAt m k v) (toAt s k v) 1 (placeAt s k v) (actionAt m k v) room few h)
+      (goes m w b w′ k (neededAt m k v) (barredAt m k v) (toAt s k v) 1 (placeAt s k v) (actionAt m k v) room few h)
+      (wakes m w b w′ k (neededAt m k v) (barredAt m k v) (toAt s k v) 1 (placeAt s k v) (actionAt m k v) room few h)
+      (takes m w b w′ k (neededAt m k v) (barredAt m k v) (toAt s k v) 1 (placeAt s k v) (actionAt m k v) room few h)
 
 -- chart k is inactive
 module _ (m s w b w′ : List ℕ) (k : ℕ) (room : Room w b) (few : k < 8) (h : Lowers m 0 k (set (set w (10 * k + 8) 0) (10 * k + 9) 0) w′) where
-  rest-keeps : Keeps k w b w′ (set (set b (2 * k) (stateAt s k)) (2 * k + 1) 0)
-  rest-keeps = written-keeps m w b w′ k 0 0 (stateAt s k) 0 0 room few h
-
-  pub rest-in : (n : List ℕ) (o : ℕ) → trailIn w′ (set (set b (2 * k) (stateAt s k)) (2 * k + 1) 0) (k + 1) o ≡ rested n s (trailIn w b k o) k
+  pub rest-in : (n : List ℕ) (o : ℕ) →
+      trailIn w′ (set (set (set b (3 * k) (stateAt s k)) (3 * k + 1) 0) (3 * k + 2) noPlace) (k + 1) o ≡ rested n s (trailIn w b k o) k
   rest-in n o =
-      rested-in rest-keeps n s o
-      (λ c l. rows m w b w′ k 0 0 (stateAt s k) 0 0 room few h c l ∙ sets (lowIn w k c ∷ backAt m c k ∷ []) [] (A ∪ₑ ∅ₑ ∩ₑ B ≐ A) tt)
-      (needs m w b w′ k 0 0 (stateAt s k) 0 0 room few h) (bars m w b w′ k 0 0 (stateAt s k) 0 0 room few h)
-      (goes m w b w′ k 0 0 (stateAt s k) 0 0 room few h) (wakes m w b w′ k 0 0 (stateAt s k) 0 0 room few h)
+      rested-in (written-keeps m w b w′ k 0 0 (stateAt s k) 0 noPlace 0 room few h) n s o
+      (λ c l. rows m w b w′ k 0 0 (stateAt s k) 0 noPlace 0 room few h c l ∙ sets (lowIn w k c ∷ backAt m c k ∷ []) [] (A ∪ₑ ∅ₑ ∩ₑ B ≐ A) tt)
+      (needs m w b w′ k 0 0 (stateAt s k) 0 noPlace 0 room few h) (bars m w b w′ k 0 0 (stateAt s k) 0 noPlace 0 room few h)
+      (goes m w b w′ k 0 0 (stateAt s k) 0 noPlace 0 room few h) (wakes m w b w′ k 0 0 (stateAt s k) 0 noPlace 0 room few h)
+      (takes m w b w′ k 0 0 (stateAt s k) 0 noPlace 0 room few h)
 
 -- ── no chart yet ──
 
 pub begun : (w b low : List ℕ) → length low ≡ 8 → ((c : ℕ) → c < 8 → lowIn w 0 c ≡ getD low c 0) → trailIn w b 0 0 ≡ beginning low
 unfolding trailIn beginning made
-begun w b low h e = trail-eq 0 (made-cong 8 (lowIn w 0) (λ c. getD low c 0) e ∙ made-list 8 low h) refl refl refl refl
+begun w b low h e = trail-eq 0 (made-cong 8 (lowIn w 0) (λ c. getD low c 0) e ∙ made-list 8 low h) refl refl refl refl refl

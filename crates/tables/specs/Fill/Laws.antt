@@ -27,7 +27,7 @@ use Rattle.wiring.specs.Dropped.{ahead, test, join-cong}
 use Rattle.wiring.specs.Hunt.{mayOf}
 use Rattle.wiring.specs.Filter.{lasts}
 use Rattle.wiring.specs.Sure.{sureOf, surely, outside}
-use Rattle.search.specs.Table.{neededAt, barredAt, actionAt, backAt, aheadAt, toAt, countAt, masterAt, stateAt}
+use Rattle.search.specs.Table.{neededAt, barredAt, actionAt, backAt, aheadAt, toAt, countAt, masterAt, stateAt, placeAt}
 use Rattle.search.specs.Trail.{Trail}
 use Rattle.search.specs.Hunt.{each, wakes, taken, rested, fineAt, hunts}
 use Rattle.search.specs.Hunt.Laws.{each-none}
@@ -42,6 +42,7 @@ pub record Stays (m₀ s₀ m s : List ℕ) (d v : ℕ) : Type 0 where
   barred : barredAt m d v ≡ barredAt m₀ d v
   action : actionAt m d v ≡ actionAt m₀ d v
   to : toAt s d v ≡ toAt s₀ d v
+  place : placeAt s d v ≡ placeAt s₀ d v
 
 is-stays : (m₀ s₀ m s : List ℕ) (d v : ℕ) (t : Transition) → Stays m₀ s₀ m s d v → Is m₀ s₀ d v t → Is m s d v t
 is-stays m₀ s₀ m s d v t h i = record { needed = h .needed ∙ i .needed; barred = h .barred ∙ i .barred; action = h .action ∙ i .action; to = h .to ∙ i .to }
@@ -52,14 +53,14 @@ listed-stays m₀ s₀ m s d ts q keep start h = start
 listed-stays m₀ s₀ m s d ts q keep (other r t e f) h = other (listed-stays m₀ s₀ m s d ts q keep r h) t e f
 listed-stays m₀ s₀ m s d ts q keep (fails r e) h = fails (listed-stays m₀ s₀ m s d ts q keep r h) e
 listed-stays m₀ s₀ m s d ts q keep (again r t e v l i) h = again (listed-stays m₀ s₀ m s d ts q keep r h) t e v l (is-stays m₀ s₀ m s d v t (h v l) i)
-listed-stays m₀ s₀ m s d ts q keep (fresh {n = n} r t e f k i) h =
-    fresh (listed-stays m₀ s₀ m s d ts q keep r (λ v l. h v (omega arith))) t e f k (is-stays m₀ s₀ m s d n t (h n (omega arith)) i)
+listed-stays m₀ s₀ m s d ts q keep (fresh {n = n} r t e f k i o) h =
+    fresh (listed-stays m₀ s₀ m s d ts q keep r (λ v l. h v (omega arith))) t e f k (is-stays m₀ s₀ m s d n t (h n (omega arith)) i) (h n (omega arith) .place ∙ o)
 
 stays-refl : (m s : List ℕ) (d v : ℕ) → Stays m s m s d v
-stays-refl m s d v = record { needed = refl; barred = refl; action = refl; to = refl }
+stays-refl m s d v = record { needed = refl; barred = refl; action = refl; to = refl; place = refl }
 
 stays-trans : (m₀ s₀ m₁ s₁ m s : List ℕ) (d v : ℕ) → Stays m₀ s₀ m₁ s₁ d v → Stays m₁ s₁ m s d v → Stays m₀ s₀ m s d v
-stays-trans m₀ s₀ m₁ s₁ m s d v a b = record { needed = b .needed ∙ a .needed; barred = b .barred ∙ a .barred; action = b .action ∙ a .action; to = b .to ∙ a .to }
+stays-trans m₀ s₀ m₁ s₁ m s d v a b = record { needed = b .needed ∙ a .needed; barred = b .barred ∙ a .barred; action = b .action ∙ a .action; to = b .to ∙ a .to; place = b .place ∙ a .place }
 
 -- ── put ──
 
@@ -69,38 +70,40 @@ unfolding putMasks
 put-masks-off m c v t i a b d = getD-set-other (set (set m (8 * c + v) (t .needed)) (64 + (8 * c + v)) (t .barred)) (128 + (8 * c + v)) i (t .action) 0 d
     ∙ getD-set-other (set m (8 * c + v) (t .needed)) (64 + (8 * c + v)) i (t .barred) 0 b ∙ getD-set-other m (8 * c + v) i (t .needed) 0 a
 
-put-small-off : (s : List ℕ) (c v : ℕ) (t : Transition) (i : ℕ) → i ≢ 8 * c + v → getD (putSmall s c v t) i 0 ≡ getD s i 0
+put-small-off : (s : List ℕ) (c v p : ℕ) (t : Transition) (i : ℕ) → i ≢ 8 * c + v → i ≢ 96 + (8 * c + v) → getD (putSmall s c v p t) i 0 ≡ getD s i 0
 unfolding putSmall
-put-small-off s c v t i a = getD-set-other s (8 * c + v) i (t .to) 0 a
+put-small-off s c v p t i a b = getD-set-other (set s (8 * c + v) (t .to)) (96 + (8 * c + v)) i p 0 b ∙ getD-set-other s (8 * c + v) i (t .to) 0 a
 
 pub length-put-masks : (m : List ℕ) (c v : ℕ) (t : Transition) → length (putMasks m c v t) ≡ length m
 unfolding putMasks
 length-put-masks m c v t = simp length-set
 
-pub length-put-small : (s : List ℕ) (c v : ℕ) (t : Transition) → length (putSmall s c v t) ≡ length s
+pub length-put-small : (s : List ℕ) (c v p : ℕ) (t : Transition) → length (putSmall s c v p t) ≡ length s
 unfolding putSmall
-length-put-small s c v t = length-set s (8 * c + v) (t .to)
+length-put-small s c v p t = simp length-set
 
-module _ (m s : List ℕ) (c v : ℕ) (t : Transition) (lc : c < 8) (lv : v < 8) where
-  put-stays : (d u : ℕ) → d < 8 → u < 8 → (d ≢ c) → Stays m s (putMasks m c v t) (putSmall s c v t) d u
+module _ (m s : List ℕ) (c v p : ℕ) (t : Transition) (lc : c < 8) (lv : v < 8) where
+  put-stays : (d u : ℕ) → d < 8 → u < 8 → (d ≢ c) → Stays m s (putMasks m c v t) (putSmall s c v p t) d u
   put-stays d u ld lu n =
       record {
         needed = put-masks-off m c v t (8 * d + u) (λ e. n (omega arith)) (λ e. omega arith) (λ e. omega arith);
         barred = put-masks-off m c v t (64 + (8 * d + u)) (λ e. omega arith) (λ e. n (omega arith)) (λ e. omega arith);
         action = put-masks-off m c v t (128 + (8 * d + u)) (λ e. omega arith) (λ e. omega arith) (λ e. n (omega arith));
-        to = put-small-off s c v t (8 * d + u) (λ e. n (omega arith));
+        to = put-small-off s c v p t (8 * d + u) (λ e. n (omega arith)) (λ e. omega arith);
+        place = put-small-off s c v p t (96 + (8 * d + u)) (λ e. omega arith) (λ e. n (omega arith));
       }
 
-  put-earlier : (u : ℕ) → u < v → Stays m s (putMasks m c v t) (putSmall s c v t) c u
+  put-earlier : (u : ℕ) → u < v → Stays m s (putMasks m c v t) (putSmall s c v p t) c u
   put-earlier u l =
       record {
         needed = put-masks-off m c v t (8 * c + u) (λ e. omega arith) (λ e. omega arith) (λ e. omega arith);
         barred = put-masks-off m c v t (64 + (8 * c + u)) (λ e. omega arith) (λ e. omega arith) (λ e. omega arith);
         action = put-masks-off m c v t (128 + (8 * c + u)) (λ e. omega arith) (λ e. omega arith) (λ e. omega arith);
-        to = put-small-off s c v t (8 * c + u) (λ e. omega arith);
+        to = put-small-off s c v p t (8 * c + u) (λ e. omega arith) (λ e. omega arith);
+        place = put-small-off s c v p t (96 + (8 * c + u)) (λ e. omega arith) (λ e. omega arith);
       }
 
-  put-is : length m ≡ 336 → length s ≡ 96 → Is (putMasks m c v t) (putSmall s c v t) c v t
+  put-is : length m ≡ 336 → length s ≡ 160 → Is (putMasks m c v t) (putSmall s c v p t) c v t
   unfolding putMasks putSmall
   put-is lm ls =
       record {
@@ -109,8 +112,12 @@ module _ (m s : List ℕ) (c v : ℕ) (t : Transition) (lc : c < 8) (lv : v < 8)
         barred = getD-set-other (set (set m (8 * c + v) (t .needed)) (64 + (8 * c + v)) (t .barred)) (128 + (8 * c + v)) (64 + (8 * c + v)) (t .action) 0 (λ e. omega arith)
             ∙ getD-set-same (set m (8 * c + v) (t .needed)) (64 + (8 * c + v)) (t .barred) 0 (simp length-set (omega arith));
         action = getD-set-same (set (set m (8 * c + v) (t .needed)) (64 + (8 * c + v)) (t .barred)) (128 + (8 * c + v)) (t .action) 0 (simp length-set (omega arith));
-        to = getD-set-same s (8 * c + v) (t .to) 0 (omega arith);
+        to = getD-set-other (set s (8 * c + v) (t .to)) (96 + (8 * c + v)) (8 * c + v) p 0 (λ e. omega arith) ∙ getD-set-same s (8 * c + v) (t .to) 0 (omega arith);
       }
+
+  put-place : length s ≡ 160 → placeAt (putSmall s c v p t) c v ≡ p
+  unfolding putSmall
+  put-place ls = getD-set-same (set s (8 * c + v) (t .to)) (96 + (8 * c + v)) p 0 (simp length-set (omega arith))
 
 -- ── the same transition again ──
 
@@ -138,25 +145,25 @@ any-one (suc n) p h = go (anyUpTo n p) refl h (any-one n p)
 -- ── one transition more ──
 
 module _ (c q : ℕ) (low own others : Set) where
-  abbrev step : Transition → Filling → Filling
-  step t f = considered c q low own others t f
+  abbrev step : ℕ → Transition → Filling → Filling
+  step p t f = considered c q low own others p t f
 
   -- whatever holds of a filling and of one with a candidate more holds after a transition was considered
-  by-cases : (P : Filling → Type 0) (t : Transition) (f : Filling) → (same (t .from) q ≡ false → P f) → (same (t .from) q ≡ true → lastsBy low own others (some t) ≡ false → P f)
-      → (isAgain (f .masks) (f .small) c (f .count) t ≡ true → P f) → (same (t .from) q ≡ true → lastsBy low own others (some t) ≡ true → P (put c t f)) → P (step t f)
+  by-cases : (P : Filling → Type 0) (p : ℕ) (t : Transition) (f : Filling) → (same (t .from) q ≡ false → P f) → (same (t .from) q ≡ true → lastsBy low own others (some t) ≡ false → P f)
+      → (isAgain (f .masks) (f .small) c (f .count) t ≡ true → P f) → (same (t .from) q ≡ true → lastsBy low own others (some t) ≡ true → P (put c p t f)) → P (step p t f)
   unfolding considered
-  by-cases P t f a b d e = go₁ (same (t .from) q) refl
+  by-cases P p t f a b d e = go₁ (same (t .from) q) refl
     where
-      go₃ : same (t .from) q ≡ true → lastsBy low own others (some t) ≡ true → (x : Bool) → isAgain (f .masks) (f .small) c (f .count) t ≡ x → P (pickFilling x f (put c t f))
+      go₃ : same (t .from) q ≡ true → lastsBy low own others (some t) ≡ true → (x : Bool) → isAgain (f .masks) (f .small) c (f .count) t ≡ x → P (pickFilling x f (put c p t f))
       go₃ h k true g = d g
       go₃ h k false g = e h k
 
-      go₂ : same (t .from) q ≡ true → (x : Bool) → lastsBy low own others (some t) ≡ x → P (pickFilling x (pickFilling (isAgain (f .masks) (f .small) c (f .count) t) f (put c t f)) f)
+      go₂ : same (t .from) q ≡ true → (x : Bool) → lastsBy low own others (some t) ≡ x → P (pickFilling x (pickFilling (isAgain (f .masks) (f .small) c (f .count) t) f (put c p t f)) f)
       go₂ h true k = go₃ h k (isAgain (f .masks) (f .small) c (f .count) t) refl
       go₂ h false k = b h k
 
       go₁ : (x : Bool) → same (t .from) q ≡ x
-          → P (pickFilling x (pickFilling (lastsBy low own others (some t)) (pickFilling (isAgain (f .masks) (f .small) c (f .count) t) f (put c t f)) f) f)
+          → P (pickFilling x (pickFilling (lastsBy low own others (some t)) (pickFilling (isAgain (f .masks) (f .small) c (f .count) t) f (put c p t f)) f) f)
       go₁ true h = go₂ h (lastsBy low own others (some t)) refl
       go₁ false h = a h
 
@@ -164,13 +171,13 @@ module _ (c q : ℕ) (low own others : Set) where
   unfolding listing
   length-masks g zero f = refl
   length-masks g (suc p) f = let l = listing c q low own others g p f in
-      by-cases (λ h. length (h .masks) ≡ length (l .masks)) (g p) l (λ e. refl) (λ e k. refl) (λ e. refl) (λ e k. length-put-masks (l .masks) c (l .count) (g p)) ∙ length-masks g p f
+      by-cases (λ h. length (h .masks) ≡ length (l .masks)) p (g p) l (λ e. refl) (λ e k. refl) (λ e. refl) (λ e k. length-put-masks (l .masks) c (l .count) (g p)) ∙ length-masks g p f
 
   pub length-small : (g : ℕ → Transition) (p : ℕ) (f : Filling) → length (listing c q low own others g p f .small) ≡ length (f .small)
   unfolding listing
   length-small g zero f = refl
   length-small g (suc p) f = let l = listing c q low own others g p f in
-      by-cases (λ h. length (h .small) ≡ length (l .small)) (g p) l (λ e. refl) (λ e k. refl) (λ e. refl) (λ e k. length-put-small (l .small) c (l .count) (g p)) ∙ length-small g p f
+      by-cases (λ h. length (h .small) ≡ length (l .small)) p (g p) l (λ e. refl) (λ e k. refl) (λ e. refl) (λ e k. length-put-small (l .small) c (l .count) p (g p)) ∙ length-small g p f
 
   -- a chart has no more candidates than transitions from its state
   abbrev pub leave : (ℕ → Transition) → ℕ → ℕ
@@ -180,7 +187,7 @@ module _ (c q : ℕ) (low own others : Set) where
   unfolding listing tally
   count-leave g zero f = omega arith
   count-leave g (suc p) f = let l = listing c q low own others g p f in let r = count-leave g p f in
-      by-cases (λ h. h .count ≤ f .count + (one (same (g p .from) q) + leave g p)) (g p) l (λ e. omega arith) (λ e k. omega arith) (λ e. omega arith)
+      by-cases (λ h. h .count ≤ f .count + (one (same (g p .from) q) + leave g p)) p (g p) l (λ e. omega arith) (λ e k. omega arith) (λ e. omega arith)
       (λ e k. rw e (omega arith))
 
   -- there is room for one more
@@ -197,11 +204,11 @@ module _ (c q : ℕ) (low own others : Set) where
       pub listed : Listed (f .masks) (f .small) c ts q keep p (f .count)
       pub stays : (d u : ℕ) → d < 8 → u < 8 → d ≢ c → Stays (f₀ .masks) (f₀ .small) (f .masks) (f .small) d u
       pub wires : (i : ℕ) → 192 ≤ i → getD (f .masks) i 0 ≡ getD (f₀ .masks) i 0
-      pub rest : (i : ℕ) → 64 ≤ i → getD (f .small) i 0 ≡ getD (f₀ .small) i 0
+      pub rest : (i : ℕ) → 64 ≤ i → i < 96 → getD (f .small) i 0 ≡ getD (f₀ .small) i 0
 
-    lists-next : (p : ℕ) (t : Transition) (f : Filling) → nth ts p ≡ some t → keep (suc p) ≡ lastsBy low own others (some t) → length (f .masks) ≡ 336 → length (f .small) ≡ 96
-        → (t .from ≡ q → f .count < 8) → Lists p f → Lists (suc p) (step t f)
-    lists-next p t f e k lm ls room l = by-cases (λ h. Lists (suc p) h) t f
+    lists-next : (p : ℕ) (t : Transition) (f : Filling) → nth ts p ≡ some t → keep (suc p) ≡ lastsBy low own others (some t) → length (f .masks) ≡ 336 → length (f .small) ≡ 160
+        → (t .from ≡ q → f .count < 8) → Lists p f → Lists (suc p) (step p t f)
+    lists-next p t f e k lm ls room l = by-cases (λ h. Lists (suc p) h) p t f
         (λ a. same-but (other (l .listed) t e (λ w. false≢true (sym a ∙ rw w (same-refl q)))))
         (λ a b. same-but (fails (l .listed) (k ∙ b)))
         (λ a. let u = again-one a in same-but (again (l .listed) t e (u .0) (u .1) (at-is (f .masks) (f .small) c (u .0) t (u .2))))
@@ -213,20 +220,21 @@ module _ (c q : ℕ) (low own others : Set) where
         again-one : isAgain (f .masks) (f .small) c (f .count) t ≡ true → (v : ℕ) × (v < f .count) × (isAt (f .masks) (f .small) c v t ≡ true)
         again-one a = any-one (f .count) (λ v. isAt (f .masks) (f .small) c v t) (unfold isAgain in a)
 
-        fresh-one : t .from ≡ q → keep (suc p) ≡ true → Lists (suc p) (put c t f)
+        fresh-one : t .from ≡ q → keep (suc p) ≡ true → Lists (suc p) (put c p t f)
         fresh-one h b = let lv = room h in
             record {
-              listed = rw (add-one (f .count)) (fresh (listed-stays (f .masks) (f .small) (putMasks (f .masks) c (f .count) t) (putSmall (f .small) c (f .count) t) c ts q keep (l .listed)
-                  (λ v r. put-earlier (f .masks) (f .small) c (f .count) t lc lv v r)) t e h b (put-is (f .masks) (f .small) c (f .count) t lc lv lm ls));
-              stays = λ d u ld lu n. stays-trans (f₀ .masks) (f₀ .small) (f .masks) (f .small) _ _ d u (l .stays d u ld lu n) (put-stays (f .masks) (f .small) c (f .count) t lc lv d u ld lu n);
+              listed = rw (add-one (f .count)) (fresh (listed-stays (f .masks) (f .small) (putMasks (f .masks) c (f .count) t) (putSmall (f .small) c (f .count) p t) c ts q keep (l .listed)
+                  (λ v r. put-earlier (f .masks) (f .small) c (f .count) p t lc lv v r)) t e h b (put-is (f .masks) (f .small) c (f .count) p t lc lv lm ls)
+                  (put-place (f .masks) (f .small) c (f .count) p t lc lv ls));
+              stays = λ d u ld lu n. stays-trans (f₀ .masks) (f₀ .small) (f .masks) (f .small) _ _ d u (l .stays d u ld lu n) (put-stays (f .masks) (f .small) c (f .count) p t lc lv d u ld lu n);
               wires = λ i r. put-masks-off (f .masks) c (f .count) t i (λ x. omega arith) (λ x. omega arith) (λ x. omega arith) ∙ l .wires i r;
-              rest = λ i r. put-small-off (f .small) c (f .count) t i (λ x. omega arith) ∙ l .rest i r;
+              rest = λ i r r₂. put-small-off (f .small) c (f .count) p t i (λ x. omega arith) (λ x. omega arith) ∙ l .rest i r r₂;
             }
 
     pub listing-lists : (g : ℕ → Transition) (k p : ℕ) → p ≤ k → leave g k ≤ 8 → ((u : ℕ) → u < k → nth ts u ≡ some (g u)) → ((u : ℕ) → u < k → keep (suc u) ≡ lastsBy low own others (some (g u)))
-        → length (f₀ .masks) ≡ 336 → length (f₀ .small) ≡ 96 → f₀ .count ≡ 0 → Lists p (listing c q low own others g p f₀)
+        → length (f₀ .masks) ≡ 336 → length (f₀ .small) ≡ 160 → f₀ .count ≡ 0 → Lists p (listing c q low own others g p f₀)
     unfolding listing
-    listing-lists g k zero l few at kp lm ls z = record { listed = rw z start; stays = λ d u ld lu n. stays-refl (f₀ .masks) (f₀ .small) d u; wires = λ i r. refl; rest = λ i r. refl }
+    listing-lists g k zero l few at kp lm ls z = record { listed = rw z start; stays = λ d u ld lu n. stays-refl (f₀ .masks) (f₀ .small) d u; wires = λ i r. refl; rest = λ i r r₂. refl }
     listing-lists g k (suc p) l few at kp lm ls z = lists-next p (g p) (listing c q low own others g p f₀) (at p l) (kp p l) (length-masks g p f₀ ∙ lm) (length-small g p f₀ ∙ ls)
         (λ e. leave-room g p k f₀ z l few e) (listing-lists g k p (omega arith) few at kp lm ls z)
 
@@ -247,8 +255,8 @@ module _ (ts : ℕ → List Transition) (cfg : ℕ → ℕ) (N : ℕ) (lows m₀
   unfolding keepAt pick
   keep-by m c low own others u t el eo es e = rw (el, eo, es, e)
 
-  pub until-none : length m₀ ≡ 336 → length s₀ ≡ 96 → Until ts cfg N lows m₀ s₀ 0 m₀ s₀
-  until-none lm ls = record { listed = λ c l. absurd (omega arith); counts = λ c l. absurd (omega arith); wires = λ i l. refl; rest = λ i l. refl; masks = lm; small = ls }
+  pub until-none : length m₀ ≡ 336 → length s₀ ≡ 160 → Until ts cfg N lows m₀ s₀ 0 m₀ s₀
+  until-none lm ls = record { listed = λ c l. absurd (omega arith); counts = λ c l. absurd (omega arith); wires = λ i l. refl; rest = λ i l b. refl; masks = lm; small = ls }
 
   module _ (k : ℕ) (lk : k < N) (m s : List ℕ) (low own others : Set) (g : ℕ → Transition) where
     abbrev done : Filling
@@ -265,7 +273,7 @@ module _ (ts : ℕ → List Transition) (cfg : ℕ → ℕ) (N : ℕ) (lows m₀
           listed = λ c l. go c l (same c k) refl;
           counts = λ c l. go′ c l (same c k) refl;
           wires = λ i l. li .wires i l ∙ un .wires i l;
-          rest = λ i l. getD-set-other (done .small) (64 + k) i (done .count) 0 (λ e. omega arith) ∙ li .rest i (omega arith) ∙ un .rest i (omega arith);
+          rest = λ i l b. getD-set-other (done .small) (64 + k) i (done .count) 0 (λ e. omega arith) ∙ li .rest i (omega arith) b ∙ un .rest i (omega arith) b;
           masks = length-masks k (cfg k) low own others g (length (ts k)) f₀ ∙ un .masks;
           small = length-set (done .small) (64 + k) (done .count) ∙ ls;
         }
@@ -273,7 +281,7 @@ module _ (ts : ℕ → List Transition) (cfg : ℕ → ℕ) (N : ℕ) (lows m₀
         f₀ : Filling
         f₀ = record { masks = m; small = s; count = 0 }
 
-        ls : length (done .small) ≡ 96
+        ls : length (done .small) ≡ 160
         ls = length-small k (cfg k) low own others g (length (ts k)) f₀ ∙ un .small
 
         kept : (u : ℕ) → u < length (ts k) → keepAt ts cfg N lows m₀ k (suc u) ≡ lastsBy low own others (some (g u))
@@ -286,13 +294,13 @@ module _ (ts : ℕ → List Transition) (cfg : ℕ → ℕ) (N : ℕ) (lows m₀
         full = let h = count-leave k (cfg k) low own others g (length (ts k)) f₀ in omega arith
 
         to-stays : (c v : ℕ) → c < 8 → v < 8 → Stays (done .masks) (done .small) (done .masks) counted c v
-        to-stays c v l r = record { needed = refl; barred = refl; action = refl; to = getD-set-other (done .small) (64 + k) (8 * c + v) (done .count) 0 (λ e. omega arith) }
+        to-stays c v l r = record { needed = refl; barred = refl; action = refl; to = getD-set-other (done .small) (64 + k) (8 * c + v) (done .count) 0 (λ e. omega arith); place = getD-set-other (done .small) (64 + k) (96 + (8 * c + v)) (done .count) 0 (λ e. let h = few in omega arith) }
 
         count-at : countAt counted k ≡ done .count
         count-at = getD-set-same (done .small) (64 + k) (done .count) 0 (let h = ls in omega arith)
 
-        count-off : (c : ℕ) → c ≢ k → countAt counted c ≡ countAt s c
-        count-off c n = getD-set-other (done .small) (64 + k) (64 + c) (done .count) 0 (λ e. n (omega arith)) ∙ li .rest (64 + c) (omega arith)
+        count-off : (c : ℕ) → c < suc k → c ≢ k → countAt counted c ≡ countAt s c
+        count-off c l n = getD-set-other (done .small) (64 + k) (64 + c) (done .count) 0 (λ e. n (omega arith)) ∙ li .rest (64 + c) (omega arith) (omega arith)
 
         apart? : (c : ℕ) → same c k ≡ false → c ≢ k
         apart? c e w = false≢true (sym e ∙ rw w (same-refl k))
@@ -300,13 +308,13 @@ module _ (ts : ℕ → List Transition) (cfg : ℕ → ℕ) (N : ℕ) (lows m₀
         go : (c : ℕ) → c < suc k → (b : Bool) → same c k ≡ b → Listed (done .masks) counted c (ts c) (cfg c) (keepAt ts cfg N lows m₀ c) (length (ts c)) (countAt counted c)
         go c l true e = rw (same→≡ c k e, count-at) (listed-stays (done .masks) (done .small) (done .masks) counted k (ts k) (cfg k) (keepAt ts cfg N lows m₀ k) (li .listed)
             (λ v r. to-stays k v (omega arith) (let h = full in omega arith)))
-        go c l false e = let n = apart? c e in let h = un .counts c (omega arith) in rw (count-off c n)
+        go c l false e = let n = apart? c e in let h = un .counts c (omega arith) in rw (count-off c l n)
             (listed-stays m s (done .masks) counted c (ts c) (cfg c) (keepAt ts cfg N lows m₀ c) (un .listed c (omega arith))
             (λ v r. stays-trans m s (done .masks) (done .small) (done .masks) counted c v (li .stays c v (omega arith) (omega arith) n) (to-stays c v (omega arith) (omega arith))))
 
         go′ : (c : ℕ) → c < suc k → (b : Bool) → same c k ≡ b → countAt counted c ≤ 8
         go′ c l true e = rw (same→≡ c k e, count-at) full
-        go′ c l false e = rw (count-off c (apart? c e)) (un .counts c (let n = apart? c e in omega arith))
+        go′ c l false e = rw (count-off c l (apart? c e)) (un .counts c (let n = apart? c e in omega arith))
 
 -- ── the rows ahead ──
 
@@ -383,11 +391,11 @@ module _ (ts : ℕ → List Transition) (cfg : ℕ → ℕ) (N : ℕ) (lows m₀
         listed = λ c l. listed-kept m′ s c (ts c) (cfg c) (keepAt ts cfg N lows m₀ c) (keepAt ts cfg N lows m′ c)
             (λ v. keep-same ts cfg N lows m₀ s₀ few m₀ m′ c v l (λ i p q. sym (a .below i q ∙ un .wires i p)))
             (listed-stays m s m′ s c (ts c) (cfg c) (keepAt ts cfg N lows m₀ c) (un .listed c l) (λ v r. let h = un .counts c l in
-            record { needed = a .below (8 * c + v) (omega arith); barred = a .below (64 + (8 * c + v)) (omega arith); action = a .below (128 + (8 * c + v)) (omega arith); to = refl }));
+            record { needed = a .below (8 * c + v) (omega arith); barred = a .below (64 + (8 * c + v)) (omega arith); action = a .below (128 + (8 * c + v)) (omega arith); to = refl; place = refl }));
         counts = un .counts;
         ahead-at = λ k c p q. a .rows k c (omega arith) p q ∙ ahead-cong (N - k) k _ _ (λ e x. ap₂ _∩_ (sym (may-same N few s m m′ e (omega arith) (un .counts e (omega arith)) (a .below)))
             (sym (a .below (192 + (8 * e + c)) (omega arith))));
-        state-at = λ c l. un .rest (88 + c) (omega arith) ∙ st c l;
+        state-at = λ c l. un .rest (88 + c) (omega arith) (omega arith) ∙ st c l;
       }
 
 -- ── what is chosen by the tables is what the file's candidates are ──

@@ -28,12 +28,12 @@ returns : tie.Need-returns
 returns c =
     let p = c .before .before in
     let m = p .before in
-    of-given _ _ _ _ _ (m .before .before .before .if1 .taken) (m .mark .ensures) (p .put-fields .ensures)
+    of-given _ (m .before .before .before .before .before .args .f) _ _ _ (m .before .before .before .if1 .taken) (m .mark .ensures) (p .put-fields .ensures)
 
 returns-2 : tie.Need-returns-2
 returns-2 c =
     let p = c .before .before in
-    of-refused _ _ _ _ (p .before .before .if1 .left) (p .put-fields2 .ensures)
+    of-refused _ (p .before .before .before .before .args .f) _ _ (p .before .before .if1 .left) (p .put-fields2 .ensures)
 
 pub put-row-spec : {M : Type 1} → statement M
 put-row-spec =

@@ -120,7 +120,7 @@ loop-again c =
     let m = length (s .args .inputs .now) in
     let e : m - l .left + 1 ≡ m - c .before .after .result .left = omega (arith, c .before .after .ensures .0, l .inv .2) in (
       rw e at (turn (s .args .n) (s .args .body .now) (s .args .inputs .now) _ _ (s .pre .0) (l .rows) _ (l .at) (m - l .left) (l .inv .0) (another i) (fits i)
-          (p .put-row .last .0) _ _ (f .found .ensures .0) (p .put-row .ensures) (c .before .after .ensures .1 (s .args .n .charts))),
+          (p .put-row .last .0) _ _ (f .found .ensures .0 .answers) (p .put-row .ensures) (c .before .after .ensures .1 (s .args .n .charts))),
       f .found .ensures .1,
       omega (arith, c .before .after .ensures .0, l .inv .2),
     )

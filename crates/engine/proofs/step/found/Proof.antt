@@ -1,9 +1,8 @@
 -- `step::found` meets its contract: the tables hold the file's wiring and candidates, so the search over them answers the step; where a chart that
 -- is surely active has no candidate there is nothing to search. Assumes nothing.
-use mathlib.Core.Path.{refl, sym, _∙_}
+use mathlib.Core.Path.{sym, _∙_}
 use borrow.Author.Needs.{needs}
-use Rattle.search.specs.Hunt.{nothing}
-use Rattle.engine.specs.Step.Laws.{prepared-again, found-here, found-stuck, answer-none}
+use Rattle.engine.specs.Step.Laws.{prepared-again, found-here, found-stuck}
 use Rattle.engine.proofs.step.found.Statement.{statement}
 use Rattle.engine.proofs.step.found.Tie as tie
 
@@ -13,9 +12,8 @@ returns c =
     let l = k .before .before .before in
     let s = l .before .before .before .before .before in (
       rw (c .none .ensures)
-          (answer-none _ nothing refl
-          ∙ sym (found-stuck _ _ _ _ _ _ _ _ _ _ (s .pre .0 .sized) (s .pre .2) (k .choose .ensures) (λ i. l .before .before .before .before .shared-slice-known .given i .fits) (s .pre .0)
-          _ (s .fits .input .fits) (l .lows .ensures) (sym (c .before .before .is-stuck .ensures) ∙ c .before .if1 .taken))),
+          (found-stuck _ _ _ _ _ _ _ _ _ _ (s .pre .0 .sized) (s .pre .2) (k .choose .ensures) (λ i. l .before .before .before .before .shared-slice-known .given i .fits) (s .pre .0)
+          _ (s .fits .input .fits) (l .lows .ensures) (sym (c .before .before .is-stuck .ensures) ∙ c .before .if1 .taken)),
       prepared-again _ _ _ _ _ _ _ _ _ _ (s .pre .0 .sized) (s .pre .2) (k .choose .ensures),
     )
 

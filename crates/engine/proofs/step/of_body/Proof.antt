@@ -15,16 +15,16 @@ use Rattle.meaning.specs.Check.{firstOf}
 use Rattle.meaning.specs.Calls.{laidOver, nextIn}
 use Rattle.search.specs.declared.Found.{Found}
 use Rattle.candidates.specs.Candidates.{Ready}
-use Rattle.engine.specs.Step.{steppedOf, configTestsIn, stepAfter, Checked, Finds}
-use Rattle.engine.specs.Step.Laws.{config-long, config-valid, after-config, after-room, after-step, ready, answer-none, answer-given, refuses}
+use Rattle.engine.specs.Step.{steppedOf, configTestsIn, stepAfter, placesAfter, Checked, Finds}
+use Rattle.engine.specs.Step.Laws.{config-long, config-valid, after-config, after-room, after-step, after-places, after-refused, ready, answer-none, answer-given, refuses}
 use Rattle.engine.specs.declared.step.Stepped.{Stepped}
 use Rattle.engine.proofs.step.of_body.Statement.{statement}
 use Rattle.engine.proofs.step.of_body.Tie as tie
 
 -- a step given lays the next configuration over the buffer
-gives : (a : Answer) (b b′ : List ℕ) (o : Set) (n : List ℕ) (m : Bool) → a ≡ given o n m → b′ ≡ laidOver n b
-    → (_≡_ {A = Stepped} (record { refusal = 0; output = o; mark = m }) (steppedOf a)) × (b′ ≡ nextIn a b)
-gives a b b′ o n m e h = rw (e, h) (refl, refl)
+gives : (a : Answer) (p p′ b b′ : List ℕ) (o : Set) (n : List ℕ) (m : Bool) → a ≡ given o n m → p′ ≡ p → b′ ≡ laidOver n b
+    → (_≡_ {A = Stepped} (record { refusal = 0; output = o; mark = m; places = p }) (steppedOf a p′)) × (b′ ≡ nextIn a b)
+gives a p p′ b b′ o n m e q h = rw (e, q, h) (refl, refl)
 
 module _ (n : Shape) (b config : List ℕ) (i : Set) (room r : ℕ) (e : r ≡ firstOf (configTestsIn (fileAt n b) config)) where
   by-config : (r ≡ 0 → ⊥) → stepAfter (fileAt n b) config i room ≡ refused r
@@ -44,21 +44,27 @@ module _ (n : Shape) (b config : List ℕ) (i : Set) (room r : ℕ) (e : r ≡ f
     module _ (l : n .charts ≤ room) (f : Found) (h : Finds n b config i f) where
       by-search : f .has ≡ false → stepAfter (fileAt n b) config i room ≡ refused noStep
       unfolding fileAt
-      by-search q = after-step (fileAt n b) config i room (sym e ∙ z) l ∙ sym h ∙ answer-none (n .charts) f q
+      by-search q = after-step (fileAt n b) config i room (sym e ∙ z) l ∙ sym (h .answers) ∙ answer-none (n .charts) f q
 
       by-found : f .has ≡ true → stepAfter (fileAt n b) config i room ≡ given (f .output) (take (n .charts) (f .next)) (f .agree)
       unfolding fileAt
-      by-found q = after-step (fileAt n b) config i room (sym e ∙ z) l ∙ sym h ∙ answer-given (n .charts) f q
+      by-found q = after-step (fileAt n b) config i room (sym e ∙ z) l ∙ sym (h .answers) ∙ answer-given (n .charts) f q
+
+      by-places : placesAfter (fileAt n b) config i room ≡ f .places
+      unfolding fileAt
+      by-places = after-places (fileAt n b) config i room (sym e ∙ z) l ∙ sym (h .places)
 
 returns : tie.Need-returns
 returns c =
     let d = c .before .before in
-    refuses _ _ _ _ (by-config _ _ _ _ _ _ (d .config-refusal .ensures) (c .before .if1 .taken)) (c .refused .ensures)
+    let q = by-config _ _ _ _ _ _ (d .config-refusal .ensures) (c .before .if1 .taken) in
+    refuses _ _ _ _ _ q (after-refused _ _ _ _ _ q) (c .refused .ensures)
 
 returns-2 : tie.Need-returns-2
 returns-2 c =
     let e = c .before .before .before in
-    refuses _ _ _ _ (by-room _ _ _ _ _ _ (e .before .config-refusal .ensures) (e .if1 .left) (c .before .if2 .taken)) (c .refused2 .ensures)
+    let q = by-room _ _ _ _ _ _ (e .before .config-refusal .ensures) (e .if1 .left) (c .before .if2 .taken) in
+    refuses _ _ _ _ _ q (after-refused _ _ _ _ _ q) (c .refused2 .ensures)
 
 found-requires : tie.Need-found-requires
 found-requires c κs =
@@ -74,9 +80,10 @@ returns-3 : tie.Need-returns-3
 returns-3 c =
     let f = c .before .before .before .before .before in
     let e = f .before .before .before .before .before .before .before .before .before .before in
-    refuses _ _ _ _ (by-search _ _ _ _ _ _ (e .before .config-refusal .ensures) (e .if1 .left)
+    let q = by-search _ _ _ _ _ _ (e .before .config-refusal .ensures) (e .if1 .left)
     (f .before .before .before .before .before .before .before .before .if2 .left) (f .found .result) (f .found .ensures .0)
-    (not-true _ (c .before .if3 .taken))) (c .refused3 .ensures)
+    (not-true _ (c .before .if3 .taken)) in
+    refuses _ _ _ _ _ q (after-refused _ _ _ _ _ q) (c .refused3 .ensures)
 
 put-states-requires : tie.Need-put-states-requires
 put-states-requires c κs =
@@ -88,11 +95,13 @@ put-states-requires c κs =
 
 returns-4 : tie.Need-returns-4
 returns-4 c =
-    let f = c .before .before .before .before .before .before .before .before .before in
+    let f = c .before .before .before .before .before .before .before .before .before .before in
     let e = f .before .before .before .before .before .before .before .before .before .before in
-    gives _ _ _ _ _ _ (by-found _ _ _ _ _ _ (e .before .config-refusal .ensures) (e .if1 .left)
-    (f .before .before .before .before .before .before .before .before .if2 .left) (f .found .result) (f .found .ensures .0)
-    (not-false _ (c .before .before .before .before .before .if3 .left))) (c .before .before .put-states .ensures)
+    let l = f .before .before .before .before .before .before .before .before .if2 .left in
+    gives _ _ _ _ _ _ _ _ (by-found _ _ _ _ _ _ (e .before .config-refusal .ensures) (e .if1 .left) l (f .found .result) (f .found .ensures .0)
+    (not-false _ (c .before .before .before .before .before .before .if3 .left)))
+    (by-places _ _ _ _ _ _ (e .before .config-refusal .ensures) (e .if1 .left) l (f .found .result) (f .found .ensures .0))
+    (c .before .before .before .put-states .ensures)
 
 pub of-body-spec : {M : Type 1} → statement M
 of-body-spec =

@@ -1,0 +1,54 @@
+//! 02, No. 1, of a file and the file that it is rewritten into: "Under demand 3 the places agree,
+//! except that in a step given an idle transition stands where the original says 255 for one of its
+//! charts."
+
+use crate::limits::{refusal, NO_PLACE};
+use crate::model::{Model, Transition};
+use crate::rewriting::calls;
+use crate::set::Set;
+use crate::step::Places;
+
+/// A file, the file that it is rewritten into, and the calls of the old one's slaves.
+pub struct Agreement<'a> {
+    old: &'a Model,
+    new: &'a Model,
+    calls: Vec<Set>,
+}
+
+impl<'a> Agreement<'a> {
+    /// The old file isn't refused with 40.
+    pub fn new(old: &'a Model, new: &'a Model) -> Agreement<'a> {
+        let calls = calls(old).expect("a call for each slave");
+        Agreement { old, new, calls }
+    }
+
+    /// Whether the places of a step from a configuration agree; both files give it this refusal.
+    pub fn holds(&self, at: &[u8], number: u8, old: &Places, new: &Places) -> bool {
+        let is_given = number == refusal::SUCCESS;
+        (0..old.len()).all(|chart| match at.get(chart) {
+            Some(&state) if is_given && old[chart] == NO_PLACE => {
+                self.is_idle(chart, state, new[chart])
+            }
+            _ => old[chart] == new[chart],
+        })
+    }
+
+    /// Whether a place of the new chart's list has its idle transition of a state. 01: its own
+    /// transitions, "and after them, for each state rising, an idle transition from the state to
+    /// itself bars it, with empty action", where it is the nearest enclosing slave's call.
+    fn is_idle(&self, chart: usize, state: u8, place: u8) -> bool {
+        let own = self.old.charts[chart].transitions.len();
+        let idle = |slave: usize| Transition {
+            from: state,
+            to: state,
+            needed: Set::EMPTY,
+            barred: self.calls[slave],
+            action: Set::EMPTY,
+        };
+        let expected = self.old.nearest_slave(chart as u8).map(idle);
+        let list = &self.new.charts[chart].transitions;
+        expected.is_some()
+            && list.get(usize::from(place)) == expected.as_ref()
+            && usize::from(place) == own + usize::from(state)
+    }
+}
