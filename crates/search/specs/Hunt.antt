@@ -3,9 +3,9 @@
 use mathlib.Core.Path.{_≡_}
 use mathlib.Core.Bool.{Bool, true, false, _&&_, _||_, cond}
 use mathlib.Core.List.{List, [], _∷_, _++_}
-use Prim.Native.Nat.{ℕ, zero, suc, _+_, _-_}
+use Prim.Native.Nat.{ℕ, zero, suc, _+_, _-_, _≤_, _<_}
 use lib.Dec.{ltb}
-use lib.ListN.{getD, replicate}
+use lib.ListN.{length, getD, replicate}
 use Rattle.signals.specs.Mask.{_∪_, _∩_, within, apart}
 use Rattle.meaning.specs.Numbers.{noStep, noPlace}
 use Rattle.meaning.specs.Meaning.{same, Outcome, eqList, Answer, refused, given}
@@ -90,13 +90,17 @@ abbrev pub pickFound : Bool → Found → Found → Found
 pickFound true a b = a
 pickFound false a b = b
 
+-- the first outcome
+abbrev pub firstFound : Outcome → Found
+firstFound o = record { has = true; agree = true; output = o .output; next = o .next; places = o .places }
+
 -- one outcome more
 unfoldable pub settleOf : Outcome → Found → Found
 settleOf o f =
     pickFound (f .has)
     (pickFound (same (o .output) (f .output) && eqList (o .next) (f .next)) f
     (record { has = true; agree = false; output = f .output; next = f .next; places = f .places }))
-    (record { has = true; agree = true; output = o .output; next = o .next; places = o .places })
+    (firstFound o)
 
 unfoldable pub over : List Outcome → Found → Found
 over [] f = f
@@ -112,6 +116,29 @@ answerIn f = cond (f .has) (given (f .output) (f .next) (f .agree)) (refused noS
 
 -- ── what is lent ──
 
+-- What was found, where it stands: in 18 bytes the next states, the places, 1 if something was found and 1 if all agree with it; the output beside them.
+abbrev pub foundIn : List ℕ → List ℕ → Found
+foundIn f g =
+    record {
+      has = same (getD f 16 0) 1;
+      agree = same (getD f 17 0) 1;
+      output = getD g 0 0;
+      next = made 8 (λ c. getD f (0 + c) 0);
+      places = made 8 (λ c. getD f (8 + c) 0);
+    }
+
+-- the room that is lent for it
+pub record Held (f g : List ℕ) : Type 0 where
+  pub bytes : length f ≡ 18
+  pub output : length g ≡ 1
+
+-- l′ is l with the row r from `at` on
+pub record BytesPut (at : ℕ) (r l l′ : List ℕ) : Type 0 where
+  pub row : (c : ℕ) → c < 8 → getD l′ (at + c) 0 ≡ getD r c 0
+  pub below : (i : ℕ) → i < at → getD l′ i 0 ≡ getD l i 0
+  pub above : (i : ℕ) → at + 8 ≤ i → getD l′ i 0 ≡ getD l i 0
+  pub long : length l′ ≡ length l
+
 -- chart k takes its candidate v: the beginning of k charts that stands in w and b stays, and in w′ and b′ stands that of one chart more
 pub record Takes (m s : List ℕ) (k v : ℕ) (w b w′ b′ : List ℕ) : Type 0 where
   pub kept : Keeps k w b w′ b′
@@ -122,7 +149,8 @@ pub record Rests (s : List ℕ) (k : ℕ) (w b w′ b′ : List ℕ) : Type 0 wh
   pub kept : Keeps k w b w′ b′
   pub grown : (m : List ℕ) (o : ℕ) → trailIn w′ b′ (k + 1) o ≡ rested m s (trailIn w b k o) k
 
--- a search for the charts left, after f was found, finds r; the beginning stays
-pub record Hunted (m s : List ℕ) (charts left o : ℕ) (f : Found) (w b : List ℕ) (r : Found) (w′ b′ : List ℕ) : Type 0 where
-  pub found : r ≡ over (hunts m s left (charts - left) (trailIn w b (charts - left) o)) f
+-- a search for the charts left, after what stands in f and g was found, leaves what it finds in f′ and g′; the beginning stays
+pub record Hunted (m s : List ℕ) (charts left o : ℕ) (w b f g w′ b′ f′ g′ : List ℕ) : Type 0 where
+  pub found : foundIn f′ g′ ≡ over (hunts m s left (charts - left) (trailIn w b (charts - left) o)) (foundIn f g)
   pub kept : Keeps (charts - left) w b w′ b′
+  pub held : Held f′ g′

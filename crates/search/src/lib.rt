@@ -10,7 +10,7 @@ ghost use Rattle.meaning.specs.Meaning.{eqList};
 ghost use Rattle.meaning.specs.Calls.{made};
 ghost use Rattle.search.specs.Table.{Tables, actionAt, backAt, upAt};
 ghost use Rattle.search.specs.Trail.{trailIn, beginning, lowIn, nextIn, placeIn, Room, RowPut, Lowers};
-ghost use Rattle.search.specs.Hunt.{wakes, fineAt, taken, settleOf, hunts, outcomeIn, over, nothing, Takes, Rests, Hunted};
+ghost use Rattle.search.specs.Hunt.{wakes, fineAt, taken, settleOf, hunts, outcomeIn, firstFound, over, nothing, foundIn, BytesPut, Held, Takes, Rests, Hunted};
 ghost use Rattle.search.specs.Asks.{asksOf};
 
 // Where a search's tables have what it reads (specs/Table.antt). Among the masks: what candidates need, from 0 on, what they bar and put out; what
@@ -50,6 +50,14 @@ const STEPS: usize = 3;
 const AWAKE: usize = 1;
 
 const TAKEN: usize = 2;
+
+// Where what was found has the places of the first permitted choice, behind its next states, and 1 if there is one, and 1 if all others agree with
+// it (specs/Hunt.antt).
+const PLACES: usize = 8;
+
+const HAS: usize = 16;
+
+const AGREE: usize = 17;
 
 // The place of no transition.
 pub const NO_PLACE: u8 = 255;
@@ -212,7 +220,7 @@ fn rest(masks: &[u64], small: &[u8], trail: &mut [u64; 88], moves: &mut [u8; 24]
 }
 
 // What comes out of the whole once chart k takes its candidate v.
-fn shown(masks: &[u64], output: u64, k: usize, v: usize) -> u64
+fn shown_by(masks: &[u64], output: u64, k: usize, v: usize) -> u64
     requires { ⌜ (length (now masks) ≡ 336) × (k < 8) × (v < 8) ⌝ }
     ensures { λ r. ⌜ r ≡ output ∪ actionAt (now (masks .entry)) k v ∩ upAt (now (masks .entry)) k ⌝ }
 {
@@ -261,86 +269,137 @@ fn same_states(a: [u8; 8], b: [u8; 8]) -> bool
     true
 }
 
-// One outcome more: all charts are settled.
-fn settle(output: u64, moves: &[u8; 24], charts: usize, acc: Found) -> Found
-    requires { ⌜ charts ≤ 8 ⌝ }
-    ensures { λ r. ⌜ r ≡ settleOf (outcomeIn (now (moves .entry)) charts output) acc ⌝ }
+// Puts eight bytes, the first of them at `at`.
+fn put_bytes(best: &mut [u8; 18], at: usize, row: [u8; 8])
+    requires { ⌜ (length (now best) ≡ 18) × (at ≤ 10) ⌝ }
+    ensures { λ _. ⌜ BytesPut at row (now (best .entry)) (now (best .exit)) ⌝ }
 {
-    let next = states(moves, charts);
-    if !acc.has {
-        let taken = places(moves, charts);
-        return Found {
-            has: true,
-            agree: true,
-            output,
-            next,
-            places: taken,
-        };
+    let mut c: usize = 0;
+    while c < 8 {
+        best[at + c] = row[c];
+        c += 1;
     }
-    let first = acc.next;
-    if output == acc.output {
+}
+
+// The eight bytes from `at` on.
+fn bytes_at(best: &[u8; 18], at: usize) -> [u8; 8]
+    requires { ⌜ at ≤ 10 ⌝ }
+    ensures { λ r. ⌜ r ≡ made 8 (λ c. getD (now (best .entry)) (at + c) 0) ⌝ }
+{
+    let mut row = [0u8; 8];
+    let mut c: usize = 0;
+    while c < 8 {
+        row[c] = best[at + c];
+        c += 1;
+    }
+    row
+}
+
+// The first outcome: all charts are settled.
+fn keep(output: u64, moves: &[u8; 24], charts: usize, best: &mut [u8; 18], shown: &mut [u64; 1])
+    requires { ⌜ Held (now best) (now shown) × (charts ≤ 8) ⌝ }
+    ensures { λ _. ⌜ Held (now (best .exit)) (now (shown .exit)) × (foundIn (now (best .exit)) (now (shown .exit)) ≡ firstFound (outcomeIn (now (moves .entry)) charts output)) ⌝ }
+{
+    put_bytes(best, 0, states(moves, charts));
+    put_bytes(best, PLACES, places(moves, charts));
+    best[HAS] = 1;
+    best[AGREE] = 1;
+    shown[0] = output;
+}
+
+// One outcome more: all charts are settled.
+fn settle(output: u64, moves: &[u8; 24], charts: usize, best: &mut [u8; 18], shown: &mut [u64; 1])
+    requires { ⌜ Held (now best) (now shown) × (charts ≤ 8) ⌝ }
+    ensures { λ _. ⌜ Held (now (best .exit)) (now (shown .exit)) × (foundIn (now (best .exit)) (now (shown .exit)) ≡ settleOf (outcomeIn (now (moves .entry)) charts output) (foundIn (now (best .entry)) (now (shown .entry)))) ⌝ }
+{
+    if best[HAS] != 1 {
+        keep(output, moves, charts, best, shown);
+        return;
+    }
+    if output == shown[0] {
+        let next = states(moves, charts);
+        let first = bytes_at(best, 0);
         if same_states(next, first) {
-            return acc;
+            return;
         }
     }
-    let mut both = acc;
-    both.agree = false;
-    both
+    best[AGREE] = 0;
 }
 
 // Whether two permitted choices that disagree were found: then nothing more can change.
-fn disagree(f: Found) -> bool
-    ensures { λ r. ⌜ r ≡ (f .has && not (f .agree)) ⌝ }
+fn disagree(best: &[u8; 18]) -> bool
+    ensures { λ r. ⌜ ((g : List ℕ) → r ≡ (foundIn (now (best .entry)) g .has && not (foundIn (now (best .entry)) g .agree))) ⌝ }
 {
-    f.has & !f.agree
+    (best[HAS] == 1) & (best[AGREE] != 1)
 }
 
-// What the charts left to be settled give, from chart charts - left on, joined to what was found before. The charts before it stand in `trail` and
-// `moves`, and stay there; what it writes stands behind them. So that nothing is copied, both are lent.
+// What the charts left to be settled give, from chart charts - left on, joined to what was found before, in `best` and `shown`. The charts before it
+// stand in `trail` and `moves`, and stay there; what it writes stands behind them. So that nothing is copied, all four are lent.
 fn hunt(
     masks: &[u64],
     small: &[u8],
     trail: &mut [u64; 88],
     moves: &mut [u8; 24],
+    best: &mut [u8; 18],
+    shown: &mut [u64; 1],
     charts: usize,
     left: usize,
     output: u64,
-    acc: Found,
-) -> Found
-    requires { ⌜ Tables charts (now masks) (now small) × Room (now trail) (now moves) × (charts ≤ 8) × (left ≤ charts) ⌝ }
-    ensures { λ r. ⌜ Hunted (now (masks .entry)) (now (small .entry)) charts left output acc (now (trail .entry)) (now (moves .entry))
-        r (now (trail .exit)) (now (moves .exit)) ⌝ }
+)
+    requires { ⌜ Tables charts (now masks) (now small) × Room (now trail) (now moves) × Held (now best) (now shown) × (charts ≤ 8) × (left ≤ charts) ⌝ }
+    ensures { λ _. ⌜ Hunted (now (masks .entry)) (now (small .entry)) charts left output (now (trail .entry)) (now (moves .entry))
+        (now (best .entry)) (now (shown .entry)) (now (trail .exit)) (now (moves .exit)) (now (best .exit)) (now (shown .exit)) ⌝ }
 {
     if left == 0 {
-        return settle(output, moves, charts, acc);
+        settle(output, moves, charts, best, shown);
+        return;
     }
     let k = charts - left;
     let asked = asks(masks, trail, k);
     if !signals::apart(asked.needed, asked.barred) {
-        return acc;
+        return;
     }
     if !wakes(small, moves, k) {
         if asked.needed != 0 {
-            return acc;
+            return;
         }
         rest(masks, small, trail, moves, k);
-        return hunt(masks, small, trail, moves, charts, left - 1, output, acc);
+        hunt(
+            masks,
+            small,
+            trail,
+            moves,
+            best,
+            shown,
+            charts,
+            left - 1,
+            output,
+        );
+        return;
     }
     let n = small[COUNT + k] as usize;
-    let mut found = acc;
     let mut v: usize = 0;
     while v < n {
         if fits(masks, trail, asked, k, v) {
             take(masks, small, trail, moves, k, v);
-            let more = shown(masks, output, k, v);
-            found = hunt(masks, small, trail, moves, charts, left - 1, more, found);
-            if disagree(found) {
-                return found;
+            let more = shown_by(masks, output, k, v);
+            hunt(
+                masks,
+                small,
+                trail,
+                moves,
+                best,
+                shown,
+                charts,
+                left - 1,
+                more,
+            );
+            if disagree(best) {
+                return;
             }
         }
         v += 1;
     }
-    found
 }
 
 // Nothing found yet.
@@ -356,6 +415,21 @@ pub fn none() -> Found
     }
 }
 
+// What was found, from where it stands.
+fn found_in(best: &[u8; 18], shown: &[u64; 1]) -> Found
+    ensures { λ r. ⌜ r ≡ foundIn (now (best .entry)) (now (shown .entry)) ⌝ }
+{
+    let next = bytes_at(best, 0);
+    let taken = bytes_at(best, PLACES);
+    Found {
+        has: best[HAS] == 1,
+        agree: best[AGREE] == 1,
+        output: shown[0],
+        next,
+        places: taken,
+    }
+}
+
 // What a search over the charts finds, where low is what each is surely offered of the input.
 pub fn search(masks: &[u64], small: &[u8], charts: usize, low: [u64; 8]) -> Found
     requires { ⌜ Tables charts (now masks) (now small) × (charts ≤ 8) ⌝ }
@@ -363,15 +437,20 @@ pub fn search(masks: &[u64], small: &[u8], charts: usize, low: [u64; 8]) -> Foun
 {
     let mut trail = [0u64; 88];
     let mut moves = [0u8; 24];
+    let mut best = [0u8; 18];
+    let mut shown = [0u64; 1];
     put_row(&mut trail, low, 0);
+    put_bytes(&mut best, PLACES, [NO_PLACE; 8]);
     hunt(
         masks,
         small,
         &mut trail,
         &mut moves,
+        &mut best,
+        &mut shown,
         charts,
         charts,
         0,
-        none(),
-    )
+    );
+    found_in(&best, &shown)
 }

@@ -1,5 +1,6 @@
 -- `search::hunt` meets its contract. It ends since `left` falls at each call; its loop has been through the candidates below v, and may stop
--- where two permitted choices disagree, since nothing more can change. What it writes stands behind the beginning that it was given.
+-- where two permitted choices disagree, since nothing more can change. What it writes stands behind the beginning that it was given, or is what was
+-- found.
 use mathlib.Core.Path.{_≡_, refl, sym, ap, ap₂, subst₂, _∙_}
 use mathlib.Core.Bool.{Bool, true, false, _&&_, not, cond, and-false}
 use mathlib.Core.List.{List, [], _∷_, _++_}
@@ -20,7 +21,7 @@ use Rattle.search.specs.declared.Guard.{Guard}
 use Rattle.search.specs.Table.{Tables, actionAt, upAt, countAt}
 use Rattle.search.specs.Trail.{Trail, trailIn, Keeps}
 use Rattle.search.specs.Trail.Laws.{keeps-refl, keeps-trans, keeps-fewer, keeps-room, trail-kept}
-use Rattle.search.specs.Hunt.{each, wakes, taken, rested, fineAt, hunts, outcomeIn, settleOf, over, Takes, Hunted}
+use Rattle.search.specs.Hunt.{each, wakes, taken, rested, fineAt, hunts, outcomeIn, settleOf, over, foundIn, Held, Takes, Hunted}
 use Rattle.search.specs.Hunt.Laws.{Stopped, each-none, over-each, over-each-stopped}
 use Rattle.search.specs.Asks.{asksOf}
 use Rattle.search.specs.Asks.Laws.{ownAt, asked-never, asked-some, asks-kept, fine-taken, fine-rested}
@@ -32,7 +33,7 @@ use Rattle.search.proofs.disagree.Reads as disagree-reads
 use Rattle.search.proofs.fits.Reads as fits-reads
 use Rattle.search.proofs.rest.Reads as rest-reads
 use Rattle.search.proofs.settle.Reads as settle-reads
-use Rattle.search.proofs.shown.Reads as shown-reads
+use Rattle.search.proofs.shown_by.Reads as shown-by-reads
 use Rattle.search.proofs.take.Reads as take-reads
 use Rattle.search.proofs.wakes.Reads as wakes-reads
 use Rattle.signals.proofs.apart.Reads as apart-reads
@@ -90,13 +91,13 @@ module _ (m s : List ℕ) (charts left : ℕ) (some : left ≡ 0 → ⊥) (withi
     here : taken m s (trailIn w b k o) k v ≡ taken m s (trailIn w₀ b₀ k o) k v
     here = ap (λ (u : Trail). taken m s u k v) (trail-kept kept o)
 
-    goes : (w₁ b₁ w₂ b₂ : List ℕ) (o₁ : ℕ) (r : Found) → true ≡ fineAt m s (taken m s (trailIn w b k o) k v) k → Takes m s k v w b w₁ b₁ →
-        o₁ ≡ o ∪ actionAt m k v ∩ upAt m k → Hunted m s charts (left - 1) o₁ f w₁ b₁ r w₂ b₂ →
-        Keeps k w₀ b₀ w₂ b₂ × (r ≡ over (block m s left k (trailIn w₀ b₀ k o) v) f)
-    goes w₁ b₁ w₂ b₂ o₁ r fine t e h =
+    goes : (w₁ b₁ f₁ g₁ w₂ b₂ f₂ g₂ : List ℕ) (o₁ : ℕ) → foundIn f₁ g₁ ≡ f → true ≡ fineAt m s (taken m s (trailIn w b k o) k v) k →
+        Takes m s k v w b w₁ b₁ → o₁ ≡ o ∪ actionAt m k v ∩ upAt m k → Hunted m s charts (left - 1) o₁ w₁ b₁ f₁ g₁ w₂ b₂ f₂ g₂ →
+        Keeps k w₀ b₀ w₂ b₂ × (foundIn f₂ g₂ ≡ over (block m s left k (trailIn w₀ b₀ k o) v) f)
+    goes w₁ b₁ f₁ g₁ w₂ b₂ f₂ g₂ o₁ q fine t e h =
         let z : charts - (left - 1) ≡ k + 1 = omega arith in (
           keeps-trans kept (keeps-trans (t .kept) (keeps-fewer (charts - (left - 1)) z (h .kept))),
-          h .found
+          h .found ∙ ap (over (hunts m s (left - 1) (charts - (left - 1)) (trailIn w₁ b₁ (charts - (left - 1)) o₁))) q
               ∙ goes-on w₁ b₁ o₁ (taken m s (trailIn w₀ b₀ k o) k v) (ap (trailIn w₁ b₁ (k + 1)) e ∙ t .grown o ∙ here)
               (ap (λ (u : Trail). fineAt m s u k) (sym here) ∙ sym fine),
         )
@@ -139,19 +140,20 @@ stopped f h = record { has = and-l (f .has) (not (f .agree)) h; agree = not-true
 
 -- ── the proof ──
 
-abbrev μ-hunt : Measures 4 hunt-kinds.ps ℕ
-μ-hunt κs a = a .1 .1 .1 .1 .1 .0
+abbrev μ-hunt : Measures 6 hunt-kinds.ps ℕ
+μ-hunt κs a = a .1 .1 .1 .1 .1 .1 .1 .0
 
 abbrev Inv-loop : lts.InvT-loop
-Inv-loop masks small trail₀ moves₀ charts left output k asked n found₀ v₀ trail moves found v =
-    (v ≤ n) × Keeps k trail₀ moves₀ trail moves × (found ≡ over (each v (block masks small left k (trailIn trail₀ moves₀ k output))) found₀)
+Inv-loop masks small trail₀ moves₀ best₀ shown₀ charts left output k asked n v₀ trail moves best shown v =
+    (v ≤ n) × Keeps k trail₀ moves₀ trail moves
+    × (foundIn best shown ≡ over (each v (block masks small left k (trailIn trail₀ moves₀ k output))) (foundIn best₀ shown₀)) × Held best shown
 
 abbrev μ-loop : lts.MeasureT-loop
-μ-loop masks small trail₀ moves₀ charts left output k asked n found₀ v₀ trail moves found v = n - v
+μ-loop masks small trail₀ moves₀ best₀ shown₀ charts left output k asked n v₀ trail moves best shown v = n - v
 
 -- what the function is given at the measure t, and what its callees ask and give
-abbrev at : ℕ → In 4 hunt-kinds.ps
-at t = and 4 hunt-kinds.ps (is 4 hunt-kinds.ps μ-hunt t) hunt.Pre
+abbrev at : ℕ → In 6 hunt-kinds.ps
+at t = and 6 hunt-kinds.ps (is 6 hunt-kinds.ps μ-hunt t) hunt.Pre
 
 abbrev callees : ℕ → lts.Claims
 callees t = (
@@ -165,32 +167,34 @@ callees t = (
   wakes-reads.Learnt,
   rest-reads.Asked,
   rest-reads.Learnt,
-  and 4 hunt-kinds.ps (falls 4 hunt-kinds.ps _<_ μ-hunt t) hunt.Pre,
+  and 6 hunt-kinds.ps (falls 6 hunt-kinds.ps _<_ μ-hunt t) hunt.Pre,
   hunt.Post,
   fits-reads.Asked,
   fits-reads.Learnt,
   take-reads.Asked,
   take-reads.Learnt,
-  shown-reads.Asked,
-  shown-reads.Learnt,
+  shown-by-reads.Asked,
+  shown-by-reads.Learnt,
   disagree-reads.Asked,
   disagree-reads.Learnt,
 )
 
 module _ (t : ℕ) where
   settle-requires : lts.Need-settle-requires (callees t) (at t) hunt.Post Inv-loop μ-loop
-  settle-requires c κs = c .before .before .before .before .pre .1 .2
+  settle-requires c κs = let b = c .before .before .before .before .before .before in (b .pre .1 .2, b .pre .1 .3)
 
   returns : lts.Need-returns (callees t) (at t) hunt.Post Inv-loop μ-loop
   returns c =
-      let b = c .before .before .before .before .before in
+      let t1 = c .before .before .before .before in
+      let b = t1 .before .before .before in
       let a = b .args in
       let m = a .masks .now in
       let s = a .small .now in
       record {
         found =
-            c .settle .ensures
-            ∙ ends m s (a .trail .now) (a .moves .now) (a .charts) (a .left) (a .output) (a .acc) (c .before .before .if1 .taken);
+            c .settle .ensures .1
+            ∙ ends m s (a .trail .now) (a .moves .now) (a .charts) (a .left) (a .output) (foundIn (a .best .now) (a .shown .now)) (t1 .if1 .taken);
+        held = c .settle .ensures .0;
         kept = keeps-refl _ _ _;
       }
 
@@ -205,7 +209,7 @@ module _ (t : ℕ) where
   asks-requires c κs =
       let b = c .before .before .before .before in
       let some = c .before .if1 .left in
-      (b .pre .1 .0 .masks, omega (arith, b .pre .1 .2, b .pre .1 .3))
+      (b .pre .1 .0 .masks, omega (arith, b .pre .1 .3, b .pre .1 .4))
 
   returns-2 : lts.Need-returns-2 (callees t) (at t) hunt.Post Inv-loop μ-loop
   returns-2 c =
@@ -215,17 +219,18 @@ module _ (t : ℕ) where
       let s = a .small .now in
       record {
         found =
-            never m s (a .charts) (a .left) (some-left (c .before)) (b .pre .1 .3) (a .acc) (b .pre .1 .2) (a .trail .now) (a .moves .now)
+            never m s (a .charts) (a .left) (some-left (c .before)) (b .pre .1 .4) (foundIn (a .best .now) (a .shown .now)) (b .pre .1 .3) (a .trail .now) (a .moves .now)
             (a .output) (c .before .before .asks .result) (c .before .before .asks .ensures)
             (sym (c .before .apart .ensures) ∙ not-true _ (c .if2 .taken));
         kept = keeps-refl _ _ _;
+        held = b .pre .1 .2;
       }
 
   wakes-requires : lts.Need-wakes-requires (callees t) (at t) hunt.Post Inv-loop μ-loop
   wakes-requires c κs =
       let b = entry (c .before .before) in
       let some = some-left (c .before .before) in
-      (b .pre .1 .0 .small, omega (arith, b .pre .1 .2, b .pre .1 .3))
+      (b .pre .1 .0 .small, omega (arith, b .pre .1 .3, b .pre .1 .4))
 
   returns-3 : lts.Need-returns-3 (callees t) (at t) hunt.Post Inv-loop μ-loop
   returns-3 c =
@@ -237,13 +242,14 @@ module _ (t : ℕ) where
       let s = a .small .now in
       record {
         found =
-            drops m s (a .charts) (a .left) (some-left p) (b .pre .1 .3) (a .acc) _
-            (rest-fine m s (a .charts) (a .left) (some-left p) (b .pre .1 .3) (a .acc) (b .pre .1 .2) (a .trail .now) (a .moves .now)
+            drops m s (a .charts) (a .left) (some-left p) (b .pre .1 .4) (foundIn (a .best .now) (a .shown .now)) _
+            (rest-fine m s (a .charts) (a .left) (some-left p) (b .pre .1 .4) (foundIn (a .best .now) (a .shown .now)) (b .pre .1 .3) (a .trail .now) (a .moves .now)
             (a .output) (p .before .asks .result) (p .before .asks .ensures) false (ne-eqb _ _ (c .if4 .taken)))
-            ∙ asleep m s (a .charts) (a .left) (some-left p) (b .pre .1 .3) (a .acc)
+            ∙ asleep m s (a .charts) (a .left) (some-left p) (b .pre .1 .4) (foundIn (a .best .now) (a .shown .now))
             (trailIn (a .trail .now) (a .moves .now) (a .charts - a .left) (a .output))
             (sym (w .wakes .ensures m (a .trail .now) (a .output)) ∙ not-true _ (c .before .before .if3 .taken));
         kept = keeps-refl _ _ _;
+        held = b .pre .1 .2;
       }
 
   rest-requires : lts.Need-rest-requires (callees t) (at t) hunt.Post Inv-loop μ-loop
@@ -251,19 +257,19 @@ module _ (t : ℕ) where
       let p = c .before .before .before .before .before .before .before .before in
       let b = entry p in
       let some = some-left p in
-      (b .pre .1 .0 .masks, b .pre .1 .0 .small, b .pre .1 .1, omega (arith, b .pre .1 .2, b .pre .1 .3))
+      (b .pre .1 .0 .masks, b .pre .1 .0 .small, b .pre .1 .1, omega (arith, b .pre .1 .3, b .pre .1 .4))
 
   hunt-requires : lts.Need-hunt-requires (callees t) (at t) hunt.Post Inv-loop μ-loop
   hunt-requires c κs =
-      let r = c .before .before in
+      let r = c .before .before .before .before in
       let p = r .before .before .before .before .before .before .before .before .before in
       let b = entry p in
       let some = some-left p in
-      (omega (arith, b .pre .0), (b .pre .1 .0, keeps-room (r .rest .ensures .kept) (b .pre .1 .1), b .pre .1 .2, omega (arith, b .pre .1 .3)))
+      (omega (arith, b .pre .0), (b .pre .1 .0, keeps-room (r .rest .ensures .kept) (b .pre .1 .1), b .pre .1 .2, b .pre .1 .3, omega (arith, b .pre .1 .4)))
 
   returns-4 : lts.Need-returns-4 (callees t) (at t) hunt.Post Inv-loop μ-loop
   returns-4 c =
-      let r = c .before .before .before in
+      let r = c .before .before .before .before .before in
       let w = r .before .before .before .before .before .before in
       let p = w .before .before .before in
       let b = entry p in
@@ -271,18 +277,19 @@ module _ (t : ℕ) where
       let m = a .masks .now in
       let s = a .small .now in
       let some = some-left p in
-      let z : a .charts - (a .left - 1) ≡ a .charts - a .left + 1 = omega (arith, b .pre .1 .3) in
+      let z : a .charts - (a .left - 1) ≡ a .charts - a .left + 1 = omega (arith, b .pre .1 .4) in
       record {
         found =
             c .hunt .ensures .found
-            ∙ goes-on m s (a .charts) (a .left) some (b .pre .1 .3) (a .acc) _ _ (a .output) _
+            ∙ goes-on m s (a .charts) (a .left) some (b .pre .1 .4) (foundIn (a .best .now) (a .shown .now)) _ _ (a .output) _
             (r .rest .ensures .grown m (a .output))
-            (rest-fine m s (a .charts) (a .left) some (b .pre .1 .3) (a .acc) (b .pre .1 .2) (a .trail .now) (a .moves .now)
+            (rest-fine m s (a .charts) (a .left) some (b .pre .1 .4) (foundIn (a .best .now) (a .shown .now)) (b .pre .1 .3) (a .trail .now) (a .moves .now)
             (a .output) (p .before .asks .result) (p .before .asks .ensures) true (eq-eqb _ _ (r .before .before .before .if4 .left)))
-            ∙ asleep m s (a .charts) (a .left) some (b .pre .1 .3) (a .acc)
+            ∙ asleep m s (a .charts) (a .left) some (b .pre .1 .4) (foundIn (a .best .now) (a .shown .now))
             (trailIn (a .trail .now) (a .moves .now) (a .charts - a .left) (a .output))
             (sym (w .wakes .ensures m (a .trail .now) (a .output)) ∙ not-true _ (r .before .before .before .before .before .if3 .taken));
         kept = keeps-trans (r .rest .ensures .kept) (keeps-fewer (a .charts - (a .left - 1)) z (c .hunt .ensures .kept));
+        held = c .hunt .ensures .held;
       }
 
   cast-n : lts.Need-cast-n (callees t) (at t) hunt.Post Inv-loop μ-loop
@@ -290,18 +297,18 @@ module _ (t : ℕ) where
       let p = c .before .before .before .before .before in
       let b = entry p in
       let some = some-left p in
-      omega (arith, b .pre .1 .0 .counts (b .args .charts - b .args .left) (omega (arith, b .pre .1 .3)))
+      omega (arith, b .pre .1 .0 .counts (b .args .charts - b .args .left) (omega (arith, b .pre .1 .4)))
 
   loop-holds : lts.Need-loop-holds (callees t) (at t) hunt.Post Inv-loop μ-loop
   unfolding each over
-  loop-holds c = (omega arith, keeps-refl _ _ _, refl)
+  loop-holds c = let b = entry (c .before .before .before .before .before) in (omega arith, keeps-refl _ _ _, refl, b .pre .1 .2)
 
   -- from the loop's head: where what is asked was tested; that a candidate's number is below 8
   abbrev tested : lts.At-loop (callees t) (at t) hunt.Post Inv-loop μ-loop → lts.After-apart (callees t) (at t) hunt.Post Inv-loop μ-loop
   tested c = c .before .before .before .before .before .before
 
   few : (c : lts.At-loop (callees t) (at t) hunt.Post Inv-loop μ-loop) → entry (tested c) .args .charts - entry (tested c) .args .left < 8
-  few c = let b = entry (tested c) in let some = some-left (tested c) in omega (arith, b .pre .1 .2, b .pre .1 .3)
+  few c = let b = entry (tested c) in let some = some-left (tested c) in omega (arith, b .pre .1 .3, b .pre .1 .4)
 
   counted : (c : lts.At-loop (callees t) (at t) hunt.Post Inv-loop μ-loop) →
       let a = entry (tested c) .args in
@@ -309,20 +316,20 @@ module _ (t : ℕ) where
   counted c =
       let b = entry (tested c) in
       let some = some-left (tested c) in
-      b .pre .1 .0 .counts (b .args .charts - b .args .left) (omega (arith, b .pre .1 .3))
+      b .pre .1 .0 .counts (b .args .charts - b .args .left) (omega (arith, b .pre .1 .4))
 
   -- what the charts left give is what all candidates of chart k give
   whole : (c : lts.At-loop (callees t) (at t) hunt.Post Inv-loop μ-loop) →
       let a = entry (tested c) .args in
       let u = trailIn (a .trail .now) (a .moves .now) (a .charts - a .left) (a .output) in
-      over (hunts (a .masks .now) (a .small .now) (a .left) (a .charts - a .left) u) (a .acc)
-      ≡ over (each (countAt (a .small .now) (a .charts - a .left)) (block (a .masks .now) (a .small .now) (a .left) (a .charts - a .left) u)) (a .acc)
+      over (hunts (a .masks .now) (a .small .now) (a .left) (a .charts - a .left) u) (foundIn (a .best .now) (a .shown .now))
+      ≡ over (each (countAt (a .small .now) (a .charts - a .left)) (block (a .masks .now) (a .small .now) (a .left) (a .charts - a .left) u)) (foundIn (a .best .now) (a .shown .now))
   whole c =
       let b = entry (tested c) in
       let a = b .args in
       let m = a .masks .now in
       let s = a .small .now in
-      awake m s (a .charts) (a .left) (some-left (tested c)) (b .pre .1 .3) (a .acc)
+      awake m s (a .charts) (a .left) (some-left (tested c)) (b .pre .1 .4) (foundIn (a .best .now) (a .shown .now))
       (trailIn (a .trail .now) (a .moves .now) (a .charts - a .left) (a .output))
       (sym (c .before .before .before .wakes .ensures m (a .trail .now) (a .output)) ∙ not-false _ (c .before .before .if3 .left))
 
@@ -342,31 +349,31 @@ module _ (t : ℕ) where
       let b = entry (tested l) in
       (b .pre .1 .0 .masks, b .pre .1 .0 .small, keeps-room (l .loop .inv .1) (b .pre .1 .1), few l, omega (arith, counted l))
 
-  shown-requires : lts.Need-shown-requires (callees t) (at t) hunt.Post Inv-loop μ-loop
-  shown-requires c κs =
+  shown-by-requires : lts.Need-shown-by-requires (callees t) (at t) hunt.Post Inv-loop μ-loop
+  shown-by-requires c κs =
       let l = c .before .before .before .before .before .before .before in
       (entry (tested l) .pre .1 .0 .masks, few l, omega (arith, counted l))
 
   hunt-requires-2 : lts.Need-hunt-requires-2 (callees t) (at t) hunt.Post Inv-loop μ-loop
   hunt-requires-2 c κs =
-      let r = c .before .before .before in
+      let r = c .before .before .before .before .before in
       let l = r .before .before .before .before .before .before .before in
       let b = entry (tested l) in
       let some = some-left (tested l) in (
         omega (arith, b .pre .0),
-        (b .pre .1 .0, keeps-room (r .take .ensures .kept) (keeps-room (l .loop .inv .1) (b .pre .1 .1)), b .pre .1 .2, omega (arith, b .pre .1 .3)),
+        (b .pre .1 .0, keeps-room (r .take .ensures .kept) (keeps-room (l .loop .inv .1) (b .pre .1 .1)), l .loop .inv .3, b .pre .1 .3, omega (arith, b .pre .1 .4)),
       )
 
   sub-left : lts.Need-sub-hunt-2 (callees t) (at t) hunt.Post Inv-loop μ-loop
-  sub-left c = let some = some-left (tested (c .before .before .before .before .before .before .before .before .before .before)) in omega arith
+  sub-left c = let some = some-left (tested (c .before .before .before .before .before .before .before .before .before .before .before .before)) in omega arith
 
   add-v : lts.Need-add-v (callees t) (at t) hunt.Post Inv-loop μ-loop
   add-v c = omega (arith, counted (c .before .before .before .before))
 
   returns-5 : lts.Need-returns-5 (callees t) (at t) hunt.Post Inv-loop μ-loop
   returns-5 c =
-      let h = c .before .before in
-      let g = h .before .before .before in
+      let h = c .before .before .before in
+      let g = h .before .before .before .before .before in
       let r = g .before in
       let l = r .before .before .before .before .before .before .before in
       let b = entry (tested l) in
@@ -375,16 +382,18 @@ module _ (t : ℕ) where
       let s = a .small .now in
       let k = a .charts - a .left in
       let all = block m s (a .left) k (trailIn (a .trail .now) (a .moves .now) k (a .output)) in
-      let one = goes m s (a .charts) (a .left) (some-left (tested l)) (b .pre .1 .3) (l .loop .found) (a .trail .now) (a .moves .now)
-      (l .loop .trail) (l .loop .moves) (l .loop .v) (a .output) (l .loop .inv .1) _ _ _ _ _ _
+      let one = goes m s (a .charts) (a .left) (some-left (tested l)) (b .pre .1 .4) (foundIn (l .loop .best) (l .loop .shown)) (a .trail .now) (a .moves .now)
+      (l .loop .trail) (l .loop .moves) (l .loop .v) (a .output) (l .loop .inv .1) _ _ _ _ _ _ _ _ _ refl
       (sym (r .before .before .before .if5 .taken) ∙ r .before .before .before .before .fits2 .ensures s (l .loop .moves) (a .output))
-      (r .take .ensures) (g .shown .ensures) (h .hunt2 .ensures) in
-      let e : h .hunt2 .result ≡ over (each (l .loop .v + 1) all) (a .acc) = rw (over-each, ← l .loop .inv .2) (one .1) in
-      let end : Stopped (h .hunt2 .result) = stopped (h .hunt2 .result) (sym (c .before .disagree .ensures) ∙ c .if6 .taken) in
+      (r .take .ensures) (g .shown-by .ensures) (h .hunt2 .ensures) in
+      let r′ = foundIn (h .hunt2 .last .1 .1 .1 .1 .0) (h .hunt2 .last .1 .1 .1 .1 .1 .0) in
+      let e : r′ ≡ over (each (l .loop .v + 1) all) (foundIn (a .best .now) (a .shown .now)) = rw (over-each, ← l .loop .inv .2) (one .1) in
+      let end : Stopped r′ = stopped r′ (sym (c .before .disagree .ensures (h .hunt2 .last .1 .1 .1 .1 .1 .0)) ∙ c .if6 .taken) in
       record {
-        found = e ∙ sym (over-each-stopped all (a .acc) (countAt s k) (l .loop .v + 1)
+        found = e ∙ sym (over-each-stopped all (foundIn (a .best .now) (a .shown .now)) (countAt s k) (l .loop .v + 1)
             (omega (arith, r .before .before .before .before .before .before .loop-test .taken)) (rw e at end)) ∙ sym (whole l);
         kept = one .0;
+        held = h .hunt2 .ensures .held;
       }
 
   loop-again : lts.Need-loop-again (callees t) (at t) hunt.Post Inv-loop μ-loop
@@ -397,33 +406,39 @@ module _ (t : ℕ) where
       let k = a .charts - a .left in
       let some = some-left (tested l) in
       let fits = c .before .fits2 .ensures s (l .loop .moves) (a .output) in
+      let f = foundIn (l .loop .best) (l .loop .shown) in
       let e : Keeps k (a .trail .now) (a .moves .now) (c .if5 .trail) (c .if5 .moves)
-      × (c .if5 .found ≡ over (block m s (a .left) k (trailIn (a .trail .now) (a .moves .now) k (a .output)) (l .loop .v)) (l .loop .found)) =
+      × (foundIn (c .if5 .best) (c .if5 .shown) ≡ over (block m s (a .left) k (trailIn (a .trail .now) (a .moves .now) k (a .output)) (l .loop .v)) f)
+      × Held (c .if5 .best) (c .if5 .shown) =
       ⊎-elim
       (λ w.
-      let one = goes m s (a .charts) (a .left) some (b .pre .1 .3) (l .loop .found) (a .trail .now) (a .moves .now)
-      (l .loop .trail) (l .loop .moves) (l .loop .v) (a .output) (l .loop .inv .1) _ _ _ _ _ _ (sym (w .0 .taken) ∙ fits)
-      (w .3 .ensures) (w .4 .ensures) (w .7 .ensures) in
-      (subst₂ (λ (x y : List ℕ). Keeps k (a .trail .now) (a .moves .now) x y) (sym (w .10)) (sym (w .11)) (one .0), w .12 ∙ one .1))
+      let one = goes m s (a .charts) (a .left) some (b .pre .1 .4) f (a .trail .now) (a .moves .now)
+      (l .loop .trail) (l .loop .moves) (l .loop .v) (a .output) (l .loop .inv .1) _ _ _ _ _ _ _ _ _ refl (sym (w .0 .taken) ∙ fits)
+      (w .3 .ensures) (w .4 .ensures) (w .9 .ensures) in (
+        subst₂ (λ (x y : List ℕ). Keeps k (a .trail .now) (a .moves .now) x y) (sym (w .13)) (sym (w .14)) (one .0),
+        ap₂ foundIn (w .15) (w .16) ∙ one .1,
+        subst₂ Held (sym (w .15)) (sym (w .16)) (w .9 .ensures .held),
+      ))
       (λ w. (
         subst₂ (λ (x y : List ℕ). Keeps k (a .trail .now) (a .moves .now) x y) (sym (w .1)) (sym (w .2)) (l .loop .inv .1),
-        w .3 ∙ leaves m s (a .charts) (a .left) some (b .pre .1 .3) (l .loop .found) (a .trail .now) (a .moves .now)
+        ap₂ foundIn (w .3) (w .4) ∙ leaves m s (a .charts) (a .left) some (b .pre .1 .4) f (a .trail .now) (a .moves .now)
             (l .loop .trail) (l .loop .moves) (l .loop .v) (a .output) (l .loop .inv .1) (sym (w .0 .left) ∙ fits),
+        subst₂ Held (sym (w .3)) (sym (w .4)) (l .loop .inv .3),
       ))
       (c .if5 .came) in
-      (omega arith, e .0, rw (over-each, ← l .loop .inv .2) (e .1))
+      (omega arith, e .0, rw (over-each, ← l .loop .inv .2) (e .1), e .2)
 
   returns-6 : lts.Need-returns-6 (callees t) (at t) hunt.Post Inv-loop μ-loop
   returns-6 c =
       let l = c .before in
       let a = entry (tested l) .args in
       let e : l .loop .v ≡ countAt (a .small .now) (a .charts - a .left) = omega arith in
-      record { found = rw (whole l, ← e) (l .loop .inv .2); kept = l .loop .inv .1 }
+      record { found = rw (whole l, ← e) (l .loop .inv .2); kept = l .loop .inv .1; held = l .loop .inv .3 }
 
 pub +hunt-spec : {M : Type 1} → statement M
 +hunt-spec =
     close μ-hunt
     (λ t. lts.spec (callees t) (at t) hunt.Post Inv-loop μ-loop (settle-requires t) (returns t) (λ c. omega arith)
     (asks-requires t) (λ c κs. search needs) (returns-2 t) (wakes-requires t) (returns-3 t) (rest-requires t) (λ c. omega arith) (hunt-requires t)
-    (returns-4 t) (λ c. omega arith) (λ c. omega arith) (cast-n t) (loop-holds t) (fits-requires t) (take-requires t) (shown-requires t)
+    (returns-4 t) (λ c. omega arith) (λ c. omega arith) (cast-n t) (loop-holds t) (fits-requires t) (take-requires t) (shown-by-requires t)
     (sub-left t) (hunt-requires-2 t) (λ c κs. search needs) (returns-5 t) (add-v t) (λ c. omega arith) (loop-again t) (returns-6 t))

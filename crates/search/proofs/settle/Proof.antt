@@ -1,18 +1,24 @@
--- `search::settle` meets its contract: a law for each way through the definition.
-use mathlib.Core.Path.{_≡_, sym, ap, _∙_}
+-- `search::settle` meets its contract: a law for each way through the definition. Where the next one differs, the last byte alone is written.
+use mathlib.Core.Path.{_≡_, sym, ap₂, _∙_}
 use mathlib.Core.Bool.{true, false, and-false}
 use mathlib.Core.List.{List}
-use Prim.Native.Nat.{ℕ}
+use mathlib.Core.Logic.{⊎-elim}
+use Prim.Native.Nat.{ℕ, _+_, _<_}
+use native.Mathlib.Omega.{arith}
 use borrow.Author.Needs.{needs}
-use borrow.Author.Tests.{eq-eqb, ne-eqb, not-true, not-false}
+use borrow.Author.Tests.{eq-eqb, ne-eqb}
+use lib.ListN.{length, getD, set, length-set}
+use lib.Seq.{getD-set-same, getD-set-other}
 use Rattle.meaning.specs.Meaning.{same, Outcome, eqList}
+use Rattle.meaning.specs.Calls.{made}
+use Rattle.meaning.specs.Calls.Laws.{made-cong}
 use Rattle.search.specs.declared.Found.{Found}
-use Rattle.search.specs.Hunt.{outcomeIn, settleOf}
+use Rattle.search.specs.Hunt.{outcomeIn, firstFound, settleOf, foundIn, Held}
 use Rattle.search.proofs.settle.Statement.{statement}
 use Rattle.search.proofs.settle.Tie as tie
 
 module _ (o : Outcome) (acc : Found) where
-  first : acc .has ≡ false → record { has = true; agree = true; output = o .output; next = o .next; places = o .places } ≡ settleOf o acc
+  first : acc .has ≡ false → firstFound o ≡ settleOf o acc
   unfolding settleOf
   first h = rw h
 
@@ -31,40 +37,69 @@ module _ (o : Outcome) (acc : Found) where
   unfolding settleOf same
   other-output h e = rw (h, ne-eqb (o .output) (acc .output) e)
 
--- the first outcome, as the code has made it
-found : (o : Outcome) (n p : List ℕ) → n ≡ o .next → p ≡ o .places →
-    _≡_ {A = Found} (record { has = true; agree = true; output = o .output; next = n; places = p })
-    (record { has = true; agree = true; output = o .output; next = o .next; places = o .places })
-found o n p e q = rw (e, q)
+-- the last byte is 0
+module _ (f g : List ℕ) (held : Held f g) where
+  pub off-held : Held (set f 17 0) g
+  off-held = record { bytes = length-set f 17 0 ∙ held .bytes; output = held .output }
+
+  off : foundIn (set f 17 0) g
+      ≡ record { has = foundIn f g .has; agree = false; output = foundIn f g .output; next = foundIn f g .next; places = foundIn f g .places }
+  unfolding same
+  off = let l : 17 < length f = omega (arith, held .bytes) in
+      rw (
+        getD-set-same f 17 0 0 l,
+        getD-set-other f 17 16 0 0 (λ z. omega arith),
+        made-cong 8 (λ c. getD (set f 17 0) (0 + c) 0) (λ c. getD f (0 + c) 0) (λ c p. getD-set-other f 17 (0 + c) 0 0 (λ z. omega arith)),
+        made-cong 8 (λ c. getD (set f 17 0) (8 + c) 0) (λ c. getD f (8 + c) 0) (λ c p. getD-set-other f 17 (8 + c) 0 0 (λ z. omega arith)),
+      )
+
+found-none : (x : ℕ) → (x ≡ 1 → ⊥) → same x 1 ≡ false
+unfolding same
+found-none x h = ne-eqb x 1 h
+
+found-one : (x : ℕ) → x ≡ 1 → same x 1 ≡ true
+unfolding same
+found-one x h = eq-eqb x 1 h
 
 returns : tie.Need-returns
 returns c =
-    let k = c .before in
-    let a = k .before .before .before .args in
-    let o = outcomeIn (a .moves .now) (a .charts) (a .output) in
-    found o _ _ (k .before .before .states .ensures) (c .places .ensures) ∙ first o (a .acc) (not-true _ (k .if1 .taken))
+    let k = c .before .before .before in
+    let a = k .before .before .args in (
+      c .keep .ensures .0,
+      c .keep .ensures .1
+          ∙ first (outcomeIn (a .moves .now) (a .charts) (a .output)) (foundIn (a .best .now) (a .shown .now)) (found-none _ (k .if1 .taken)),
+    )
 
 returns-2 : tie.Need-returns-2
 returns-2 c =
-    let k = c .before .before .before .before .before in
-    let a = k .before .before .before .args in
-    let o = outcomeIn (a .moves .now) (a .charts) (a .output) in
-    again o (a .acc) (not-false _ (k .if1 .left)) (c .before .before .if2 .taken)
-    (ap (λ (l : List ℕ). eqList l (a .acc .next)) (sym (k .before .before .states .ensures)) ∙ sym (c .before .same-states .ensures) ∙ c .if3 .taken)
+    let b = c .before .before in
+    let n = b .before .before in
+    let k = n .before .before .before in
+    let s = k .before .before in
+    let a = s .args in (
+      s .pre .0,
+      again (outcomeIn (a .moves .now) (a .charts) (a .output)) (foundIn (a .best .now) (a .shown .now)) (found-one _ (k .if1 .left)) (n .before .if2 .taken)
+          (ap₂ eqList (sym (n .states .ensures)) (sym (b .bytes-at .ensures)) ∙ sym (c .before .same-states .ensures) ∙ c .if3 .taken),
+    )
 
 returns-3 : tie.Need-returns-3
 returns-3 c =
-    let k = c .before .before .before .before .before in
-    let a = k .before .before .before .args in
+    let k = c .before .before in
+    let s = k .before .before in
+    let a = s .args in
     let o = outcomeIn (a .moves .now) (a .charts) (a .output) in
-    other-next o (a .acc) (not-false _ (k .if1 .left))
-    (ap (λ (l : List ℕ). eqList l (a .acc .next)) (sym (k .before .before .states .ensures)) ∙ sym (c .before .same-states .ensures) ∙ c .if3 .left)
-
-returns-4 : tie.Need-returns-4
-returns-4 c =
-    let k = c .before .before .before in
-    let a = k .before .before .before .args in
-    other-output (outcomeIn (a .moves .now) (a .charts) (a .output)) (a .acc) (not-false _ (k .if1 .left)) (c .if2 .left)
+    let acc = foundIn (a .best .now) (a .shown .now) in (
+      off-held (a .best .now) (a .shown .now) (s .pre .0),
+      off (a .best .now) (a .shown .now) (s .pre .0)
+          ∙ ⊎-elim
+          (λ w. other-next o acc (found-one _ (k .if1 .left))
+          (ap₂ eqList (sym (w .1 .ensures)) (sym (w .3 .ensures)) ∙ sym (w .4 .ensures) ∙ w .5 .left))
+          (λ w. other-output o acc (found-one _ (k .if1 .left)) (w .left))
+          (c .if2 .came),
+    )
 
 pub settle-spec : {M : Type 1} → statement M
-settle-spec = tie.close (tie.spec (λ c κs. search needs) (λ c κs. search needs) returns (λ c κs. search needs) returns-2 returns-3 returns-4)
+settle-spec =
+    tie.close
+    (tie.spec (λ c. search needs) (λ c κs. search needs) returns (λ c. search needs) (λ c κs. search needs) (λ c κs. search needs)
+    (λ c κs. search needs) returns-2 (λ c. search needs) returns-3)
