@@ -49,7 +49,7 @@ uint8_t mestecur_step(const uint8_t *file, size_t file_len, const uint8_t *confi
 uint8_t mestecur_run(const uint8_t *file, size_t file_len, const uint8_t *config, size_t config_len, const uint64_t *inputs,
                      size_t inputs_len, uint8_t *rows, size_t rows_len);
 
-/* Writes to the front of `out` a file without slaves that makes the same steps, and its length to `length`. Refusals: 1 to 11, 40 to 45. */
+/* Writes to the front of `out` a file without slaves that makes the same steps, and its length to `length`. Refusals: 1 to 11, 40 to 42, 44, 45. */
 uint8_t mestecur_rewrite(const uint8_t *file, size_t file_len, uint8_t *out, size_t out_len, size_t *length);
 
 /* The refusals. A call gives the first one, in the order named at the call, that applies. */
@@ -76,12 +76,11 @@ enum {
     MESTECUR_NO_STEP = 23,              /* no choice is permitted */
     MESTECUR_RUN_ROOM = 27,             /* the buffer for a run has no room for a row for each input */
 
-    MESTECUR_REWRITING_SIGNALS = 40,     /* there are more slaves than signals that the file does not use */
-    MESTECUR_REWRITING_STATE = 41,       /* the result would have over 8 transitions from a state */
-    MESTECUR_REWRITING_CHART = 42,       /* the result would have over 64 transitions in a chart */
-    MESTECUR_REWRITING_TRANSITIONS = 43, /* the result would have over 512 transitions */
-    MESTECUR_REWRITING_NODES = 44,       /* the result would have over 64 nodes */
-    MESTECUR_REWRITING_ROOM = 45         /* the buffer is shorter than the result */
+    MESTECUR_REWRITING_SIGNALS = 40, /* there are more slaves than signals that the file does not use */
+    MESTECUR_REWRITING_STATE = 41,   /* the result would have over 8 transitions from a state */
+    MESTECUR_REWRITING_CHART = 42,   /* the result would have over 64 transitions in a chart */
+    MESTECUR_REWRITING_NODES = 44,   /* the result would have over 64 nodes */
+    MESTECUR_REWRITING_ROOM = 45     /* the buffer is shorter than the result */
 };
 
 #ifdef __cplusplus

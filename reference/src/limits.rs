@@ -93,8 +93,6 @@ pub mod refusal {
     pub const REWRITING_STATE: u8 = 41;
     /// "rewriting: a chart would have over 64"
     pub const REWRITING_CHART: u8 = 42;
-    /// "rewriting: over 512 in all"
-    pub const REWRITING_TRANSITIONS: u8 = 43;
     /// "rewriting: over 64 nodes"
     pub const REWRITING_NODES: u8 = 44;
     /// "rewriting: buffer shorter than the result"

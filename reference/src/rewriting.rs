@@ -44,10 +44,8 @@ fn try_rewrite(file: &[u8], room: usize) -> Result<Vec<u8>, u8> {
 /// 41 to 44, each over the whole result before the next.
 fn accept_limits(model: &Model) -> Result<(), u8> {
     let charts = &model.charts;
-    let sum: usize = charts.iter().map(|chart| chart.transitions.len()).sum();
     refuse_if(charts.iter().any(state_full), refusal::REWRITING_STATE)?;
     refuse_if(charts.iter().any(chart_full), refusal::REWRITING_CHART)?;
-    refuse_if(sum > TRANSITIONS, refusal::REWRITING_TRANSITIONS)?;
     refuse_if(model.nodes.len() > NODES, refusal::REWRITING_NODES)
 }
 

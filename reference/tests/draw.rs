@@ -13,7 +13,7 @@ fn drawn(seed: u64, count: usize) -> Vec<Command> {
         .collect()
 }
 
-/// The refusals that document 01 names at a call beside 1 to 11; 43 cannot be met.
+/// The refusals that document 01 names at a call beside 1 to 11.
 fn own_refusals(op: Op) -> &'static [u8] {
     match op {
         Op::Check | Op::Interface => &[],

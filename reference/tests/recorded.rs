@@ -47,7 +47,7 @@ fn reach_exactly(kind: Kind, which: &dyn Fn(&Recorded) -> bool, others: &[u8]) {
 }
 
 /// 01: "A step tests 1 to 11, then 20 to 23; a run 1 to 11, 20, 21, 27; the first configuration 1 to
-/// 11, 22; checking and the interface 1 to 11; the rewriting 1 to 11, 40 to 45." 43 cannot be met.
+/// 11, 22; checking and the interface 1 to 11; the rewriting 1 to 11, 40 to 45." There is no 43.
 #[test]
 fn every_refusal_of_every_call_is_reached() {
     reach_exactly(Kind::File, &|r| r.command.op == Op::Check, &[]);

@@ -270,8 +270,8 @@ fn the_nodes_of_two_masters_by_hand() {
     assert_eq!(new.nodes, expected);
 }
 
-/// 01, No. 43 cannot be met: charts that pass 42 have at most 8 times 64 transitions.
+/// Charts that pass 42 have at most 8 times 64 transitions: no sum passes the limit in all.
 #[test]
-fn refusal_43_cannot_be_met() {
+fn charts_within_their_limit_are_within_the_limit_in_all() {
     const { assert!(CHARTS * CHART_TRANSITIONS <= TRANSITIONS) };
 }

@@ -69,12 +69,7 @@ impl<'a> Plan<'a> {
             first = last;
         }
         let nodes = self.body.nodes + self.body.slaves + self.masters();
-        let limits = [
-            (41, full_state),
-            (42, full_chart),
-            (43, transitions > 512),
-            (44, nodes > 64),
-        ];
+        let limits = [(41, full_state), (42, full_chart), (44, nodes > 64)];
         match limits.iter().find(|(_, applies)| *applies) {
             Some((number, _)) => Err(*number),
             None => Ok(Body {

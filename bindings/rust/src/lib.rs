@@ -127,7 +127,7 @@ pub fn run(file: &[u8], config: &[u8], inputs: &[Set], buffer: &mut [u8]) -> Res
 }
 
 /// Writes a file without slaves that makes the same steps to the front of the buffer, and gives its
-/// length. Refusals 1 to 11, 40 to 45.
+/// length. Refusals 1 to 11, 40 to 42, 44, 45.
 pub fn rewrite(file: &[u8], buffer: &mut [u8]) -> Result<usize, Refusal> {
     let mut length = 0;
     // SAFETY: the pointers are those of slices with these lengths and of a number of our own; the slice

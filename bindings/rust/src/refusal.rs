@@ -9,7 +9,7 @@ use std::num::NonZeroU8;
 pub struct Refusal(NonZeroU8);
 
 /// Document 01's table, without the day program's numbers, which no call gives.
-const WORDS: [(u8, &str); 22] = [
+const WORDS: [(u8, &str); 21] = [
     (1, "fewer than 12 bytes"),
     (2, "edition not 1"),
     (
@@ -61,7 +61,6 @@ const WORDS: [(u8, &str); 22] = [
     (40, "rewriting: fewer free signal numbers than slaves"),
     (41, "rewriting: a state would have over 8 transitions out"),
     (42, "rewriting: a chart would have over 64"),
-    (43, "rewriting: over 512 in all"),
     (44, "rewriting: over 64 nodes"),
     (45, "rewriting: buffer shorter than the result"),
 ];

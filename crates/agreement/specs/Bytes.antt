@@ -4,19 +4,16 @@ use mathlib.Core.List.{List, [], _∷_, _++_}
 use Prim.Native.Nat.{ℕ, zero, suc, _/_, _<_}
 use native.Mathlib.Nat.{mod-lt}
 use native.Mathlib.Omega.{arith}
-use borrow.Author.Tests.{ltb-false}
-use lib.Dec.{ltb, lit<}
-use lib.ListN.{length}
+use lib.Dec.{lit<}
 use Rattle.layout.specs.Le.{bytes, AllBytes}
 use Rattle.layout.specs.Record.{trailerBytes, headBytes, transitionBytes, nodeBytes}
 use Rattle.layout.specs.declared.record.Trailer.{Trailer}
 use Rattle.layout.specs.declared.record.Head.{Head}
 use Rattle.layout.specs.declared.record.Transition.{Transition}
 use Rattle.layout.specs.declared.record.Node.{Node}
-use Rattle.meaning.specs.Numbers.{mostInChart}
-use Rattle.meaning.specs.Count.Laws.{any-never}
 use Rattle.meaning.specs.File.{File}
-use Rattle.meaning.specs.Rewriting.{chartWith, rewrittenChart, rewrite, inChart?, inTurn, headFor, transitionsBytes, bodyBytes, encode}
+use Rattle.meaning.specs.Rewriting.{chartWith, rewrittenChart, rewrite, inTurn, headFor, transitionsBytes, bodyBytes, encode}
+use Rattle.meaning.specs.Rewriting.Laws.{list-most}
 use Rattle.agreement.specs.Every.{Every, every-imp}
 use Rattle.agreement.specs.Laid.{orderedR}
 use Rattle.agreement.specs.Encoded.{nodeIn, trailerFor}
@@ -84,11 +81,10 @@ module _ (F : File) (rg : Regular F) (gv : Given F) where
   R = rewrite F
 
   heads : (c : ℕ) → c < F .charts → Bytes (headBytes (headFor (R .chart c)))
-  unfolding headFor rewrittenChart chartWith inChart?
+  unfolding headFor rewrittenChart chartWith
   heads c l = head-bytes (headFor (R .chart c)) (let h = rg .most-states c l in omega arith)
       (let h = rg .most-states c l in let g = rg .initials c l in omega arith)
-      (let h = ltb-false mostInChart (length (R .chart c .transitions))
-      (any-never (F .charts) (λ c. ltb mostInChart (length (R .chart c .transitions))) (gv .lists) c l) in omega arith)
+      (let h = list-most R (gv .lists) c l in omega arith)
 
   lists : (c : ℕ) → c < F .charts → Bytes (transitionsBytes (R .chart c .transitions))
   lists c l = transitions-bytes (R .chart c .transitions)

@@ -16,7 +16,7 @@ use Rattle.meaning.specs.Count.{anyUpTo}
 use Rattle.meaning.specs.Count.Laws.{any-never, any-cong}
 use Rattle.meaning.specs.Meaning.{Set, ∅, same, refused, given}
 use Rattle.meaning.specs.File.{endOf, trailer, bodyOf, shapeOf, chartOf, fileAt, fileOf}
-use Rattle.meaning.specs.Numbers.{mostTransitions, mostNodes, wrongLength, badState, shortBuffer, shortRows}
+use Rattle.meaning.specs.Numbers.{mostNodes, wrongLength, badState, shortBuffer, shortRows}
 use Rattle.meaning.specs.Check.Laws.{below, alike, firstOf-passes, Passed, passed, call-passed, counted, charted}
 use Rattle.meaning.specs.Check.{Test, firstOf, differ, notBelow, fileTests, refusalOf}
 use Rattle.meaning.specs.Calls.{made, laidOver, firstRefusal, initials, firstBytes, inputOf, outputOf, configTests, stepRefusal, stepIn, stepOf, allPlaces, placesIn, placesOf, runRefusal, rowsOf, runBytes}
@@ -48,17 +48,16 @@ pub allowed : (f : List ℕ) (room : ℕ) → rewriteRefusal f room ≡ 0 → Al
 unfolding rewriteRefusal rewriteTests
 allowed f room e =
     let p = in-front f _ (ap firstOf (sym (append-assoc (fileTests f) (rewriteTests (fileOf f)) _)) ∙ e) in
-    let q = firstOf-passes _ (lit< tt, (lit< tt, (lit< tt, (lit< tt, (lit< tt, (lit< tt, tt)))))) (p .1) in
+    let q = firstOf-passes _ (lit< tt, (lit< tt, (lit< tt, (lit< tt, (lit< tt, tt))))) (p .1) in
     record {
       checked = p .0;
       given = record {
         room = q .0;
         leaving = q .1 .0;
         lists = q .1 .1 .0;
-        total = ltb-false mostTransitions _ (q .1 .1 .1 .0);
-        nodes = ltb-false mostNodes _ (q .1 .1 .1 .1 .0);
+        nodes = ltb-false mostNodes _ (q .1 .1 .1 .0);
       };
-      fits = ltb-false room _ (q .1 .1 .1 .1 .1 .0);
+      fits = ltb-false room _ (q .1 .1 .1 .1 .0);
     }
 
 pub regular : (f : List ℕ) → AllBytes f → Passed f → Regular (fileOf f)

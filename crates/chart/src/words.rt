@@ -29,7 +29,7 @@ fn say_line(text: &[u8], k: usize) {
     say(&text[at..e]);
 }
 
-// Which line of the words a refusal has: 1 to 11, 20 to 23, 27, 40 to 45.
+// Which line of the words a refusal has: 1 to 11, 20 to 23, 27, 40 to 42, 44, 45.
 fn line_of(refusal: u8) -> u8 {
     if refusal < limits::WRONG_LENGTH {
         return refusal;
@@ -40,7 +40,10 @@ fn line_of(refusal: u8) -> u8 {
     if refusal < limits::NO_FREE_SIGNAL {
         return 16 + (refusal - limits::SHORT_ROWS);
     }
-    17 + (refusal - limits::NO_FREE_SIGNAL)
+    if refusal < limits::MANY_NODES {
+        return 17 + (refusal - limits::NO_FREE_SIGNAL);
+    }
+    20 + (refusal - limits::MANY_NODES)
 }
 
 // Document 01's words for a refusal, a line for each in the order of its table.
@@ -69,7 +72,6 @@ fn say_words(refusal: u8) {
           fewer free signal numbers than slaves\n\
           a state would have over 8 transitions out\n\
           a chart would have over 64\n\
-          over 512 in all\n\
           over 64 nodes\n\
           buffer shorter than the result\n",
         line_of(refusal) as usize,

@@ -73,8 +73,6 @@ pub const MANY_FROM_STATE: u8 = 41;
 
 pub const MANY_IN_CHART: u8 = 42;
 
-pub const MANY_IN_ALL: u8 = 43;
-
 pub const MANY_NODES: u8 = 44;
 
 pub const SHORT_OUT: u8 = 45;

@@ -4,12 +4,12 @@ use mathlib.Core.List.{List, [], _∷_, _++_}
 use Prim.Native.Nat.{ℕ}
 use lib.Dec.{ltb}
 use lib.ListN.{length}
-use Rattle.meaning.specs.Numbers.{mostTransitions, mostNodes, manyFromState, manyInChart, manyInAll, manyNodes, shortOut}
+use Rattle.meaning.specs.Numbers.{mostNodes, manyFromState, manyInChart, manyNodes, shortOut}
 use Rattle.meaning.specs.Meaning.{same}
 use Rattle.meaning.specs.File.{File}
 use Rattle.meaning.specs.Check.{Test, firstOf}
 use Rattle.meaning.specs.Calls.{laidOver}
-use Rattle.meaning.specs.Rewriting.{rewrite, fromState?, inChart?, transitionsIn, rewriteTests, encode}
+use Rattle.meaning.specs.Rewriting.{rewrite, fromState?, inChart?, rewriteTests, encode}
 pub mod Laws
 
 -- 41 to 44
@@ -17,7 +17,6 @@ unfoldable pub limitTests : File → List Test
 limitTests F =
     record { number = manyFromState; applies = fromState? (rewrite F) }
     ∷ record { number = manyInChart; applies = inChart? (rewrite F) }
-    ∷ record { number = manyInAll; applies = ltb mostTransitions (transitionsIn (rewrite F)) }
     ∷ record { number = manyNodes; applies = ltb mostNodes (rewrite F .nodes) }
     ∷ []
 

@@ -24,7 +24,7 @@ fn refused(r: u8) -> Rewritten
     }
 }
 
-// 41 to 44: a state, a chart or all charts would have too many transitions, or there would be too many nodes. The result has the shape m.
+// 41 to 44: a state or a chart would have too many transitions, or there would be too many nodes. The result has the shape m.
 fn limit_refusal(n: Shape, body: &[u8], inner: &[u64; 8], m: Shape) -> u8
     requires { ⌜ Checked n (now body) × InnerIn (fileAt n (now body)) (now inner) × (m ≡ shapeIn (rewrite (fileAt n (now body)))) ⌝ }
     ensures { λ r. ⌜ r ≡ firstOf (limitTests (fileAt n (now (body .entry)))) ⌝ }
@@ -34,9 +34,6 @@ fn limit_refusal(n: Shape, body: &[u8], inner: &[u64; 8], m: Shape) -> u8
     }
     if rewrite::room::over_in_chart(n, body, inner, limits::MOST_IN_CHART as usize) {
         return limits::MANY_IN_CHART;
-    }
-    if m.transitions > limits::MOST_TRANSITIONS as usize {
-        return limits::MANY_IN_ALL;
     }
     if m.nodes > limits::MOST_NODES as usize {
         return limits::MANY_NODES;

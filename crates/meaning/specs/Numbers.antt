@@ -106,9 +106,6 @@ manyFromState = 41
 abbrev pub manyInChart : ℕ
 manyInChart = 42
 
-abbrev pub manyInAll : ℕ
-manyInAll = 43
-
 abbrev pub manyNodes : ℕ
 manyNodes = 44
 

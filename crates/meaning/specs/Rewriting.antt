@@ -1,6 +1,6 @@
 -- The rewriting (document 01, "The rewriting"): a file with slaves becomes a file without, sentence by sentence. In this order: the call signals;
 -- the charts; the nodes; the rewritten file; refusals 40 to 44; the file in bytes; what the call answers. That the rewritten file steps as the
--- file does is proved in the crate agreement.
+-- file does is proved in the crate agreement. Laws of the refusals are in Rewriting/Laws.antt.
 use mathlib.Core.Bool.{Bool, _&&_, _||_, cond}
 use mathlib.Core.Option.{Option, none, some}
 use mathlib.Core.List.{List, [], _∷_, _++_, map}
@@ -14,12 +14,13 @@ use Rattle.layout.specs.declared.body.Shape.{Shape}
 use Rattle.layout.specs.declared.record.Head.{Head}
 use Rattle.layout.specs.declared.record.Transition.{Transition}
 use Rattle.layout.specs.declared.record.Node.{Node}
-use Rattle.meaning.specs.Numbers.{theEdition, mostSignals, mostFromState, mostInChart, mostTransitions, mostNodes, noFreeSignal, manyFromState, manyInChart, manyInAll, manyNodes, shortOut}
+use Rattle.meaning.specs.Numbers.{theEdition, mostSignals, mostFromState, mostInChart, mostNodes, noFreeSignal, manyFromState, manyInChart, manyNodes, shortOut}
 use Rattle.meaning.specs.Count.{anyUpTo, tally, one}
 use Rattle.meaning.specs.Meaning.{Set, ∅, same, Chart, Tree, Slaves, leaf, comp, hide, dec, nil, snoc, guards, actions}
 use Rattle.meaning.specs.File.{File, wholeOf, Has, fileOf}
 use Rattle.meaning.specs.Check.{Test, firstOf, fileTests}
 use Rattle.meaning.specs.Calls.{laidOver}
+pub mod Laws
 
 -- f 0 ∪ f 1 ∪ .. ∪ f (n - 1)
 unfoldable pub unionUpTo : ℕ → (ℕ → Set) → Set
@@ -210,10 +211,6 @@ unfoldable pub leavingIn : List Transition → ℕ → ℕ
 leavingIn [] s = 0
 leavingIn (t ∷ ts) s = one (same (t .from) s) + leavingIn ts s
 
--- how many transitions the file has
-unfoldable pub transitionsIn : File → ℕ
-transitionsIn F = tally (F .charts) (λ c. length (F .chart c .transitions))
-
 -- 40: "fewer free signal numbers than slaves"
 unfoldable pub noFree? : File → Bool
 noFree? F = ltb (length (free F)) (F .slaves)
@@ -228,12 +225,12 @@ fromState? R =
 unfoldable pub inChart? : File → Bool
 inChart? R = anyUpTo (R .charts) (λ c. ltb mostInChart (length (R .chart c .transitions)))
 
+-- 43, "over 512 in all", is out of the list: it never applied where 42 had passed (`sum-most`)
 unfoldable pub rewriteTests : File → List Test
 rewriteTests F =
     record { number = noFreeSignal; applies = noFree? F }
     ∷ record { number = manyFromState; applies = fromState? (rewrite F) }
     ∷ record { number = manyInChart; applies = inChart? (rewrite F) }
-    ∷ record { number = manyInAll; applies = ltb mostTransitions (transitionsIn (rewrite F)) }
     ∷ record { number = manyNodes; applies = ltb mostNodes (rewrite F .nodes) }
     ∷ []
 
@@ -257,6 +254,10 @@ headFor C =
 unfoldable pub transitionsBytes : List Transition → List ℕ
 transitionsBytes [] = []
 transitionsBytes (t ∷ ts) = transitionBytes t ++ transitionsBytes ts
+
+-- how many transitions the file has
+unfoldable pub transitionsIn : File → ℕ
+transitionsIn F = tally (F .charts) (λ c. length (F .chart c .transitions))
 
 unfoldable pub shapeIn : File → Shape
 shapeIn F = record { charts = F .charts; transitions = transitionsIn F; slaves = F .slaves; nodes = F .nodes }

@@ -9,11 +9,11 @@ use Rattle.signals.specs.Mask.{single}
 use Rattle.layout.specs.Body.{headAt, startOf}
 use Rattle.layout.specs.declared.body.Shape.{Shape}
 use Rattle.layout.specs.declared.record.Head.{Head}
-use Rattle.meaning.specs.Numbers.{mostSignals, mostNodes, mostInChart, mostTransitions}
+use Rattle.meaning.specs.Numbers.{mostSignals, mostNodes, mostInChart}
 use Rattle.meaning.specs.Meaning.{Set}
 use Rattle.meaning.specs.File.{File, fileAt}
 use Rattle.meaning.specs.Check.Nodes.{Sound}
-use Rattle.meaning.specs.Rewriting.{lacking, call, callIn, nearestSlave, rewrittenChart, count, start, newName, rewrite, transitionsIn}
+use Rattle.meaning.specs.Rewriting.{lacking, call, callIn, nearestSlave, rewrittenChart, count, start, newName}
 use Rattle.meaning.specs.Laws.Names.{kap}
 use Rattle.checks.specs.Known.{Sized, Summed}
 use Rattle.rewrite.specs.declared.calls.Calls.{Calls}
@@ -80,5 +80,4 @@ NamesIn F l = (j : ℕ) → j < F .nodes → getD l j 0 ≡ newName F j
 -- the rewritten file is within the limits, as far as the bytes of its records ask it
 pub record Fits (F : File) : Type 0 where
   pub lists : (c : ℕ) → c < F .charts → length (rewrittenChart F c .transitions) ≤ mostInChart
-  pub total : transitionsIn (rewrite F) ≤ mostTransitions
   pub nodes : start F (F .nodes) ≤ mostNodes

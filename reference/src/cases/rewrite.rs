@@ -316,8 +316,8 @@ fn state_limit() -> Vec<Case> {
     ]
 }
 
-/// 42: "a chart would have over 64". Nothing is refused with 43: charts of at most 64 transitions
-/// each have at most 512 in all.
+/// 42: "a chart would have over 64". Charts of at most 64 transitions each have at most 512 in all,
+/// so there is no refusal for the sum.
 fn chart_limit() -> Vec<Case> {
     let bad = refusal::REWRITING_CHART;
     let fullest = {

@@ -65,7 +65,7 @@ module _ (F : File) where
   pub named-most : (i k j : ℕ) → namedBy F i k j ≤ i + 2 * k
   unfolding namedBy
   named-most i k j =
-      omega (arith, tally-most 1 i _ (λ h. one-most (same (F .node h) j)), tally-most 2 k _ (λ m. names-most m j))
+      omega (arith, tally-most 1 i _ (λ h _. one-most (same (F .node h) j)), tally-most 2 k _ (λ m _. names-most m j))
 
   -- ── heldBy ──
 
@@ -79,7 +79,7 @@ module _ (F : File) where
 
   held-most : (k c : ℕ) → heldBy F k c ≤ k
   unfolding heldBy
-  held-most k c = omega (arith, tally-most 1 k _ (λ m. one-most (holds F m c)))
+  held-most k c = omega (arith, tally-most 1 k _ (λ m _. one-most (holds F m c)))
 
   -- ── holderIn ──
 

@@ -13,14 +13,14 @@ use Rattle.layout.specs.Record.{trailerBytes}
 use Rattle.layout.specs.Record.Laws.{length-trailer}
 use Rattle.layout.specs.declared.record.Trailer.{Trailer}
 use Rattle.layout.specs.declared.body.Shape.{Shape}
-use Rattle.meaning.specs.Numbers.{theEdition, mostCharts, mostInChart, mostTransitions, mostNodes, noFreeSignal, shortOut}
-use Rattle.meaning.specs.Count.Laws.{any-never}
+use Rattle.meaning.specs.Numbers.{theEdition, mostNodes, noFreeSignal, shortOut}
 use Rattle.meaning.specs.Meaning.{same}
 use Rattle.meaning.specs.File.{File, fileOf}
 use Rattle.meaning.specs.Check.{Test, firstOf, fileTests, refusalOf}
 use Rattle.meaning.specs.Check.Laws.{firstOf-here, firstOf-next, firstOf-[], firstOf-++, firstOf-before, Passes, firstOf-passes, call-refused, call-passed}
 use Rattle.meaning.specs.Calls.{laidOver}
-use Rattle.meaning.specs.Rewriting.{free, rewrittenChart, start, rewrite, noFree?, inChart?, transitionsIn, rewriteTests, shapeIn, bodyBytes, encode, rewriteBytes, rewriteRefusal, rewriteLength, rewriteOut}
+use Rattle.meaning.specs.Rewriting.{free, start, rewrite, noFree?, transitionsIn, rewriteTests, shapeIn, bodyBytes, encode, rewriteBytes, rewriteRefusal, rewriteLength, rewriteOut}
+use Rattle.meaning.specs.Rewriting.Laws.{list-most}
 use Rattle.agreement.specs.Encoded.{length-body}
 use Rattle.rewrite.specs.Known.{Fits}
 use Rattle.engine.specs.declared.rewriting.Rewritten.{Rewritten}
@@ -71,7 +71,7 @@ module _ (F : File) (room : ℕ) where
     module _ (g : firstOf (limitTests F) ≡ 0) where
       passes : Passes (limitTests F)
       unfolding limitTests
-      passes = firstOf-passes (limitTests F) (lit< tt, (lit< tt, (lit< tt, (lit< tt, tt)))) g
+      passes = firstOf-passes (limitTests F) (lit< tt, (lit< tt, (lit< tt, tt))) g
 
       room-next : rewriteAfter F room ≡ firstOf (roomTest ∷ [])
       room-next = limits-next ∙ firstOf-++ (limitTests F) (roomTest ∷ []) passes
@@ -85,13 +85,11 @@ module _ (F : File) (room : ℕ) where
       -- ── what 41 to 44 give ──
 
       pub fits : Fits F
-      unfolding limitTests inChart?
+      unfolding limitTests
       fits =
           record {
-            lists = λ c l. ltb-false mostInChart (length (rewrittenChart F c .transitions))
-                (any-never (F .charts) (λ c. ltb mostInChart (length (rewrittenChart F c .transitions))) (passes .1 .0) c l);
-            total = ltb-false mostTransitions (transitionsIn (rewrite F)) (passes .1 .1 .0);
-            nodes = ltb-false mostNodes (start F (F .nodes)) (passes .1 .1 .1 .0);
+            lists = list-most (rewrite F) (passes .1 .0);
+            nodes = ltb-false mostNodes (start F (F .nodes)) (passes .1 .1 .0);
           }
 
 -- ── the result's size ──
@@ -111,14 +109,8 @@ length-all F = length-append (bodyBytes F) (trailerBytes end) ∙ omega (arith, 
           transitions = transitionsIn F;
         }
 
--- the shape of a result within its limits
-module _ (F : File) (h : Fits F) (l : F .charts ≤ mostCharts) (m : Shape) (e : m ≡ shapeIn (rewrite F)) where
-  pub small : (m .charts < 256) × (m .transitions < 65536) × (m .slaves < 256) × (m .nodes < 256)
-  unfolding shapeIn
-  small = let t = h .total in let k = h .nodes in rw e (omega arith, omega arith, omega arith, omega arith)
-
-  pub size-is : sizeOf m + 12 ≡ length (encode (rewrite F))
-  size-is = ap (λ (s : Shape). sizeOf s + 12) e ∙ sym (length-all (rewrite F))
+pub size-is : (F : File) (m : Shape) → m ≡ shapeIn (rewrite F) → sizeOf m + 12 ≡ length (encode (rewrite F))
+size-is F m e = ap (λ (s : Shape). sizeOf s + 12) e ∙ sym (length-all (rewrite F))
 
 -- ── what the call answers ──
 

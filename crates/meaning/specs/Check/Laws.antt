@@ -58,6 +58,18 @@ pub firstOf-[] : firstOf [] ≡ 0
 unfolding firstOf
 firstOf-[] = refl
 
+pub firstOf-cong : (t : Test) (ts us : List Test) → firstOf ts ≡ firstOf us → firstOf (t ∷ ts) ≡ firstOf (t ∷ us)
+unfolding firstOf
+firstOf-cong t ts us h = rw h
+
+-- a test that applies only where the one before it does
+pub firstOf-covered : (t u : Test) (ts : List Test) → (t .applies ≡ false → u .applies ≡ false) → firstOf (t ∷ u ∷ ts) ≡ firstOf (t ∷ ts)
+firstOf-covered t u ts h =
+    ⊎-elim
+    (λ (e : t .applies ≡ true). firstOf-here t (u ∷ ts) e ∙ sym (firstOf-here t ts e))
+    (λ (e : t .applies ≡ false). firstOf-next t (u ∷ ts) e ∙ firstOf-next u ts (h e) ∙ sym (firstOf-next t ts e))
+    (decided (t .applies))
+
 -- no test has the number 0, which is success
 abbrev pub Numbered : List Test → Type 0
 Numbered [] = Unit

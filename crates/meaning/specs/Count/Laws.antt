@@ -126,10 +126,10 @@ pub tally-mono : (k n : ℕ) (f : ℕ → ℕ) → k ≤ n → tally k f ≤ tal
 tally-mono k n f l = ⊎-elim (λ e. rw e (le-refl _)) (λ m. let h = tally-plus n f k m in omega arith) (eq-or-lt-of-le l)
 
 -- no more than m at each
-pub tally-most : (m n : ℕ) (f : ℕ → ℕ) → ((k : ℕ) → f k ≤ m) → tally n f ≤ m * n
+pub tally-most : (m n : ℕ) (f : ℕ → ℕ) → ((k : ℕ) → k < n → f k ≤ m) → tally n f ≤ m * n
 unfolding tally
 tally-most m zero f h = omega arith
-tally-most m (suc n) f h = rw mul-suc (omega (arith, h n, tally-most m n f h))
+tally-most m (suc n) f h = rw mul-suc (omega (arith, h n (omega arith), tally-most m n f (λ k l. h k (omega arith))))
 
 pub tally-two : (n : ℕ) (f : ℕ → ℕ) (i j : ℕ) → i < n → j < n → i ≢ j → f i + f j ≤ tally n f
 unfolding tally

@@ -1,6 +1,5 @@
--- What code makes are the records of the rewriting. In this order: idle transitions, counted; a chart's transitions, counted, and in
--- bytes; nodes in
--- bytes; those for one node, by its kind; the file.
+-- What code makes are the records of the rewriting. In this order: idle transitions, counted; a chart's transitions, counted, and in bytes; nodes in
+-- bytes; those for one node, by its kind; the file, and its shape.
 use mathlib.Core.Path.{_≡_, refl, sym, ap, ap₂, _∙_}
 use mathlib.Core.Bool.{Bool, true, false, cond}
 use mathlib.Core.Option.{Option, none, some}
@@ -15,17 +14,20 @@ use lib.ListN.{length, getD}
 use Rattle.signals.specs.Mask.{_∪_, single}
 use Rattle.layout.specs.Record.{trailerBytes, headBytes, transitionBytes, nodeBytes}
 use Rattle.layout.specs.Body.{from}
+use Rattle.layout.specs.declared.body.Shape.{Shape}
 use Rattle.layout.specs.declared.record.Transition.{Transition}
 use Rattle.layout.specs.declared.record.Node.{Node}
-use Rattle.meaning.specs.Numbers.{theEdition}
+use Rattle.meaning.specs.Numbers.{theEdition, mostCharts}
 use Rattle.meaning.specs.Count.{one}
 use Rattle.meaning.specs.Meaning.{Set, same, Chart}
 use Rattle.meaning.specs.File.{File}
 use Rattle.meaning.specs.Check.Laws.{eq-or-not}
 use Rattle.meaning.specs.Laws.Bools.{same-refl, same-≢}
 use Rattle.meaning.specs.Rewriting.{call, callIn, called, idle, idles, chartWith, nearestSlave, callsBy, rewrittenChart, isOf, count, start, newName, callsOf, composed, madeBy, madeFor, laid, newNode, rewrite, leavingIn, inTurn, headFor, transitionsBytes, shapeIn, bodyBytes, encode}
+use Rattle.meaning.specs.Rewriting.Laws.{sum-most}
 use Rattle.agreement.specs.Charts.{places, places-none}
 use Rattle.agreement.specs.Laid.{noNode, laid-length}
+use Rattle.rewrite.specs.Known.{Fits, Small}
 use Rattle.rewrite.specs.Turn.{turn-front, turn-cong}
 use Rattle.rewrite.specs.Records.{idleCount, calledWith, idleWith, holding, composing, hiding, nodesBytes, partBytes, masterBytes, heldBytes, trailerWith}
 
@@ -250,3 +252,8 @@ module _ (F : File) where
 
       t : List ℕ
       t = trailerBytes (trailerWith (shapeIn (rewrite F)) theEdition)
+
+  -- a shape within the limits
+  pub shape-small : Fits F → F .charts ≤ mostCharts → (m : Shape) → m ≡ shapeIn (rewrite F) → Small m
+  unfolding shapeIn
+  shape-small h l m e = let t = sum-most (rewrite F) l (h .lists) in let k = h .nodes in rw e (omega arith, omega arith, omega arith, omega arith)

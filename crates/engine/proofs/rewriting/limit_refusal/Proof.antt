@@ -6,29 +6,19 @@ use borrow.Author.Needs.{needs}
 use borrow.Author.Tests.{lt-ltb, le-ltb}
 use lib.Dec.{ltb}
 use Rattle.layout.specs.declared.body.Shape.{Shape}
-use Rattle.meaning.specs.Numbers.{mostTransitions, mostNodes}
+use Rattle.meaning.specs.Numbers.{mostNodes}
 use Rattle.meaning.specs.File.{File, fileAt}
 use Rattle.meaning.specs.Check.Laws.{firstOf-here, firstOf-next, firstOf-[]}
-use Rattle.meaning.specs.Rewriting.{rewrite, fromState?, inChart?, transitionsIn, shapeIn}
+use Rattle.meaning.specs.Rewriting.{rewrite, fromState?, inChart?, shapeIn}
 use Rattle.engine.specs.Rewriting.{limitTests}
 use Rattle.engine.proofs.rewriting.limit_refusal.Statement.{statement}
 use Rattle.engine.proofs.rewriting.limit_refusal.Tie as tie
 
 -- m is the result's shape
 module _ (F : File) (m : Shape) (e : m ≡ shapeIn (rewrite F)) where
-  total-is : m .transitions ≡ transitionsIn (rewrite F)
-  unfolding shapeIn
-  total-is = ap (λ (s : Shape). s .transitions) e
-
   nodes-is : m .nodes ≡ rewrite F .nodes
   unfolding shapeIn
   nodes-is = ap (λ (s : Shape). s .nodes) e
-
-  total-over : mostTransitions < m .transitions → ltb mostTransitions (transitionsIn (rewrite F)) ≡ true
-  total-over l = rw (← total-is) (lt-ltb mostTransitions (m .transitions) l)
-
-  total-fits : m .transitions ≤ mostTransitions → ltb mostTransitions (transitionsIn (rewrite F)) ≡ false
-  total-fits l = rw (← total-is) (le-ltb mostTransitions (m .transitions) l)
 
   nodes-over : mostNodes < m .nodes → ltb mostNodes (rewrite F .nodes) ≡ true
   nodes-over l = rw (← nodes-is) (lt-ltb mostNodes (m .nodes) l)
@@ -50,27 +40,14 @@ unfolding limitTests fromState? inChart? fileAt
 returns-3 c =
     sym (firstOf-next _ _ (sym (c .before .before .before .before .before .over-from .ensures) ∙ c .before .before .before .before .if1 .left)
     ∙ firstOf-next _ _ (sym (c .before .before .before .over-in-chart .ensures) ∙ c .before .before .if2 .left)
-    ∙ firstOf-here _ _ (total-over _ _ (c .before .before .before .before .before .before .before .pre .2) (c .if3 .taken)))
+    ∙ firstOf-here _ _ (nodes-over _ _ (c .before .before .before .before .before .before .before .pre .2) (c .if3 .taken)))
 
 returns-4 : tie.Need-returns-4
 unfolding limitTests fromState? inChart? fileAt
 returns-4 c =
-    sym (firstOf-next _ _ (sym (c .before .before .before .before .before .before .before .over-from .ensures)
-    ∙ c .before .before .before .before .before .before .if1 .left)
-    ∙ firstOf-next _ _ (sym (c .before .before .before .before .before .over-in-chart .ensures) ∙ c .before .before .before .before .if2 .left)
-    ∙ firstOf-next _ _ (total-fits _ _ (c .before .before .before .before .before .before .before .before .before .pre .2)
-    (c .before .before .if3 .left))
-    ∙ firstOf-here _ _ (nodes-over _ _ (c .before .before .before .before .before .before .before .before .before .pre .2) (c .if4 .taken)))
-
-returns-5 : tie.Need-returns-5
-unfolding limitTests fromState? inChart? fileAt
-returns-5 c =
-    sym (firstOf-next _ _ (sym (c .before .before .before .before .before .before .before .over-from .ensures)
-    ∙ c .before .before .before .before .before .before .if1 .left)
-    ∙ firstOf-next _ _ (sym (c .before .before .before .before .before .over-in-chart .ensures) ∙ c .before .before .before .before .if2 .left)
-    ∙ firstOf-next _ _ (total-fits _ _ (c .before .before .before .before .before .before .before .before .before .pre .2)
-    (c .before .before .if3 .left))
-    ∙ firstOf-next _ _ (nodes-fit _ _ (c .before .before .before .before .before .before .before .before .before .pre .2) (c .if4 .left))
+    sym (firstOf-next _ _ (sym (c .before .before .before .before .before .over-from .ensures) ∙ c .before .before .before .before .if1 .left)
+    ∙ firstOf-next _ _ (sym (c .before .before .before .over-in-chart .ensures) ∙ c .before .before .if2 .left)
+    ∙ firstOf-next _ _ (nodes-fit _ _ (c .before .before .before .before .before .before .before .pre .2) (c .if3 .left))
     ∙ firstOf-[])
 
 pub limit-refusal-spec : {M : Type 1} → statement M
@@ -85,6 +62,4 @@ limit-refusal-spec =
     returns-2
     (λ c. search needs)
     returns-3
-    (λ c. search needs)
-    returns-4
-    returns-5)
+    returns-4)

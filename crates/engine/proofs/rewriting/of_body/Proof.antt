@@ -1,7 +1,7 @@
 -- `rewriting::of_body` meets its contract: 40 to 45 in order, then the rewritten file over the front of the buffer. Assumes nothing.
 use mathlib.Core.Path.{_≡_, refl, sym, ap, _∙_}
 use mathlib.Core.Bool.{true, false, not}
-use Prim.Native.Nat.{ℕ, _+_, _<_}
+use Prim.Native.Nat.{ℕ, _+_}
 use native.Mathlib.Omega.{arith}
 use borrow.Author.Needs.{needs}
 use borrow.Author.Tests.{not-true, not-false}
@@ -10,10 +10,11 @@ use lib.ListN.{length}
 use Rattle.meaning.specs.File.{File, fileAt}
 use Rattle.meaning.specs.Check.{firstOf}
 use Rattle.meaning.specs.Rewriting.{used, free, call, rewrite, encode}
-use Rattle.rewrite.specs.Known.{Calling, CallsIn, Fits}
+use Rattle.rewrite.specs.Known.{Calling, CallsIn, Fits, Small}
+use Rattle.rewrite.specs.Records.Laws.{shape-small}
 use Rattle.rewrite.specs.declared.calls.Calls.{Calls}
 use Rattle.engine.specs.Rewriting.{limitTests}
-use Rattle.engine.specs.Rewriting.Laws.{after-calls, after-limits, after-room, after-all, fits, small, size-is, refuses, gives}
+use Rattle.engine.specs.Rewriting.Laws.{after-calls, after-limits, after-room, after-all, fits, size-is, refuses, gives}
 use Rattle.engine.proofs.rewriting.of_body.Statement.{statement}
 use Rattle.engine.proofs.rewriting.of_body.Tie as tie
 
@@ -85,17 +86,16 @@ returns-2 c =
     refuses (at e) (c .before .before .before .before .before .before .before .before .before .before .before .before .before .before .before .args .out .now) _ _ (after-limits (at e) _ (free-left e) (λ z. c .before .if2 .taken (r ∙ z)) ∙ sym r) (c .before .if2 .taken) (c .refused2 .ensures)
 
 -- the result's counts and its size
-counts : (c : tie.Else2) → (c .before .before .before .shape .result .charts < 256) × (c .before .before .before .shape .result .transitions < 65536)
-    × (c .before .before .before .shape .result .slaves < 256) × (c .before .before .before .shape .result .nodes < 256)
+counts : (c : tie.Else2) → Small (c .before .before .before .shape .result)
 unfolding fileAt
-counts c = small (at (c .before .before .before .before .before .before .before .before)) (fitting c)
+counts c = shape-small (at (c .before .before .before .before .before .before .before .before)) (fitting c)
     (c .before .before .before .before .before .before .before .before .before .before .before .before .before .before .pre .0 .sized .charts) _
     (c .before .before .before .shape .ensures)
 
 length-is : (c : tie.After-size)
     → c .size .result + 12 ≡ length (encode (rewrite (at (c .before .before .before .before .before .before .before .before .before))))
 unfolding fileAt
-length-is c = ap (λ (k : ℕ). k + 12) (c .size .ensures) ∙ size-is (at (c .before .before .before .before .before .before .before .before .before)) (fitting (c .before)) (c .before .before .before .before .before .before .before .before .before .before .before .before .before .before .before .pre .0 .sized .charts) _ (c .before .before .before .before .shape .ensures)
+length-is c = ap (λ (k : ℕ). k + 12) (c .size .ensures) ∙ size-is (at (c .before .before .before .before .before .before .before .before .before)) _ (c .before .before .before .before .shape .ensures)
 
 add-size : tie.Need-add-size
 add-size c = let e = c .size .ensures in let k = counts (c .before) in omega arith

@@ -18,7 +18,7 @@ use Rattle.layout.specs.Put.{Room, Put}
 use Rattle.layout.specs.Put.Laws.{put-append, put-over, put-length, room-first, room-next}
 use Rattle.rewrite.specs.Turn.{put-one, put-is, room-last}
 use Rattle.rewrite.specs.Records.{nodesBytes, trailerWith}
-use Rattle.rewrite.specs.Records.Laws.{encode-is}
+use Rattle.rewrite.specs.Records.Laws.{encode-is, shape-small}
 use Rattle.rewrite.proofs.lay.lay.Statement.{statement}
 use Rattle.rewrite.proofs.lay.lay.Tie as tie
 
@@ -44,8 +44,8 @@ module _ (n : Shape) (b : List ℕ) (m : Shape) (edition : ℕ) (em : m ≡ shap
   all-is = encode-is F ∙ ap (λ (l : List ℕ). hs F ++ (ts F ++ (ns F ++ l))) (sym (ap₂ end em ee))
 
   small : Checked n b → Fits F → Small m
-  unfolding shapeIn fileAt
-  small w f = let c = w .sized .charts in let t = f .total in let k = f .nodes in rw em (omega arith, omega arith, omega arith, omega arith)
+  unfolding fileAt
+  small w f = shape-small F f (w .sized .charts) m em
 
   module _ (out : List ℕ) (r : length (encode (rewrite F)) ≤ length out) where
     room-all : Room out 0 (hs F ++ (ts F ++ (ns F ++ end m edition)))

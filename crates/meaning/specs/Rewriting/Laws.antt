@@ -1,0 +1,73 @@
+-- Laws of the rewriting's refusals, in this order: what 42 gives of the list of a chart (`list-most`); that no sum of such lists passes the limit in
+-- all (`sum-most`); so that a test of the sum behind 42 changes no first refusal, of the list (`sum-untested`) or of the call (`refusal-same`).
+use mathlib.Core.Path.{_≡_, sym, _∙_, ap}
+use mathlib.Core.Bool.{false}
+use mathlib.Core.List.{List, [], _∷_, _++_, append-assoc}
+use mathlib.Core.Logic.{⊎-elim}
+use Prim.Native.Nat.{ℕ, _*_, _≤_, _<_}
+use native.Mathlib.Nat.{le-trans, mul-le-mul-left}
+use native.Mathlib.Omega.{arith}
+use borrow.Author.Tests.{le-ltb, ltb-false}
+use lib.Dec.{ltb}
+use lib.ListN.{length}
+use Rattle.meaning.specs.Numbers.{mostCharts, mostInChart, mostTransitions, mostNodes, noFreeSignal, manyFromState, manyInChart, manyNodes, shortOut}
+use Rattle.meaning.specs.Count.Laws.{any-never, tally-most}
+use Rattle.meaning.specs.File.{File, trailer, shapeOf, fileAt, fileOf}
+use Rattle.meaning.specs.Check.{Test, firstOf, fileTests, refusalOf}
+use Rattle.meaning.specs.Check.Laws.{eq-or-not, firstOf-cong, firstOf-covered, passed, call-refused, call-passed, counted}
+use Rattle.meaning.specs.Rewriting.{rewrite, transitionsIn, noFree?, fromState?, inChart?, rewriteTests, rewriteBytes, rewriteRefusal}
+
+-- ── inChart? ──
+
+pub list-most : (R : File) → inChart? R ≡ false → (c : ℕ) → c < R .charts → length (R .chart c .transitions) ≤ mostInChart
+unfolding inChart?
+list-most R h c l = ltb-false mostInChart _ (any-never (R .charts) (λ c. ltb mostInChart (length (R .chart c .transitions))) h c l)
+
+-- ── transitionsIn ──
+
+-- what it rests on
+room-for-all : mostInChart * mostCharts ≤ mostTransitions
+room-for-all = omega arith
+
+pub sum-most : (R : File) → R .charts ≤ mostCharts → ((c : ℕ) → c < R .charts → length (R .chart c .transitions) ≤ mostInChart)
+    → transitionsIn R ≤ mostTransitions
+unfolding transitionsIn
+sum-most R l h = le-trans (tally-most mostInChart (R .charts) _ h) (le-trans (mul-le-mul-left mostInChart l) room-for-all)
+
+-- ── firstOf: a test of the sum, whatever its number, behind 42 ──
+
+charts-most : (f : List ℕ) → refusalOf f ≡ 0 → fileOf f .charts ≤ mostCharts
+unfolding fileOf fileAt shapeOf
+charts-most f e = counted (trailer f) (passed f e .counts) .charts
+
+module _ (number : ℕ) where
+  -- the list with "over 512 in all" in it, as document 01 had it under the number 43
+  abbrev pub testsWithSum : File → List Test
+  testsWithSum F =
+      record { number = noFreeSignal; applies = noFree? F }
+      ∷ record { number = manyFromState; applies = fromState? (rewrite F) }
+      ∷ record { number = manyInChart; applies = inChart? (rewrite F) }
+      ∷ record { number = number; applies = ltb mostTransitions (transitionsIn (rewrite F)) }
+      ∷ record { number = manyNodes; applies = ltb mostNodes (rewrite F .nodes) }
+      ∷ []
+
+  pub sum-untested : (F : File) → F .charts ≤ mostCharts → (us : List Test) → firstOf (testsWithSum F ++ us) ≡ firstOf (rewriteTests F ++ us)
+  unfolding rewriteTests
+  sum-untested F l us =
+      firstOf-cong _ _ _ (firstOf-cong _ _ _
+      (firstOf-covered _ _ _ (λ h. le-ltb mostTransitions _ (sum-most (rewrite F) l (list-most (rewrite F) h)))))
+
+  -- for every file, refused by 1 to 11 or not
+  pub refusal-same : (f : List ℕ) (room : ℕ)
+      → firstOf (fileTests f ++ (testsWithSum (fileOf f) ++ (record { number = shortOut; applies = ltb room (length (rewriteBytes f)) } ∷ [])))
+      ≡ rewriteRefusal f room
+  unfolding rewriteRefusal
+  refusal-same f room =
+      ⊎-elim
+      (λ (e : refusalOf f ≡ 0). call-passed f _ e ∙ sum-untested (fileOf f) (charts-most f e) roomTest ∙ sym (call-passed f _ e))
+      (λ (e : refusalOf f ≡ 0 → ⊥). call-refused f _ e ∙ sym (call-refused f _ e))
+      (eq-or-not (refusalOf f) 0)
+      ∙ ap firstOf (sym (append-assoc (fileTests f) (rewriteTests (fileOf f)) roomTest))
+    where
+      roomTest : List Test
+      roomTest = record { number = shortOut; applies = ltb room (length (rewriteBytes f)) } ∷ []
