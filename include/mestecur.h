@@ -8,9 +8,9 @@
  *   - memory that a call writes overlaps nothing else that is lent to the same call.
  *
  * Every call returns 0, or the number of its refusal. A refused call leaves every lent buffer (`config`, `next`, `rows`, `out`) as it was. The
- * single numbers behind pointers (`input`, `output`, `mark`, `length`) are answers: they are always written, and are 0 where the call is
- * refused; so are all 8 `places`, and they are MESTECUR_NO_PLACE then. Where a call succeeds, the bytes of a buffer behind what it has to say keep
- * their values.
+ * single numbers behind pointers (`input`, `output`, `mark`, `carried_on`, `length`) are answers: they are always written, and are 0 where the
+ * call is refused; so are all 8 `places`, and they are MESTECUR_NO_PLACE then. Where a call succeeds, the bytes of a buffer behind what it has to
+ * say keep their values.
  *
  * A set of signals is a 64-bit number: bit n stands for signal n, 0 to 63. A configuration is one byte for each chart, its present state. */
 #ifndef MESTECUR_H
@@ -44,10 +44,12 @@ uint8_t mestecur_step(const uint8_t *file, size_t file_len, const uint8_t *confi
 
 /* Takes the inputs in turn, from a configuration on, and writes a row for each to `rows`, without a gap: the output (8 bytes, little-endian), the
  * mark (1 byte), 0 or the refusal of this step (1 byte), then the configuration after it (one byte a chart). A step that is refused (23) has
- * output and mark 0 and keeps the configuration; the run goes on. `inputs_len` is the number of inputs, not of bytes. Refusals of the run:
- * 1 to 11, 20, 21, 27. */
-uint8_t mestecur_run(const uint8_t *file, size_t file_len, const uint8_t *config, size_t config_len, const uint64_t *inputs,
-                     size_t inputs_len, uint8_t *rows, size_t rows_len);
+ * output and mark 0 and keeps the configuration; the run goes on, and the signals of that step, all of them, are carried: they are joined to the
+ * next input, until a step is given, and then nothing is carried. `carried` is what is carried into the run, 0 for nothing; `carried_on` is what is
+ * carried after the last input, to be handed to the run that goes on from there. `inputs_len` is the number of inputs, not of bytes. Refusals of the
+ * run: 1 to 11, 20, 21, 27. */
+uint8_t mestecur_run(const uint8_t *file, size_t file_len, const uint8_t *config, size_t config_len, uint64_t carried, const uint64_t *inputs,
+                     size_t inputs_len, uint8_t *rows, size_t rows_len, uint64_t *carried_on);
 
 /* Writes to the front of `out` a file without slaves that makes the same steps, and its length to `length`. Refusals: 1 to 11, 40 to 42, 44, 45. */
 uint8_t mestecur_rewrite(const uint8_t *file, size_t file_len, uint8_t *out, size_t out_len, size_t *length);

@@ -249,6 +249,9 @@ fn runs(label: &str, family: &[Subject], count: usize, with_reference: bool) -> 
     compared(label, &all)
 }
 
+/// What is carried into a run: nothing.
+const NONE: mestecur::Set = mestecur::Set::EMPTY;
+
 /// Inputs as the engine and as the reference take them.
 fn as_sets(inputs: &[u64]) -> (Vec<mestecur::Set>, Vec<Set>) {
     let engine = inputs.iter().map(|&set| mestecur::Set(set));
@@ -262,20 +265,32 @@ fn run_calls<'a>(subject: &'a Subject, inputs: &'a [u64], with_reference: bool) 
     let (sets, reference_sets) = as_sets(inputs);
     let room = mestecur::rows_bytes(inputs.len(), config.len());
     let (mut one, mut other, mut third) = (vec![0; room], vec![0; room], vec![0; room]);
-    assert_eq!(mestecur::run(file, config, &sets, &mut one), Ok(()));
-    assert_eq!(hand::run(file, config, inputs, &mut other), 0);
+    let left = mestecur::run(file, config, NONE, &sets, &mut one).unwrap();
+    assert_eq!(hand::run(file, config, 0, inputs, &mut other), (0, left.0));
     assert_eq!(one, other);
     Calls {
         engine: Box::new(move || {
-            let _ = black_box(mestecur::run(black_box(file), config, &sets, &mut one));
+            let _ = black_box(mestecur::run(
+                black_box(file),
+                config,
+                NONE,
+                &sets,
+                &mut one,
+            ));
         }),
         hand: Box::new(move || {
-            black_box(hand::run(black_box(file), config, inputs, &mut other));
+            black_box(hand::run(black_box(file), config, 0, inputs, &mut other));
         }),
         reference: with_reference.then(|| -> Call {
             Box::new(move || {
                 let sets = &reference_sets;
-                black_box(reference::run(black_box(file), config, sets, &mut third));
+                black_box(reference::run(
+                    black_box(file),
+                    config,
+                    Set::EMPTY,
+                    sets,
+                    &mut third,
+                ));
             })
         }),
     }
@@ -313,19 +328,35 @@ fn run_and_steps(subject: &Subject, inputs: &[u64]) -> [f64; 2] {
     let mut rows = vec![0; mestecur::rows_bytes(inputs.len(), config.len())];
     let times = least(vec![
         Box::new(|| {
-            let _ = black_box(mestecur::run(black_box(file), config, &sets, &mut rows));
+            let _ = black_box(mestecur::run(
+                black_box(file),
+                config,
+                NONE,
+                &sets,
+                &mut rows,
+            ));
         }),
         Box::new(|| step_through(file, config, &sets)),
     ]);
     [times[0], times[1]]
 }
 
-/// One step call for each input, each from where the last one led.
+/// One step call for each input, each from where the last one led and with what is carried there.
 fn step_through(file: &[u8], config: &[u8], inputs: &[mestecur::Set]) {
     let (mut present, mut next) = (config.to_vec(), config.to_vec());
+    let mut carried = NONE;
     for &input in inputs {
-        if black_box(mestecur::step(black_box(file), &present, input, &mut next)).is_ok() {
+        carried.0 |= input.0;
+        if black_box(mestecur::step(
+            black_box(file),
+            &present,
+            carried,
+            &mut next,
+        ))
+        .is_ok()
+        {
             present.copy_from_slice(&next);
+            carried = NONE;
         }
     }
 }

@@ -28,7 +28,10 @@ fn by_hand(command: &Command) -> Told {
             };
             (stepped.refusal, numbers)
         }
-        Op::Run => (hand::run(file, at, &inputs, &mut lent), Numbers::NONE),
+        Op::Run => {
+            let (refusal, carried) = hand::run(file, at, command.carried.0, &inputs, &mut lent);
+            (refusal, Numbers::two(carried, 0))
+        }
         Op::Rewrite => {
             let (refusal, length) = hand::rewrite(file, &mut lent);
             (refusal, Numbers::two(length as u64, 0))

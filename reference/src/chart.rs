@@ -28,7 +28,7 @@ pub fn chart(command: &str, file: &[u8], words: &[&str]) -> Option<String> {
         ("step", [config, set]) => one_step(file, &configuration(config)?, typed_set(set)?),
         ("run", [config, sets @ ..]) => {
             let sets: Option<Vec<Set>> = sets.iter().map(|set| typed_set(set)).collect();
-            rows(file, &configuration(config)?, &sets?)
+            rows_and_carried(file, &configuration(config)?, &sets?)
         }
         ("rewrite", []) => rewritten(file).map(|out| format!("{} bytes written\n", out.len())),
         _ => return None,
@@ -77,21 +77,35 @@ fn faces(file: &[u8]) -> Result<String, Refused> {
     ))
 }
 
-/// A line for each set: the day program's, and the output as signals.
-fn rows(file: &[u8], configuration: &[u8], sets: &[Set]) -> Result<String, Refused> {
+/// A line for each set, nothing being carried to the first: the day program's, and the output as
+/// signals. Beside them what is carried after the last.
+fn rows(file: &[u8], configuration: &[u8], sets: &[Set]) -> Result<(String, Set), Refused> {
     let model = accept(file).map_err(of_file)?;
     accept_configuration(&model, configuration).map_err(|number| ("configuration", number))?;
-    let rows = run_model(&model, configuration, sets);
-    Ok(rows
+    let (rows, carried) = run_model(&model, configuration, Set::EMPTY, sets);
+    let lines = rows
         .iter()
         .zip(1..)
         .map(|(row, number)| row_line(number, row))
-        .collect())
+        .collect();
+    Ok((lines, carried))
+}
+
+/// The lines of a run, and one for what is carried after it, if that is something.
+fn rows_and_carried(file: &[u8], configuration: &[u8], sets: &[Set]) -> Result<String, Refused> {
+    let (lines, carried) = rows(file, configuration, sets)?;
+    if carried == Set::EMPTY {
+        return Ok(lines);
+    }
+    Ok(format!(
+        "{lines}carried to the next set  {}\n",
+        shown(carried)
+    ))
 }
 
 /// The line of a run of one set, and a line for each chart: which transition it took.
 fn one_step(file: &[u8], configuration: &[u8], set: Set) -> Result<String, Refused> {
-    let row = rows(file, configuration, &[set])?;
+    let (row, _) = rows(file, configuration, &[set])?;
     let model = accept(file).map_err(of_file)?;
     let verdict = step_model(&model, configuration, set);
     let choice = verdict.map_or(vec![], |verdict| verdict.choice);

@@ -1,9 +1,9 @@
 //! One call as recorded bytes, and its answer as a line of text.
 //!
-//! A command is a header of 16 bytes, numbers little-endian: op (1 byte), length of the name (1),
+//! A command is a header of 24 bytes, numbers little-endian: op (1 byte), length of the name (1),
 //! of the configuration (2), of the file (4), room, which is the length of the lent buffer (4),
-//! number of inputs (2), two zero bytes. Then the name, the file, the configuration, the inputs (8
-//! bytes each). Before the call each byte of the lent buffer is [`FILL`].
+//! number of inputs (2), two zero bytes, what is carried into a run (8). Then the name, the file, the
+//! configuration, the inputs (8 bytes each). Before the call each byte of the lent buffer is [`FILL`].
 
 use crate::set::Set;
 use crate::step::NO_PLACES;
@@ -12,7 +12,7 @@ use crate::{check, first, interface, rewrite, run, step, Places};
 /// The value of each lent byte before a call.
 pub const FILL: u8 = 0xA5;
 /// The bytes of a command's header.
-pub const HEADER_BYTES: usize = 16;
+pub const HEADER_BYTES: usize = 24;
 /// The longest file and the largest lent buffer of a command.
 pub const MOST_BYTES: usize = 65_536;
 /// The most inputs of a command.
@@ -47,6 +47,8 @@ pub struct Command {
     pub file: Vec<u8>,
     pub configuration: Vec<u8>,
     pub room: usize,
+    /// What is carried into a run; nothing in other calls.
+    pub carried: Set,
     pub inputs: Vec<Set>,
 }
 
@@ -87,6 +89,7 @@ impl Command {
             file,
             configuration: vec![],
             room: 0,
+            carried: Set::EMPTY,
             inputs: vec![],
         }
     }
@@ -125,7 +128,7 @@ impl Command {
         }
     }
 
-    /// A run of a file, into a buffer of this length.
+    /// A run of a file with nothing carried into it, into a buffer of this length.
     pub fn run(
         name: &str,
         file: Vec<u8>,
@@ -140,6 +143,11 @@ impl Command {
             inputs: inputs.to_vec(),
             ..Command::check(name, file)
         }
+    }
+
+    /// The same run with this set carried into it.
+    pub fn carrying(self, carried: Set) -> Command {
+        Command { carried, ..self }
     }
 
     /// The rewriting of a file, into a buffer of this length.
@@ -169,6 +177,7 @@ impl Command {
         bytes.extend((self.room as u32).to_le_bytes());
         bytes.extend(inputs.to_le_bytes());
         bytes.extend([0; 2]);
+        bytes.extend(self.carried.bytes());
         bytes.extend(self.name.as_bytes());
         bytes.extend(&self.file);
         bytes.extend(&self.configuration);
@@ -201,7 +210,8 @@ impl Command {
         };
         match self.op {
             Op::Check => vec![],
-            Op::First | Op::Run => vec![lent],
+            Op::First => vec![lent],
+            Op::Run => vec![Set(one).hex(), lent],
             Op::Interface => vec![Set(one).hex(), Set(other).hex()],
             Op::Step => vec![Set(one).hex(), mark.to_string(), hex(&numbers.places), lent],
             Op::Rewrite => vec![one.to_string(), lent],
@@ -226,7 +236,10 @@ impl Command {
                 };
                 (stepped.refusal, numbers)
             }
-            Op::Run => (run(file, at, &self.inputs, lent), Numbers::NONE),
+            Op::Run => {
+                let ran = run(file, at, self.carried, &self.inputs, lent);
+                (ran.refusal, Numbers::two(ran.carried.0, 0))
+            }
             Op::Rewrite => {
                 let rewritten = rewrite(file, lent);
                 let length = rewritten.length as u64;
@@ -272,6 +285,7 @@ fn decode(bytes: &mut &[u8]) -> Result<Command, String> {
         let digits = header[from..to].iter().rev();
         digits.fold(0, |sum, &byte| sum * 256 + usize::from(byte))
     };
+    let carried = Set(u64::from_le_bytes(header[16..].try_into().unwrap()));
     let op = *OPS.get(number(0, 1)).ok_or("no such op")?;
     let (room, inputs) = (number(8, 12), number(12, 14));
     let name = take(bytes, number(1, 2))?;
@@ -290,6 +304,7 @@ fn decode(bytes: &mut &[u8]) -> Result<Command, String> {
         file,
         configuration,
         room,
+        carried,
         inputs: inputs
             .chunks_exact(8)
             .map(|set| Set(u64::from_le_bytes(set.try_into().unwrap())))

@@ -1,4 +1,4 @@
-//! 01, "The day program".
+//! 01, "The day program". 02, No. 5: it "starts with none carried".
 
 use crate::check::{accept, refuse_if};
 use crate::first::first_configuration;
@@ -23,7 +23,8 @@ fn try_day(input: &[u8]) -> Result<String, u8> {
     let model = accept(input)?;
     let front = front(input, &model);
     refuse_if(front.len() % SET_BYTES != 0, refusal::DAY_FRONT)?;
-    let rows = run_model(&model, &first_configuration(&model), &inputs(front));
+    let first = first_configuration(&model);
+    let (rows, _) = run_model(&model, &first, Set::EMPTY, &inputs(front));
     let lines = rows.iter().zip(1..).map(|(row, number)| line(number, row));
     Ok(lines.collect())
 }

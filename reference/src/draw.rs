@@ -140,6 +140,7 @@ fn alter(random: &mut Random, command: &mut Command) {
 /// Another call with the same file, and what it needs.
 fn other_call(random: &mut Random, command: &mut Command) {
     command.op = random.pick(&OPS);
+    command.carried = Set::EMPTY;
     let Ok(model) = accept(&command.file) else {
         return fit_inputs(command);
     };
@@ -161,9 +162,12 @@ fn fit_inputs(command: &mut Command) {
     }
 }
 
-/// Changes one input, or their number.
+/// Changes one input, or their number, or what is carried into a run.
 fn alter_inputs(random: &mut Random, command: &mut Command) {
     let any = Set(random.bits() & random.bits());
+    if command.op == Op::Run && random.chance(30) {
+        command.carried = any;
+    }
     if command.op == Op::Run && random.chance(50) {
         command.inputs.resize(random.below(8), any);
     }

@@ -634,7 +634,11 @@ pub fn run_command(random: &mut Random, name: &str) -> Command {
         let count = random.pick(&[0, 1, 2, 5, 10, 20]);
         let inputs: Vec<Set> = (0..count).map(|_| input(random, &shape)).collect();
         let room = room(random, rows_bytes(count, model.charts.len()));
-        return Command::run(name, file, &at, &inputs, room);
+        let carried = match random.below(2) {
+            0 => Set::EMPTY,
+            _ => input(random, &shape),
+        };
+        return Command::run(name, file, &at, &inputs, room).carrying(carried);
     }
 }
 

@@ -13,7 +13,7 @@
 //! - [`first`]: the first configuration.
 //! - [`interface`]: input and output interface.
 //! - [`step`]: the meaning of a step, refusals 20 to 23; the places of 02, No. 1.
-//! - [`run`]: a run, refusal 27.
+//! - [`run`]: a run, refusal 27; what 02, No. 5 carries.
 //! - [`rewriting`]: the rewriting, refusals 40 to 45.
 //! - [`agreement`]: the places of a step of the rewritten file (02, No. 1).
 //! - [`day`]: the day program, refusals 30 and 31.
@@ -54,6 +54,6 @@ pub use day::day;
 pub use first::first;
 pub use interface::{interface, Interface};
 pub use rewriting::{rewrite, Rewritten};
-pub use run::run;
+pub use run::{run, Ran};
 pub use set::Set;
 pub use step::{step, Places, Stepped};

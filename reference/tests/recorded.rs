@@ -111,7 +111,8 @@ fn recordings_are_of_moderate_size() {
 }
 
 /// 01: "A refusal returns its number, empty sets, mark no, length 0, and leaves lent memory
-/// untouched." 02, No. 1: "Refused steps carry 255 throughout."
+/// untouched." 02, No. 1: "Refused steps carry 255 throughout." No. 5: "the empty set where the run
+/// itself is refused".
 #[test]
 fn a_refusal_leaves_all_lent_bytes_and_gives_empty_answers() {
     for kind in KINDS {
@@ -133,7 +134,7 @@ fn a_refusal_leaves_all_lent_bytes_and_gives_empty_answers() {
                 Op::First => format!("{name} first {number} {untouched}\n"),
                 Op::Interface => format!("{name} interface {number} {zeros} {zeros}\n"),
                 Op::Step => format!("{name} step {number} {zeros} n {none} {untouched}\n"),
-                Op::Run => format!("{name} run {number} {untouched}\n"),
+                Op::Run => format!("{name} run {number} {zeros} {untouched}\n"),
                 Op::Rewrite => format!("{name} rewrite {number} 0 {untouched}\n"),
             };
             assert_eq!(answer.line, expected);
@@ -193,8 +194,10 @@ fn random_steps_have_all_shapes() {
 
 #[test]
 fn a_command_byte_by_byte() {
-    let command = Command::step("ab", vec![7, 8, 9], &[1], Set(0x0203), 5);
-    let mut expected = vec![3, 2, 1, 0, 3, 0, 0, 0, 5, 0, 0, 0, 1, 0, 0, 0];
+    let command = Command::run("ab", vec![7, 8, 9], &[1], &[Set(0x0203)], 5);
+    let command = command.carrying(Set(0x0405));
+    let mut expected = vec![4, 2, 1, 0, 3, 0, 0, 0, 5, 0, 0, 0, 1, 0, 0, 0];
+    expected.extend([5, 4, 0, 0, 0, 0, 0, 0]);
     expected.extend(b"ab");
     expected.extend([7, 8, 9, 1]);
     expected.extend([3, 2, 0, 0, 0, 0, 0, 0]);
@@ -227,7 +230,12 @@ fn lines_by_hand() {
     );
     assert_eq!(
         line(Command::run("r", file.clone(), &[0, 1], &[Set(1)], 13)),
-        "r run 0 000000000000000000170001a5\n"
+        "r run 0 0000000000000001 000000000000000000170001a5\n"
+    );
+    let carrying = Command::run("r", file.clone(), &[0, 1], &[Set(1)], 12).carrying(Set(8));
+    assert_eq!(
+        line(carrying),
+        "r run 0 0000000000000000 120000000000000001000101\n"
     );
     assert_eq!(
         line(Command::rewrite("w", file, 2)),

@@ -181,11 +181,13 @@ fn the_rewritten_file_runs_as_the_old_one() {
         let new = rewritten(&old).unwrap();
         let at = configuration(&mut random, &model);
         let inputs: Vec<Set> = (0..10).map(|_| input(&mut random, &shape)).collect();
+        let carried = input(&mut random, &shape);
         let mut old_rows = vec![0xA5; 10 * (10 + at.len()) + 1];
         let mut new_rows = old_rows.clone();
-        assert_eq!(run(&old, &at, &inputs, &mut old_rows), refusal::SUCCESS);
-        assert_eq!(run(&new, &at, &inputs, &mut new_rows), refusal::SUCCESS);
-        assert_eq!(old_rows, new_rows);
+        let before = run(&old, &at, carried, &inputs, &mut old_rows);
+        let after = run(&new, &at, carried, &inputs, &mut new_rows);
+        assert_eq!(before.refusal, refusal::SUCCESS);
+        assert_eq!((before, old_rows), (after, new_rows));
     }
 }
 

@@ -9,8 +9,9 @@ use reference::{run, step, Set};
 #[test]
 fn the_whole_case_as_rows() {
     let mut rows = [0xA5; 35];
-    let refused = run(&whole_case().file(), &[0], &whole_case_inputs(), &mut rows);
-    assert_eq!(refused, refusal::SUCCESS);
+    let file = whole_case().file();
+    let ran = run(&file, &[0], Set::EMPTY, &whole_case_inputs(), &mut rows);
+    assert_eq!((ran.refusal, ran.carried), (refusal::SUCCESS, Set::EMPTY));
     assert_eq!(rows[..11], [2, 0, 0, 0, 0, 0, 0, 0, 1, 0, 1]);
     assert_eq!(rows[11..22], [0, 0, 0, 0, 0, 0, 0, 0, 0, 23, 1]);
     assert_eq!(rows[22..33], [0, 0, 0, 0, 0, 0, 0, 0, 1, 0, 0]);
@@ -18,11 +19,34 @@ fn the_whole_case_as_rows() {
 }
 
 #[test]
-fn a_refused_run_leaves_its_buffer() {
+fn a_refused_run_leaves_its_buffer_and_carries_nothing() {
     let mut rows = [0xA5; 11];
-    let short = run(&d().file(), &[0, 0], &[Set::EMPTY], &mut rows);
-    assert_eq!(short, refusal::RUN_ROOM);
+    let short = run(&d().file(), &[0, 0], Set::one(7), &[Set::EMPTY], &mut rows);
+    assert_eq!(
+        (short.refusal, short.carried),
+        (refusal::RUN_ROOM, Set::EMPTY)
+    );
     assert_eq!(rows, [0xA5; 11]);
+}
+
+/// D at 0.1 has no step for {0} and none for {9}, and one for {0,3}.
+#[test]
+fn the_signals_of_refused_steps_are_carried_uncut_until_a_step_is_given() {
+    let file = d().file();
+    let mut rows = [0; 36];
+    let inputs = [Set::one(0), Set::one(9), Set::one(3)];
+    let mut carried = |count: usize| {
+        let ran = run(&file, &[0, 1], Set::one(8), &inputs[..count], &mut rows);
+        assert_eq!(ran.refusal, refusal::SUCCESS);
+        ran.carried
+    };
+    assert_eq!(carried(0), Set::of(&[8]));
+    assert_eq!(carried(1), Set::of(&[0, 8]));
+    assert_eq!(carried(2), Set::of(&[0, 8, 9]));
+    assert_eq!(carried(3), Set::EMPTY);
+    assert_eq!(rows[9..12], [23, 0, 1]);
+    assert_eq!(rows[21..24], [23, 0, 1]);
+    assert_eq!(rows[24..], [0x12, 0, 0, 0, 0, 0, 0, 0, 1, 0, 1, 1]);
 }
 
 #[test]
@@ -43,19 +67,25 @@ fn a_run_is_its_steps() {
         let file = model.file();
         let mut present = configuration(&mut random, &model);
         let inputs: Vec<Set> = (0..6).map(|_| input(&mut random, &shape)).collect();
+        let mut carried = input(&mut random, &shape);
         let row_bytes = ROW_HEAD_BYTES + present.len();
         let mut rows = vec![0; 6 * row_bytes];
-        assert_eq!(run(&file, &present, &inputs, &mut rows), refusal::SUCCESS);
+        let ran = run(&file, &present, carried, &inputs, &mut rows);
+        assert_eq!(ran.refusal, refusal::SUCCESS);
         for (row, input) in rows.chunks(row_bytes).zip(inputs) {
             let mut next = present.clone();
-            let stepped = step(&file, &present, input, &mut next);
+            let joined = carried.joined(input);
+            let stepped = step(&file, &present, joined, &mut next);
             assert_eq!(row[..8], stepped.output.bytes());
             assert_eq!(row[8], u8::from(stepped.mark));
             assert_eq!(row[9], stepped.refusal);
             assert_eq!(row[10..], next);
-            refused += usize::from(stepped.refusal != refusal::SUCCESS);
+            let is_refused = stepped.refusal != refusal::SUCCESS;
+            carried = if is_refused { joined } else { Set::EMPTY };
+            refused += usize::from(is_refused);
             present = next;
         }
+        assert_eq!(ran.carried, carried);
     }
     assert!(refused > 100);
 }

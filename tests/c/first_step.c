@@ -1,5 +1,5 @@
-/* Document 01's whole case: checks the file, takes its first configuration, asks for its interface, makes its three steps one by one and then as
- * one run, rewrites it, and prints what it got. */
+/* Document 01's whole case: checks the file, takes its first configuration, asks for its interface, makes its three steps one by one, then as one
+ * run and as two, rewrites it, and prints what it got. */
 #include <stdio.h>
 #include "mestecur.h"
 
@@ -38,13 +38,17 @@ static uint8_t step(uint8_t state, uint64_t input) {
     return next;
 }
 
-/* All three inputs as one run, into a buffer that is longer than needed. */
-static void run(uint8_t state) {
+/* Some of the inputs as one run, with what is carried into it, into a buffer that is longer than needed; what is carried after it. */
+static uint64_t run(uint8_t state, uint64_t carried, size_t from, size_t count) {
     uint8_t rows[INPUTS * ROW + 2];
+    uint64_t carried_on = 9;
     for (size_t i = 0; i < sizeof rows; i++) rows[i] = 0xa5;
-    printf("run: %d\n", mestecur_run(file, sizeof file, &state, CHARTS, inputs, INPUTS, rows, sizeof rows));
-    for (size_t i = 0; i < sizeof rows; i++) printf("%02x%s", rows[i], (i + 1) % ROW == 0 ? "\n" : "");
+    printf("run: %d", mestecur_run(file, sizeof file, &state, CHARTS, carried, inputs + from, count, rows, sizeof rows, &carried_on));
+    print_set(", carried ", carried_on);
     printf("\n");
+    for (size_t i = 0; i < count * ROW + 2; i++) printf("%02x%s", rows[i], (i + 1) % ROW == 0 ? "\n" : "");
+    printf("\n");
+    return carried_on;
 }
 
 int main(void) {
@@ -60,7 +64,9 @@ int main(void) {
     print_set(", output ", output);
     printf("\n");
     for (size_t i = 0, s = state; i < INPUTS; i++) s = step((uint8_t)s, inputs[i]);
-    run(state);
+    run(state, 0, 0, INPUTS);
+    /* input 2 has no step from state 0: it is carried, here into a second run */
+    run(state, run(state, 0, 2, 1), 0, 1);
     printf("rewrite: %d", mestecur_rewrite(file, sizeof file, out, sizeof out, &length));
     printf(", %zu bytes\n", length);
     printf("rewrite without room: %d", mestecur_rewrite(file, sizeof file, out, sizeof out - 1, &length));

@@ -71,13 +71,22 @@ fn fitting(body: &Body, config: &[u8]) -> Result<(), u8> {
     }
 }
 
-/// A row for each input; the refusal or 0.
-pub fn run(file: &[u8], config: &[u8], inputs: &[u64], rows: &mut [u8]) -> u8 {
-    ran(file, config, inputs, rows).err().unwrap_or(0)
+/// A row for each input; the refusal or 0, and what is carried after the last.
+pub fn run(file: &[u8], config: &[u8], carried: u64, inputs: &[u64], rows: &mut [u8]) -> (u8, u64) {
+    match ran(file, config, carried, inputs, rows) {
+        Ok(carried) => (0, carried),
+        Err(refusal) => (refusal, 0),
+    }
 }
 
-/// The rows written, or the refusal.
-fn ran(file: &[u8], config: &[u8], inputs: &[u64], rows: &mut [u8]) -> Result<(), u8> {
+/// The rows written and what is carried, or the refusal.
+fn ran(
+    file: &[u8],
+    config: &[u8],
+    carried: u64,
+    inputs: &[u64],
+    rows: &mut [u8],
+) -> Result<u64, u8> {
     let body = opened(file)?;
     fitting(&body, config)?;
     let long = 10 + body.charts;
@@ -85,12 +94,14 @@ fn ran(file: &[u8], config: &[u8], inputs: &[u64], rows: &mut [u8]) -> Result<()
     let wiring = wired(&body);
     let mut present = [0; 8];
     present[..body.charts].copy_from_slice(config);
+    let mut carried = carried;
     for (row, &input) in rows.chunks_exact_mut(long).zip(inputs) {
-        let found = found(&body, &wiring, &present[..body.charts], input);
-        present = found.map_or(present, |found| found.next);
+        let offered = carried | input;
+        let found = found(&body, &wiring, &present[..body.charts], offered);
+        (present, carried) = found.map_or((present, offered), |found| (found.next, 0));
         put_row(row, found, &present[..body.charts]);
     }
-    Ok(())
+    Ok(carried)
 }
 
 /// A row's bytes.

@@ -107,23 +107,35 @@ pub fn step(file: &[u8], config: &[u8], input: Set, next: &mut [u8]) -> Result<S
     })
 }
 
-/// A step for each input in turn, from a configuration on; writes a row for each to the front of the
-/// buffer, which [`rows`] reads. Refusals 1 to 11, 20, 21, 27.
-pub fn run(file: &[u8], config: &[u8], inputs: &[Set], buffer: &mut [u8]) -> Result<(), Refusal> {
-    // SAFETY: the pointers are those of slices with these lengths, and a set is laid out as its number;
-    // the slice written is lent alone.
+/// A step for each input in turn, from a configuration on and with what is carried there; writes a row
+/// for each to the front of the buffer, which [`rows`] reads. The signals of a refused step are carried:
+/// they are joined to the next input, until a step is given. Gives what is carried after the last
+/// input, for the run that goes on from there. Refusals 1 to 11, 20, 21, 27.
+pub fn run(
+    file: &[u8],
+    config: &[u8],
+    carried: Set,
+    inputs: &[Set],
+    buffer: &mut [u8],
+) -> Result<Set, Refusal> {
+    let mut carried_on = 0;
+    // SAFETY: the pointers are those of slices with these lengths and of a number of our own, and a set
+    // is laid out as its number; the slice written is lent alone.
     Refusal::unless_zero(unsafe {
         raw::mestecur_run(
             file.as_ptr(),
             file.len(),
             config.as_ptr(),
             config.len(),
+            carried.0,
             inputs.as_ptr().cast(),
             inputs.len(),
             buffer.as_mut_ptr(),
             buffer.len(),
+            &mut carried_on,
         )
-    })
+    })?;
+    Ok(Set(carried_on))
 }
 
 /// Writes a file without slaves that makes the same steps to the front of the buffer, and gives its

@@ -40,10 +40,12 @@ extern "C" {
         file_len: usize,
         config: *const u8,
         config_len: usize,
+        carried: u64,
         inputs: *const u64,
         inputs_len: usize,
         rows: *mut u8,
         rows_len: usize,
+        carried_on: *mut u64,
     ) -> u8;
 
     /// Writes the rewritten file.

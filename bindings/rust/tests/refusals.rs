@@ -17,7 +17,8 @@ fn every_call_refuses(file: &[u8], refusal: u8) {
     assert_eq!(number(first(file, &mut buffer)), refusal);
     assert_eq!(number(interface(file)), refusal);
     assert_eq!(number(step(file, &[0], Set(1), &mut buffer)), refusal);
-    assert_eq!(number(run(file, &[0], &[Set(1)], &mut buffer)), refusal);
+    let ran = run(file, &[0], Set(4), &[Set(1)], &mut buffer);
+    assert_eq!(number(ran), refusal);
     assert_eq!(number(rewrite(file, &mut buffer)), refusal);
     assert_eq!(buffer, [0xA5; 300]);
 }
@@ -78,9 +79,13 @@ fn steps() {
 fn runs() {
     let file = whole_case();
     let mut rows = [0xA5; 21];
-    assert_eq!(number(run(&file, &[], &[Set(1)], &mut rows)), 20);
-    assert_eq!(number(run(&file, &[2], &[Set(1)], &mut rows)), 21);
-    assert_eq!(number(run(&file, &[0], &[Set(1); 2], &mut rows)), 27);
+    let mut refused = |config: &[u8], inputs: &[Set]| {
+        let ran = run(&file, config, Set(4), inputs, &mut rows);
+        number(ran)
+    };
+    assert_eq!(refused(&[], &[Set(1)]), 20);
+    assert_eq!(refused(&[2], &[Set(1)]), 21);
+    assert_eq!(refused(&[0], &[Set(1); 2]), 27);
     assert_eq!(rows, [0xA5; 21]);
 }
 

@@ -4,7 +4,7 @@ mod charts;
 
 use charts::{d, whole_case};
 use mestecur::{
-    check, first, interface, rewrite, rows, rows_bytes, run, step, Given, Row, Set, Step,
+    check, first, interface, rewrite, rows, rows_bytes, run, step, Given, Refusal, Row, Set, Step,
 };
 
 /// A row's answer for a step that puts out these signals, all choices agreeing.
@@ -65,7 +65,8 @@ fn step_by_step() {
 fn as_one_run() {
     let mut buffer = [0xA5; 35];
     let inputs = [Set(1), Set(0), Set(2)];
-    assert_eq!(run(&whole_case(), &[0], &inputs, &mut buffer), Ok(()));
+    let left = run(&whole_case(), &[0], Set::EMPTY, &inputs, &mut buffer);
+    assert_eq!(left, Ok(Set::EMPTY));
     let made: Vec<Row> = rows(&buffer[..rows_bytes(3, 1)], 1).collect();
     assert_eq!(
         (made[0].answer, made[0].config),
@@ -82,7 +83,28 @@ fn as_one_run() {
 
 #[test]
 fn a_run_without_inputs() {
-    assert_eq!(run(&whole_case(), &[1], &[], &mut []), Ok(()));
+    let left = run(&whole_case(), &[1], Set(4), &[], &mut []);
+    assert_eq!(left, Ok(Set(4)));
+}
+
+/// D4 in two runs: signal 0 alone has no step and is carried, 9 with it though D does not know it; with
+/// signal 3 it has one, and then nothing is carried.
+#[test]
+fn a_refused_day_carries_its_signals_on() {
+    let mut buffer = [0; 12];
+    let mut day = |carried: Set, input: Set| {
+        let left = run(&d(), &[0, 1], carried, &[input], &mut buffer);
+        let row = rows(&buffer, 2).next().unwrap();
+        (
+            left,
+            row.answer.map_err(Refusal::number),
+            row.config.to_vec(),
+        )
+    };
+    let kept = Set::from([0, 9]);
+    assert_eq!(day(Set::EMPTY, kept), (Ok(kept), Err(23), vec![0, 1]));
+    let given = (Ok(Set::EMPTY), Ok(puts_out([1, 4])), vec![1, 1]);
+    assert_eq!(day(kept, Set::from([3])), given);
 }
 
 #[test]

@@ -19,14 +19,14 @@ use Rattle.meaning.specs.File.{endOf, trailer, bodyOf, shapeOf, chartOf, fileAt
 use Rattle.meaning.specs.Numbers.{mostNodes, wrongLength, badState, shortBuffer, shortRows}
 use Rattle.meaning.specs.Check.Laws.{below, alike, firstOf-passes, Passed, passed, call-passed, counted, charted}
 use Rattle.meaning.specs.Check.{Test, firstOf, differ, notBelow, fileTests, refusalOf}
-use Rattle.meaning.specs.Calls.{made, laidOver, firstRefusal, initials, firstBytes, inputOf, outputOf, configTests, stepRefusal, stepIn, stepOf, allPlaces, placesIn, placesOf, runRefusal, rowsOf, runBytes}
+use Rattle.meaning.specs.Calls.{made, laidOver, firstRefusal, initials, firstBytes, inputOf, outputOf, configTests, stepRefusal, stepIn, stepOf, allPlaces, placesIn, placesOf, runRefusal, rowsOf, carriedOf, runBytes, runCarried}
 use Rattle.meaning.specs.Calls.Laws.{made-cong}
 use Rattle.meaning.specs.Rewriting.{chartWith, rewrittenChart, rewriteTests, rewriteBytes, rewriteRefusal, rewrite, rewriteLength, shapeIn}
 use Rattle.meaning.specs.Laws.Bools.{same-refl, same→≡}
 use Rattle.meaning.specs.Laws.Runs.{Valid}
 use Rattle.agreement.specs.Step.{Rewritten, step-is}
 use Rattle.agreement.specs.Taken.{PlacesAgree, taken-agree}
-use Rattle.agreement.specs.Run.{run-is}
+use Rattle.agreement.specs.Run.{run-is, carried-is}
 use Rattle.agreement.specs.Faces.{input-is, output-is}
 use Rattle.agreement.specs.Passed.{front, in-front, ended, smalls, body-bytes, ready}
 use Rattle.agreement.specs.New.{Regular}
@@ -217,11 +217,17 @@ module _ (f : List ℕ) (ab : AllBytes f) (room : ℕ) (ok : rewriteRefusal f ro
   unfolding runRefusal rowsTest
   same-refusal config inputs left = tests-same config _ _ (ap (rowsTest inputs left) (r .charts))
 
-  pub same-run : (config : List ℕ) (inputs : List Set) (rows : List ℕ) → runBytes f′ config inputs rows ≡ runBytes f config inputs rows
-  unfolding runBytes runRefusal rowsTest
-  same-run config inputs rows = answer-same config _ _ (ap (rowsTest (length inputs) (length rows)) (r .charts))
-      (laidOver (rowsOf (fileOf f) config inputs) rows) (laidOver (rowsOf (fileOf f′) config inputs) rows) (λ n. rows)
-      (λ v. ap (λ z. laidOver z rows) (run-is (fileOf f) (rg .ready) (fileOf f′) r inputs config v))
+  module _ (config : List ℕ) (carried : Set) (inputs : List Set) where
+    pub same-run : (rows : List ℕ) → runBytes f′ config carried inputs rows ≡ runBytes f config carried inputs rows
+    unfolding runBytes runRefusal rowsTest
+    same-run rows = answer-same config _ _ (ap (rowsTest (length inputs) (length rows)) (r .charts))
+        (laidOver (rowsOf (fileOf f) config carried inputs) rows) (laidOver (rowsOf (fileOf f′) config carried inputs) rows) (λ n. rows)
+        (λ v. ap (λ z. laidOver z rows) (run-is (fileOf f) (rg .ready) (fileOf f′) r inputs config carried v))
+
+    pub same-carried : (left : ℕ) → runCarried f′ config carried inputs left ≡ runCarried f config carried inputs left
+    unfolding runCarried runRefusal rowsTest
+    same-carried left = answer-same config _ _ (ap (rowsTest (length inputs) left) (r .charts)) (carriedOf (fileOf f) config carried inputs)
+        (carriedOf (fileOf f′) config carried inputs) (λ n. ∅) (λ v. carried-is (fileOf f) (rg .ready) (fileOf f′) r inputs config carried v)
 
 -- a file without slaves rewrites to itself, without its front
 pub plain-rewrites : (f : List ℕ) → AllBytes f → refusalOf f ≡ 0 → fileOf f .slaves ≡ 0 → rewriteBytes f ≡ drop (endOf f - trailer f .distance) f

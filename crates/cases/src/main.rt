@@ -15,7 +15,7 @@ const MOST_INPUTS: usize = 4096;
 
 const FILL: u8 = 0xA5;
 
-// A command's header: which call, and how many bytes of each kind follow it.
+// A command's header: which call, how many bytes of each kind follow it, and what is carried into a run.
 struct Command {
     op: u8,
     name: usize,
@@ -23,6 +23,7 @@ struct Command {
     file: usize,
     room: usize,
     inputs: usize,
+    carried: u64,
 }
 
 fn wide(b: u8) -> usize {
@@ -30,7 +31,7 @@ fn wide(b: u8) -> usize {
 }
 
 fn header(head: &[u8]) -> Command
-    requires { ⌜ length (now head) ≡ 16 ⌝ }
+    requires { ⌜ length (now head) ≡ 24 ⌝ }
 {
     Command {
         op: head[0],
@@ -39,6 +40,7 @@ fn header(head: &[u8]) -> Command
         file: layout::number::le32(head, 4) as usize,
         room: layout::number::le32(head, 8) as usize,
         inputs: layout::number::le16(head, 12) as usize,
+        carried: layout::number::le64(head, 16),
     }
 }
 
@@ -116,8 +118,10 @@ fn print_step(file: &[u8], config: &[u8], input: u64, next: &mut [u8]) {
     end_line();
 }
 
-fn print_run(file: &[u8], config: &[u8], inputs: &[u64], rows: &mut [u8]) {
-    print_refusal(b" run ", engine::run::run(file, config, inputs, rows));
+fn print_run(file: &[u8], config: &[u8], carried: u64, inputs: &[u64], rows: &mut [u8]) {
+    let a = engine::run::run(file, config, carried, inputs, rows);
+    print_refusal(b" run ", a.refusal);
+    print_set(a.carried);
     print_buffer(rows);
     end_line();
 }
@@ -139,14 +143,14 @@ fn first_of(inputs: &[u64]) -> u64 {
     inputs[0]
 }
 
-// The call that a command asks for, on its file, its configuration, its inputs and a lent buffer.
-fn print_call(op: u8, file: &[u8], config: &[u8], inputs: &[u64], lent: &mut [u8]) {
+// The call that a command asks for, on its file, its configuration, what is carried, its inputs and a lent buffer.
+fn print_call(op: u8, file: &[u8], config: &[u8], carried: u64, inputs: &[u64], lent: &mut [u8]) {
     match op {
         0 => print_check(file),
         1 => print_first(file, lent),
         2 => print_interface(file),
         3 => print_step(file, config, first_of(inputs), lent),
-        4 => print_run(file, config, inputs, lent),
+        4 => print_run(file, config, carried, inputs, lent),
         _ => print_rewriting(file, lent),
     }
 }
@@ -156,6 +160,7 @@ fn print_within(
     op: u8,
     file: &[u8],
     config: &[u8],
+    carried: u64,
     inputs: &[u64],
     n: usize,
     lent: &mut [u8],
@@ -163,7 +168,7 @@ fn print_within(
 )
     requires { ⌜ (n ≤ length (now inputs)) × (room ≤ length (now lent)) ⌝ }
 {
-    print_call(op, file, config, &inputs[..n], &mut lent[..room]);
+    print_call(op, file, config, carried, &inputs[..n], &mut lent[..room]);
 }
 
 // Reads n bytes to the front of a buffer, or as many as there are; none if they do not fit.
@@ -230,6 +235,7 @@ fn answer(c: Command) -> bool {
         c.op,
         &file[..got],
         &config[..had],
+        c.carried,
         &inputs,
         n,
         &mut lent,
@@ -240,9 +246,9 @@ fn answer(c: Command) -> bool {
 
 // Answers the next command; false at the end of the input.
 fn answer_next() -> bool {
-    let mut head = [0u8; 16];
+    let mut head = [0u8; 24];
     let got = io::read_full(STDIN_FILENO, &mut head);
-    if got < 16 {
+    if got < 24 {
         return false;
     }
     answer(header(&head))

@@ -138,17 +138,27 @@ fn rows(rows: &[u8], w: usize, n: usize)
     }
 }
 
-// A run of a file with so many charts.
-fn run_of(file: &[u8], charts: usize, config: &[u8], inputs: &[u64])
+// A run of a file with so many charts, with nothing carried into it. Returns what is carried after it.
+fn run_of(file: &[u8], charts: usize, config: &[u8], inputs: &[u64]) -> u64
     requires { ⌜ (charts ≤ 8) × (length (now inputs) ≤ 1024) ⌝ }
 {
     let mut space = row_room();
-    let r = engine::run::run(file, config, inputs, &mut space);
+    let a = engine::run::run(file, config, 0, inputs, &mut space);
+    let r = a.refusal;
     if r != limits::ACCEPTED {
         words::refusal(r);
-        return;
+        return 0;
     }
     rows(&space, STATES + charts, inputs.len());
+    a.carried
+}
+
+// What is carried after a run, if that is something.
+fn carried(set: u64) {
+    if set != 0 {
+        say(b"carried to the next set");
+        signals(set);
+    }
 }
 
 // What a chart took: the place of a transition in its own list, or none.
@@ -181,15 +191,16 @@ fn taken(file: &[u8], charts: usize, config: &[u8], input: u64)
     }
 }
 
-// A run of the sets that were typed, as many as there is room for; a step also says what each chart took.
+// A run of the sets that were typed, as many as there is room for. It also says what is left to carry; a step says what each chart took.
 fn run_typed(file: &[u8], charts: usize, config: &[u8], inputs: &mut [u64], is_step: bool)
     requires { ⌜ (charts ≤ 8) × (length (now inputs) ≤ 1024) ⌝ }
 {
     if !ask::sets(inputs) {
         return;
     }
-    run_of(file, charts, config, inputs);
+    let left = run_of(file, charts, config, inputs);
     if !is_step {
+        carried(left);
         return;
     }
     if inputs.len() > 0 {

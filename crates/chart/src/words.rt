@@ -131,7 +131,7 @@ pub fn help(fd: i32) {
           \n\
           A CONFIG is the state of each chart, as 0.1. A SET is signals, as s0,s3; or a number in hex, as 0x9; or - for none.\n\
           A step is shown as its number, what it puts out, the configuration after it, y if all permitted choices agree, else n,\n\
-          and what it puts out as signals; or as its number and why it is refused. A transition's number is its place in its chart's\n\
-          own list, from 0 on.\n",
+          and what it puts out as signals; or as its number and why it is refused. A run joins the signals of a refused step to the\n\
+          next set, and says which are carried after the last. A transition's number is its place in its chart's own list, from 0 on.\n",
     );
 }

@@ -3,6 +3,7 @@ ghost use mathlib.Core.Path.{_≡_};
 ghost use Prim.Native.Nat.{_+_, _*_, _≤_};
 ghost use lib.ListN.{length};
 ghost use Rattle.meaning.specs.File.{fileOf};
+ghost use Rattle.meaning.specs.Meaning.{∅};
 ghost use Rattle.meaning.specs.Calls.{laidOver, initials, rowsOf};
 ghost use Rattle.line.specs.Line.{inputsOf, linesOf, dayOf};
 ghost use Rattle.day.specs.Day.{Opened, Accepted};
@@ -80,16 +81,16 @@ fn read_inputs(input: &[u8], inputs: &mut [u64])
     }
 }
 
-// The rows of all inputs, from the first configuration on.
+// The rows of all inputs, from the first configuration on, with nothing carried.
 fn put_rows(input: &[u8], charts: usize, n: usize, rows: &mut [u8])
     requires { ⌜ Accepted (now input) charts n × (n ≤ 8192) × (n * (10 + charts) ≤ length (now rows)) ⌝ }
-    ensures { λ _. ⌜ now (rows .exit) ≡ laidOver (rowsOf (fileOf (now (input .entry))) (initials (now (input .entry))) (inputsOf n (now (input .entry)))) (now (rows .entry)) ⌝ }
+    ensures { λ _. ⌜ now (rows .exit) ≡ laidOver (rowsOf (fileOf (now (input .entry))) (initials (now (input .entry))) ∅ (inputsOf n (now (input .entry)))) (now (rows .entry)) ⌝ }
 {
     let mut config = [0u8; 8];
     engine::file::first(input, &mut config);
     let mut inputs = input_room();
     read_inputs(input, &mut inputs[..n]);
-    engine::run::run(input, &config[..charts], &inputs[..n], rows);
+    engine::run::run(input, &config[..charts], 0, &inputs[..n], rows);
 }
 
 // The lines of n rows of w bytes each, at the front of `out`; returns their length.

@@ -6,11 +6,12 @@ use Prim.Native.Nat.{ℕ}
 use lib.ListN.{length}
 use Rattle.meaning.specs.Meaning.{Set}
 use Rattle.meaning.specs.Check.{refusalOf}
-use Rattle.meaning.specs.Calls.{firstRefusal, firstBytes, inputOf, outputOf, stepOf, placesOf, nextIn, runRefusal, runBytes}
+use Rattle.meaning.specs.Calls.{firstRefusal, firstBytes, inputOf, outputOf, stepOf, placesOf, nextIn, runRefusal, runBytes, runCarried}
 use Rattle.meaning.specs.Rewriting.{rewriteRefusal, rewriteLength, rewriteOut}
 use Rattle.engine.specs.Step.{steppedOf}
 use Rattle.engine.specs.declared.interface.Faces.{Faces}
 use Rattle.engine.specs.declared.rewriting.Rewritten.{Rewritten}
+use Rattle.engine.specs.declared.run.Ran.{Ran}
 use Rattle.engine.specs.declared.step.Stepped.{Stepped}
 
 -- what is equal to the same is equal
@@ -40,10 +41,12 @@ module _ (f : List ℕ) where
       → (r′ ≡ steppedOf (stepOf f config i (length b)) (placesOf f config i (length b))) × (c′ ≡ nextIn (stepOf f config i (length b)) b) → (r ≡ r′) × (c ≡ c′)
   step-determined config i b = both
 
-  pub run-determined : (config : List ℕ) (inputs : List Set) (b : List ℕ) (r r′ : ℕ) (c c′ : List ℕ)
-      → (r ≡ runRefusal f config (length inputs) (length b)) × (c ≡ runBytes f config inputs b)
-      → (r′ ≡ runRefusal f config (length inputs) (length b)) × (c′ ≡ runBytes f config inputs b) → (r ≡ r′) × (c ≡ c′)
-  run-determined config inputs b = both
+  pub run-determined : (config : List ℕ) (x : Set) (inputs : List Set) (b : List ℕ) (r r′ : Ran) (c c′ : List ℕ)
+      → (r ≡ record { refusal = runRefusal f config (length inputs) (length b); carried = runCarried f config x inputs (length b) })
+      × (c ≡ runBytes f config x inputs b)
+      → (r′ ≡ record { refusal = runRefusal f config (length inputs) (length b); carried = runCarried f config x inputs (length b) })
+      × (c′ ≡ runBytes f config x inputs b) → (r ≡ r′) × (c ≡ c′)
+  run-determined config x inputs b = both
 
   pub rewriting-determined : (b : List ℕ) (r r′ : Rewritten) (c c′ : List ℕ)
       → (r ≡ record { refusal = rewriteRefusal f (length b); length = rewriteLength f (length b) }) × (c ≡ rewriteOut f b)

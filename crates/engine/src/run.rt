@@ -6,11 +6,11 @@ ghost use lib.ListN.{length, take};
 ghost use Rattle.layout.specs.Le.{bytes};
 ghost use Rattle.meaning.specs.Count.{one};
 ghost use Rattle.meaning.specs.File.{fileAt};
-ghost use Rattle.meaning.specs.Calls.{laidOver, afterStep, rowOf, rowsOf, runRefusal, runBytes};
+ghost use Rattle.meaning.specs.Calls.{laidOver, afterStep, carriedAfter, rowOf, rowsOf, carriedOf, runRefusal, runBytes, runCarried};
 ghost use Rattle.meaning.specs.Laws.Runs.{Valid};
 ghost use Rattle.tables.specs.Filled.{answerOf};
 ghost use Rattle.engine.specs.Step.{Checked, Prepared};
-ghost use Rattle.engine.specs.Run.{runRefusalAfter, runAfter};
+ghost use Rattle.engine.specs.Run.{runRefusalAfter, runAfter, carriedRun};
 use checks::limits;
 use layout::body::Shape;
 use search::Found;
@@ -21,6 +21,21 @@ const MARK: usize = 8;
 const REFUSAL: usize = 9;
 
 const STATES: usize = 10;
+
+// The answer of a run beside its rows: 0 or the refusal, and what is carried after the last input, nothing where the run is refused.
+pub struct Ran {
+    pub refusal: u8,
+    pub carried: u64,
+}
+
+fn refused(r: u8) -> Ran
+    ensures { λ s. ⌜ s ≡ record { refusal = r; carried = 0 } ⌝ }
+{
+    Ran {
+        refusal: r,
+        carried: 0,
+    }
+}
 
 // A mark as a number.
 fn mark(yes: bool) -> u8
@@ -53,63 +68,70 @@ fn put_row(row: &mut [u8], f: Found, states: [u8; 8], charts: usize)
     }
 }
 
-// Where a run stands: the present states, and how many inputs are left.
+// Where a run stands: the present states, what is carried, and how many inputs are left.
 struct Stand {
     states: [u8; 8],
+    carried: u64,
     left: usize,
 }
 
-fn present(states: [u8; 8], left: usize) -> Stand
-    ensures { λ r. ⌜ (r .states ≡ states) × (r .left ≡ left) ⌝ }
+fn present(states: [u8; 8], carried: u64, left: usize) -> Stand
+    ensures { λ r. ⌜ (r .states ≡ states) × (r .carried ≡ carried) × (r .left ≡ left) ⌝ }
 {
     Stand {
         states: states,
+        carried: carried,
         left: left,
     }
 }
 
-// Where it stands after a step. A refused one keeps the states; its input is dropped, and the run goes on.
-fn after(f: Found, states: [u8; 8], left: usize) -> Stand
+// Where it stands after a step that was offered a set. A refused one keeps the states, and what it was offered is carried; the run goes on.
+fn after(f: Found, states: [u8; 8], offered: u64, left: usize) -> Stand
     requires { ⌜ 0 < left ⌝ }
-    ensures { λ r. ⌜ (r .left + 1 ≡ left) × ((n : ℕ) → take n (r .states) ≡ afterStep (answerOf n f) (take n states)) ⌝ }
+    ensures { λ r. ⌜ (r .left + 1 ≡ left) × ((n : ℕ) → (take n (r .states) ≡ afterStep (answerOf n f) (take n states)) × (r .carried ≡ carriedAfter (answerOf n f) offered)) ⌝ }
 {
     let rest = left - 1;
     let next = f.next;
     if !f.has {
-        return present(states, rest);
+        return present(states, offered, rest);
     }
-    present(next, rest)
+    present(next, 0, rest)
 }
 
-// The rows of all inputs, from the first states on.
+// The rows of all inputs, from the first states and what is carried there on. Returns what is carried after the last.
 fn put_rows(
     n: Shape,
     body: &[u8],
     start: [u8; 8],
+    carried: u64,
     inputs: &[u64],
     down: [u64; 8],
     masks: &mut [u64],
     small: &mut [u8],
     rows: &mut [u8],
-)
+) -> u64
     requires { ⌜ Checked n (now body) × Valid (fileAt n (now body)) (take (n .charts) start) × Prepared n (now body) down (now masks) (now small) × (length (now inputs) * (10 + n .charts) ≤ length (now rows)) ⌝ }
-    ensures { λ _. ⌜ now (rows .exit) ≡ laidOver (rowsOf (fileAt n (now (body .entry))) (take (n .charts) start) (now (inputs .entry))) (now (rows .entry)) ⌝ }
+    ensures { λ r. ⌜ (now (rows .exit) ≡ laidOver (rowsOf (fileAt n (now (body .entry))) (take (n .charts) start) carried (now (inputs .entry))) (now (rows .entry))) × (r ≡ carriedOf (fileAt n (now (body .entry))) (take (n .charts) start) carried (now (inputs .entry))) ⌝ }
 {
     let charts = n.charts;
     let w = STATES + charts;
     let mut states = start;
+    let mut held = carried;
     let mut at: usize = 0;
     let mut left = inputs.len();
     while left > 0 {
         let i = inputs.len() - left;
-        let f = crate::step::found(n, body, &states[..charts], inputs[i], down, masks, small);
+        let offered = held | inputs[i];
+        let f = crate::step::found(n, body, &states[..charts], offered, down, masks, small);
         let e = at + w;
         put_row(&mut rows[at..e], f, states, charts);
-        let p = after(f, states, left);
+        let p = after(f, states, offered, left);
         states = p.states;
+        held = p.carried;
         left = p.left;
         at = e;
     }
+    held
 }
 
 // A configuration at the front of an array.
@@ -127,36 +149,56 @@ fn states_of(config: &[u8]) -> [u8; 8]
 }
 
 // A run of a body that passed 1 to 11.
-fn of_body(n: Shape, body: &[u8], config: &[u8], inputs: &[u64], rows: &mut [u8]) -> u8
+fn of_body(
+    n: Shape,
+    body: &[u8],
+    config: &[u8],
+    carried: u64,
+    inputs: &[u64],
+    rows: &mut [u8],
+) -> Ran
     requires { ⌜ Checked n (now body) ⌝ }
-    ensures { λ r. ⌜ (r ≡ runRefusalAfter (fileAt n (now (body .entry))) (now (config .entry)) (length (now (inputs .entry))) (length (now (rows .entry)))) × (now (rows .exit) ≡ runAfter (fileAt n (now (body .entry))) (now (config .entry)) (now (inputs .entry)) (now (rows .entry))) ⌝ }
+    ensures { λ r. ⌜ (r ≡ record { refusal = runRefusalAfter (fileAt n (now (body .entry))) (now (config .entry)) (length (now (inputs .entry))) (length (now (rows .entry))); carried = carriedRun (fileAt n (now (body .entry))) (now (config .entry)) carried (now (inputs .entry)) (length (now (rows .entry))) }) × (now (rows .exit) ≡ runAfter (fileAt n (now (body .entry))) (now (config .entry)) carried (now (inputs .entry)) (now (rows .entry))) ⌝ }
 {
     let r = crate::step::config_refusal(n, body, config);
     if r != limits::ACCEPTED {
-        return r;
+        return refused(r);
     }
     if rows.len() / (STATES + n.charts) < inputs.len() {
-        return limits::SHORT_ROWS;
+        return refused(limits::SHORT_ROWS);
     }
     let start = states_of(config);
     let mut masks = [0u64; 336];
     let mut small = [0u8; 160];
     let down = plan::wire::wired(n, body, &mut masks, &mut small);
-    put_rows(n, body, start, inputs, down, &mut masks, &mut small, rows);
-    limits::ACCEPTED
+    let left = put_rows(
+        n,
+        body,
+        start,
+        carried,
+        inputs,
+        down,
+        &mut masks,
+        &mut small,
+        rows,
+    );
+    Ran {
+        refusal: limits::ACCEPTED,
+        carried: left,
+    }
 }
 
-// A run from a configuration: a row for each input, at the front of `rows`.
-pub fn run(file: &[u8], config: &[u8], inputs: &[u64], rows: &mut [u8]) -> u8
-    ensures { λ r. ⌜ (r ≡ runRefusal (now (file .entry)) (now (config .entry)) (length (now (inputs .entry))) (length (now (rows .entry)))) × (now (rows .exit) ≡ runBytes (now (file .entry)) (now (config .entry)) (now (inputs .entry)) (now (rows .entry))) ⌝ }
+// A run from a configuration, with what is carried there: a row for each input, at the front of `rows`, and what is carried after the last.
+pub fn run(file: &[u8], config: &[u8], carried: u64, inputs: &[u64], rows: &mut [u8]) -> Ran
+    ensures { λ r. ⌜ (r ≡ record { refusal = runRefusal (now (file .entry)) (now (config .entry)) (length (now (inputs .entry))) (length (now (rows .entry))); carried = runCarried (now (file .entry)) (now (config .entry)) carried (now (inputs .entry)) (length (now (rows .entry))) }) × (now (rows .exit) ≡ runBytes (now (file .entry)) (now (config .entry)) carried (now (inputs .entry)) (now (rows .entry))) ⌝ }
 {
     let o = checks::opening::opened(file);
     let r = o.refusal;
     if r != limits::ACCEPTED {
-        return r;
+        return refused(r);
     }
     let n = o.shape;
     let start = o.start;
     let end = o.end;
-    of_body(n, &file[start..end], config, inputs, rows)
+    of_body(n, &file[start..end], config, carried, inputs, rows)
 }

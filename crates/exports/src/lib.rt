@@ -5,7 +5,7 @@ ghost use lib.ListN.{length};
 ghost use Rattle.meaning.specs.Count.{one};
 ghost use Rattle.meaning.specs.Check.{refusalOf};
 ghost use Rattle.meaning.specs.Rewriting.{rewriteRefusal, rewriteLength, rewriteOut};
-ghost use Rattle.meaning.specs.Calls.{firstRefusal, firstBytes, inputOf, outputOf, stepOf, placesOf, refusalIn, outputIn, markIn, nextIn, runRefusal, runBytes};
+ghost use Rattle.meaning.specs.Calls.{firstRefusal, firstBytes, inputOf, outputOf, stepOf, placesOf, refusalIn, outputIn, markIn, nextIn, runRefusal, runBytes, runCarried};
 
 #[no_mangle]
 pub extern "C" fn mestecur_check(file: &[u8]) -> u8
@@ -66,11 +66,22 @@ fn number(mark: bool) -> u8
 }
 
 #[no_mangle]
-pub extern "C" fn mestecur_run(file: &[u8], config: &[u8], inputs: &[u64], rows: &mut [u8]) -> u8
+pub extern "C" fn mestecur_run(
+    file: &[u8],
+    config: &[u8],
+    carried: u64,
+    inputs: &[u64],
+    rows: &mut [u8],
+    carried_on: &mut u64,
+) -> u8
     ensures { λ r. ⌜ r ≡ runRefusal (now (file .entry)) (now (config .entry)) (length (now (inputs .entry))) (length (now (rows .entry))) ⌝ }
-    ensures { λ r. ⌜ now (rows .exit) ≡ runBytes (now (file .entry)) (now (config .entry)) (now (inputs .entry)) (now (rows .entry)) ⌝ }
+    ensures { λ r. ⌜ now (rows .exit) ≡ runBytes (now (file .entry)) (now (config .entry)) carried (now (inputs .entry)) (now (rows .entry)) ⌝ }
+    ensures { λ r. ⌜ now («carried_on» .exit)
+        ≡ runCarried (now (file .entry)) (now (config .entry)) carried (now (inputs .entry)) (length (now (rows .entry))) ⌝ }
 {
-    engine::run::run(file, config, inputs, rows)
+    let a = engine::run::run(file, config, carried, inputs, rows);
+    *carried_on = a.carried;
+    a.refusal
 }
 
 #[no_mangle]

@@ -8,7 +8,7 @@ use lib.ListN.{length, getD, take, drop}
 use Prim.Native.Char.{code}
 use Rattle.layout.specs.Le.{le}
 use Rattle.meaning.specs.Numbers.{mostInput, tooLong, oddFront}
-use Rattle.meaning.specs.Meaning.{Set, same}
+use Rattle.meaning.specs.Meaning.{Set, ∅, same}
 use Rattle.meaning.specs.File.{fileOf, endOf, trailer}
 use Rattle.meaning.specs.Check.{firstOf, fileTests, differ}
 use Rattle.meaning.specs.Calls.{initials, rowsOf}
@@ -134,9 +134,9 @@ unfoldable pub linesOf : ℕ → ℕ → ℕ → List ℕ → List ℕ
 linesOf w k zero rows = []
 linesOf w k (suc n) rows = lineOf k (take w rows) ++ linesOf w (suc k) n (drop w rows)
 
--- "It runs them from the first configuration"
+-- "It runs them from the first configuration"; it "starts with none carried" (document 02, No. 5)
 unfoldable pub dayLines : List ℕ → ℕ → List ℕ
-dayLines f n = linesOf (10 + fileOf f .charts) 1 n (rowsOf (fileOf f) (initials f) (inputsOf n f))
+dayLines f n = linesOf (10 + fileOf f .charts) 1 n (rowsOf (fileOf f) (initials f) ∅ (inputsOf n f))
 
 -- what is printed for the bytes on standard input
 unfoldable pub dayOf : List ℕ → List ℕ

@@ -5,6 +5,7 @@ use mathlib.Core.List.{List, [], _∷_, _++_}
 use Prim.Native.Nat.{ℕ, zero, suc, _+_, _-_, _*_}
 use lib.Dec.{ltb}
 use lib.ListN.{length, getD, drop, replicate}
+use Rattle.signals.specs.Mask.{_∪_}
 use Rattle.layout.specs.Le.{bytes}
 use Rattle.meaning.specs.Numbers.{mostCharts, noPlace, wrongLength, badState, shortBuffer, shortRows}
 use Rattle.meaning.specs.Count.{anyUpTo, one}
@@ -109,12 +110,30 @@ afterStep (given o n m) config = n
 unfoldable pub rowOf : Answer → List ℕ → List ℕ
 rowOf r config = bytes 8 (outputIn r) ++ (one (markIn r) ∷ refusalIn r ∷ afterStep r config)
 
--- "From a given configuration the inputs [..] are taken in turn. A refused step keeps the configuration, its input is dropped, and the run
--- goes on. Each input gives a row"
-unfoldable pub rowsOf : File → List ℕ → List Set → List ℕ
-rowsOf F config [] = []
-rowsOf F config (i ∷ is) = rowOf (stepIn F config i) config ++ rowsOf F (afterStep (stepIn F config i) config) is
+-- "The signals of a refused step (23 or 24) are carried uncut and joined to the next input, until a step is given; then nothing is carried"
+-- (document 02, No. 5): i is all that the step was offered
+abbrev pub carriedAfter : Answer → Set → Set
+carriedAfter (refused r) i = i
+carriedAfter (given o n m) i = ∅
 
-unfoldable pub runBytes : List ℕ → List ℕ → List Set → List ℕ → List ℕ
-runBytes f config inputs rows =
-    cond (same (runRefusal f config (length inputs) (length rows)) 0) (laidOver (rowsOf (fileOf f) config inputs) rows) rows
+-- "From a given configuration the inputs [..] are taken in turn. A refused step keeps the configuration [..] and the run goes on. Each input gives
+-- a row." A run is given what is carried, and returns what is carried then.
+unfoldable pub rowsOf : File → List ℕ → Set → List Set → List ℕ
+rowsOf F config carried [] = []
+rowsOf F config carried (i ∷ is) =
+    let r = stepIn F config (carried ∪ i) in
+    rowOf r config ++ rowsOf F (afterStep r config) (carriedAfter r (carried ∪ i)) is
+
+unfoldable pub carriedOf : File → List ℕ → Set → List Set → Set
+carriedOf F config carried [] = carried
+carriedOf F config carried (i ∷ is) =
+    let r = stepIn F config (carried ∪ i) in
+    carriedOf F (afterStep r config) (carriedAfter r (carried ∪ i)) is
+
+unfoldable pub runBytes : List ℕ → List ℕ → Set → List Set → List ℕ → List ℕ
+runBytes f config carried inputs rows =
+    cond (same (runRefusal f config (length inputs) (length rows)) 0) (laidOver (rowsOf (fileOf f) config carried inputs) rows) rows
+
+-- "or the empty set where the run itself is refused"
+unfoldable pub runCarried : List ℕ → List ℕ → Set → List Set → ℕ → Set
+runCarried f config carried inputs room = cond (same (runRefusal f config (length inputs) room) 0) (carriedOf (fileOf f) config carried inputs) ∅

@@ -10,7 +10,7 @@ use crate::set::Set;
 
 /// All named cases of a run.
 pub fn cases() -> Vec<Case> {
-    [whole(), rooms(), orders(), files(), longer()]
+    [whole(), carried(), rooms(), orders(), files(), longer()]
         .into_iter()
         .flatten()
         .collect()
@@ -70,12 +70,37 @@ fn whole() -> Vec<Case> {
             sets(&[&[0], &[1], &[2], &[0, 1], &[], &[0, 1, 2], &[1, 2], &[0]])
         }),
         run("run-mark-no", n1(), &[0], &sets(&[&[], &[7], &[]])),
+    ]
+}
+
+/// 02, No. 5: what is carried into a run, from one input to the next, and on.
+fn carried() -> Vec<Case> {
+    let run = |name: &str, model: Model, at: &[u8], carried: &[u32], inputs: &[&[u32]]| {
+        let inputs: Vec<Set> = inputs.iter().map(|signals| Set::of(signals)).collect();
+        let room = rows_bytes(inputs.len(), at.len());
+        let command = Command::run(name, model.file(), at, &inputs, room);
+        Case::new(command.carrying(Set::of(carried)), refusal::SUCCESS)
+    };
+    let short = Command::run("run-27-carries-nothing", d().file(), &[0, 1], &[Set(1)], 11);
+    vec![
+        run("run-refused-input-is-carried", p2(), &[0, 0], &[], &{
+            [&[0], &[1], &[0, 1][..]]
+        }),
+        run("run-carried-in", d(), &[0, 1], &[3], &[&[0]]),
+        run("run-carried-in-is-barred", d(), &[0, 1], &[0], &[&[], &[]]),
+        run("run-carried-in-no-inputs", d(), &[0, 1], &[3, 40], &[]),
+        run("run-carried-uncut", d(), &[0, 1], &[40], &[&[0, 9], &[63]]),
+        run("run-carried-twice", d(), &[0, 1], &[], &{
+            [&[0][..], &[9], &[3], &[], &[3]]
+        }),
         run(
-            "run-dropped-input-is-gone",
-            p2(),
-            &[0, 0],
-            &sets(&[&[0], &[1], &[0, 1]]),
+            "run-nothing-carried-once-given",
+            whole_case(),
+            &[0],
+            &[],
+            &{ [&[1], &[0], &[][..]] },
         ),
+        Case::new(short.carrying(Set::FULL), refusal::RUN_ROOM),
     ]
 }
 
@@ -167,7 +192,7 @@ fn files() -> Vec<Case> {
         let command = Command::run(&right, file.clone(), &[0, 0], &[Set::one(0)], 13);
         cases.push(Case::new(command, number));
         let command = Command::run(&wrong, file, &[7; 3], &[Set::FULL], 0);
-        cases.push(Case::new(command, number));
+        cases.push(Case::new(command.carrying(Set::FULL), number));
     }
     cases
 }

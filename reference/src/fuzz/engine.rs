@@ -46,8 +46,11 @@ pub fn raw(command: &Command, lent: &mut [u8]) -> (u8, Numbers) {
             }
             Op::Run => {
                 let (list, count) = (inputs.as_ptr(), inputs.len());
-                let refusal = mestecur_run(file, long, config, charts, list, count, out, room);
-                (refusal, Numbers::NONE)
+                let carried = command.carried.0;
+                let refusal = mestecur_run(
+                    file, long, config, charts, carried, list, count, out, room, &mut one,
+                );
+                (refusal, Numbers::two(one, 0))
             }
             Op::Rewrite => {
                 let refusal = mestecur_rewrite(file, long, out, room, &mut length);
@@ -71,7 +74,8 @@ pub fn binding(command: &Command, lent: &mut [u8]) -> (u8, Numbers) {
             two: [step.output.0, u64::from(step.mark)],
             places: places(&step),
         }),
-        Op::Run => mestecur::run(file, config, &inputs, lent).map(|()| Numbers::NONE),
+        Op::Run => mestecur::run(file, config, Set(command.carried.0), &inputs, lent)
+            .map(|carried| Numbers::two(carried.0, 0)),
         Op::Rewrite => mestecur::rewrite(file, lent).map(|length| Numbers::two(length as u64, 0)),
     };
     answer.map_or_else(

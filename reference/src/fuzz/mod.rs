@@ -92,7 +92,10 @@ fn difference(command: &Command, expected: &Told, who: &str, told: &Told) -> Str
             "room {}, configuration {:?}",
             command.room, command.configuration
         ),
-        format!("inputs {:x?}", command.inputs),
+        format!(
+            "carried {:x?}, inputs {:x?}",
+            command.carried, command.inputs
+        ),
         match command.can_be_recorded() {
             true => format!("recorded form: {}", hex(&command.encode())),
             false => "too large to be recorded".to_string(),

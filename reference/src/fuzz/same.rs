@@ -40,6 +40,8 @@ pub struct Compared {
     pub idle: usize,
     pub refused: usize,
     pub rows: usize,
+    /// The runs after which something is carried.
+    pub carrying: usize,
 }
 
 impl Display for Compared {
@@ -48,7 +50,7 @@ impl Display for Compared {
             out,
             "{} files with slaves, {} rewritten ({} nested, {} with several slaves of a master, \
              {} hiding inside a slave); {} configurations, {} steps given ({} marked no, \
-             {} with an idle transition), {} refused, {} rows of runs",
+             {} with an idle transition), {} refused, {} rows of runs, {} runs carrying on",
             self.files,
             self.rewritten,
             self.nested,
@@ -59,7 +61,8 @@ impl Display for Compared {
             self.doubtful,
             self.idle,
             self.refused,
-            self.rows
+            self.rows,
+            self.carrying
         )
     }
 }
@@ -95,6 +98,7 @@ impl Compared {
             && self.given.min(self.refused) >= steps / 5
             && self.doubtful >= self.given / 50
             && self.idle >= self.given / 5
+            && self.carrying >= self.rewritten / 5
     }
 }
 
@@ -146,7 +150,10 @@ fn compare(
     }
     compared.rows += ROWS;
     let inputs: Vec<Set> = (0..ROWS).map(|_| input(random, shape)).collect();
-    pair.hold_run(&configuration(random, model), &inputs)
+    let carried = input(random, shape);
+    let left = pair.hold_run(&configuration(random, model), carried, &inputs)?;
+    compared.carrying += usize::from(left != mestecur::Set::EMPTY);
+    Ok(())
 }
 
 /// The file that both engines rewrite a file into, in a buffer of the length that it needs; none if
@@ -263,12 +270,15 @@ impl Pair<'_> {
         }
     }
 
-    /// A run has the old file's rows.
-    fn hold_run(&self, at: &[u8], inputs: &[Set]) -> Result<(), String> {
+    /// A run has the old file's rows, and carries on what the old file's does.
+    fn hold_run(&self, at: &[u8], carried: Set, inputs: &[Set]) -> Result<mestecur::Set, String> {
         let sets: Vec<mestecur::Set> = inputs.iter().map(|set| mestecur::Set(set.0)).collect();
-        let told = self.same(format_args!("run from {at:?} under {inputs:x?}"), |file| {
+        let carried = mestecur::Set(carried.0);
+        let what = format_args!("run from {at:?}, {carried} carried, under {inputs:x?}");
+        let told = self.same(what, |file| {
             let mut rows = vec![FILL; rows_bytes(inputs.len(), self.charts) + 1];
-            (mestecur::run(file, at, &sets, &mut rows), Lent(rows))
+            let left = mestecur::run(file, at, carried, &sets, &mut rows);
+            (left, Lent(rows))
         })?;
         told.0.map_err(|refusal| refusal.to_string())
     }

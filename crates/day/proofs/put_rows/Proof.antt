@@ -6,6 +6,7 @@ use native.Mathlib.Omega.{arith}
 use borrow.Author.Needs.{needs}
 use lib.ListN.{length, take, drop, length-append, length-take, length-drop}
 use lib.Seq.{take-at, length-take-le}
+use Rattle.meaning.specs.Meaning.{∅}
 use Rattle.meaning.specs.File.{fileOf}
 use Rattle.meaning.specs.Calls.{laidOver, initials, firstBytes, rowsOf, runBytes}
 use Rattle.line.specs.Line.{inputsOf}
@@ -16,7 +17,7 @@ use Rattle.day.proofs.put_rows.Tie as tie
 
 module _ (f : List ℕ) (charts n : ℕ) (a : Accepted f charts n) (config inputs rows rows′ : List ℕ) (c : config ≡ initials f) (i : inputs ≡ inputsOf n f)
     (l : n * (10 + charts) ≤ length rows) where
-  ran : rows′ ≡ runBytes f config inputs rows → rows′ ≡ laidOver (rowsOf (fileOf f) (initials f) (inputsOf n f)) rows
+  ran : rows′ ≡ runBytes f config ∅ inputs rows → rows′ ≡ laidOver (rowsOf (fileOf f) (initials f) ∅ (inputsOf n f)) rows
   ran p =
       let r : length (inputsOf n f) * (10 + fileOf f .charts) ≤ length rows = rw (length-inputs n f, ← a .charts-is) l in
       rw (c, i) at p ∙ runs f (a .passes) (initials f) (inputsOf n f) rows (initials-valid f (a .passes)) r

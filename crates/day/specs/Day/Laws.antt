@@ -14,7 +14,7 @@ use lib.ListN.{length, getD, take, drop, length-append, length-take, length-drop
 use lib.Seq.{take-at, drop-at, getD-at, drop-drop, length-take-le, drop-append-le, take-append-le}
 use Rattle.layout.specs.Body.{sizeOf}
 use Rattle.meaning.specs.Numbers.{mostInput, tooLong, oddFront}
-use Rattle.meaning.specs.Meaning.{same}
+use Rattle.meaning.specs.Meaning.{∅, same}
 use Rattle.meaning.specs.File.{File, trailer, endOf, shapeOf, bodyOf, chartOf, fileAt, fileOf}
 use Rattle.meaning.specs.Check.{Test, firstOf, fileTests, refusalOf, differ, notBelow, distance?}
 use Rattle.meaning.specs.Count.Laws.{or-left, any-all}
@@ -134,8 +134,8 @@ module _ (f : List ℕ) (a : refusalOf f ≡ 0) where
         ∙ firstOf-next _ _ (any-all (fileOf f .charts) _ (λ c m. ap not (lt-ltb (getD config c 0) (fileOf f .chart c .states) (v .states c m))))
         ∙ firstOf-[]
 
-    pub runs : runBytes f config inputs rows ≡ laidOver (rowsOf (fileOf f) config inputs) rows
-    runs = bytes-passed f config inputs rows a ∙ sym (after-rows (fileOf f) config inputs rows unrefused l _ refl .1)
+    pub runs : runBytes f config ∅ inputs rows ≡ laidOver (rowsOf (fileOf f) config ∅ inputs) rows
+    runs = bytes-passed f config ∅ inputs rows a ∙ sym (after-rows (fileOf f) config ∅ inputs rows unrefused l _ _ refl refl .1)
 
 pub length-inputs : (n : ℕ) (s : List ℕ) → length (inputsOf n s) ≡ n
 unfolding inputsOf
@@ -164,9 +164,9 @@ module _ (f : List ℕ) where
 
   -- the lines of the rows of a run, whatever stands behind them
   pub day-given : (charts n : ℕ) (rows rows₀ : List ℕ) → 0 ≡ dayRefusal f → Accepted f charts n → n ≡ frontOf f / 8
-      → rows ≡ laidOver (rowsOf (fileOf f) (initials f) (inputsOf n f)) rows₀ → dayOf f ≡ linesOf (10 + charts) 1 n rows
+      → rows ≡ laidOver (rowsOf (fileOf f) (initials f) ∅ (inputsOf n f)) rows₀ → dayOf f ≡ linesOf (10 + charts) 1 n rows
   unfolding dayOf dayLines same
   day-given charts n rows rows₀ e a i p =
-      let R = rowsOf (fileOf f) (initials f) (inputsOf n f) in
-      let l : length R ≡ n * (10 + fileOf f .charts) = rows-all (fileOf f) (a .leads) (initials f) (inputsOf n f) (initials-valid f (a .passes)) ∙ rw (length-inputs n f) in
+      let R = rowsOf (fileOf f) (initials f) ∅ (inputsOf n f) in
+      let l : length R ≡ n * (10 + fileOf f .charts) = rows-all (fileOf f) (a .leads) (record { config = initials f; carried = ∅ }) (inputsOf n f) (initials-valid f (a .passes)) ∙ rw (length-inputs n f) in
       rw (← e, ← i, a .charts-is, p) (sym (lines-front (10 + fileOf f .charts) 1 n R (drop (length R) rows₀) (omega arith)))

@@ -18,49 +18,64 @@ use Rattle.layout.specs.declared.record.Transition.{Transition}
 use Rattle.meaning.specs.Numbers.{shortRows}
 use Rattle.meaning.specs.Count.{anyUpTo}
 use Rattle.meaning.specs.Count.Laws.{or-left, or-right, any-never}
-use Rattle.meaning.specs.Meaning.{Set, same, Answer}
+use Rattle.meaning.specs.Meaning.{Set, ∅, same, Answer}
 use Rattle.meaning.specs.File.{File, chartOf, fileAt, fileOf}
 use Rattle.meaning.specs.Check.{Test, firstOf, refusalOf, notBelow, ends?, transitions?}
 use Rattle.meaning.specs.Check.Laws.{firstOf-++, firstOf-before, firstOf-here, firstOf-next, firstOf-[]}
-use Rattle.meaning.specs.Calls.{laidOver, stepIn, afterStep, rowOf, rowsOf, runRefusal, runBytes}
-use Rattle.meaning.specs.Laws.Runs.{Leads, Valid, rows-next}
+use Rattle.meaning.specs.Calls.{laidOver, rowOf, rowsOf, carriedOf, runRefusal, runBytes, runCarried}
+use Rattle.meaning.specs.Laws.Runs.{Leads, Valid, Stand, stepFrom, standAfter, rowsFrom, carriedFrom, rows-next, carried-next}
 use Rattle.engine.specs.Step.{configTestsIn, Checked}
 use Rattle.engine.specs.Step.Laws.{behind-refused, behind-passed, config-passes, config-long, config-valid}
-use Rattle.engine.specs.Run.{runRefusalAfter, runAfter}
+use Rattle.engine.specs.Run.{runRefusalAfter, runAfter, carriedRun}
+use Rattle.engine.specs.declared.run.Ran.{Ran}
 
 -- ── behind 1 to 11 ──
 
-module _ (f config : List ℕ) (inputs : List Set) (rows : List ℕ) where
+module _ (f config : List ℕ) (carried : Set) (inputs : List Set) (rows : List ℕ) where
   pub run-refused : (refusalOf f ≡ 0 → ⊥) → runRefusal f config (length inputs) (length rows) ≡ refusalOf f
   unfolding runRefusal
   run-refused h = behind-refused f config _ h
 
-  pub bytes-refused : (refusalOf f ≡ 0 → ⊥) → runBytes f config inputs rows ≡ rows
+  pub bytes-refused : (refusalOf f ≡ 0 → ⊥) → runBytes f config carried inputs rows ≡ rows
   unfolding runBytes same
   bytes-refused h = rw (run-refused h, ne-eqb (refusalOf f) 0 h)
+
+  pub none-carried : (refusalOf f ≡ 0 → ⊥) → runCarried f config carried inputs (length rows) ≡ ∅
+  unfolding runCarried same
+  none-carried h = rw (run-refused h, ne-eqb (refusalOf f) 0 h)
 
   pub run-passed : refusalOf f ≡ 0 → runRefusal f config (length inputs) (length rows) ≡ runRefusalAfter (fileOf f) config (length inputs) (length rows)
   unfolding runRefusal runRefusalAfter
   run-passed h = behind-passed f config _ h
 
-  pub bytes-passed : refusalOf f ≡ 0 → runBytes f config inputs rows ≡ runAfter (fileOf f) config inputs rows
+  pub bytes-passed : refusalOf f ≡ 0 → runBytes f config carried inputs rows ≡ runAfter (fileOf f) config carried inputs rows
   unfolding runBytes runAfter
   bytes-passed h = rw (run-passed h)
 
+  pub carried-passed : refusalOf f ≡ 0 → runCarried f config carried inputs (length rows) ≡ carriedRun (fileOf f) config carried inputs (length rows)
+  unfolding runCarried carriedRun
+  carried-passed h = rw (run-passed h)
+
 -- ── 20, 21 and 27 ──
 
-module _ (F : File) (config : List ℕ) (inputs : List Set) (rows : List ℕ) where
+module _ (F : File) (config : List ℕ) (carried : Set) (inputs : List Set) (rows : List ℕ) where
   -- 27
   abbrev rows-test : Test
   rows-test = record { number = shortRows; applies = ltb (length rows) (length inputs * (10 + F .charts)) }
 
+  -- a call returns a, and leaves rows′ in the lent rows
+  abbrev pub Ends : Ran → List ℕ → Type 0
+  Ends a rows′ =
+      (a ≡ record { refusal = runRefusalAfter F config (length inputs) (length rows); carried = carriedRun F config carried inputs (length rows) })
+      × (rows′ ≡ runAfter F config carried inputs rows)
+
   -- the refusal is r, and the rows are left
   abbrev pub Refuses : ℕ → Type 0
-  Refuses r = (r ≡ runRefusalAfter F config (length inputs) (length rows)) × (rows ≡ runAfter F config inputs rows)
+  Refuses r = (a : Ran) → a ≡ record { refusal = r; carried = ∅ } → Ends a rows
 
   refuses : (r : ℕ) → (r ≡ 0 → ⊥) → runRefusalAfter F config (length inputs) (length rows) ≡ r → Refuses r
-  unfolding runAfter same
-  refuses r h e = (sym e, rw (e, ne-eqb r 0 h))
+  unfolding runAfter carriedRun same
+  refuses r h e a q = (rw (e, ne-eqb r 0 h) q, rw (e, ne-eqb r 0 h))
 
   pub after-config : (firstOf (configTestsIn F config) ≡ 0 → ⊥) → Refuses (firstOf (configTestsIn F config))
   unfolding runRefusalAfter
@@ -81,10 +96,10 @@ module _ (F : File) (config : List ℕ) (inputs : List Set) (rows : List ℕ) wh
           firstOf-++ (configTestsIn F config) (rows-test ∷ []) (config-passes F config h) ∙ firstOf-next rows-test [] (le-ltb (length rows) _ l)
           ∙ firstOf-[]
 
-      pub after-rows : (rows′ : List ℕ) → rows′ ≡ laidOver (rowsOf F config inputs) rows
-          → (0 ≡ runRefusalAfter F config (length inputs) (length rows)) × (rows′ ≡ runAfter F config inputs rows)
-      unfolding runAfter same
-      after-rows rows′ e = (sym after-none, rw (after-none, e))
+      pub after-rows : (rows′ : List ℕ) (c : Set) → rows′ ≡ laidOver (rowsOf F config carried inputs) rows → c ≡ carriedOf F config carried inputs
+          → Ends (record { refusal = 0; carried = c }) rows′
+      unfolding runAfter carriedRun same
+      after-rows rows′ c e q = (rw (after-none, q), rw (after-none, e))
 
 pub config-is : (F : File) (config : List ℕ) → firstOf (configTestsIn F config) ≡ 0 → Valid F config
 config-is F config h = record { long = config-long F config h; states = config-valid F config h }
@@ -138,18 +153,27 @@ module _ (l row : List ℕ) (at e : ℕ) (from-at : at ≤ e) (to : e ≤ length
 -- ── one row more, and the last ──
 
 module _ (F : File) (inputs : List Set) where
-  -- input i gives row r and leaves the configuration d
-  pub run-step : (config d row : List ℕ) (r : Answer) (i : ℕ) → i < length inputs → r ≡ stepIn F config (getD inputs i 0) → row ≡ rowOf r config
-      → d ≡ afterStep r config → row ++ rowsOf F d (drop (i + 1) inputs) ≡ rowsOf F config (drop i inputs)
-  run-step config d row r i l s p q = rw (p, q, s, add-one) (sym (rows-next F config inputs i l))
+  -- input i gives row r and leads from the stand s to t
+  module _ (s t : Stand) (row : List ℕ) (r : Answer) (i : ℕ) (l : i < length inputs) (e : r ≡ stepFrom F s (getD inputs i 0))
+      (q : t ≡ standAfter r s (getD inputs i 0)) where
+    pub run-step : row ≡ rowOf r (s .config) → row ++ rowsFrom F t (drop (i + 1) inputs) ≡ rowsFrom F s (drop i inputs)
+    run-step p = rw (p, q, e, add-one) (sym (rows-next F s inputs i l))
 
-  pub run-done : (start config rows rows₀ : List ℕ) (i at : ℕ) → i ≡ length inputs → length (rowsOf F start inputs) ≡ at
-      → take at rows ++ rowsOf F config (drop i inputs) ≡ rowsOf F start inputs → drop at rows ≡ drop at rows₀
-      → rows ≡ laidOver (rowsOf F start inputs) rows₀
+    pub carry-step : carriedFrom F t (drop (i + 1) inputs) ≡ carriedFrom F s (drop i inputs)
+    carry-step = rw (q, e, add-one) (sym (carried-next F s inputs i l))
+
+  pub run-done : (start s : Stand) (rows rows₀ : List ℕ) (i at : ℕ) → i ≡ length inputs → length (rowsFrom F start inputs) ≡ at
+      → take at rows ++ rowsFrom F s (drop i inputs) ≡ rowsFrom F start inputs → drop at rows ≡ drop at rows₀
+      → rows ≡ laidOver (rowsFrom F start inputs) rows₀
   unfolding rowsOf
-  run-done start config rows rows₀ i at e w h g =
-      let k : take at rows ≡ rowsOf F start inputs = sym (append-nil (take at rows)) ∙ rw (e, drop-length inputs) at h in
+  run-done start s rows rows₀ i at e w h g =
+      let k : take at rows ≡ rowsFrom F start inputs = sym (append-nil (take at rows)) ∙ rw (e, drop-length inputs) at h in
       rw (w, ← k, ← g) (sym (take-append-drop at rows))
+
+  pub carry-done : (start s : Stand) (i : ℕ) → i ≡ length inputs → carriedFrom F s (drop i inputs) ≡ carriedFrom F start inputs
+      → s .carried ≡ carriedFrom F start inputs
+  unfolding carriedOf
+  carry-done start s i e h = rw (e, drop-length inputs) at h
 
 -- one more row fits
 pub next-row : (i n w l : ℕ) → i < n → n * w ≤ l → i * w + w ≤ l

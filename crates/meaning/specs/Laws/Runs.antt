@@ -1,17 +1,19 @@
 -- Laws of the run (document 01, "Run."), in this order: each configuration is valid again (`valid-after`); a row's length; no row is ever missing
--- (`rows-all`); row k is the step from the configuration that the k inputs before it leave (`row-at`).
-use mathlib.Core.Path.{_≡_, refl, ap}
+-- (`rows-all`); row k is the step from where the k inputs before it lead (`row-at`); what is carried (`carried-given` to `carried-last`).
+use mathlib.Core.Path.{_≡_, refl, ap, _∙_}
+use mathlib.Core.Bool.{Bool}
 use mathlib.Core.List.{List, [], _∷_, _++_, List·Memᴰ}
 use Prim.Native.Nat.{ℕ, zero, suc, _+_, _*_, _≤_, _<_}
 use native.Mathlib.Nat.{suc-mul}
 use native.Mathlib.Omega.{arith}
 use lib.ListN.{length, getD, take, drop, length-append}
 use lib.Seq.{drop-cons, drop-drop, take-at, drop-at}
+use Rattle.signals.specs.Mask.{_∪_}
 use Rattle.layout.specs.Le.Laws.{length-bytes}
 use Rattle.layout.specs.declared.record.Transition.{Transition}
-use Rattle.meaning.specs.Meaning.{Set, Answer, refused, given}
+use Rattle.meaning.specs.Meaning.{Set, ∅, Answer, refused, given}
 use Rattle.meaning.specs.File.{File, wholeOf}
-use Rattle.meaning.specs.Calls.{stepIn, outputIn, afterStep, rowOf, rowsOf}
+use Rattle.meaning.specs.Calls.{stepIn, outputIn, afterStep, carriedAfter, rowOf, rowsOf, carriedOf}
 use Rattle.meaning.specs.Laws.Demand2.{valid-next}
 
 -- a state of each chart
@@ -23,22 +25,45 @@ pub record Valid (F : File) (config : List ℕ) : Type 0 where
 abbrev pub Leads : File → Type 0
 Leads F = (c : ℕ) → c < F .charts → (u : Transition) → List·Memᴰ u (F .chart c .transitions) → u .to < F .chart c .states
 
--- the configuration after k inputs
-unfoldable pub configAt : File → List ℕ → List Set → ℕ → List ℕ
-configAt F config inputs zero = config
-configAt F config inputs (suc k) =
-    afterStep (stepIn F (configAt F config inputs k) (getD inputs k 0)) (configAt F config inputs k)
+-- where a run stands: the configuration, and what is carried
+pub record Stand : Type 0 where
+  pub config : List ℕ
+  pub carried : Set
+
+-- the step from there under an input, and where it leads
+abbrev pub stepFrom : File → Stand → Set → Answer
+stepFrom F s i = stepIn F (s .config) (s .carried ∪ i)
+
+abbrev pub standAfter : Answer → Stand → Set → Stand
+standAfter r s i = record { config = afterStep r (s .config); carried = carriedAfter r (s .carried ∪ i) }
+
+-- where it stands after k inputs
+unfoldable pub standAt : File → Stand → List Set → ℕ → Stand
+standAt F s inputs zero = s
+standAt F s inputs (suc k) = standAfter (stepFrom F (standAt F s inputs k) (getD inputs k 0)) (standAt F s inputs k) (getD inputs k 0)
+
+abbrev pub rowsFrom : File → Stand → List Set → List ℕ
+rowsFrom F s inputs = rowsOf F (s .config) (s .carried) inputs
+
+abbrev pub carriedFrom : File → Stand → List Set → Set
+carriedFrom F s inputs = carriedOf F (s .config) (s .carried) inputs
 
 pub length-row : (r : Answer) (config : List ℕ) (k : ℕ) → length (afterStep r config) ≡ k → length (rowOf r config) ≡ 10 + k
 unfolding rowOf
 length-row r config k h = rw (length-append, length-bytes 8 (outputIn r)) (omega (arith, h))
 
 -- the first of the inputs that are left gives the next row
-pub rows-next : (F : File) (config : List ℕ) (inputs : List Set) (k : ℕ) → k < length inputs
-    → rowsOf F config (drop k inputs)
-    ≡ rowOf (stepIn F config (getD inputs k 0)) config ++ rowsOf F (afterStep (stepIn F config (getD inputs k 0)) config) (drop (suc k) inputs)
-unfolding rowsOf
-rows-next F config inputs k l = rw (drop-cons inputs k 0)
+module _ (F : File) (s : Stand) (inputs : List Set) (k : ℕ) (l : k < length inputs) where
+  abbrev next : Answer
+  next = stepFrom F s (getD inputs k 0)
+
+  pub rows-next : rowsFrom F s (drop k inputs) ≡ rowOf next (s .config) ++ rowsFrom F (standAfter next s (getD inputs k 0)) (drop (suc k) inputs)
+  unfolding rowsOf
+  rows-next = rw (drop-cons inputs k 0)
+
+  pub carried-next : carriedFrom F s (drop k inputs) ≡ carriedFrom F (standAfter next s (getD inputs k 0)) (drop (suc k) inputs)
+  unfolding carriedOf
+  carried-next = rw (drop-cons inputs k 0)
 
 module _ (F : File) (leads : Leads F) where
   valid-answer : (config : List ℕ) (i : Set) (r : Answer) → stepIn F config i ≡ r → Valid F config → Valid F (afterStep r config)
@@ -55,42 +80,67 @@ module _ (F : File) (leads : Leads F) where
   length-next config i v = length-row (stepIn F config i) config (F .charts) (valid-after config i v .long)
 
   -- no row is ever missing: there are as many as inputs
-  pub rows-all : (config : List ℕ) (inputs : List Set) → Valid F config → length (rowsOf F config inputs) ≡ length inputs * (10 + F .charts)
+  pub rows-all : (s : Stand) (inputs : List Set) → Valid F (s .config) → length (rowsFrom F s inputs) ≡ length inputs * (10 + F .charts)
   unfolding rowsOf
-  rows-all config [] v = omega arith
-  rows-all config (i ∷ is) v =
-      rw (length-append, length-next config i v, rows-all (afterStep (stepIn F config i) config) is (valid-after config i v), suc-mul) (omega arith)
+  rows-all s [] v = omega arith
+  rows-all s (i ∷ is) v =
+      rw (
+        length-append,
+        length-next (s .config) (s .carried ∪ i) v,
+        rows-all (standAfter (stepFrom F s i) s i) is (valid-after (s .config) (s .carried ∪ i) v),
+        suc-mul,
+      )
+      (omega arith)
 
-  module _ (config : List ℕ) (inputs : List Set) (v : Valid F config) where
-    pub valid-at : (k : ℕ) → Valid F (configAt F config inputs k)
-    unfolding configAt
+  module _ (s : Stand) (inputs : List Set) (v : Valid F (s .config)) where
+    pub valid-at : (k : ℕ) → Valid F (standAt F s inputs k .config)
+    unfolding standAt
     valid-at zero = v
-    valid-at (suc k) = valid-after (configAt F config inputs k) (getD inputs k 0) (valid-at k)
+    valid-at (suc k) = let t = standAt F s inputs k in valid-after (t .config) (t .carried ∪ getD inputs k 0) (valid-at k)
 
     -- from row k on the rows are those of the inputs that are left
-    pub rows-from : (k : ℕ) → k ≤ length inputs
-        → drop (k * (10 + F .charts)) (rowsOf F config inputs) ≡ rowsOf F (configAt F config inputs k) (drop k inputs)
-    unfolding configAt
-    rows-from zero l = ap (λ n. drop n (rowsOf F config inputs)) (let e : 0 * (10 + F .charts) ≡ 0 = omega arith in e)
+    pub rows-from : (k : ℕ) → k ≤ length inputs → drop (k * (10 + F .charts)) (rowsFrom F s inputs) ≡ rowsFrom F (standAt F s inputs k) (drop k inputs)
+    unfolding standAt
+    rows-from zero l = ap (λ n. drop n (rowsFrom F s inputs)) (let e : 0 * (10 + F .charts) ≡ 0 = omega arith in e)
     rows-from (suc k) l =
-        let c = configAt F config inputs k in
+        let t = standAt F s inputs k in
         let i = getD inputs k 0 in
         rw (
           suc-mul,
-          ← drop-drop (10 + F .charts) (k * (10 + F .charts)) (rowsOf F config inputs),
+          ← drop-drop (10 + F .charts) (k * (10 + F .charts)) (rowsFrom F s inputs),
           rows-from k (omega arith),
-          rows-next F c inputs k (omega arith),
+          rows-next F t inputs k (omega arith),
         )
-        (drop-at (rowOf (stepIn F c i) c) (rowsOf F (afterStep (stepIn F c i) c) (drop (suc k) inputs)) (10 + F .charts)
-        (length-next c i (valid-at k)))
+        (drop-at (rowOf (stepFrom F t i) (t .config)) (rowsFrom F (standAfter (stepFrom F t i) t i) (drop (suc k) inputs)) (10 + F .charts)
+        (length-next (t .config) (t .carried ∪ i) (valid-at k)))
 
-    -- each row is the step from the configuration before it
+    -- each row is the step from where the run stands before it
     pub row-at : (k : ℕ) → k < length inputs
-        → take (10 + F .charts) (drop (k * (10 + F .charts)) (rowsOf F config inputs))
-        ≡ rowOf (stepIn F (configAt F config inputs k) (getD inputs k 0)) (configAt F config inputs k)
+        → take (10 + F .charts) (drop (k * (10 + F .charts)) (rowsFrom F s inputs))
+        ≡ rowOf (stepFrom F (standAt F s inputs k) (getD inputs k 0)) (standAt F s inputs k .config)
     row-at k l =
-        let c = configAt F config inputs k in
+        let t = standAt F s inputs k in
         let i = getD inputs k 0 in
-        rw (rows-from k (omega arith), rows-next F c inputs k l)
-        (take-at (rowOf (stepIn F c i) c) (rowsOf F (afterStep (stepIn F c i) c) (drop (suc k) inputs)) (10 + F .charts)
-        (length-next c i (valid-at k)))
+        rw (rows-from k (omega arith), rows-next F t inputs k l)
+        (take-at (rowOf (stepFrom F t i) (t .config)) (rowsFrom F (standAfter (stepFrom F t i) t i) (drop (suc k) inputs)) (10 + F .charts)
+        (length-next (t .config) (t .carried ∪ i) (valid-at k)))
+
+  -- ── what is carried ──
+
+  module _ (s : Stand) (inputs : List Set) where
+    -- a step given carries nothing on; a refused one, all that it was offered
+    pub carried-given : (k : ℕ) (o : Set) (n : List ℕ) (m : Bool) → stepFrom F (standAt F s inputs k) (getD inputs k 0) ≡ given o n m
+        → standAt F s inputs (suc k) .carried ≡ ∅
+    unfolding standAt
+    carried-given k o n m e = ap (λ r. carriedAfter r (standAt F s inputs k .carried ∪ getD inputs k 0)) e
+
+    pub carried-refused : (k r : ℕ) → stepFrom F (standAt F s inputs k) (getD inputs k 0) ≡ refused r
+        → standAt F s inputs (suc k) .carried ≡ standAt F s inputs k .carried ∪ getD inputs k 0
+    unfolding standAt
+    carried-refused k r e = ap (λ a. carriedAfter a (standAt F s inputs k .carried ∪ getD inputs k 0)) e
+
+    -- what the run returns is what is carried after the last input
+    pub carried-last : (k : ℕ) → k ≤ length inputs → carriedFrom F s inputs ≡ carriedFrom F (standAt F s inputs k) (drop k inputs)
+    unfolding standAt
+    carried-last zero l = refl
+    carried-last (suc k) l = carried-last k (omega arith) ∙ carried-next F (standAt F s inputs k) inputs k l

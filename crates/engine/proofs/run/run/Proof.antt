@@ -1,5 +1,5 @@
 -- `run::run` meets its contract: the file's refusal, or the run of its body. Assumes nothing.
-use mathlib.Core.Path.{_≡_, sym, _∙_}
+use mathlib.Core.Path.{_≡_, refl, sym, _∙_}
 use mathlib.Core.List.{List}
 use Prim.Native.Nat.{ℕ}
 use native.Mathlib.Omega.{arith}
@@ -8,30 +8,32 @@ use lib.ListN.{length}
 use Rattle.layout.specs.declared.body.Shape.{Shape}
 use Rattle.meaning.specs.File.{trailer, shapeOf, bodyOf, fileAt}
 use Rattle.meaning.specs.Check.{refusalOf}
-use Rattle.meaning.specs.Calls.{runRefusal, runBytes}
+use Rattle.meaning.specs.Calls.{runRefusal, runBytes, runCarried}
 use Rattle.checks.specs.Open.{Stands}
 use Rattle.engine.specs.Step.{Checked}
 use Rattle.engine.specs.Step.Laws.{checked, file-is}
-use Rattle.engine.specs.Run.{runRefusalAfter, runAfter}
-use Rattle.engine.specs.Run.Laws.{run-refused, bytes-refused, run-passed, bytes-passed}
+use Rattle.engine.specs.declared.run.Ran.{Ran}
+use Rattle.engine.specs.Run.Laws.{run-refused, bytes-refused, none-carried, run-passed, bytes-passed, carried-passed, Ends}
 use Rattle.engine.proofs.run.run.Statement.{statement}
 use Rattle.engine.proofs.run.run.Tie as tie
 
 -- the call's answer, and what it leaves in the rows
-abbrev Runs : List ℕ → List ℕ → List ℕ → List ℕ → List ℕ → ℕ → Type 0
-Runs f config inputs rows rows′ r = (r ≡ runRefusal f config (length inputs) (length rows)) × (rows′ ≡ runBytes f config inputs rows)
+abbrev Runs : List ℕ → List ℕ → ℕ → List ℕ → List ℕ → List ℕ → Ran → Type 0
+Runs f config carried inputs rows rows′ a =
+    (a ≡ record { refusal = runRefusal f config (length inputs) (length rows); carried = runCarried f config carried inputs (length rows) })
+    × (rows′ ≡ runBytes f config carried inputs rows)
 
-module _ (f config inputs rows : List ℕ) where
-  by-file : (r : ℕ) → r ≡ refusalOf f → (r ≡ 0 → ⊥) → Runs f config inputs rows rows r
-  by-file r e h =
+module _ (f config : List ℕ) (carried : ℕ) (inputs rows : List ℕ) where
+  by-file : (r : ℕ) → r ≡ refusalOf f → (r ≡ 0 → ⊥) → (a : Ran) → a ≡ record { refusal = r; carried = 0 } → Runs f config carried inputs rows rows a
+  by-file r e h a q =
       let z : refusalOf f ≡ 0 → ⊥ = λ q. h (e ∙ q) in
-      (e ∙ sym (run-refused f config inputs rows z), sym (bytes-refused f config inputs rows z))
+      rw (run-refused f config carried inputs rows z, none-carried f config carried inputs rows z, bytes-refused f config carried inputs rows z, ← e) (q, refl)
 
   -- the run of the body that the file is opened to is the file's
-  by-body : refusalOf f ≡ 0 → (n : Shape) → n ≡ shapeOf (trailer f) → (b : List ℕ) → b ≡ bodyOf f → (rows′ : List ℕ) (r : ℕ)
-      → (r ≡ runRefusalAfter (fileAt n b) config (length inputs) (length rows)) × (rows′ ≡ runAfter (fileAt n b) config inputs rows)
-      → Runs f config inputs rows rows′ r
-  by-body h n en b eb rows′ r q = rw (run-passed f config inputs rows h, bytes-passed f config inputs rows h, file-is f n b en eb) q
+  by-body : refusalOf f ≡ 0 → (n : Shape) → n ≡ shapeOf (trailer f) → (b : List ℕ) → b ≡ bodyOf f → (rows′ : List ℕ) (a : Ran)
+      → Ends (fileAt n b) config carried inputs rows a rows′ → Runs f config carried inputs rows rows′ a
+  by-body h n en b eb rows′ a q =
+      rw (run-passed f config carried inputs rows h, carried-passed f config carried inputs rows h, bytes-passed f config carried inputs rows h, file-is f n b en eb) q
 
 -- a file that is not refused, and its body
 accepted : (c : tie.Else1) → refusalOf (c .before .before .before .before .before .before .args .file .now) ≡ 0
@@ -41,7 +43,7 @@ stands : (c : tie.Else1) → Stands (c .before .before .before .before .before .
 stands c = c .before .opened .ensures .stands (c .if1 .left)
 
 returns : tie.Need-returns
-returns c = by-file _ _ _ _ _ (c .before .opened .ensures .refusal) (c .if1 .taken)
+returns c = let o = c .before in by-file _ _ _ _ _ _ (o .before .opened .ensures .refusal) (o .if1 .taken) _ (c .refused .ensures)
 
 of-body-requires : tie.Need-of-body-requires
 of-body-requires c κs =
@@ -55,12 +57,13 @@ returns-2 c =
     let e = d .before .before .before .before in
     let w = stands e in
     let a = e .before .before .before .before .before .before .args in
-    by-body _ (a .config .now) (a .inputs .now) (a .rows .now) (accepted e) _ (w .shape) _ (w .body) _ _ (d .of-body .ensures)
+    by-body _ (a .config .now) (a .carried) (a .inputs .now) (a .rows .now) (accepted e) _ (w .shape) _ (w .body) _ _ (d .of-body .ensures)
 
 pub run-spec : {M : Type 1} → statement M
 run-spec =
     tie.close
     (tie.spec
+    (λ c κs. search needs)
     (λ c κs. search needs)
     returns
     (λ c. stands (c .before) .order)
