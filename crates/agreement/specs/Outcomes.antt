@@ -12,7 +12,7 @@ use lib.ListN.{length}
 use Rattle.signals.specs.Mask.{_∩_}
 use Rattle.signals.specs.Decide.{sets, A, B, ∅ₑ, _∪ₑ_, _∩ₑ_, _≐_}
 use Rattle.layout.specs.declared.record.Transition.{Transition}
-use Rattle.meaning.specs.Meaning.{Set, same, Chart, Tree, Slaves, leaf, comp, hide, dec, nil, snoc, Move, nth, pick, after, inFaceChart, inFace, out, ok, permitted, upd, moves, nexts, placesFrom, Outcome, upto, outcomeOf, outcome, search, outcomes}
+use Rattle.meaning.specs.Meaning.{Set, same, Chart, Tree, Slaves, leaf, comp, hide, dec, nil, snoc, Move, nth, pick, after, inFaceChart, inFace, out, ok, permitted, upd, moves, nexts, Outcome, upto, outcomeOf, outcome, search, outcomes}
 use Rattle.meaning.specs.Numbers.{noPlace}
 use Rattle.meaning.specs.File.{Has}
 use Rattle.meaning.specs.Rewriting.{callIn, idle, called, chartWith}

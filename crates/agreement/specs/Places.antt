@@ -1,13 +1,13 @@
 -- Places after the rewriting (document 02, No. 1): a transition keeps its place, and where a chart takes none an idle transition stands, if it has any.
 -- So an outcome is turned into one of the rewritten file, and the answer is the same. In this order: one place; the places of a choice; outcomes.
-use mathlib.Core.Path.{_≡_, refl, sym, _∙_, ap, ap₂}
+use mathlib.Core.Path.{_≡_, refl, _∙_, ap, ap₂}
 use mathlib.Core.Bool.{Bool, true, false, _&&_, cond}
 use mathlib.Core.Logic.{_⊎_, inl, inr}
 use mathlib.Core.Option.{Option, none, some}
 use mathlib.Core.List.{List, [], _∷_, _++_, map, map-append}
 use Prim.Native.Nat.{ℕ, zero, suc, _+_, _≤_, _<_}
 use native.Mathlib.Omega.{arith}
-use lib.ListN.{length, getD}
+use lib.ListN.{length}
 use Rattle.meaning.specs.Numbers.{noPlace}
 use Rattle.meaning.specs.Meaning.{same, Outcome, eqList, agree, answer, given, upto, placeOf, placesFrom, firstPlaces}
 use Rattle.meaning.specs.Laws.Bools.{same-refl, same→≡, same-≢}

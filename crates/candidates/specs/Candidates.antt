@@ -5,15 +5,15 @@ use mathlib.Core.List.{List}
 use Prim.Native.Nat.{ℕ, _+_, _≤_, _<_}
 use lib.ListN.{length, getD}
 use Rattle.signals.specs.Mask.{_∪_, _∩_}
-use Rattle.layout.specs.Body.{headAt, transitionAt, startOf, transitionsOf}
+use Rattle.layout.specs.Body.{headAt, transitionAt, transitionsOf}
 use Rattle.layout.specs.declared.body.Shape.{Shape}
 use Rattle.layout.specs.declared.record.Transition.{Transition}
 use Rattle.meaning.specs.Numbers.{mostFromState}
 use Rattle.meaning.specs.Meaning.{Set}
 use Rattle.meaning.specs.Check.{leaving}
 use Rattle.wiring.specs.Hunt.{mayOf}
-use Rattle.search.specs.Table.{backAt, stateAt}
-use Rattle.tables.specs.Fill.{Filling, considered, listing, othersAt, Raised, Until, Chosen}
+use Rattle.search.specs.Table.{stateAt}
+use Rattle.tables.specs.Fill.{Filling, considered, listing, Raised, Until, Chosen}
 use Rattle.checks.specs.Known.{Sized, Summed}
 use Rattle.candidates.specs.declared.Around.{Around}
 use Rattle.candidates.specs.declared.Puts.{Puts}

@@ -1,11 +1,10 @@
 // The candidates of a step: for each chart the transitions that it may take now, and what later charts may put out. How the tables are laid out
 // is in the crate search (Table); that a search over them answers the step is in the crate tables.
 ghost use mathlib.Core.Path.{_≡_};
-ghost use mathlib.Core.Bool.{cond};
 ghost use mathlib.Core.Option.{some};
 ghost use Prim.Native.Nat.{ℕ, _+_, _*_, _≤_, _<_};
 ghost use lib.ListN.{length, getD};
-ghost use Rattle.layout.specs.Body.{Holds, transitionAt, transitionsOf, startOf, headAt};
+ghost use Rattle.layout.specs.Body.{Holds, transitionAt, startOf};
 ghost use Rattle.layout.specs.Body.{from as fromOn};
 ghost use Rattle.meaning.specs.Count.{tally, one};
 ghost use Rattle.meaning.specs.Meaning.{same};

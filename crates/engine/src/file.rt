@@ -5,7 +5,6 @@ ghost use lib.ListN.{length};
 ghost use Rattle.layout.specs.Body.{Holds, headAt};
 ghost use Rattle.meaning.specs.Check.{refusalOf};
 ghost use Rattle.meaning.specs.Calls.{made, laidOver, firstRefusal, firstBytes};
-ghost use Rattle.checks.specs.Open.{Opens};
 use checks::limits;
 use layout::body::Shape;
 

@@ -1,7 +1,6 @@
 // The interface of a file's whole: the sets of signals that it takes in and puts out.
 ghost use mathlib.Core.Path.{_≡_};
-ghost use Prim.Native.Nat.{ℕ, _+_, _≤_, _<_};
-ghost use lib.ListN.{getD};
+ghost use Prim.Native.Nat.{_+_, _≤_, _<_};
 ghost use Rattle.signals.specs.Mask.{_∪_};
 ghost use Rattle.layout.specs.Body.{from, transitionAt};
 ghost use Rattle.meaning.specs.Meaning.{guards, actions, inFace, outFace};

@@ -1,7 +1,6 @@
 // The body of a chart file: where its records stand, by the four counts, and each record by its number.
 ghost use mathlib.Core.Path.{_≡_};
-ghost use Prim.Native.Nat.{_+_, _*_, _≤_, _<_};
-ghost use lib.ListN.{length};
+ghost use Prim.Native.Nat.{_+_, _*_, _<_};
 ghost use Rattle.layout.specs.Body.{Holds, sizeOf, headAt, transitionAt, slaveAt, nodeAt};
 use crate::record::Head;
 use crate::record::Node;

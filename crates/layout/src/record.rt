@@ -4,7 +4,7 @@ ghost use Prim.Native.Nat.{_+_, _≤_};
 ghost use lib.ListN.{length, drop};
 ghost use lib.Seq.{sets};
 ghost use Rattle.layout.specs.Record.{trailerOf, headOf, transitionOf, slaveOf, nodeOf};
-ghost use Rattle.layout.specs.Record.{trailerBytes, headBytes, transitionBytes, slaveBytes, nodeBytes};
+ghost use Rattle.layout.specs.Record.{trailerBytes, headBytes, transitionBytes, nodeBytes};
 
 // The last 12 bytes of a file.
 pub struct Trailer {

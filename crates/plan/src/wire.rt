@@ -1,7 +1,7 @@
 // The wiring of a file: its tree folded into masks, once, so that a step looks at no tree. A row has a mask for each chart, a square one for
 // each two charts, what chart c gets of chart d at 8 * d + c. What the masks are is in the crate wiring (Wire), and that a step may go by them too.
 ghost use mathlib.Core.Path.{_≡_};
-ghost use Prim.Native.Nat.{ℕ, _+_, _*_, _≤_, _<_};
+ghost use Prim.Native.Nat.{_+_, _*_, _≤_, _<_};
 ghost use lib.ListN.{length, getD, replicate};
 ghost use Rattle.signals.specs.Mask.{_∪_, _∩_, _∖_};
 ghost use Rattle.meaning.specs.File.{treeOf, fileAt};

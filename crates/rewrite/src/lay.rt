@@ -2,12 +2,11 @@
 ghost use mathlib.Core.Path.{_≡_};
 ghost use Prim.Native.Nat.{_+_, _≤_, _<_};
 ghost use lib.ListN.{length};
-ghost use Rattle.signals.specs.Mask.{_∪_};
 ghost use Rattle.layout.specs.Record.{headBytes, transitionBytes, nodeBytes, trailerBytes};
 ghost use Rattle.meaning.specs.Numbers.{theEdition, mostNodes};
 ghost use Rattle.meaning.specs.Calls.{laidOver};
 ghost use lib.Seq.{sets};
-ghost use Rattle.layout.specs.Body.{Holds, transitionAt};
+ghost use Rattle.layout.specs.Body.{transitionAt};
 ghost use Rattle.meaning.specs.File.{fileAt};
 ghost use Rattle.meaning.specs.Rewriting.{callsBy, callsOf, count, madeFor, rewrite, rewrittenChart, headFor, inTurn, transitionsBytes, shapeIn, encode};
 ghost use Rattle.rewrite.specs.Known.{Checked, CallsIn, InnerIn, NamesIn, Fits, Takes, Stands, Master, Holder, Begins, Small};

@@ -1,6 +1,6 @@
 // Sets of 64 signals as masks.
 ghost use mathlib.Core.Path.{_≡_};
-ghost use Prim.Native.Nat.{ℕ, _<_};
+ghost use Prim.Native.Nat.{_<_};
 ghost use Rattle.signals.specs.Mask.{_∪_, _∩_, _∖_, bit, single, within, apart};
 ghost use Rattle.signals.specs.Lowest.{IsLowest, IsLowestFree};
 

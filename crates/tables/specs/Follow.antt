@@ -1,16 +1,16 @@
 -- A trail that follows a choice: what it holds of the settled charts, chart by chart, is what the choice gives them.
-use mathlib.Core.Path.{_≡_, refl, sym, _∙_, ap, ap₂, subst}
-use mathlib.Core.Bool.{Bool, true, false, _&&_, _||_, cond, true≢false, false≢true}
+use mathlib.Core.Path.{_≡_, refl, sym, _∙_, ap, ap₂}
+use mathlib.Core.Bool.{Bool, true, false, _&&_, _||_, cond, false≢true}
 use mathlib.Core.Option.{Option, none, some}
 use mathlib.Core.List.{List, [], _∷_, _++_}
 use mathlib.Core.Logic.{_≢_}
-use Prim.Native.Nat.{ℕ, zero, suc, _+_, _-_, _≤_, _<_}
+use Prim.Native.Nat.{ℕ, zero, suc, _+_, _-_, _<_}
 use native.Mathlib.Omega.{arith}
 use lib.Dec.{ltb}
 use lib.ListN.{length, getD, length-append, List·getD-append}
 use lib.Seq.{ext-getD, getD-append-seam}
 use borrow.Author.Tests.{lt-ltb, le-ltb, eq-eqb}
-use Rattle.signals.specs.Mask.{_∪_, _∩_, _∖_, within, apart}
+use Rattle.signals.specs.Mask.{_∪_, _∩_, within, apart}
 use Rattle.signals.specs.Decide.{sets, A, B, C, D, ∅ₑ, _∪ₑ_, _∩ₑ_, _≐_, _⊑_, _⊥ₑ_}
 use Rattle.layout.specs.declared.record.Transition.{Transition}
 use Rattle.meaning.specs.Meaning.{Set, ∅, same, Chart, Tree, Move, nth, pick, actionOf, after, meets, upd, moves, nexts, placeOf, placesFrom, out}
@@ -22,7 +22,7 @@ use Rattle.wiring.specs.Wire.{join, down, up, back, offered, awakeBy, Small, ou
 use Rattle.wiring.specs.Wired.{awake, awake-by, Stands, offer}
 use Rattle.wiring.specs.Dropped.{ahead, test, sures, low, high, passes, join-cong}
 use Rattle.wiring.specs.Hunt.{awake-below, every-cong}
-use Rattle.search.specs.Table.{neededAt, barredAt, actionAt, backAt, aheadAt, upAt, toAt, masterAt, slaveStateAt, stateAt, placeAt}
+use Rattle.search.specs.Table.{neededAt, barredAt, actionAt, backAt, aheadAt, toAt, masterAt, slaveStateAt, stateAt, placeAt}
 use Rattle.search.specs.Trail.{Trail}
 use Rattle.search.specs.Hunt.{isAwake, wakes, taken, rested, passesAt, fineAt}
 use Rattle.tables.specs.Filled.{Is, mayAt, Rows, Candidates}

@@ -2,14 +2,14 @@
 -- 255s behind; one of the meaning. Laws: of one outcome, of ++, of what comes again (padded-one to padded-again), of the answer (found) and of the
 -- places (found-places).
 use mathlib.Core.Path.{_≡_, refl, sym, _∙_, ap, ap₂}
-use mathlib.Core.Bool.{Bool, _&&_}
+use mathlib.Core.Bool.{_&&_}
 use mathlib.Core.List.{List, [], _∷_, _++_, map, map-append, append-nil}
 use Prim.Native.Nat.{ℕ, _-_}
 use native.Mathlib.Omega.{arith}
-use lib.ListN.{length, take, replicate}
+use lib.ListN.{length, replicate}
 use lib.Seq.{take-at}
 use Rattle.meaning.specs.Numbers.{noPlace}
-use Rattle.meaning.specs.Meaning.{same, Outcome, eqList, agree, Answer, given, answer, firstPlaces}
+use Rattle.meaning.specs.Meaning.{same, Outcome, eqList, agree, given, answer, firstPlaces}
 use Rattle.meaning.specs.Calls.{allPlaces}
 use Rattle.search.specs.Hunt.{over, nothing}
 use Rattle.meaning.specs.Laws.Choices.{eqList-refl}

@@ -1,9 +1,9 @@
 -- A step by tables, for a file that rules 9 to 11 allow: where the wiring is in the tables and the candidates are chosen, a search over them
 -- answers the step and has its places, and where a chart is stuck there is nothing to search.
-use mathlib.Core.Path.{_≡_, refl, sym, _∙_, ap}
+use mathlib.Core.Path.{_≡_, ap}
 use mathlib.Core.Bool.{true}
 use mathlib.Core.List.{List}
-use Prim.Native.Nat.{ℕ, zero, _-_, _≤_, _<_}
+use Prim.Native.Nat.{ℕ, zero, _-_, _<_}
 use native.Mathlib.Omega.{arith}
 use lib.ListN.{getD}
 use Rattle.signals.specs.Mask.{_∩_}

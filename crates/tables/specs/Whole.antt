@@ -1,25 +1,24 @@
 -- A search over tables finds what the meaning of a step says: chart by chart (simulate), and for a file (found-is).
 use mathlib.Core.Path.{_≡_, refl, sym, _∙_, ap, ap₂, subst}
-use mathlib.Core.Bool.{Bool, true, false, _&&_, _||_, cond, true≢false, false≢true}
+use mathlib.Core.Bool.{Bool, true, false, _&&_, cond, false≢true}
 use mathlib.Core.Option.{Option, none, some}
 use mathlib.Core.List.{List, [], _∷_, _++_}
 use mathlib.Core.Logic.{_≢_}
 use Prim.Native.Nat.{ℕ, zero, suc, _+_, _-_, _≤_, _<_}
 use native.Mathlib.Omega.{arith}
 use native.Mathlib.Decide.{decLt}
-use lib.ListN.{length, getD, replicate}
-use Rattle.signals.specs.Mask.{_∪_, _∩_, _∖_, Within}
+use lib.ListN.{length, replicate}
+use Rattle.signals.specs.Mask.{_∪_, _∩_, Within}
 use Rattle.signals.specs.Decide.{sets, A, B, C, ∅ₑ, _∪ₑ_, _≐_, _⊑_}
 use Rattle.layout.specs.declared.record.Transition.{Transition}
-use Rattle.meaning.specs.Meaning.{Set, ∅, same, Chart, Tree, Move, nth, pick, actionOf, permitted, upd, moves, nexts, placesFrom, out, upto, Outcome, outcomeOf, outcome, search, outcomes, answer, firstPlaces}
-use Rattle.meaning.specs.Laws.Bools.{same-refl, same→≡, same-≢, every, every-elim, and-l, not-true}
+use Rattle.meaning.specs.Meaning.{Set, same, Chart, Tree, nth, pick, actionOf, permitted, upd, moves, placesFrom, upto, Outcome, outcomeOf, outcome, search, outcomes, answer, firstPlaces}
+use Rattle.meaning.specs.Laws.Bools.{same-refl, same→≡, same-≢, every}
 use Rattle.meaning.specs.Numbers.{noPlace}
 use Rattle.meaning.specs.Calls.{allPlaces}
 use Rattle.meaning.specs.File.{File, wholeOf}
 use Rattle.meaning.specs.Laws.Trees.{Ordered, Rule11}
 use Rattle.meaning.specs.Laws.Names.{Rule10, kap}
 use Rattle.meaning.specs.Laws.Choices.{upto-first, length-nexts, length-places}
-use Rattle.wiring.specs.Uncut.{own-moves}
 use Rattle.wiring.specs.Wire.{join, down, back, offered, Small}
 use Rattle.wiring.specs.Wired.{awake, Stands, offer}
 use Rattle.wiring.specs.Sure.{surely, open?}

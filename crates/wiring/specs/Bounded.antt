@@ -1,17 +1,15 @@
 -- The test between any bounds on the charts' actions: of the search, and of a candidate alone before it.
-use mathlib.Core.Path.{_≡_, refl, sym, _∙_, ap, ap₂, subst, fun-ext}
-use mathlib.Core.Bool.{Bool, true, false, _&&_, _||_, not, cond, true≢false, false≢true}
-use mathlib.Core.Option.{Option, none, some}
-use Prim.Native.Nat.{ℕ, zero, suc, _+_, _≤_, _<_}
-use native.Mathlib.Omega.{arith}
-use mathlib.Core.List.{List, [], _∷_}
-use Rattle.signals.specs.Mask.{_∪_, _∩_, _∖_, Within as Inside}
-use Rattle.signals.specs.Decide.{sets, A, B, C, D, E as Eₑ, _∪ₑ_, _∩ₑ_, ∅ₑ, _≐_, _⊑_}
-use Rattle.meaning.specs.Meaning.{Set, ∅, Chart, Tree, Move, actionOf, inFaceChart, permitted}
-use Rattle.meaning.specs.Laws.Bools.{every, every-elim}
-use Rattle.layout.specs.declared.record.Transition.{Transition}
+use mathlib.Core.Path.{_≡_, sym, _∙_}
+use mathlib.Core.Bool.{true}
+use mathlib.Core.Option.{Option}
+use Prim.Native.Nat.{ℕ, _<_}
+use mathlib.Core.List.{[], _∷_}
+use Rattle.signals.specs.Mask.{_∪_, _∩_, Within as Inside}
+use Rattle.signals.specs.Decide.{sets, A, B, C, _∪ₑ_, _⊑_}
+use Rattle.meaning.specs.Meaning.{Set, Chart, Tree, Move, actionOf, inFaceChart, permitted}
+use Rattle.meaning.specs.Laws.Bools.{every-elim}
 use Rattle.wiring.specs.Uncut.{Within}
-use Rattle.wiring.specs.Wire.{down, back, join, offered, fits, Small}
+use Rattle.wiring.specs.Wire.{down, back, join, offered, Small}
 use Rattle.wiring.specs.Wired.{awake, Stands, offer, ruled, permitted-wired}
 use Rattle.wiring.specs.Dropped.{test, join-in, fits-test}
 

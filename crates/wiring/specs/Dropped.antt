@@ -1,19 +1,17 @@
 -- A beginning that fails the test has no permitted choice.
-use mathlib.Core.Path.{_≡_, refl, sym, _∙_, ap, ap₂, subst, fun-ext}
-use mathlib.Core.Bool.{Bool, true, false, _&&_, _||_, not, cond, true≢false, false≢true}
+use mathlib.Core.Path.{_≡_, refl, sym, _∙_, ap, ap₂}
+use mathlib.Core.Bool.{Bool, true, false, _&&_, false≢true}
 use mathlib.Core.Option.{Option, none, some}
 use mathlib.Core.List.{[], _∷_}
 use Prim.Native.Nat.{ℕ, zero, suc, _+_, _≤_, _<_}
 use native.Mathlib.Omega.{arith}
-use native.Mathlib.Nat.{add-suc, zero-add}
-use lib.Dec.{eqb}
+use native.Mathlib.Nat.{zero-add}
 use borrow.Author.Tests.{eqb-true, eq-eqb}
 use Rattle.signals.specs.Mask.{_∪_, _∩_, _∖_, within, apart, Within}
-use Rattle.signals.specs.Decide.{sets, A, B, C, D, E as Eₑ, F as Fₑ, ∅ₑ, _∪ₑ_, _∩ₑ_, _∖ₑ_, _≐_, _⊑_, _⊥ₑ_}
-use Rattle.meaning.specs.Meaning.{Set, ∅, same, Chart, Tree, Move, nth, pick, actionOf, permitted, moves, search}
-use Rattle.meaning.specs.Laws.Bools.{every, every-intro, every-elim, and-l, and-r, and-i, bool-eq, not-true}
+use Rattle.signals.specs.Decide.{sets, A, B, C, D, E as Eₑ, F as Fₑ, ∅ₑ, _∪ₑ_, _∩ₑ_, _≐_, _⊑_, _⊥ₑ_}
+use Rattle.meaning.specs.Meaning.{Set, ∅, same, Chart, Tree, Move, pick, actionOf, permitted, moves, search}
+use Rattle.meaning.specs.Laws.Bools.{every-elim, and-l, and-r, and-i, not-true}
 use Rattle.meaning.specs.Laws.Choices.{Below, search-empty}
-use Rattle.layout.specs.declared.record.Transition.{Transition}
 use Rattle.wiring.specs.Uncut.{own-moves}
 use Rattle.wiring.specs.Wire.{down, back, join, offered, fits, Small}
 use Rattle.wiring.specs.Wired.{awake, Stands, offer, ruled, permitted-wired}

@@ -1,23 +1,23 @@
 -- The search that leaves out what cannot be permitted, chart by chart: it finds the same outcomes in the same order.
-use mathlib.Core.Path.{_≡_, refl, sym, _∙_, ap, ap₂, subst, fun-ext}
-use mathlib.Core.Bool.{Bool, true, false, _&&_, _||_, not, cond, true≢false, false≢true}
+use mathlib.Core.Path.{_≡_, refl, sym, _∙_, ap, ap₂, subst}
+use mathlib.Core.Bool.{Bool, true, false, _&&_, cond, true≢false, false≢true}
 use mathlib.Core.Option.{Option, none, some}
-use mathlib.Core.List.{List, [], _∷_, _++_}
+use mathlib.Core.List.{List, [], _∷_}
 use mathlib.Core.Logic.{_≢_}
-use Prim.Native.Nat.{ℕ, zero, suc, _+_, _≤_, _<_}
+use Prim.Native.Nat.{ℕ, zero, suc, _+_, _<_}
 use native.Mathlib.Omega.{arith}
 use lib.ListN.{length}
-use Rattle.signals.specs.Mask.{_∪_, _∩_, _∖_, Within}
-use Rattle.signals.specs.Decide.{sets, A, B, C, D, ∅ₑ, _∪ₑ_, _∩ₑ_, _∖ₑ_, _≐_, _⊑_}
+use Rattle.signals.specs.Mask.{_∪_, Within}
+use Rattle.signals.specs.Decide.{sets, A, B, C, ∅ₑ, _∪ₑ_, _≐_, _⊑_}
 use Rattle.meaning.specs.Meaning.{Set, ∅, same, Chart, Tree, Move, nth, pick, actionOf, permitted, upd, moves, upto, Outcome, outcomeOf, outcome, search, meets}
-use Rattle.meaning.specs.Laws.Bools.{same-refl, same→≡, every, every-intro, every-elim, and-l, and-r, and-i, not-true}
+use Rattle.meaning.specs.Laws.Bools.{same-refl, same→≡, every, every-intro, every-elim, and-i, not-true}
 use Rattle.meaning.specs.Laws.Choices.{upto-cong, upd-at, upd-off, Below, search-empty}
 use Rattle.layout.specs.declared.record.Transition.{Transition}
 use Rattle.wiring.specs.Uncut.{own-moves}
-use Rattle.wiring.specs.Wire.{Small, awakeBy, fits}
-use Rattle.wiring.specs.Wired.{awakeIn, awake, Stands, offer, ruled, permitted-wired}
+use Rattle.wiring.specs.Wire.{Small, awakeBy}
+use Rattle.wiring.specs.Wired.{awakeIn, awake, Stands, ruled, permitted-wired}
 use Rattle.wiring.specs.Sure.{open?}
-use Rattle.wiring.specs.Dropped.{fits-open, permitted-open, May, Bounds, passes, passes-last, passes-below, skip-dropped, test}
+use Rattle.wiring.specs.Dropped.{permitted-open, May, Bounds, passes, passes-last, skip-dropped}
 
 pub every-cong : (n : ℕ) (f g : ℕ → Bool) → ((i : ℕ) → i < n → f i ≡ g i) → every n f ≡ every n g
 unfolding every

@@ -1,9 +1,8 @@
 -- `ahead_all` meets its contract. The loop makes the rows from the last chart down. Assumes nothing.
-use mathlib.Core.Path.{_≡_, refl, sym, _∙_, subst}
+use mathlib.Core.Path.{_≡_, sym, _∙_, subst}
 use mathlib.Core.List.{List}
-use Prim.Native.Nat.{ℕ, suc, _+_, _*_, _-_, _≤_, _<_}
+use Prim.Native.Nat.{ℕ, suc, _-_, _≤_}
 use native.Mathlib.Omega.{arith}
-use borrow.Author.Needs.{needs}
 use lib.ListN.{length}
 use Rattle.tables.specs.Fill.{AheadFrom}
 use Rattle.tables.specs.Fill.Laws.{from-last, from-next}

@@ -1,5 +1,5 @@
 -- `is_at` meets its contract. Assumes nothing.
-use mathlib.Core.Path.{_≡_, refl}
+use mathlib.Core.Path.{refl}
 use borrow.Author.Needs.{needs}
 use Rattle.meaning.specs.Meaning.{same}
 use Rattle.tables.specs.Fill.{isAt}

@@ -1,6 +1,6 @@
 -- `list_chart` meets its contract. Its transitions are listed under what the chart is and might be offered. Assumes nothing.
-use mathlib.Core.Path.{_≡_, refl, sym, _∙_, ap, subst}
-use Prim.Native.Nat.{ℕ, _+_, _*_, _-_, _≤_, _<_}
+use mathlib.Core.Path.{refl, _∙_, ap}
+use Prim.Native.Nat.{_+_, _-_}
 use native.Mathlib.Omega.{arith}
 use borrow.Author.Needs.{needs}
 use Rattle.candidates.specs.Candidates.Laws.{start-next, chart-fits, chart-room, chart-tabled, chart-next}

@@ -1,5 +1,5 @@
 -- `puts_of` meets its contract. The loop has what the first p transitions put out. Assumes nothing.
-use Prim.Native.Nat.{_+_, _-_, _≤_}
+use Prim.Native.Nat.{_-_, _≤_}
 use native.Mathlib.Omega.{arith}
 use borrow.Author.Needs.{needs}
 use Rattle.layout.specs.Body.{transitionAt}

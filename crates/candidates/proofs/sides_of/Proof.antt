@@ -1,11 +1,10 @@
 -- `sides_of` meets its contract. The loop: the charts below c have put theirs in, and chart c's transitions begin at `start`.
 -- Assumes nothing.
-use mathlib.Core.Path.{_≡_, refl, sym, ap, _∙_, subst}
-use Prim.Native.Nat.{ℕ, suc, _+_, _*_, _-_, _≤_, _<_}
+use mathlib.Core.Path.{_≡_, refl, ap, _∙_, subst}
+use Prim.Native.Nat.{_+_, _-_, _≤_}
 use native.Mathlib.Omega.{arith}
-use native.Mathlib.Numerals.{add-one}
 use borrow.Author.Needs.{needs}
-use lib.ListN.{length, getD, length-set}
+use lib.ListN.{length, length-set}
 use Rattle.layout.specs.Body.{startOf}
 use Rattle.candidates.specs.Candidates.{Sided}
 use Rattle.candidates.specs.Candidates.Laws.{start-next, chart-fits, sided-none, sided-next}

@@ -15,7 +15,7 @@ use lib.Bits.{and-mask}
 use lib.Dec.{lit<}
 use lib.ListN.{length, getD, set, drop, length-set}
 use lib.Seq.{getD-set-same, getD-set-other, getD-drop}
-use Rattle.signals.specs.Mask.{_∪_, _∩_, _∖_}
+use Rattle.signals.specs.Mask.{_∪_, _∩_}
 use Rattle.signals.specs.Decide.{sets, A, B, C, D, E as Eₑ, ∅ₑ, _∪ₑ_, _∩ₑ_, _≐_}
 use Rattle.layout.specs.Le.{le}
 use Rattle.layout.specs.Record.{transitionOf}

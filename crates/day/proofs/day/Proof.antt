@@ -1,13 +1,11 @@
 -- `day` meets its contract: the line of a refusal, or the lines of the run's rows. Assumes nothing.
-use mathlib.Core.Path.{_≡_, refl, sym, ap, _∙_}
+use mathlib.Core.Path.{_≡_, sym, _∙_}
 use mathlib.Core.List.{List}
-use Prim.Native.Nat.{ℕ, _+_, _*_, _≤_}
+use Prim.Native.Nat.{ℕ, _≤_}
 use native.Mathlib.Omega.{arith}
 use borrow.Author.Needs.{needs}
 use lib.ListN.{length}
 use Rattle.meaning.specs.Calls.{laidOver}
-use Rattle.line.specs.Line.{dayOf}
-use Rattle.day.specs.Day.{Accepted}
 use Rattle.day.specs.Day.Laws.{rows-fit, day-refused, day-given}
 use Rattle.day.proofs.day.Statement.{statement}
 use Rattle.day.proofs.day.Tie as tie

@@ -1,10 +1,10 @@
 -- `main` meets its contract: what is written lies within the buffer. Assumes nothing.
-use mathlib.Core.Path.{_≡_, sym, ap, _∙_}
+use mathlib.Core.Path.{_≡_, sym, ap}
 use mathlib.Core.List.{List}
 use Prim.Native.Nat.{ℕ, _≤_}
 use native.Mathlib.Omega.{arith}
 use borrow.Author.Needs.{needs}
-use lib.ListN.{length, take, length-append}
+use lib.ListN.{length, length-append}
 use lib.Seq.{length-take-le}
 use Rattle.meaning.specs.Calls.{laidOver}
 use Rattle.line.specs.Line.{fileRefused, dayOf}

@@ -1,16 +1,13 @@
 -- `opened` meets its contract: the file's refusal, then 30, then neither. Assumes nothing.
-use mathlib.Core.Path.{_≡_, refl, sym, ap, _∙_}
-use mathlib.Core.Bool.{Bool, true, false, not}
-use mathlib.Core.List.{List, _++_}
-use Prim.Native.Nat.{ℕ, _+_, _*_, _-_, _/_, _%_, _≤_, _<_}
+use mathlib.Core.Path.{_≡_, sym, ap, _∙_}
+use mathlib.Core.List.{List}
+use Prim.Native.Nat.{ℕ, _-_, _/_, _%_}
 use native.Mathlib.Omega.{arith}
 use borrow.Author.Needs.{needs}
-use lib.ListN.{length}
 use Rattle.meaning.specs.Check.{refusalOf}
 use Rattle.checks.specs.Open.{Stands}
-use Rattle.checks.specs.declared.opening.Opening.{Opening}
-use Rattle.line.specs.Line.{frontOf, dayRefusal}
-use Rattle.day.specs.Day.{Accepted, Opened}
+use Rattle.line.specs.Line.{dayRefusal}
+use Rattle.day.specs.Day.{Opened}
 use Rattle.day.specs.Day.Laws.{by-file, by-front, by-none, front-is, charts-are, leads-of}
 use Rattle.day.specs.declared.Front.{Front}
 use Rattle.day.proofs.opened.Statement.{statement}

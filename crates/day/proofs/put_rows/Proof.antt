@@ -1,14 +1,14 @@
 -- `put_rows` meets its contract: the run from the first configuration is not refused, and leaves its rows. Assumes nothing.
-use mathlib.Core.Path.{_≡_, refl, sym, ap, _∙_}
+use mathlib.Core.Path.{_≡_, sym, ap, _∙_}
 use mathlib.Core.List.{List, _++_}
 use Prim.Native.Nat.{ℕ, _+_, _*_, _≤_}
 use native.Mathlib.Omega.{arith}
 use borrow.Author.Needs.{needs}
-use lib.ListN.{length, take, drop, length-append, length-take, length-drop}
+use lib.ListN.{length, take, drop, length-append}
 use lib.Seq.{take-at, length-take-le}
 use Rattle.meaning.specs.Meaning.{∅}
 use Rattle.meaning.specs.File.{fileOf}
-use Rattle.meaning.specs.Calls.{laidOver, initials, firstBytes, rowsOf, runBytes}
+use Rattle.meaning.specs.Calls.{laidOver, initials, rowsOf, runBytes}
 use Rattle.line.specs.Line.{inputsOf}
 use Rattle.day.specs.Day.{Accepted}
 use Rattle.day.specs.Day.Laws.{initials-valid, starts, runs, length-inputs}

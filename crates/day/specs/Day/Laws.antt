@@ -1,22 +1,21 @@
 -- Laws of the day program, in this order: what is laid over the front of a part of a lent buffer; lines of rows, one more, and the last; the refusals 1
 -- to 11 and 30; the first configuration; the whole output.
-use mathlib.Core.Path.{_≡_, refl, sym, ap, ap₂, _∙_}
-use mathlib.Core.Bool.{Bool, true, false, not, cond}
-use mathlib.Core.List.{List, [], _∷_, _++_, append-assoc, append-nil}
+use mathlib.Core.Path.{_≡_, refl, sym, ap, _∙_}
+use mathlib.Core.Bool.{not}
+use mathlib.Core.List.{List, [], _∷_, _++_, append-assoc}
 use Prim.Native.Nat.{ℕ, zero, suc, _+_, _*_, _-_, _/_, _%_, _≤_, _<_}
-use native.Mathlib.Decide.{decLt}
-use native.Mathlib.Nat.{le-trans, suc-mul, mul-le-mul-left, mul-le-mul-right}
+use native.Mathlib.Nat.{suc-mul, mul-le-mul-right}
 use native.Mathlib.Numerals.{add-one}
 use native.Mathlib.Omega.{arith}
-use borrow.Author.Tests.{eq-eqb, ne-eqb, lt-ltb, le-ltb, eqb-true, not-false}
-use lib.Dec.{ltb, eqb}
-use lib.ListN.{length, getD, take, drop, length-append, length-take, length-drop, take-append-drop, List·getD-append}
-use lib.Seq.{take-at, drop-at, getD-at, drop-drop, length-take-le, drop-append-le, take-append-le}
+use borrow.Author.Tests.{eq-eqb, ne-eqb, lt-ltb, le-ltb}
+use lib.Dec.{ltb}
+use lib.ListN.{length, getD, take, drop, length-append, length-take, length-drop, take-append-drop}
+use lib.Seq.{take-at, drop-at, drop-drop, length-take-le, drop-append-le, take-append-le}
 use Rattle.layout.specs.Body.{sizeOf}
 use Rattle.meaning.specs.Numbers.{mostInput, tooLong, oddFront}
 use Rattle.meaning.specs.Meaning.{∅, same}
-use Rattle.meaning.specs.File.{File, trailer, endOf, shapeOf, bodyOf, chartOf, fileAt, fileOf}
-use Rattle.meaning.specs.Check.{Test, firstOf, fileTests, refusalOf, differ, notBelow, distance?}
+use Rattle.meaning.specs.File.{trailer, shapeOf, bodyOf, chartOf, fileAt, fileOf}
+use Rattle.meaning.specs.Check.{Test, firstOf, fileTests, refusalOf, differ, distance?}
 use Rattle.meaning.specs.Count.Laws.{or-left, any-all}
 use Rattle.meaning.specs.Check.Laws.{alike, firstOf-here, firstOf-next, firstOf-[], call-refused, call-passed, passed, charted}
 use Rattle.meaning.specs.Calls.{laidOver, firstRefusal, initials, firstBytes, rowsOf, runBytes}

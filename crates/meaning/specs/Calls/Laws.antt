@@ -9,7 +9,7 @@ use native.Mathlib.Numerals.{add-one}
 use native.Mathlib.Omega.{arith}
 use lib.ListN.{length, getD, drop, set, length-append, List·getD-append}
 use lib.Seq.{drop-cons, set-at, getD-at}
-use Rattle.meaning.specs.Meaning.{Set, same, Outcome, Answer, refused, answer, firstPlaces}
+use Rattle.meaning.specs.Meaning.{Set, same, Outcome, refused, answer, firstPlaces}
 use Rattle.meaning.specs.File.{File, fileOf}
 use Rattle.meaning.specs.Calls.{made, outcomesIn, stepRefusal, stepIn, stepOf, allPlaces, placesIn, placesOf}
 

@@ -1,20 +1,17 @@
--- Values of trees that join a value of each chart, less what hiding takes off. Three are used: the charts inside a tree (`has-fold`), the input and
--- the output interface (`in-fold`, `out-fold`). In this order: the fold; the value of a node from those of lower nodes, as a table that is filled
--- from node 0 up takes it (`value-fold`); the fold asks for the tree's own charts alone (`fold-own`); the three.
+-- Values of trees that join a value of each chart, less what hiding takes off. Two are used: the input and the output interface (`in-fold`,
+-- `out-fold`). In this order: the fold; the value of a node from those of lower nodes, as a table that is filled from node 0 up takes it
+-- (`value-fold`); the fold asks for the tree's own charts alone (`fold-own`); the two.
 use mathlib.Core.Path.{_≡_, refl, sym, _∙_, ap, ap₂}
-use mathlib.Core.Bool.{Bool, true, false, _||_, cond, or-comm}
+use mathlib.Core.Bool.{Bool, true, false, cond}
 use mathlib.Core.List.{[], _∷_}
 use Prim.Native.Nat.{ℕ, zero, suc, _+_, _<_}
 use native.Mathlib.Numerals.{add-one}
 use native.Mathlib.Omega.{arith}
-use borrow.Author.Tests.{eqb-true, eq-eqb}
-use lib.Dec.{eqb}
-use Rattle.signals.specs.Mask.{_∪_, _∖_, bit, single}
-use Rattle.signals.specs.Mask.Laws.{bit-union, bit-none, bit-single}
-use Rattle.signals.specs.Decide.{sets, A, B, C, ∅ₑ, _∪ₑ_, _∖ₑ_, _≐_}
+use Rattle.signals.specs.Mask.{_∪_, _∖_}
+use Rattle.signals.specs.Decide.{sets, A, B, C, ∅ₑ, _∪ₑ_, _≐_}
 use Rattle.meaning.specs.Meaning.{Set, ∅, same, Chart, Tree, Slaves, leaf, comp, hide, dec, nil, snoc, inFaceChart, inFace, inFaces, actions, outFace, outFaces}
 use Rattle.meaning.specs.File.{File, treeOf, gather, whole, Has, HasS}
-use Rattle.meaning.specs.Laws.Bools.{or-l, or-r, bool-eq, same-refl, same→≡, same-≢}
+use Rattle.meaning.specs.Laws.Bools.{or-l, or-r, same-refl, same→≡, same-≢}
 use Rattle.meaning.specs.Laws.Trees.{Ordered, tree₀, tree₁, tree₂}
 
 -- ── the fold ──
@@ -118,7 +115,7 @@ module _ (own own′ : ℕ → Set) (off : Set → Set → Set) where
     folds-own (snoc ss i t) h =
         ap₂ _∪_ (folds-own ss (λ c e. h c (or-r (Has t c) (HasS ss c) e))) (fold-own t (λ c e. h c (or-l (Has t c) (HasS ss c) e)))
 
--- ── the three ──
+-- ── the two ──
 
 module _ (E : ℕ → Chart) where
   mutual
@@ -146,22 +143,3 @@ module _ (E : ℕ → Chart) where
     out-folds : (ss : Slaves) → outFaces E ss ≡ folds (λ c. actions (E c .transitions)) (λ x y. y) ss
     out-folds nil = refl
     out-folds (snoc ss i t) = ap₂ _∪_ (out-folds ss) (out-fold t)
-
-module _ (c : ℕ) where
-  own-bit : (d : ℕ) → bit (single d) c ≡ same c d
-  unfolding same
-  own-bit d = bit-single d c ∙ bool-eq (eqb d c) (eqb c d) (λ e. eq-eqb c d (sym (eqb-true d c e))) (λ e. eq-eqb d c (sym (eqb-true c d e)))
-
-  mutual
-    unfolding fold Has
-
-    pub has-fold : (t : Tree) → bit (fold single (λ x y. ∅) t) c ≡ Has t c
-    has-fold (leaf d) = own-bit d
-    has-fold (comp p q x) = bit-union c (fold single (λ x y. ∅) p) (fold single (λ x y. ∅) q) ∙ ap₂ _||_ (has-fold p) (has-fold q)
-    has-fold (hide p x y) = ap (λ z. bit z c) (sets (fold single (λ x y. ∅) p ∷ []) [] (A ∖ₑ ∅ₑ ≐ A) tt) ∙ has-fold p
-    has-fold (dec d ss) = bit-union c (single d) (folds single (λ x y. ∅) ss) ∙ ap₂ _||_ (own-bit d) (has-folds ss)
-
-    has-folds : (ss : Slaves) → bit (folds single (λ x y. ∅) ss) c ≡ HasS ss c
-    has-folds nil = bit-none c
-    has-folds (snoc ss i t) = bit-union c (folds single (λ x y. ∅) ss) (fold single (λ x y. ∅) t) ∙ ap₂ _||_ (has-folds ss) (has-fold t)
-        ∙ or-comm (HasS ss c) (Has t c)

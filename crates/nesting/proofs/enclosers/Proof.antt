@@ -1,5 +1,4 @@
 -- `enclosers` meets its contract. Assumes nothing.
-use mathlib.Core.Path.{_≡_, _∙_}
 use borrow.Author.Needs.{needs}
 use Rattle.meaning.specs.File.{fileAt}
 use Rattle.nesting.proofs.Near.{seeded}

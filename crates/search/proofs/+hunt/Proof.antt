@@ -3,7 +3,7 @@
 -- found.
 use mathlib.Core.Path.{_≡_, refl, sym, ap, ap₂, subst₂, _∙_}
 use mathlib.Core.Bool.{Bool, true, false, _&&_, not, cond, and-false}
-use mathlib.Core.List.{List, [], _∷_, _++_}
+use mathlib.Core.List.{List, []}
 use mathlib.Core.Logic.{⊎-elim}
 use Prim.Native.Nat.{ℕ, zero, suc, _+_, _-_, _<_, _≤_}
 use native.Mathlib.Numerals.{add-one, sub-one}
@@ -18,7 +18,7 @@ use Rattle.meaning.specs.Meaning.{Outcome}
 use Rattle.meaning.specs.Laws.Bools.{and-l, and-r}
 use Rattle.search.specs.declared.Found.{Found}
 use Rattle.search.specs.declared.Guard.{Guard}
-use Rattle.search.specs.Table.{Tables, actionAt, upAt, countAt}
+use Rattle.search.specs.Table.{actionAt, upAt, countAt}
 use Rattle.search.specs.Trail.{Trail, trailIn, Keeps}
 use Rattle.search.specs.Trail.Laws.{keeps-refl, keeps-trans, keeps-fewer, keeps-room, trail-kept}
 use Rattle.search.specs.Hunt.{each, wakes, taken, rested, fineAt, hunts, outcomeIn, settleOf, over, foundIn, Held, Takes, Hunted}

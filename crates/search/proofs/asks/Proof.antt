@@ -1,6 +1,5 @@
 -- `search::asks` meets its contract: what the charts below d ask is joined.
 use mathlib.Core.Path.{_≡_, refl, ap₂}
-use mathlib.Core.List.{List}
 use Prim.Native.Nat.{ℕ, _+_, _-_, _≤_}
 use native.Mathlib.Numerals.{add-one}
 use native.Mathlib.Omega.{arith}

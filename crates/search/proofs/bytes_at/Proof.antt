@@ -1,7 +1,7 @@
 -- `search::bytes_at` meets its contract: the bytes below c are read, and 0 stands behind them.
 use mathlib.Core.Path.{_≡_, refl, _∙_}
 use mathlib.Core.List.{_++_, append-nil}
-use Prim.Native.Nat.{ℕ, _+_, _-_, _≤_}
+use Prim.Native.Nat.{_+_, _-_, _≤_}
 use native.Mathlib.Omega.{arith}
 use lib.ListN.{getD, replicate}
 use Rattle.meaning.specs.Calls.{made}

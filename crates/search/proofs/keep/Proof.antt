@@ -1,5 +1,5 @@
 -- `search::keep` meets its contract: the next states and the places stand in their rows, and both bytes behind them are 1.
-use mathlib.Core.Path.{_≡_, refl, sym, _∙_}
+use mathlib.Core.Path.{_≡_, _∙_}
 use mathlib.Core.Bool.{true}
 use mathlib.Core.List.{List, _++_}
 use Prim.Native.Nat.{ℕ, _+_, _-_, _<_, _≤_}
@@ -8,10 +8,9 @@ use borrow.Author.Needs.{needs}
 use lib.ListN.{length, getD, set, replicate, length-set, length-append, length-replicate}
 use lib.Seq.{getD-set-same, getD-set-other}
 use Rattle.meaning.specs.Numbers.{noPlace}
-use Rattle.meaning.specs.Meaning.{Outcome, same}
+use Rattle.meaning.specs.Meaning.{same}
 use Rattle.meaning.specs.Calls.{made}
 use Rattle.meaning.specs.Calls.Laws.{length-made, made-cong}
-use Rattle.search.specs.declared.Found.{Found}
 use Rattle.search.specs.Trail.{nextIn, placeIn}
 use Rattle.search.specs.Trail.Laws.{made-list}
 use Rattle.search.specs.Hunt.{outcomeIn, firstFound, foundIn, Held, BytesPut}

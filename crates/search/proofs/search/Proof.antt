@@ -1,7 +1,7 @@
 -- `search::search` meets its contract: what each chart is surely offered is put in front, no chart is settled, and nothing was found yet.
 use mathlib.Core.Path.{_≡_, refl, _∙_}
 use mathlib.Core.List.{List}
-use Prim.Native.Nat.{ℕ, _+_, _-_, _<_}
+use Prim.Native.Nat.{ℕ, _+_, _-_}
 use native.Mathlib.Omega.{arith}
 use borrow.Author.Needs.{needs}
 use lib.ListN.{length, getD, replicate, getD-replicate}
@@ -11,7 +11,7 @@ use Rattle.meaning.specs.Calls.{made}
 use Rattle.meaning.specs.Calls.Laws.{made-cong}
 use Rattle.search.specs.declared.Found.{Found}
 use Rattle.search.specs.Trail.{beginning, trailIn}
-use Rattle.search.specs.Trail.Laws.{begun, made-list}
+use Rattle.search.specs.Trail.Laws.{begun}
 use Rattle.search.specs.Hunt.{hunts, over, nothing, foundIn, Held, BytesPut}
 use Rattle.search.proofs.search.Statement.{statement}
 use Rattle.search.proofs.search.Tie as tie

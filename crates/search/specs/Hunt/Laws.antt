@@ -10,7 +10,7 @@ use native.Mathlib.Nat.{eq-or-lt-of-le}
 use native.Mathlib.Numerals.{add-one}
 use native.Mathlib.Omega.{arith}
 use Rattle.meaning.specs.Meaning.{same, Outcome, eqList, agree, given, answer, firstPlaces}
-use Rattle.meaning.specs.Laws.Bools.{same-refl, same→≡, same-comm, and-l, and-r, bool-eq}
+use Rattle.meaning.specs.Laws.Bools.{same-refl, same-comm, and-l, and-r}
 use Rattle.meaning.specs.Laws.Choices.{eqList-refl}
 use Rattle.search.specs.Hunt.{each, pickFound, settleOf, over, nothing, answerIn}
 use Rattle.search.specs.declared.Found.{Found}

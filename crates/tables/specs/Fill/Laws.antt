@@ -2,7 +2,7 @@
 -- ahead (ahead-row, ahead-from), that what is chosen by the tables is what a file's candidates are (candidates), and what charts are surely
 -- offered (raised, lows-are).
 use mathlib.Core.Path.{_≡_, refl, sym, _∙_, ap, ap₂, subst, fun-ext}
-use mathlib.Core.Bool.{Bool, true, false, _&&_, _||_, not, cond, true≢false, false≢true}
+use mathlib.Core.Bool.{Bool, true, false, _&&_, _||_, not, cond, false≢true}
 use mathlib.Core.Option.{Option, none, some}
 use mathlib.Core.List.{List, [], _∷_}
 use mathlib.Core.Logic.{_≢_}
@@ -14,12 +14,12 @@ use lib.ListN.{length, getD, set, length-set}
 use lib.Seq.{getD-set-same, getD-set-other}
 use borrow.Author.Tests.{lt-ltb, le-ltb, ltb-false}
 use borrow.Author.Tests.{not-true as tests-not-true}
-use Rattle.signals.specs.Mask.{_∪_, _∩_, _∖_}
+use Rattle.signals.specs.Mask.{_∪_, _∩_}
 use Rattle.signals.specs.Decide.{sets, A, B, C, D, E as Eₑ, F as Fₑ, ∅ₑ, _∪ₑ_, _∩ₑ_, _≐_}
 use Rattle.layout.specs.declared.record.Transition.{Transition}
 use Rattle.meaning.specs.Count.{anyUpTo, tally, one}
 use Rattle.meaning.specs.Count.Laws.{tally-plus, tally-mono}
-use Rattle.meaning.specs.Meaning.{Set, same, Chart, Tree, Move, nth, pick, actionOf, Outcome}
+use Rattle.meaning.specs.Meaning.{Set, same, Chart, Tree, nth, pick, actionOf, Outcome}
 use Rattle.meaning.specs.Laws.Bools.{same-refl, same→≡, same-≢, and-l, and-r}
 use Rattle.wiring.specs.Wire.{join, down, back, offered}
 use Rattle.wiring.specs.Wired.{Stands}

@@ -1,6 +1,6 @@
 -- `run::after` meets its contract: an input less is left; a step given has the next states and carries nothing, and a refused one leaves the
 -- states and carries what it was offered. Assumes nothing.
-use mathlib.Core.Path.{_≡_, refl, _∙_}
+use mathlib.Core.Path.{_≡_, refl}
 use mathlib.Core.Bool.{true, false, not}
 use mathlib.Core.List.{List}
 use Prim.Native.Nat.{ℕ, _+_, _-_, _<_}

@@ -19,11 +19,6 @@ use Rattle.engine.specs.Step.Laws.{ready}
 use Rattle.engine.specs.Run.Laws.{leads, laid, laid-before, laid-after, laid-length, run-step, carry-step, run-done, carry-done, next-row, next-at}
 use Rattle.engine.proofs.run.put_rows.Statement.{statement}
 use Rattle.engine.proofs.run.put_rows.Tie as tie
-use Rattle.engine.proofs.run.put_rows.Reads as reads
-use Rattle.engine.proofs.run.put_rows.Lts as lts
-use Rattle.engine.proofs.run.after.Reads as after-reads
-use Rattle.engine.proofs.run.put_row.Reads as put-row-reads
-use Rattle.engine.proofs.step.found.Reads as found-reads
 
 module _ (n : Shape) (b inputs : List ℕ) (start : Stand) (rows₀ : List ℕ) where
   -- i inputs were taken: their rows stand before `at`, and they led to the stand t

@@ -10,7 +10,6 @@ use Rattle.meaning.specs.File.{trailer, shapeOf, bodyOf, fileAt}
 use Rattle.meaning.specs.Check.{refusalOf}
 use Rattle.meaning.specs.Calls.{runRefusal, runBytes, runCarried}
 use Rattle.checks.specs.Open.{Stands}
-use Rattle.engine.specs.Step.{Checked}
 use Rattle.engine.specs.Step.Laws.{checked, file-is}
 use Rattle.engine.specs.declared.run.Ran.{Ran}
 use Rattle.engine.specs.Run.Laws.{run-refused, bytes-refused, none-carried, run-passed, bytes-passed, carried-passed, Ends}

@@ -1,8 +1,7 @@
 -- `wire::note_none` meets its contract: the charts below c are noted. Assumes nothing.
 use mathlib.Core.Path.{_≡_, refl, _∙_}
-use Prim.Native.Nat.{ℕ, _-_, _≤_, _<_}
+use Prim.Native.Nat.{_-_, _≤_}
 use native.Mathlib.Omega.{arith}
-use borrow.Author.Needs.{needs}
 use lib.ListN.{length, length-set}
 use Rattle.plan.specs.Noted.{NotedNone}
 use Rattle.plan.proofs.Noted.{noted-none-more}
