@@ -1,7 +1,7 @@
 -- What `wire` leaves of a node's part, from what it left of the parts that the node names. In order: what a record that was read says; rows that are
 -- joined; hidden; composed; a chart and its slaves, of which the loop has joined the first k (Gathers); the whole.
 -- Assumes nothing.
-use mathlib.Core.Path.{_≡_, sym, ap, ap₂, subst, _∙_}
+use mathlib.Core.Path.{_≡_, refl, sym, ap, ap₂, subst, _∙_}
 use mathlib.Core.List.{List, [], _∷_}
 use Prim.Native.Nat.{ℕ, suc, _+_, _*_, _<_}
 use native.Mathlib.Nat.{zero-add}
@@ -15,7 +15,7 @@ use Rattle.layout.specs.declared.body.Shape.{Shape}
 use Rattle.layout.specs.declared.record.Head.{Head}
 use Rattle.layout.specs.declared.record.Slave.{Slave}
 use Rattle.layout.specs.declared.record.Node.{Node}
-use Rattle.meaning.specs.Meaning.{Set, Tree, Slaves}
+use Rattle.meaning.specs.Meaning.{Set, Tree, Slaves, Chart, nil}
 use Rattle.meaning.specs.File.{File, gather, treeOf, wholeOf, chartOf, fileAt}
 use Rattle.wiring.specs.Wire.{own, down, downs, up, ups, back, backs}
 use Rattle.wiring.specs.Rows.{down₀, down₁, down₂, up₀, up₁, up₂, back₀, back₁, back₂, slaves-out, downs-step, ups-step, backs-step}
@@ -252,6 +252,26 @@ module _ {n : Shape} {b : List ℕ} (w : Wirable n b) {d i : ℕ} {l m q : List 
       assoc : (x y z : Set) → x ∪ y ∪ z ≡ x ∪ (y ∪ z)
       assoc x y z = sets (x ∷ y ∷ z ∷ []) [] (A ∪ₑ B ∪ₑ C ≐ A ∪ₑ (B ∪ₑ C)) tt
 
+-- no slaves
+slaves-none : (F : File) (d : ℕ) → mine F d 0 ≡ nil
+unfolding gather
+slaves-none F d = refl
+
+downs-nil : (c : ℕ) → downs nil c ≡ 0
+unfolding down
+downs-nil c = refl
+
+ups-nil : (c : ℕ) → ups nil c ≡ 0
+unfolding up
+ups-nil c = refl
+
+backs-nil : (E : ℕ → Chart) (c d : ℕ) → backs E nil c d ≡ 0
+unfolding back
+backs-nil E c d = refl
+
+behind : (s x : Set) → x ≡ 0 → s ≡ s ∪ x
+behind s x h = sets (s ∷ x ∷ []) (B ≐ ∅ₑ ∷ []) (A ≐ A ∪ₑ B) tt h
+
 -- all slaves joined, and the chart's feedback fed
 module _ {n : Shape} {b : List ℕ} (w : Wirable n b) {j : ℕ} (p : j < n .nodes) {r : Node} (e : r ≡ nodeAt n b j) (k₂ : r .kind ≡ 2 → ⊥) (k₁ : r .kind ≡ 1 → ⊥) where
   abbrev H : File
@@ -283,6 +303,44 @@ module _ {n : Shape} {b : List ℕ} (w : Wirable n b) {j : ℕ} (p : j < n .node
           rows-as (g .rows-are)
           (λ c. ap (λ (k : ℕ). own k c ∪ downs (mine H k (n .slaves)) c) (is-node n b j e .a) ∙ sym (down₀ H (w .sound .ordered) j c p k))
           (λ c. ap (λ (k : ℕ). own k c ∪ ups (mine H k (n .slaves)) c) (is-node n b j e .a) ∙ sym (up₀ H (w .sound .ordered) j c p k))
+
+  -- a chart of a file without slaves
+  pub wires-lone : n .slaves ≡ 0 → {l m o o′ : List ℕ} → JoinsRows o o′ (own (r .a)) (own (r .a))
+      × Joins l m (λ c d. own (r .a) c ∩ own (r .a) d ∩ headAt n b (r .a) .feedback) → Wires H (treeOf H j) l m o o′
+  unfolding fileAt
+  wires-lone none {l} {m} {o} {o′} g =
+      record {
+        rows-are = record {
+          down-is = λ c u. g .0 .down-is c u ∙ ap (λ (s : Set). downIn o c ∪ s) (own-down c);
+          up-is = λ c u. g .0 .up-is c u ∙ ap (λ (s : Set). upIn o c ∪ s) (own-up c);
+          long = g .0 .long;
+        };
+        back-is = λ c d u v.
+            g .1 c d u v
+            ∙ ap (λ (s : Set). getD l (8 * d + c) 0 ∪ s)
+            (ap₂ _∩_ (ap₂ _∩_ (own-down c) (own-up d)) (is-feedback n b (r .a) refl ∙ ap (λ (k : ℕ). H .chart k .feedback) (is-node n b j e .a))
+            ∙ no-slaves (backs (H .chart) (mine H (H .a j) (n .slaves)) c d) _ (backs-none c d) ∙ sym (back₀ H (w .sound .ordered) j c d p k));
+      }
+    where
+      k : H .kind j ≡ 0
+      k = kind-chart w p e k₂ k₁
+
+      no-slaves : (x s : Set) → x ≡ 0 → s ≡ x ∪ s
+      no-slaves x s h = sets (x ∷ s ∷ []) (A ≐ ∅ₑ ∷ []) (B ≐ A ∪ₑ B) tt h
+
+      none-there : mine H (H .a j) (n .slaves) ≡ nil
+      none-there = ap (mine H (H .a j)) none ∙ slaves-none H (H .a j)
+
+      own-down : (c : ℕ) → own (r .a) c ≡ down (treeOf H j) c
+      own-down c = ap (λ (d : ℕ). own d c) (is-node n b j e .a)
+          ∙ behind (own (H .a j) c) _ (ap (λ (ss : Slaves). downs ss c) none-there ∙ downs-nil c) ∙ sym (down₀ H (w .sound .ordered) j c p k)
+
+      own-up : (c : ℕ) → own (r .a) c ≡ up (treeOf H j) c
+      own-up c = ap (λ (d : ℕ). own d c) (is-node n b j e .a)
+          ∙ behind (own (H .a j) c) _ (ap (λ (ss : Slaves). ups ss c) none-there ∙ ups-nil c) ∙ sym (up₀ H (w .sound .ordered) j c p k)
+
+      backs-none : (c d : ℕ) → backs (H .chart) (mine H (H .a j) (n .slaves)) c d ≡ 0
+      backs-none c d = ap (λ (ss : Slaves). backs (H .chart) ss c d) none-there ∙ backs-nil (H .chart) c d
 
 -- ── the whole, from an empty square ──
 

@@ -4,12 +4,13 @@ ghost use mathlib.Core.Path.{_≡_};
 ghost use Prim.Native.Nat.{_+_, _*_, _≤_, _<_};
 ghost use lib.ListN.{length, getD, replicate};
 ghost use Rattle.signals.specs.Mask.{_∪_, _∩_, _∖_};
+ghost use Rattle.layout.specs.Body.{Holds, headAt};
 ghost use Rattle.meaning.specs.File.{treeOf, fileAt};
 ghost use Rattle.wiring.specs.Wire.{own};
 ghost use Rattle.search.specs.Table.{Row};
 ghost use Rattle.nesting.specs.Known.{Wirable};
 ghost use Rattle.nesting.specs.Nearest.{Right};
-ghost use Rattle.plan.specs.Wire.{downIn, upIn, RowAt, AreRows, JoinsRows, Feeds, Wires, Whole};
+ghost use Rattle.plan.specs.Wire.{Joins, downIn, upIn, RowAt, AreRows, JoinsRows, Feeds, Wires, Whole};
 ghost use Rattle.plan.specs.Noted.{Notes, NotedNone, NearestIn};
 ghost use Rattle.plan.specs.Wired.{Wired};
 use layout::body::Shape;
@@ -111,6 +112,18 @@ fn feed(back: &mut [u64], part: &[u64; 16], x: u64)
     }
 }
 
+// A chart of a file that has no slaves: of each of its rows a single mask is not empty, and of its feedback too. Many files have none.
+fn lone(n: Shape, body: &[u8], d: usize, back: &mut [u64], rows: &mut [u64; 16])
+    requires { ⌜ Holds n (now body) × (d < n .charts) × (d < 8) × (length (now back) ≡ 64) × (length (now rows) ≡ 16) ⌝ }
+    ensures { λ _. ⌜ JoinsRows (now (rows .entry)) (now (rows .exit)) (own d) (own d)
+        × Joins (now (back .entry)) (now (back .exit)) (λ c e. own d c ∩ own d e ∩ headAt n (now (body .entry)) d .feedback) ⌝ }
+{
+    let head = layout::body::head_at(n, body, d);
+    rows[d] = rows[d] | signals::ALL;
+    rows[UP_ROW + d] = rows[UP_ROW + d] | signals::ALL;
+    back[8 * d + d] = back[8 * d + d] | signals::ALL & head.feedback;
+}
+
 // Joins the rows of node j's part to `rows`, and its feedback to the square `back`. Both are lent, so that a frame has the rows of one part alone.
 pub fn wire(n: Shape, body: &[u8], j: usize, back: &mut [u64], rows: &mut [u64; 16])
     requires { ⌜ Wirable n (now body) × (j < n .nodes) × (length (now back) ≡ 64) × (length (now rows) ≡ 16) ⌝ }
@@ -130,6 +143,10 @@ pub fn wire(n: Shape, body: &[u8], j: usize, back: &mut [u64], rows: &mut [u64; 
         wire(n, body, b, back, &mut part);
         feed(back, &part, node.x);
         join(rows, &part, 0, 0);
+        return;
+    }
+    if n.slaves == 0 {
+        lone(n, body, a, back, rows);
         return;
     }
     alone(&mut part, a);

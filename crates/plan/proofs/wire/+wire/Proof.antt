@@ -10,7 +10,7 @@ use borrow.Fn.Kinds.{In}
 use borrow.Fn.PlainCycle.{Measures, is, falls, and}
 use lib.ListN.{length}
 use Rattle.meaning.specs.File.{fileAt}
-use Rattle.plan.proofs.Wiring.{lower-hide, lower-comp, below-charts, lower-slave, wires-hide, wires-comp, Gathers, gathers-none, gathers-in, gathers-out, wires-chart}
+use Rattle.plan.proofs.Wiring.{lower-hide, lower-comp, below-charts, lower-slave, wires-hide, wires-comp, Gathers, gathers-none, gathers-in, gathers-out, wires-chart, wires-lone}
 use Rattle.plan.proofs.wire.wire.Reads as wire
 use Rattle.plan.proofs.wire.wire.Kinds as wire-kinds
 use Rattle.plan.proofs.wire.+wire.Lts-wire as lts
@@ -20,6 +20,7 @@ use Rattle.layout.proofs.body.slave_at.Reads as slave-at-reads
 use Rattle.plan.proofs.wire.alone.Reads as alone-reads
 use Rattle.plan.proofs.wire.feed.Reads as feed-reads
 use Rattle.plan.proofs.wire.join.Reads as join-reads
+use Rattle.plan.proofs.wire.lone.Reads as lone-reads
 use Rattle.plan.proofs.wire.+wire.{statement}
 use Rattle.plan.proofs.wire.+wire.Tie.{close}
 
@@ -47,6 +48,8 @@ callees t = (
   join-reads.Learnt,
   feed-reads.Asked,
   feed-reads.Learnt,
+  lone-reads.Asked,
+  lone-reads.Learnt,
   alone-reads.Asked,
   alone-reads.Learnt,
   slave-at-reads.Asked,
@@ -167,20 +170,43 @@ module _ (t : ℕ) where
   abbrev head : lts.After-part9 (callees t) (at t) wire.Post Inv-loop μ-loop → lts.After-head-at (callees t) (at t) wire.Post Inv-loop μ-loop
   head c = c .before .before
 
-  abbrev loop : lts.Else3 (callees t) (at t) wire.Post Inv-loop μ-loop → lts.At-loop (callees t) (at t) wire.Post Inv-loop μ-loop
+  abbrev loop : lts.Else4 (callees t) (at t) wire.Post Inv-loop μ-loop → lts.At-loop (callees t) (at t) wire.Post Inv-loop μ-loop
   loop c = c .before .before
 
   abbrev charted : lts.At-loop (callees t) (at t) wire.Post Inv-loop μ-loop → lts.Else2 (callees t) (at t) wire.Post Inv-loop μ-loop
-  charted c = c .before .before .before
+  charted c = c .before .before .before .before .before
 
   abbrev chart-read : lts.Else2 (callees t) (at t) wire.Post Inv-loop μ-loop → lts.After-node-at (callees t) (at t) wire.Post Inv-loop μ-loop
   chart-read c = c .before .before .before .before .before
+
+  -- back from where a chart of a file without slaves is wired, to where the kind is known
+  abbrev lone-kind : lts.After-lone-arg2 (callees t) (at t) wire.Post Inv-loop μ-loop → lts.Else2 (callees t) (at t) wire.Post Inv-loop μ-loop
+  lone-kind c = c .before .before .before .before
+
+  lone-requires : lts.Need-lone-requires (callees t) (at t) wire.Post Inv-loop μ-loop
+  lone-requires c κs =
+      let k = lone-kind c in
+      let r = chart-read k in
+      let s = entry r in
+      let h = below-charts (s .pre .1 .0) (s .pre .1 .1) (r .node-at .ensures) (k .before .before .if1 .left) (k .if2 .left) in
+      (s .pre .1 .0 .sized .holds, h, omega (arith, s .pre .1 .0 .sized .charts), s .pre .1 .2, s .pre .1 .3)
+
+  lone-length : lts.Need-same-length-3 (callees t) (at t) wire.Post Inv-loop μ-loop
+  lone-length c = c .before .before .lone .kept .1 .1 .1 .0
+
+  lone-returns : lts.Need-returns-3 (callees t) (at t) wire.Post Inv-loop μ-loop
+  lone-returns c =
+      let o = c .before .before in
+      let k = lone-kind (o .before) in
+      let r = chart-read k in
+      let s = entry r in
+      wires-lone (s .pre .1 .0) (s .pre .1 .1) (r .node-at .ensures) (k .before .before .if1 .left) (k .if2 .left) (o .before .before .before .if3 .taken) (o .lone .ensures)
 
   loop-holds : lts.Need-loop-holds (callees t) (at t) wire.Post Inv-loop μ-loop
   loop-holds c = (omega arith, refl, gathers-none _ _ _ (c .alone .ensures))
 
   slave-at-requires : lts.Need-slave-at-requires (callees t) (at t) wire.Post Inv-loop μ-loop
-  slave-at-requires c κs = (entry (chart-read (charted (c .before .before))) .pre .1 .0 .sized .holds, c .if3 .taken)
+  slave-at-requires c κs = (entry (chart-read (charted (c .before .before))) .pre .1 .0 .sized .holds, c .if4 .taken)
 
   -- back from where a slave's node is wired: to where the slave was read, the loop's head
   abbrev slave : lts.After-part8 (callees t) (at t) wire.Post Inv-loop μ-loop → lts.After-slave-at (callees t) (at t) wire.Post Inv-loop μ-loop
@@ -196,7 +222,7 @@ module _ (t : ℕ) where
       let k = charted l in
       let r = chart-read k in
       let s = entry r in
-      let h = lower-slave (s .pre .1 .0) (s .pre .1 .1) (r .node-at .ensures) (k .before .before .if1 .left) (k .if2 .left) (v .before .if3 .taken) (v .slave-at .ensures) (c .before .before .before .if4 .taken) in
+      let h = lower-slave (s .pre .1 .0) (s .pre .1 .1) (r .node-at .ensures) (k .before .before .if1 .left) (k .if2 .left) (v .before .if4 .taken) (v .slave-at .ensures) (c .before .before .before .if5 .taken) in
       (omega (arith, s .pre .0), (s .pre .1 .0, omega (arith, s .pre .1 .1), l .loop .inv .1 ∙ s .pre .1 .2, l .loop .inv .2 .rows-are .long))
 
   loop-again : lts.Need-loop-again (callees t) (at t) wire.Post Inv-loop μ-loop
@@ -208,11 +234,11 @@ module _ (t : ℕ) where
       let s = entry r in
       let b = s .args .back .now in
       let Now : List ℕ → List ℕ → Type 0 = λ m q. (length m ≡ length b) × Gathers (fileAt (s .args .n) (s .args .body .now)) (r .node-at .result .a) (l .loop .i + 1) b m q in
-      let z : Now (c .if4 .back) (c .if4 .part) =
+      let z : Now (c .if5 .back) (c .if5 .part) =
       ⊎-elim
       (λ w. subst₂ Now (sym (w .7)) (sym (w .8)) (w .4 .kept .1 .1 .1 .0 ∙ i .1, gathers-in (s .pre .1 .0) (v .slave-at .ensures) (i .2) (w .0 .taken) (w .4 .ensures)))
       (λ w. subst₂ Now (sym (w .1)) (sym (w .2)) (i .1, gathers-out (s .pre .1 .0) (v .slave-at .ensures) (i .2) (w .0 .left)))
-      (c .if4 .came) in
+      (c .if5 .came) in
       (omega arith, z .0, z .1)
 
   head-at-requires : lts.Need-head-at-requires (callees t) (at t) wire.Post Inv-loop μ-loop
@@ -230,12 +256,12 @@ module _ (t : ℕ) where
   join-requires-3 : lts.Need-join-requires-3 (callees t) (at t) wire.Post Inv-loop μ-loop
   join-requires-3 c κs = entry (chart-read (charted (loop (head (chart-fed c .before) .before)))) .pre .1 .3
 
-  same-length-3 : lts.Need-same-length-3 (callees t) (at t) wire.Post Inv-loop μ-loop
+  same-length-3 : lts.Need-same-length-4 (callees t) (at t) wire.Post Inv-loop μ-loop
   same-length-3 c =
       let f = chart-fed (c .before) in
       f .feed2 .kept .0 ∙ loop (head (f .before) .before) .loop .inv .1
 
-  returns-3 : lts.Need-returns-3 (callees t) (at t) wire.Post Inv-loop μ-loop
+  returns-3 : lts.Need-returns-4 (callees t) (at t) wire.Post Inv-loop μ-loop
   returns-3 c =
       let f = chart-fed (c .before) in
       let d = head (f .before) in
@@ -243,7 +269,7 @@ module _ (t : ℕ) where
       let k = charted l in
       let r = chart-read k in
       let s = entry r in
-      let all : l .loop .i ≡ s .args .n .slaves = omega (arith, l .loop .inv .0, d .before .if3 .left) in
+      let all : l .loop .i ≡ s .args .n .slaves = omega (arith, l .loop .inv .0, d .before .if4 .left) in
       wires-chart (s .pre .1 .0) (s .pre .1 .1) (r .node-at .ensures) (k .before .before .if1 .left) (k .if2 .left) all (l .loop .inv .2) (d .head-at .ensures) (f .feed2 .ensures) (c .join3 .ensures)
 
 pub +wire-spec : {M : Type 1} → statement M
@@ -269,6 +295,9 @@ pub +wire-spec : {M : Type 1} → statement M
     (join-requires-2 t)
     (same-length-2 t)
     (returns-2 t)
+    (lone-requires t)
+    (lone-length t)
+    (lone-returns t)
     (λ c κs. refl)
     (loop-holds t)
     (slave-at-requires t)
