@@ -23,14 +23,23 @@ struct Measured<'a> {
 }
 
 impl<'a> Measured<'a> {
-    /// Makes the call once, to know how often a sample makes it.
+    /// Makes the call more and more often until that takes a good part of a sample, to know how often a
+    /// sample makes it: the first calls take several times longer than those that follow.
     fn new(mut call: Call<'a>) -> Measured<'a> {
-        let once = seconds(&mut call, 1);
+        let mut repeats = 1;
+        let mut took = seconds(&mut call, repeats);
+        let mut spent = took;
+        while took < SAMPLE / 4.0 {
+            repeats *= 4;
+            took = seconds(&mut call, repeats);
+            spent += took;
+        }
+        let once = took / repeats as f64;
         Measured {
             call,
             repeats: ((SAMPLE / once) as usize).clamp(1, 100_000),
             least: once,
-            spent: once,
+            spent,
         }
     }
 

@@ -75,6 +75,16 @@ fn compared(label: &str, all: &[Taken]) -> (Row, Vec<Bar>) {
     (Row { label, cells }, bars)
 }
 
+/// What a step of a family takes when each file is stepped as often as any other: the mean.
+fn together(all: &[Taken]) -> Taken {
+    let mean = |get: &dyn Fn(&Taken) -> f64| all.iter().map(get).sum::<f64>() / all.len() as f64;
+    Taken {
+        engine: mean(&|t| t.engine),
+        hand: mean(&|t| t.hand),
+        reference: Some(mean(&|t| t.reference.unwrap_or(f64::NAN))),
+    }
+}
+
 /// What each subject of a family takes.
 fn taken_by(family: &[Subject], calls: impl Fn(&Subject) -> Calls<'_>) -> Vec<Taken> {
     family
@@ -152,8 +162,11 @@ fn check_calls(subject: &Subject) -> Calls<'_> {
 /// Steps.
 pub fn step() -> Part {
     let row = |label: &str, family: &[Subject]| row_of(label, family, |s| step_calls(s, true));
+    let everyday = family::everyday();
+    let taken = taken_by(&everyday, |s| step_calls(s, true));
     let mut rows = vec![
-        row("everyday, 1 to 4 charts", &family::everyday()),
+        compared("everyday, 1 to 4 charts", &[together(&taken)]),
+        compared("everyday, the median file", &taken),
         row("hard, 8 charts, 8 from a state", &family::hard()),
     ];
     for (label, subject) in family::special() {

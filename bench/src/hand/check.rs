@@ -53,7 +53,12 @@ fn found(file: &[u8]) -> Result<Body<'_>, u8> {
 
 /// 5: a zero byte that is none.
 fn nonzero(body: &Body, trailer: &[u8]) -> bool {
-    let any = |at: usize, count: usize| body.bytes[at..at + count].iter().any(|&byte| byte != 0);
+    let any = |at: usize, count: usize| {
+        body.bytes[at..at + count]
+            .iter()
+            .fold(0, |all, byte| all | byte)
+            != 0
+    };
     (0..body.charts).any(|c| any(CHART * c + 3, 5))
         || (0..body.transitions).any(|t| any(body.transition_at(t) + 2, 2))
         || (0..body.slaves).any(|i| any(body.slave_at(i) + 3, 1))
@@ -169,11 +174,26 @@ fn bad_naming(body: &Body) -> bool {
 
 /// 11: a chart inside a slave that is not numbered above its master.
 fn bad_inside(body: &Body) -> bool {
-    let near = nearest(body);
-    (0..body.charts).any(|c| {
-        let slave = usize::from(near[c]);
-        slave < body.slaves && c <= usize::from(body.slave(slave).chart)
-    })
+    if body.slaves == 0 {
+        return false;
+    }
+    let lowest = lowest(body);
+    body.all_slaves()
+        .any(|slave| slave.chart >= lowest[usize::from(slave.node)])
+}
+
+/// Of each node the lowest chart, slaves left out: if all slaves pass, they have none that is lower.
+fn lowest(body: &Body) -> [u8; 64] {
+    let mut lowest = [0; 64];
+    for number in 0..body.nodes {
+        let node = body.node(number);
+        lowest[number] = match node.kind {
+            0 => node.a,
+            1 => lowest[usize::from(node.a)].min(lowest[usize::from(node.b)]),
+            _ => lowest[usize::from(node.a)],
+        };
+    }
+    lowest
 }
 
 /// The number of each chart's nearest enclosing slave, from the last node down.

@@ -21,62 +21,81 @@ pub struct Wiring {
 /// The wiring of a checked file.
 pub fn wired(body: &Body) -> Wiring {
     let mut back = [[0; 8]; 8];
-    let (down, up) = wire(body, body.nodes - 1, &mut back);
+    let mut rows = Rows::default();
+    wire(body, body.nodes - 1, &mut back, &mut rows);
     Wiring {
-        down,
-        up,
+        down: rows.down,
+        up: rows.up,
         back,
         masters: masters(body),
     }
 }
 
-/// The rows of a node's charts; its feedback is joined to `back`.
-fn wire(body: &Body, number: usize, back: &mut [Row; 8]) -> (Row, Row) {
+/// What of a set offered to a part gets down to each chart, and what of each chart's action gets up.
+#[derive(Clone, Copy, Default)]
+struct Rows {
+    down: Row,
+    up: Row,
+}
+
+impl Rows {
+    /// Joins the rows of a part, x filtered from its input and y hidden from its output.
+    fn join(&mut self, part: &Rows, x: u64, y: u64) {
+        for c in 0..8 {
+            self.down[c] |= part.down[c] & !x;
+            self.up[c] |= part.up[c] & !y;
+        }
+    }
+}
+
+/// Joins the rows of a node's part to `rows`, and its feedback to `back`.
+fn wire(body: &Body, number: usize, back: &mut [Row; 8], rows: &mut Rows) {
     let node = body.node(number);
+    let mut part = Rows::default();
     match node.kind {
-        0 => wire_chart(body, usize::from(node.a), back),
+        0 => wire_chart(body, usize::from(node.a), back, rows),
         1 => {
-            let one = wire(body, usize::from(node.a), back);
-            let other = wire(body, usize::from(node.b), back);
-            let both = joined(one, other);
-            feed(back, &both, node.x);
-            both
+            wire(body, usize::from(node.a), back, &mut part);
+            wire(body, usize::from(node.b), back, &mut part);
+            feed(back, &part, node.x);
+            rows.join(&part, 0, 0);
         }
         _ => {
-            let (down, up) = wire(body, usize::from(node.a), back);
-            (
-                down.map(|mask| mask & !node.x),
-                up.map(|mask| mask & !node.y),
-            )
+            wire(body, usize::from(node.a), back, &mut part);
+            rows.join(&part, node.x, node.y);
         }
     }
 }
 
-/// The rows of a chart and its slaves.
-fn wire_chart(body: &Body, chart: usize, back: &mut [Row; 8]) -> (Row, Row) {
+/// Joins the rows of a chart and its slaves. Without slaves a single mask of each is not empty.
+fn wire_chart(body: &Body, chart: usize, back: &mut [Row; 8], rows: &mut Rows) {
+    let feedback = body.chart(chart).feedback;
+    if body.slaves == 0 {
+        rows.down[chart] = u64::MAX;
+        rows.up[chart] = u64::MAX;
+        back[chart][chart] |= feedback;
+        return;
+    }
     let own = std::array::from_fn(|c| if c == chart { u64::MAX } else { 0 });
-    let mut rows = (own, own);
+    let mut part = Rows { down: own, up: own };
     for slave in body.all_slaves() {
         if usize::from(slave.chart) == chart {
-            rows = joined(rows, wire(body, usize::from(slave.node), back));
+            wire(body, usize::from(slave.node), back, &mut part);
         }
     }
-    feed(back, &rows, body.chart(chart).feedback);
-    rows
-}
-
-/// The rows of two parts.
-fn joined(one: (Row, Row), other: (Row, Row)) -> (Row, Row) {
-    let join = |a: Row, b: Row| std::array::from_fn(|c| a[c] | b[c]);
-    (join(one.0, other.0), join(one.1, other.1))
+    feed(back, &part, feedback);
+    rows.join(&part, 0, 0);
 }
 
 /// Feedback of a set over a part.
-fn feed(back: &mut [Row; 8], rows: &(Row, Row), set: u64) {
-    for (row, up) in back.iter_mut().zip(rows.1) {
+fn feed(back: &mut [Row; 8], part: &Rows, set: u64) {
+    if set == 0 {
+        return;
+    }
+    for (row, up) in back.iter_mut().zip(part.up) {
         let fed = up & set;
         if fed != 0 {
-            for (mask, down) in row.iter_mut().zip(rows.0) {
+            for (mask, down) in row.iter_mut().zip(part.down) {
                 *mask |= fed & down;
             }
         }
