@@ -109,8 +109,9 @@ fn a_refusal_prints_its_number_and_the_documents_words() {
     let refusal: Box<dyn std::error::Error> = Box::new(Refusal::of(23).unwrap());
     assert_eq!(refusal.to_string(), "refused 23: no permitted step");
     assert_eq!(Refusal::of(0), None);
+    let unknown = Refusal::of(99).unwrap().words();
     for known in (1..=11).chain(20..=23).chain([27]).chain(40..=45) {
         let words = Refusal::of(known).unwrap().words();
-        assert_ne!(words, Refusal::of(99).unwrap().words(), "{known}");
+        assert_eq!(words == unknown, known == 43, "{known}");
     }
 }
