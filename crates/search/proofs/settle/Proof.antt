@@ -36,10 +36,10 @@ module _ (o : Outcome) (acc : Found) where
   unfolding settleOf same
   other-output h e = rw (h, ne-eqb (o .output) (acc .output) e)
 
--- the last byte is 0
+-- the last byte is written
 module _ (f g : List ℕ) (held : Held f g) where
-  pub off-held : Held (set f 17 0) g
-  off-held = record { bytes = length-set f 17 0 ∙ held .bytes; output = held .output }
+  pub written-held : (x : ℕ) → Held (set f 17 x) g
+  written-held x = record { bytes = length-set f 17 x ∙ held .bytes; output = held .output }
 
   off : foundIn (set f 17 0) g
       ≡ record { has = foundIn f g .has; agree = false; output = foundIn f g .output; next = foundIn f g .next; places = foundIn f g .places }
@@ -88,7 +88,7 @@ returns-3 c =
     let a = s .args in
     let o = outcomeIn (a .moves .now) (a .charts) (a .output) in
     let acc = foundIn (a .best .now) (a .shown .now) in (
-      off-held (a .best .now) (a .shown .now) (s .pre .0),
+      written-held (a .best .now) (a .shown .now) (s .pre .0) _,
       off (a .best .now) (a .shown .now) (s .pre .0)
           ∙ ⊎-elim
           (λ w. other-next o acc (found-one _ (k .if1 .left))
