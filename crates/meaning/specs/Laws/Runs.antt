@@ -7,7 +7,7 @@ use Prim.Native.Nat.{ℕ, zero, suc, _+_, _*_, _≤_, _<_}
 use native.Mathlib.Nat.{suc-mul}
 use native.Mathlib.Omega.{arith}
 use lib.ListN.{length, getD, take, drop, length-append}
-use lib.Seq.{drop-cons, drop-drop, take-at, drop-at}
+use lib.Seq.{drop-length, drop-cons, drop-drop, take-at, drop-at}
 use Rattle.signals.specs.Mask.{_∪_}
 use Rattle.layout.specs.Le.Laws.{length-bytes}
 use Rattle.layout.specs.declared.record.Transition.{Transition}
@@ -139,8 +139,13 @@ module _ (F : File) (leads : Leads F) where
     unfolding standAt
     carried-refused k r e = ap (λ a. carriedAfter a (standAt F s inputs k .carried ∪ getD inputs k 0)) e
 
-    -- what the run returns is what is carried after the last input
-    pub carried-last : (k : ℕ) → k ≤ length inputs → carriedFrom F s inputs ≡ carriedFrom F (standAt F s inputs k) (drop k inputs)
+    -- what the run returns is what the inputs behind the first k return from where it stands there
+    carried-behind : (k : ℕ) → k ≤ length inputs → carriedFrom F s inputs ≡ carriedFrom F (standAt F s inputs k) (drop k inputs)
     unfolding standAt
-    carried-last zero l = refl
-    carried-last (suc k) l = carried-last k (omega arith) ∙ carried-next F (standAt F s inputs k) inputs k l
+    carried-behind zero l = refl
+    carried-behind (suc k) l = carried-behind k (omega arith) ∙ carried-next F (standAt F s inputs k) inputs k l
+
+    -- so it is what is carried after the last input
+    pub carried-last : carriedFrom F s inputs ≡ standAt F s inputs (length inputs) .carried
+    unfolding carriedOf
+    carried-last = carried-behind (length inputs) (omega arith) ∙ ap (carriedFrom F (standAt F s inputs (length inputs))) (drop-length inputs)

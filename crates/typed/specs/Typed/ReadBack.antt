@@ -1,7 +1,7 @@
 -- What is shown reads back as the same: a set as signals (`shown-reads`), a configuration with dots (`dotted-reads`). In this order: each signal and
 -- each state by itself; parts that are joined split again; the signals of a set joined are the set; the two theorems.
 use mathlib.Core.Path.{_≡_, refl, sym, ap, _∙_}
-use mathlib.Core.Bool.{Bool, true, false, not, _&&_, _||_, cond, false≢true}
+use mathlib.Core.Bool.{Bool, true, false, not, _&&_, _||_, cond, false≢true, or-false}
 use mathlib.Core.List.{List, [], _∷_, _++_, map, append-assoc, append-nil}
 use mathlib.Core.Logic.{⊎-elim}
 use Prim.Native.Nat.{ℕ, zero, suc, _+_, _^_, _≤_, _<_}
@@ -117,10 +117,6 @@ joinedTo (suc n) s = cond (bit s n) (joinedTo n s ∪ single n) (joinedTo n s)
 
 bit-with : (u n m : ℕ) → bit (u ∪ single n) m ≡ (bit u m || eqb n m)
 bit-with u n m = bit-union m u (single n) ∙ ap (λ (t : Bool). bit u m || t) (bit-single n m)
-
-or-false : (t : Bool) → (t || false) ≡ t
-or-false true = refl
-or-false false = refl
 
 joined-high : (n s m : ℕ) → n ≤ m → bit (joinedTo n s) m ≡ false
 unfolding joinedTo

@@ -1,7 +1,7 @@
 -- `calls::given` meets its contract. The loop's invariant: each slave passed has its number, and the others are those that `left` lacks.
 -- Assumes nothing.
 use mathlib.Core.Path.{_≡_, refl, sym, ap, _∙_}
-use mathlib.Core.Bool.{Bool, true, false, not, _||_, cond, false≢true}
+use mathlib.Core.Bool.{Bool, true, false, not, _||_, cond, false≢true, or-false}
 use mathlib.Core.List.{List, [], _∷_, _++_}
 use mathlib.Core.Logic.{⊎-elim}
 use Prim.Native.Nat.{ℕ, zero, suc, _+_, _-_, _^_, _≤_, _<_}
@@ -35,10 +35,6 @@ lacks-none s (suc n) h = rw (h n (omega arith)) (lacks-none s n (λ k l. h k (om
 
 bit-with : (s m k : ℕ) → bit (s ∪ single m) k ≡ (bit s k || bit (single m) k)
 bit-with s m k = bit-union k s (single m)
-
-or-false : (a : Bool) → (a || false) ≡ a
-or-false true = refl
-or-false false = refl
 
 bit-own : (s m : ℕ) → bit (s ∪ single m) m ≡ true
 bit-own s m = bit-with s m m ∙ ap (λ (b : Bool). bit s m || b) (bit-single m m ∙ eq-eqb m m refl) ∙ or-r (bit s m) true refl
