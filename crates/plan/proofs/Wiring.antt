@@ -2,8 +2,9 @@
 -- joined; hidden; composed; a chart and its slaves, of which the loop has joined the first k (Gathers); the whole.
 -- Assumes nothing.
 use mathlib.Core.Path.{_≡_, refl, sym, ap, ap₂, subst, _∙_}
+use mathlib.Core.Bool.{false}
 use mathlib.Core.List.{List, [], _∷_}
-use Prim.Native.Nat.{ℕ, suc, _+_, _*_, _<_}
+use Prim.Native.Nat.{ℕ, zero, suc, _+_, _*_, _<_}
 use native.Mathlib.Nat.{zero-add}
 use native.Mathlib.Numerals.{add-one}
 use native.Mathlib.Omega.{arith}
@@ -15,8 +16,12 @@ use Rattle.layout.specs.declared.body.Shape.{Shape}
 use Rattle.layout.specs.declared.record.Head.{Head}
 use Rattle.layout.specs.declared.record.Slave.{Slave}
 use Rattle.layout.specs.declared.record.Node.{Node}
-use Rattle.meaning.specs.Meaning.{Set, Tree, Slaves, Chart, nil}
+use Rattle.meaning.specs.Count.{anyUpTo}
+use Rattle.meaning.specs.Count.Laws.{or-left, or-right}
+use Rattle.meaning.specs.Meaning.{same, Set, Tree, Slaves, Chart, nil}
 use Rattle.meaning.specs.File.{File, gather, treeOf, wholeOf, chartOf, fileAt}
+use Rattle.meaning.specs.Laws.Bools.{same→≢}
+use Rattle.meaning.specs.Laws.Trees.{Ordered}
 use Rattle.wiring.specs.Wire.{own, down, downs, up, ups, back, backs}
 use Rattle.wiring.specs.Rows.{down₀, down₁, down₂, up₀, up₁, up₂, back₀, back₁, back₂, slaves-out, downs-step, ups-step, backs-step}
 use Rattle.nesting.specs.Known.{Wirable}
@@ -252,10 +257,12 @@ module _ {n : Shape} {b : List ℕ} (w : Wirable n b) {d i : ℕ} {l m q : List 
       assoc : (x y z : Set) → x ∪ y ∪ z ≡ x ∪ (y ∪ z)
       assoc x y z = sets (x ∷ y ∷ z ∷ []) [] (A ∪ₑ B ∪ₑ C ≐ A ∪ₑ (B ∪ₑ C)) tt
 
--- no slaves
-slaves-none : (F : File) (d : ℕ) → mine F d 0 ≡ nil
-unfolding gather
-slaves-none F d = refl
+-- none of the first k slaves is one of chart d
+slaves-none : (F : File) → Ordered F → (d k : ℕ) → anyUpTo k (λ i. same (F .master i) d) ≡ false → mine F d k ≡ nil
+unfolding gather anyUpTo
+slaves-none F w d zero h = refl
+slaves-none F w d (suc k) h =
+    slaves-out F w d k (same→≢ (F .master k) d (or-right (anyUpTo k (λ i. same (F .master i) d)) _ h)) ∙ slaves-none F w d k (or-left _ (same (F .master k) d) h)
 
 downs-nil : (c : ℕ) → downs nil c ≡ 0
 unfolding down
@@ -304,8 +311,8 @@ module _ {n : Shape} {b : List ℕ} (w : Wirable n b) {j : ℕ} (p : j < n .node
           (λ c. ap (λ (k : ℕ). own k c ∪ downs (mine H k (n .slaves)) c) (is-node n b j e .a) ∙ sym (down₀ H (w .sound .ordered) j c p k))
           (λ c. ap (λ (k : ℕ). own k c ∪ ups (mine H k (n .slaves)) c) (is-node n b j e .a) ∙ sym (up₀ H (w .sound .ordered) j c p k))
 
-  -- a chart of a file without slaves
-  pub wires-lone : n .slaves ≡ 0 → {l m o o′ : List ℕ} → JoinsRows o o′ (own (r .a)) (own (r .a))
+  -- a chart without slaves
+  pub wires-lone : anyUpTo (n .slaves) (λ i. same (slaveAt n b i .chart) (r .a)) ≡ false → {l m o o′ : List ℕ} → JoinsRows o o′ (own (r .a)) (own (r .a))
       × Joins l m (λ c d. own (r .a) c ∩ own (r .a) d ∩ headAt n b (r .a) .feedback) → Wires H (treeOf H j) l m o o′
   unfolding fileAt
   wires-lone none {l} {m} {o} {o′} g =
@@ -329,7 +336,7 @@ module _ {n : Shape} {b : List ℕ} (w : Wirable n b) {j : ℕ} (p : j < n .node
       no-slaves x s h = sets (x ∷ s ∷ []) (A ≐ ∅ₑ ∷ []) (B ≐ A ∪ₑ B) tt h
 
       none-there : mine H (H .a j) (n .slaves) ≡ nil
-      none-there = ap (mine H (H .a j)) none ∙ slaves-none H (H .a j)
+      none-there = ap (λ (d : ℕ). mine H d (n .slaves)) (sym (is-node n b j e .a)) ∙ slaves-none H (w .sound .ordered) (r .a) (n .slaves) none
 
       own-down : (c : ℕ) → own (r .a) c ≡ down (treeOf H j) c
       own-down c = ap (λ (d : ℕ). own d c) (is-node n b j e .a)

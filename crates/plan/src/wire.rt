@@ -4,7 +4,9 @@ ghost use mathlib.Core.Path.{_≡_};
 ghost use Prim.Native.Nat.{_+_, _*_, _≤_, _<_};
 ghost use lib.ListN.{length, getD, replicate};
 ghost use Rattle.signals.specs.Mask.{_∪_, _∩_, _∖_};
-ghost use Rattle.layout.specs.Body.{Holds, headAt};
+ghost use Rattle.layout.specs.Body.{Holds, headAt, slaveAt};
+ghost use Rattle.meaning.specs.Count.{anyUpTo};
+ghost use Rattle.meaning.specs.Meaning.{same};
 ghost use Rattle.meaning.specs.File.{treeOf, fileAt};
 ghost use Rattle.wiring.specs.Wire.{own};
 ghost use Rattle.search.specs.Table.{Row};
@@ -112,7 +114,22 @@ fn feed(back: &mut [u64], part: &[u64; 16], x: u64)
     }
 }
 
-// A chart of a file that has no slaves: of each of its rows a single mask is not empty, and of its feedback too. Many files have none.
+// Whether a slave decomposes a state of chart c.
+fn is_master(n: Shape, body: &[u8], c: u8) -> bool
+    requires { ⌜ Holds n (now body) ⌝ }
+    ensures { λ r. ⌜ r ≡ anyUpTo (n .slaves) (λ i. same (slaveAt n (now (body .entry)) i .chart) c) ⌝ }
+{
+    let mut i: usize = 0;
+    while i < n.slaves {
+        if layout::body::slave_at(n, body, i).chart == c {
+            return true;
+        }
+        i += 1;
+    }
+    false
+}
+
+// A chart that has no slaves: of each of its rows a single mask is not empty, and of its feedback too. Most charts have none.
 fn lone(n: Shape, body: &[u8], d: usize, back: &mut [u64], rows: &mut [u64; 16])
     requires { ⌜ Holds n (now body) × (d < n .charts) × (d < 8) × (length (now back) ≡ 64) × (length (now rows) ≡ 16) ⌝ }
     ensures { λ _. ⌜ JoinsRows (now (rows .entry)) (now (rows .exit)) (own d) (own d)
@@ -145,7 +162,7 @@ pub fn wire(n: Shape, body: &[u8], j: usize, back: &mut [u64], rows: &mut [u64; 
         join(rows, &part, 0, 0);
         return;
     }
-    if n.slaves == 0 {
+    if !is_master(n, body, node.a) {
         lone(n, body, a, back, rows);
         return;
     }

@@ -6,6 +6,7 @@ use mathlib.Core.Logic.{⊎-elim}
 use Prim.Native.Nat.{ℕ, _+_, _-_, _≤_, _<_}
 use native.Mathlib.Omega.{arith}
 use borrow.Author.Needs.{needs}
+use borrow.Author.Tests.{not-true}
 use borrow.Fn.Kinds.{In}
 use borrow.Fn.PlainCycle.{Measures, is, falls, and}
 use lib.ListN.{length}
@@ -19,6 +20,7 @@ use Rattle.layout.proofs.body.node_at.Reads as node-at-reads
 use Rattle.layout.proofs.body.slave_at.Reads as slave-at-reads
 use Rattle.plan.proofs.wire.alone.Reads as alone-reads
 use Rattle.plan.proofs.wire.feed.Reads as feed-reads
+use Rattle.plan.proofs.wire.is_master.Reads as is-master-reads
 use Rattle.plan.proofs.wire.join.Reads as join-reads
 use Rattle.plan.proofs.wire.lone.Reads as lone-reads
 use Rattle.plan.proofs.wire.+wire.{statement}
@@ -48,6 +50,8 @@ callees t = (
   join-reads.Learnt,
   feed-reads.Asked,
   feed-reads.Learnt,
+  is-master-reads.Asked,
+  is-master-reads.Learnt,
   lone-reads.Asked,
   lone-reads.Learnt,
   alone-reads.Asked,
@@ -179,7 +183,10 @@ module _ (t : ℕ) where
   abbrev chart-read : lts.Else2 (callees t) (at t) wire.Post Inv-loop μ-loop → lts.After-node-at (callees t) (at t) wire.Post Inv-loop μ-loop
   chart-read c = c .before .before .before .before .before
 
-  -- back from where a chart of a file without slaves is wired, to where the kind is known
+  is-master-requires : lts.Need-is-master-requires (callees t) (at t) wire.Post Inv-loop μ-loop
+  is-master-requires c κs = entry (chart-read c) .pre .1 .0 .sized .holds
+
+  -- back from where a chart without slaves is wired, to where the kind is known
   abbrev lone-kind : lts.After-lone-arg2 (callees t) (at t) wire.Post Inv-loop μ-loop → lts.Else2 (callees t) (at t) wire.Post Inv-loop μ-loop
   lone-kind c = c .before .before .before .before
 
@@ -197,10 +204,12 @@ module _ (t : ℕ) where
   lone-returns : lts.Need-returns-3 (callees t) (at t) wire.Post Inv-loop μ-loop
   lone-returns c =
       let o = c .before .before in
+      let z = o .before .before .before in
       let k = lone-kind (o .before) in
       let r = chart-read k in
       let s = entry r in
-      wires-lone (s .pre .1 .0) (s .pre .1 .1) (r .node-at .ensures) (k .before .before .if1 .left) (k .if2 .left) (o .before .before .before .if3 .taken) (o .lone .ensures)
+      let none = sym (z .before .is-master .ensures) ∙ not-true _ (z .if3 .taken) in
+      wires-lone (s .pre .1 .0) (s .pre .1 .1) (r .node-at .ensures) (k .before .before .if1 .left) (k .if2 .left) none (o .lone .ensures)
 
   loop-holds : lts.Need-loop-holds (callees t) (at t) wire.Post Inv-loop μ-loop
   loop-holds c = (omega arith, refl, gathers-none _ _ _ (c .alone .ensures))
@@ -295,6 +304,7 @@ pub +wire-spec : {M : Type 1} → statement M
     (join-requires-2 t)
     (same-length-2 t)
     (returns-2 t)
+    (is-master-requires t)
     (lone-requires t)
     (lone-length t)
     (lone-returns t)
