@@ -1,9 +1,9 @@
 -- A beginning of a choice: what is known once the charts below k are settled. It stands in two lent lists; what stands there behind it, which
 -- earlier tries have left, is no part of it.
 use mathlib.Core.Path.{_≡_}
-use mathlib.Core.List.{List, []}
-use Prim.Native.Nat.{ℕ, _+_, _*_, _<_}
-use lib.ListN.{length, getD}
+use mathlib.Core.List.{List, [], _++_}
+use Prim.Native.Nat.{ℕ, _+_, _-_, _*_, _<_}
+use lib.ListN.{length, getD, replicate}
 use Rattle.signals.specs.Mask.{_∪_, _∩_}
 use Rattle.meaning.specs.Calls.{made}
 use Rattle.search.specs.Table.{backAt}
@@ -48,6 +48,10 @@ module _ (b : List ℕ) where
 
   abbrev pub placeIn : ℕ → ℕ
   placeIn d = getD b (3 * d + 2) 0
+
+  -- the small numbers at j of the charts below n, and x behind them
+  abbrev pub columnIn : ℕ → ℕ → ℕ → List ℕ
+  columnIn n j x = made n (λ d. getD b (3 * d + j) 0) ++ replicate (8 - n) x
 
 -- the charts below k are settled, and o comes out of them
 unfoldable pub trailIn : List ℕ → List ℕ → ℕ → ℕ → Trail

@@ -1,15 +1,14 @@
 // The search for permitted choices over tables of masks: it settles one chart after another until none is left. It knows no file.
 ghost use mathlib.Core.Path.{_≡_};
-ghost use mathlib.Core.Bool.{true, _&&_, not};
-ghost use mathlib.Core.List.{List, _++_};
-ghost use Prim.Native.Nat.{ℕ, _+_, _-_, _*_, _≤_, _<_};
-ghost use lib.ListN.{length, getD, replicate};
+ghost use mathlib.Core.Bool.{_&&_, not};
+ghost use mathlib.Core.List.{List};
+ghost use Prim.Native.Nat.{ℕ, _+_, _≤_, _<_};
+ghost use lib.ListN.{length, getD};
 ghost use Rattle.signals.specs.Mask.{_∪_, _∩_, within, apart};
-ghost use Rattle.meaning.specs.Numbers.{noPlace};
 ghost use Rattle.meaning.specs.Meaning.{eqList};
 ghost use Rattle.meaning.specs.Calls.{made};
 ghost use Rattle.search.specs.Table.{Tables, actionAt, backAt, upAt};
-ghost use Rattle.search.specs.Trail.{trailIn, beginning, lowIn, nextIn, placeIn, Room, RowPut, Lowers};
+ghost use Rattle.search.specs.Trail.{trailIn, beginning, lowIn, columnIn, Room, RowPut, Lowers};
 ghost use Rattle.search.specs.Hunt.{wakes, fineAt, taken, settleOf, hunts, outcomeIn, firstFound, over, nothing, foundIn, BytesPut, Held, Takes, Rests, Hunted};
 ghost use Rattle.search.specs.Asks.{asksOf};
 
@@ -44,8 +43,10 @@ const NEEDS: usize = 8;
 
 const BARS: usize = 9;
 
-// The small numbers that it has for a chart: its next state, and where among them are 1 if it is active, and its transition's place.
+// The small numbers that it has for a chart, and where among them are its next state, 1 if it is active, and its transition's place.
 const STEPS: usize = 3;
+
+const NEXT: usize = 0;
 
 const AWAKE: usize = 1;
 
@@ -227,44 +228,52 @@ fn shown_by(masks: &[u64], output: u64, k: usize, v: usize) -> u64
     output | masks[ACTION + (8 * k + v)] & masks[UP + k]
 }
 
-// The next states of all charts, and 0 behind them.
-fn states(moves: &[u8; 24], charts: usize) -> [u8; 8]
-    requires { ⌜ charts ≤ 8 ⌝ }
-    ensures { λ r. ⌜ r ≡ made charts (nextIn (now (moves .entry))) ++ replicate (8 - charts) 0 ⌝ }
+// What chart c has in a column of `moves`, or the filler where there is no chart c.
+fn entry(moves: &[u8; 24], charts: usize, column: usize, filler: u8, c: usize) -> u8
+    requires { ⌜ (charts ≤ 8) × (column < 3) × (c < 8) ⌝ }
+    ensures { λ r. ⌜ r ≡ getD (columnIn (now (moves .entry)) charts column filler) c 0 ⌝ }
 {
-    let mut next = [0u8; 8];
-    let mut d: usize = 0;
-    while d < charts {
-        next[d] = moves[STEPS * d];
-        d += 1;
+    if c < charts {
+        moves[STEPS * c + column]
+    } else {
+        filler
     }
-    next
 }
 
-// The places of the transitions that all charts take, and 255 behind them.
-fn places(moves: &[u8; 24], charts: usize) -> [u8; 8]
-    requires { ⌜ charts ≤ 8 ⌝ }
-    ensures { λ r. ⌜ r ≡ made charts (placeIn (now (moves .entry))) ++ replicate (8 - charts) noPlace ⌝ }
+// Puts what all charts have in a column of `moves`, and the filler behind it, from `at` on. Each byte goes straight to its place: a row that is made
+// first and then copied as one word waits for its bytes.
+fn put_column(
+    best: &mut [u8; 18],
+    at: usize,
+    moves: &[u8; 24],
+    charts: usize,
+    column: usize,
+    filler: u8,
+)
+    requires { ⌜ (length (now best) ≡ 18) × (at ≤ 10) × (charts ≤ 8) × (column < 3) ⌝ }
+    ensures { λ _. ⌜ BytesPut at (columnIn (now (moves .entry)) charts column filler) (now (best .entry)) (now (best .exit)) ⌝ }
 {
-    let mut taken = [NO_PLACE; 8];
-    let mut d: usize = 0;
-    while d < charts {
-        taken[d] = moves[STEPS * d + TAKEN];
-        d += 1;
+    let mut c: usize = 0;
+    while c < 8 {
+        best[at + c] = entry(moves, charts, column, filler, c);
+        c += 1;
     }
-    taken
 }
 
-// Whether two configurations are equal.
-fn same_states(a: [u8; 8], b: [u8; 8]) -> bool
-    ensures { λ r. ⌜ r ≡ eqList a b ⌝ }
+// Whether the next states of all charts are the first outcome's.
+fn same_states(best: &[u8; 18], moves: &[u8; 24], charts: usize) -> bool
+    requires { ⌜ charts ≤ 8 ⌝ }
+    ensures { λ r. ⌜ ((o : ℕ) (g : List ℕ) →
+        r ≡ eqList (outcomeIn (now (moves .entry)) charts o .next) (foundIn (now (best .entry)) g .next)) ⌝ }
 {
-    let mut i: usize = 0;
-    while i < 8 {
-        if a[i] != b[i] {
+    let mut c: usize = 0;
+    while c < 8 {
+        let first = best[c];
+        let next = entry(moves, charts, NEXT, 0, c);
+        if next != first {
             return false;
         }
-        i += 1;
+        c += 1;
     }
     true
 }
@@ -300,8 +309,8 @@ fn keep(output: u64, moves: &[u8; 24], charts: usize, best: &mut [u8; 18], shown
     requires { ⌜ Held (now best) (now shown) × (charts ≤ 8) ⌝ }
     ensures { λ _. ⌜ Held (now (best .exit)) (now (shown .exit)) × (foundIn (now (best .exit)) (now (shown .exit)) ≡ firstFound (outcomeIn (now (moves .entry)) charts output)) ⌝ }
 {
-    put_bytes(best, 0, states(moves, charts));
-    put_bytes(best, PLACES, places(moves, charts));
+    put_column(best, 0, moves, charts, NEXT, 0);
+    put_column(best, PLACES, moves, charts, TAKEN, NO_PLACE);
     best[HAS] = 1;
     best[AGREE] = 1;
     shown[0] = output;
@@ -317,9 +326,7 @@ fn settle(output: u64, moves: &[u8; 24], charts: usize, best: &mut [u8; 18], sho
         return;
     }
     if output == shown[0] {
-        let next = states(moves, charts);
-        let first = bytes_at(best, 0);
-        if same_states(next, first) {
+        if same_states(best, moves, charts) {
             return;
         }
     }

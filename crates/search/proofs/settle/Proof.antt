@@ -1,5 +1,5 @@
 -- `search::settle` meets its contract: a law for each way through the definition. Where the next one differs, the last byte alone is written.
-use mathlib.Core.Path.{_≡_, sym, ap₂, _∙_}
+use mathlib.Core.Path.{_≡_, sym, _∙_}
 use mathlib.Core.Bool.{true, false, and-false}
 use mathlib.Core.List.{List}
 use mathlib.Core.Logic.{⊎-elim}
@@ -71,14 +71,13 @@ returns c =
 
 returns-2 : tie.Need-returns-2
 returns-2 c =
-    let b = c .before .before in
-    let n = b .before .before in
-    let k = n .before .before .before in
+    let n = c .before .before .before in
+    let k = n .before .before in
     let s = k .before .before in
     let a = s .args in (
       s .pre .0,
-      again (outcomeIn (a .moves .now) (a .charts) (a .output)) (foundIn (a .best .now) (a .shown .now)) (found-one _ (k .if1 .left)) (n .before .if2 .taken)
-          (ap₂ eqList (sym (n .states .ensures)) (sym (b .bytes-at .ensures)) ∙ sym (c .before .same-states .ensures) ∙ c .if3 .taken),
+      again (outcomeIn (a .moves .now) (a .charts) (a .output)) (foundIn (a .best .now) (a .shown .now)) (found-one _ (k .if1 .left)) (n .if2 .taken)
+          (sym (c .before .same-states .ensures (a .output) (a .shown .now)) ∙ c .if3 .taken),
     )
 
 returns-3 : tie.Need-returns-3
@@ -91,8 +90,7 @@ returns-3 c =
       written-held (a .best .now) (a .shown .now) (s .pre .0) _,
       off (a .best .now) (a .shown .now) (s .pre .0)
           ∙ ⊎-elim
-          (λ w. other-next o acc (found-one _ (k .if1 .left))
-          (ap₂ eqList (sym (w .1 .ensures)) (sym (w .3 .ensures)) ∙ sym (w .4 .ensures) ∙ w .5 .left))
+          (λ w. other-next o acc (found-one _ (k .if1 .left)) (sym (w .2 .ensures (a .output) (a .shown .now)) ∙ w .3 .left))
           (λ w. other-output o acc (found-one _ (k .if1 .left)) (w .left))
           (c .if2 .came),
     )
@@ -100,5 +98,4 @@ returns-3 c =
 pub settle-spec : {M : Type 1} → statement M
 settle-spec =
     tie.close
-    (tie.spec (λ c. search needs) (λ c κs. search needs) returns (λ c. search needs) (λ c κs. search needs) (λ c κs. search needs)
-    (λ c κs. search needs) returns-2 (λ c. search needs) returns-3)
+    (tie.spec (λ c. search needs) (λ c κs. search needs) returns (λ c. search needs) (λ c κs. search needs) returns-2 (λ c. search needs) returns-3)

@@ -4,17 +4,18 @@ use mathlib.Core.Path.{_≡_, refl, sym, ap, ap₂, _∙_}
 use mathlib.Core.List.{List, [], _∷_, _++_, append-assoc}
 use mathlib.Core.Logic.{_≢_}
 use Prim.Native.Nat.{ℕ, suc, _+_, _-_, _*_, _≤_, _<_}
+use native.Mathlib.Nat.{add-zero}
 use native.Mathlib.Numerals.{add-one}
 use native.Mathlib.Omega.{arith}
-use lib.ListN.{length, getD, set, replicate, length-set, List·getD-append}
-use lib.Seq.{getD-append-seam, getD-set-same, getD-set-other, lt-length-set, set-at, ext-getD}
+use lib.ListN.{length, getD, set, replicate, length-set, length-append, length-replicate, getD-replicate, List·getD-append}
+use lib.Seq.{getD-append-seam, getD-append-add, getD-set-same, getD-set-other, lt-length-set, set-at, ext-getD}
 use Rattle.signals.specs.Mask.{_∪_, _∩_}
 use Rattle.signals.specs.Decide.{sets, A, B, ∅ₑ, _∪ₑ_, _∩ₑ_, _≐_}
 use Rattle.meaning.specs.Numbers.{noPlace}
 use Rattle.meaning.specs.Calls.{made}
 use Rattle.meaning.specs.Calls.Laws.{length-made, getD-made, made-cong}
 use Rattle.search.specs.Table.{neededAt, barredAt, actionAt, backAt, upAt, toAt, stateAt, placeAt}
-use Rattle.search.specs.Trail.{Trail, beginning, lowIn, neededIn, barredIn, nextIn, awakeIn, placeIn, trailIn, Room, Same, Keeps, Lowers}
+use Rattle.search.specs.Trail.{Trail, beginning, lowIn, neededIn, barredIn, nextIn, awakeIn, placeIn, columnIn, trailIn, Room, Same, Keeps, Lowers}
 use Rattle.search.specs.Hunt.{taken, rested}
 
 -- ── made ──
@@ -40,6 +41,24 @@ made-filled x f d l h e =
     let z : 8 - d ≡ suc (8 - (d + 1)) = omega arith in
     let q : l ≡ made d f ++ x ∷ replicate (8 - (d + 1)) x = e ∙ rw z in
     rw (q, set-at (made d f) x (replicate (8 - (d + 1)) x) (f d) d n, add-one, append-assoc)
+
+-- eight numbers, those below n made and x behind them: how many, and an entry of either kind
+module _ (n : ℕ) (f : ℕ → ℕ) (x : ℕ) where
+  pub length-filled : n ≤ 8 → length (made n f ++ replicate (8 - n) x) ≡ 8
+  length-filled l = length-append (made n f) (replicate (8 - n) x) ∙ rw (length-made n f, length-replicate (8 - n) x) (omega arith)
+
+  pub filled-made : (c : ℕ) → c < n → getD (made n f ++ replicate (8 - n) x) c 0 ≡ f c
+  filled-made c l = let h = length-made n f in List·getD-append (made n f) (replicate (8 - n) x) 0 c (omega arith) ∙ getD-made n f c l
+
+  pub filled-behind : (c : ℕ) → n ≤ c → c < 8 → getD (made n f ++ replicate (8 - n) x) c 0 ≡ x
+  filled-behind c l h =
+      let e : c ≡ length (made n f) + (c - n) = omega (arith, length-made n f) in
+      ap (λ (i : ℕ). getD (made n f ++ replicate (8 - n) x) i 0) e ∙ getD-append-add (made n f) (replicate (8 - n) x) (c - n) 0
+      ∙ getD-replicate (8 - n) (c - n) x 0 (omega arith)
+
+-- the first of a chart's small numbers is its next state
+pub column-next : (b : List ℕ) (n x : ℕ) → columnIn b n 0 x ≡ made n (nextIn b) ++ replicate (8 - n) x
+column-next b n x = simp add-zero
 
 pub made-list : (n : ℕ) (l : List ℕ) → length l ≡ n → made n (λ i. getD l i 0) ≡ l
 made-list n l e =
