@@ -67,10 +67,13 @@ fn wire(body: &Body, number: usize, back: &mut [Row; 8], rows: &mut Rows) {
     }
 }
 
-/// Joins the rows of a chart and its slaves. Without slaves a single mask of each is not empty.
+/// Joins the rows of a chart and its slaves. Without slaves of its own a single mask of each is not empty.
 fn wire_chart(body: &Body, chart: usize, back: &mut [Row; 8], rows: &mut Rows) {
     let feedback = body.chart(chart).feedback;
-    if body.slaves == 0 {
+    if body
+        .all_slaves()
+        .all(|slave| usize::from(slave.chart) != chart)
+    {
         rows.down[chart] = u64::MAX;
         rows.up[chart] = u64::MAX;
         back[chart][chart] |= feedback;

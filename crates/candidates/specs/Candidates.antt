@@ -12,7 +12,7 @@ use Rattle.meaning.specs.Numbers.{mostFromState}
 use Rattle.meaning.specs.Meaning.{Set}
 use Rattle.meaning.specs.Check.{leaving}
 use Rattle.wiring.specs.Hunt.{mayOf}
-use Rattle.search.specs.Table.{stateAt}
+use Rattle.search.specs.Table.{masksFor, stateAt}
 use Rattle.tables.specs.Fill.{Filling, considered, listing, Raised, Until, Chosen}
 use Rattle.checks.specs.Known.{Sized, Summed}
 use Rattle.candidates.specs.declared.Around.{Around}
@@ -26,9 +26,9 @@ pub record Ready (n : Shape) (b config : List ℕ) : Type 0 where
   pub configured : n .charts ≤ length config
   pub room : (c : ℕ) → c < n .charts → leaving n b c (getD config c 0) (headAt n b c .transitions) ≤ mostFromState
 
--- tables of the right size
-pub record Tabled (m s : List ℕ) : Type 0 where
-  pub masks : length m ≡ 336
+-- tables with room for N charts
+pub record Tabled (N : ℕ) (m s : List ℕ) : Type 0 where
+  pub masks : masksFor N ≤ length m
   pub small : length s ≡ 160
 
 -- what a filling leaves in the tables
@@ -83,7 +83,7 @@ pub record Stated (config : List ℕ) (k : ℕ) (s₀ s : List ℕ) : Type 0 whe
 pub record Chooses (n : Shape) (b config base lows m₀ s₀ m s : List ℕ) : Type 0 where
   pub chosen : Chosen (transitionsOf n b) (λ c. getD config c 0) (n .charts) lows m s
   pub raised : Raised (transitionsOf n b) (λ c. getD config c 0) (n .charts) m s base lows
-  pub wires : (i : ℕ) → 192 ≤ i → i < 256 → getD m i 0 ≡ getD m₀ i 0
-  pub ups : (i : ℕ) → 328 ≤ i → getD m i 0 ≡ getD m₀ i 0
+  pub wires : (i : ℕ) → 8 ≤ i → i < 72 → getD m i 0 ≡ getD m₀ i 0
+  pub ups : (i : ℕ) → i < 8 → getD m i 0 ≡ getD m₀ i 0
   pub masters : (i : ℕ) → 72 ≤ i → i < 88 → getD s i 0 ≡ getD s₀ i 0
-  pub tabled : Tabled m s
+  pub tabled : Tabled (n .charts) m s

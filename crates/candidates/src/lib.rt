@@ -11,7 +11,7 @@ ghost use Rattle.meaning.specs.Meaning.{same};
 ghost use Rattle.signals.specs.Mask.{_∪_, _∩_};
 ghost use Rattle.wiring.specs.Sure.{sureOf};
 ghost use Rattle.wiring.specs.Hunt.{mayOf};
-ghost use Rattle.search.specs.Table.{backAt, countAt, Row};
+ghost use Rattle.search.specs.Table.{masksFor, backAt, countAt, Row};
 ghost use Rattle.tables.specs.Filled.{mayAt};
 ghost use Rattle.tables.specs.Fill.{lastsBy, othersAt, sureAt, isAt, isAgain, putMasks, putSmall, AheadRow, aheadBy, AheadFrom, stuck};
 ghost use Rattle.candidates.specs.Candidates.{Ready, Tabled, Left, filling, consideredBy, listingBy, fromStart, withOne, Mays, Sided, NextChart, UntilChart, Stated, Chooses};
@@ -81,22 +81,22 @@ fn puts_of(n: Shape, body: &[u8], start: usize, count: usize, state: u8) -> Puts
 
 // Each chart is surely offered what it gets of u, which chart c puts out.
 fn raise_all(masks: &[u64], low: &mut [u64], c: usize, u: u64)
-    requires { ⌜ (length (now masks) ≡ 336) × (length (now low) ≡ 8) × (c < 8) ⌝ }
+    requires { ⌜ (masksFor 0 ≤ length (now masks)) × (length (now low) ≡ 8) × (c < 8) ⌝ }
     ensures { λ _. ⌜ Row (now (low .exit)) (λ d. getD (now (low .entry)) d 0 ∪ u ∩ backAt (now (masks .entry)) d c) ⌝ }
 {
     let mut d: usize = 0;
     while d < 8 {
-        low[d] = low[d] | u & masks[192 + (8 * c + d)];
+        low[d] = low[d] | u & masks[search::BACK + (8 * c + d)];
         d += 1;
     }
 }
 
 // The same where u is what chart c puts out if it is active: in a slave it need not be.
 fn raise(masks: &[u64], small: &[u8], low: &mut [u64], c: usize, u: u64)
-    requires { ⌜ Tabled (now masks) (now small) × (length (now low) ≡ 8) × (c < 8) ⌝ }
+    requires { ⌜ Tabled 0 (now masks) (now small) × (length (now low) ≡ 8) × (c < 8) ⌝ }
     ensures { λ _. ⌜ Row (now (low .exit)) (λ d. getD (now (low .entry)) d 0 ∪ sureAt (now (small .entry)) c u ∩ backAt (now (masks .entry)) d c) ⌝ }
 {
-    if small[72 + c] < 8 {
+    if small[search::MASTER + c] < 8 {
         return;
     }
     if u != 0 {
@@ -113,7 +113,7 @@ fn sides_of(
     masks: &[u64],
     small: &[u8],
 ) -> Sides
-    requires { ⌜ Ready n (now body) (now config) × Tabled (now masks) (now small) ⌝ }
+    requires { ⌜ Ready n (now body) (now config) × Tabled 0 (now masks) (now small) ⌝ }
     ensures { λ r. ⌜ Sided n (now (body .entry)) (now (config .entry)) base (now (masks .entry)) (now (small .entry)) (n .charts) (r .may) (r .low) ⌝ }
 {
     let mut may = [0u64; 8];
@@ -134,7 +134,7 @@ fn sides_of(
 
 // What the charts other than c might put in for it.
 fn others(masks: &[u64], charts: usize, may: [u64; 8], c: usize) -> u64
-    requires { ⌜ (length (now masks) ≡ 336) × (charts ≤ 8) × (c < charts) ⌝ }
+    requires { ⌜ (masksFor 0 ≤ length (now masks)) × (charts ≤ 8) × (c < charts) ⌝ }
     ensures { λ r. ⌜ r ≡ othersAt (now (masks .entry)) charts (λ e. getD may e 0) c ⌝ }
 {
     let mut rest = may;
@@ -142,7 +142,7 @@ fn others(masks: &[u64], charts: usize, may: [u64; 8], c: usize) -> u64
     let mut u: u64 = 0;
     let mut e: usize = 0;
     while e < charts {
-        u = u | rest[e] & masks[192 + (8 * e + c)];
+        u = u | rest[e] & masks[search::BACK + (8 * e + c)];
         e += 1;
     }
     u
@@ -157,17 +157,18 @@ fn lasts(t: Transition, low: u64, own: u64, others: u64) -> bool
 }
 
 fn is_at(masks: &[u64], small: &[u8], c: usize, v: usize, t: Transition) -> bool
-    requires { ⌜ Tabled (now masks) (now small) × (c < 8) × (v < 8) ⌝ }
+    requires { ⌜ Tabled (c + 1) (now masks) (now small) × (c < 8) × (v < 8) ⌝ }
     ensures { λ r. ⌜ r ≡ isAt (now (masks .entry)) (now (small .entry)) c v t ⌝ }
 {
-    let at = 8 * c + v;
-    (masks[at] == t.needed)
-        & ((masks[64 + at] == t.barred) & ((masks[128 + at] == t.action) & (small[at] == t.to)))
+    let at = search::SPAN * c + v;
+    (masks[search::NEEDED + at] == t.needed)
+        & ((masks[search::BARRED + at] == t.barred)
+            & ((masks[search::ACTION + at] == t.action) & (small[8 * c + v] == t.to)))
 }
 
 // Whether one of chart c's first n candidates is the transition.
 fn is_again(masks: &[u64], small: &[u8], c: usize, n: usize, t: Transition) -> bool
-    requires { ⌜ Tabled (now masks) (now small) × (c < 8) × (n ≤ 8) ⌝ }
+    requires { ⌜ Tabled (c + 1) (now masks) (now small) × (c < 8) × (n ≤ 8) ⌝ }
     ensures { λ r. ⌜ r ≡ isAgain (now (masks .entry)) (now (small .entry)) c n t ⌝ }
 {
     let mut v: usize = 0;
@@ -181,15 +182,15 @@ fn is_again(masks: &[u64], small: &[u8], c: usize, n: usize, t: Transition) -> b
 }
 
 fn put(masks: &mut [u64], small: &mut [u8], c: usize, v: usize, place: u8, t: Transition)
-    requires { ⌜ Tabled (now masks) (now small) × (c < 8) × (v < 8) ⌝ }
+    requires { ⌜ Tabled (c + 1) (now masks) (now small) × (c < 8) × (v < 8) ⌝ }
     ensures { λ _. ⌜ (now (masks .exit) ≡ putMasks (now (masks .entry)) c v t) × (now (small .exit) ≡ putSmall (now (small .entry)) c v place t) ⌝ }
 {
-    let at = 8 * c + v;
-    masks[at] = t.needed;
-    masks[64 + at] = t.barred;
-    masks[128 + at] = t.action;
-    small[at] = t.to;
-    small[96 + at] = place;
+    let at = search::SPAN * c + v;
+    masks[search::NEEDED + at] = t.needed;
+    masks[search::BARRED + at] = t.barred;
+    masks[search::ACTION + at] = t.action;
+    small[8 * c + v] = t.to;
+    small[search::PLACE + (8 * c + v)] = place;
 }
 
 // One transition more, at its place in its chart's list: a candidate if it is from the chart's state, lasts, and is none yet.
@@ -203,7 +204,7 @@ fn consider(
     a: Around,
     have: usize,
 ) -> usize
-    requires { ⌜ Holds n (now body) × (t < n .transitions) × Tabled (now masks) (now small) × (a .chart < 8) × (have ≤ 8) × (transitionAt n (now body) t .from ≡ a .state → have < 8) ⌝ }
+    requires { ⌜ Holds n (now body) × (t < n .transitions) × Tabled (a .chart + 1) (now masks) (now small) × (a .chart < 8) × (have ≤ 8) × (transitionAt n (now body) t .from ≡ a .state → have < 8) ⌝ }
     ensures { λ r. ⌜ Left (consideredBy a place (transitionAt n (now (body .entry)) t) (filling (now (masks .entry)) (now (small .entry)) have)) (now (masks .exit)) (now (small .exit)) r ⌝ }
 {
     if from_at(n, body, t) != a.state {
@@ -230,7 +231,7 @@ fn list(
     small: &mut [u8],
     a: Around,
 ) -> usize
-    requires { ⌜ Holds n (now body) × (start + count ≤ n .transitions) × (count < 256) × Tabled (now masks) (now small) × (a .chart < 8) × (tally count (λ u. one (same (fromStart n (now body) start u .from) (a .state))) ≤ 8) ⌝ }
+    requires { ⌜ Holds n (now body) × (start + count ≤ n .transitions) × (count < 256) × Tabled (a .chart + 1) (now masks) (now small) × (a .chart < 8) × (tally count (λ u. one (same (fromStart n (now body) start u .from) (a .state))) ≤ 8) ⌝ }
     ensures { λ r. ⌜ Left (listingBy a (fromStart n (now (body .entry)) start) count (filling (now (masks .entry)) (now (small .entry)) 0)) (now (masks .exit)) (now (small .exit)) r × (r ≤ 8) ⌝ }
 {
     let mut have: usize = 0;
@@ -254,12 +255,12 @@ fn list_chart(
     c: usize,
     start: usize,
 ) -> usize
-    requires { ⌜ Ready n (now body) (now config) × Mays n (now body) (now config) (n .charts) may × Tabled (now masks) (now small) × (c < n .charts) × (start ≡ startOf n (now body) c) ⌝ }
-    ensures { λ r. ⌜ (r ≡ startOf n (now (body .entry)) (c + 1)) × Tabled (now (masks .exit)) (now (small .exit)) × NextChart n (now (body .entry)) (now (config .entry)) lows c (now (masks .entry)) (now (small .entry)) (now (masks .exit)) (now (small .exit)) ⌝ }
+    requires { ⌜ Ready n (now body) (now config) × Mays n (now body) (now config) (n .charts) may × Tabled (n .charts) (now masks) (now small) × (c < n .charts) × (start ≡ startOf n (now body) c) ⌝ }
+    ensures { λ r. ⌜ (r ≡ startOf n (now (body .entry)) (c + 1)) × Tabled (n .charts) (now (masks .exit)) (now (small .exit)) × NextChart n (now (body .entry)) (now (config .entry)) lows c (now (masks .entry)) (now (small .entry)) (now (masks .exit)) (now (small .exit)) ⌝ }
 {
     let head = layout::body::head_at(n, body, c);
     let count = head.transitions as usize;
-    let own = masks[192 + (8 * c + c)];
+    let own = masks[search::BACK + (8 * c + c)];
     let rest = others(masks, n.charts, may, c);
     let a = Around {
         chart: c,
@@ -269,7 +270,7 @@ fn list_chart(
         others: rest,
     };
     let have = list(n, body, start, count, masks, small, a);
-    small[64 + c] = have as u8;
+    small[search::COUNT + c] = have as u8;
     start + count
 }
 
@@ -282,7 +283,7 @@ fn list_all(
     masks: &mut [u64],
     small: &mut [u8],
 )
-    requires { ⌜ Ready n (now body) (now config) × Mays n (now body) (now config) (n .charts) may × Tabled (now masks) (now small) ⌝ }
+    requires { ⌜ Ready n (now body) (now config) × Mays n (now body) (now config) (n .charts) may × Tabled (n .charts) (now masks) (now small) ⌝ }
     ensures { λ _. ⌜ UntilChart n (now (body .entry)) (now (config .entry)) lows (now (masks .entry)) (now (small .entry)) (n .charts) (now (masks .exit)) (now (small .exit)) ⌝ }
 {
     let mut start: usize = 0;
@@ -295,14 +296,14 @@ fn list_all(
 
 // What chart c's candidates put out, all together.
 fn puts_out(masks: &[u64], small: &[u8], c: usize) -> u64
-    requires { ⌜ Tabled (now masks) (now small) × (c < 8) × (countAt (now small) c ≤ 8) ⌝ }
+    requires { ⌜ Tabled (c + 1) (now masks) (now small) × (c < 8) × (countAt (now small) c ≤ 8) ⌝ }
     ensures { λ r. ⌜ r ≡ mayAt (now (masks .entry)) (now (small .entry)) c ⌝ }
 {
-    let count = small[64 + c] as usize;
+    let count = small[search::COUNT + c] as usize;
     let mut u: u64 = 0;
     let mut v: usize = 0;
     while v < count {
-        u = u | masks[128 + (8 * c + v)];
+        u = u | masks[search::ACTION + (search::SPAN * c + v)];
         v += 1;
     }
     u
@@ -310,30 +311,31 @@ fn puts_out(masks: &[u64], small: &[u8], c: usize) -> u64
 
 // Nothing is left to put out after the last chart.
 fn clear_row(masks: &mut [u64], charts: usize)
-    requires { ⌜ (length (now masks) ≡ 336) × (charts ≤ 8) ⌝ }
+    requires { ⌜ (masksFor 0 ≤ length (now masks)) × (charts ≤ 8) ⌝ }
     ensures { λ _. ⌜ AheadRow charts (λ c. 0) charts (now (masks .entry)) (now (masks .exit)) ⌝ }
 {
     let mut c: usize = 0;
     while c < charts {
-        masks[256 + (8 * charts + c)] = 0;
+        masks[search::AHEAD + (8 * charts + c)] = 0;
         c += 1;
     }
 }
 
 // What chart k, whose candidates put out u, and the later ones may put in for each chart.
 fn ahead_row(masks: &mut [u64], charts: usize, k: usize, u: u64)
-    requires { ⌜ (length (now masks) ≡ 336) × (charts ≤ 8) × (k < 8) ⌝ }
+    requires { ⌜ (masksFor 0 ≤ length (now masks)) × (charts ≤ 8) × (k < 8) ⌝ }
     ensures { λ _. ⌜ AheadRow k (aheadBy (now (masks .entry)) k u) charts (now (masks .entry)) (now (masks .exit)) ⌝ }
 {
     let mut c: usize = 0;
     while c < charts {
-        masks[256 + (8 * k + c)] = u & masks[192 + (8 * k + c)] | masks[256 + (8 * (k + 1) + c)];
+        masks[search::AHEAD + (8 * k + c)] = u & masks[search::BACK + (8 * k + c)]
+            | masks[search::AHEAD + (8 * (k + 1) + c)];
         c += 1;
     }
 }
 
 fn ahead_all(masks: &mut [u64], small: &[u8], charts: usize)
-    requires { ⌜ Tabled (now masks) (now small) × (charts ≤ 8) × ((c : ℕ) → c < charts → countAt (now small) c ≤ 8) ⌝ }
+    requires { ⌜ Tabled charts (now masks) (now small) × (charts ≤ 8) × ((c : ℕ) → c < charts → countAt (now small) c ≤ 8) ⌝ }
     ensures { λ _. ⌜ AheadFrom charts (now (small .entry)) 0 (now (masks .entry)) (now (masks .exit)) ⌝ }
 {
     clear_row(masks, charts);
@@ -352,7 +354,7 @@ fn put_states(small: &mut [u8], config: &[u8], charts: usize)
 {
     let mut c: usize = 0;
     while c < charts {
-        small[88 + c] = config[c];
+        small[search::STATE + c] = config[c];
         c += 1;
     }
 }
@@ -367,7 +369,7 @@ pub fn choose(
     masks: &mut [u64],
     small: &mut [u8],
 ) -> [u64; 8]
-    requires { ⌜ Ready n (now body) (now config) × Tabled (now masks) (now small) ⌝ }
+    requires { ⌜ Ready n (now body) (now config) × Tabled (n .charts) (now masks) (now small) ⌝ }
     ensures { λ r. ⌜ Chooses n (now (body .entry)) (now (config .entry)) base r (now (masks .entry)) (now (small .entry)) (now (masks .exit)) (now (small .exit)) ⌝ }
 {
     put_states(small, config, n.charts);
@@ -386,7 +388,7 @@ pub fn is_stuck(small: &[u8], charts: usize) -> bool
 {
     let mut c: usize = 0;
     while c < charts {
-        if (small[64 + c] == 0) & !(small[72 + c] < 8) {
+        if (small[search::COUNT + c] == 0) & !(small[search::MASTER + c] < 8) {
             return true;
         }
         c += 1;

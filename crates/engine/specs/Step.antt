@@ -53,7 +53,7 @@ pub record Checked (n : Shape) (b : List ℕ) : Type 0 where
 -- a search's tables m and s for a body, wired; a has what of the input gets down to each chart
 pub record Prepared (n : Shape) (b a m s : List ℕ) : Type 0 where
   pub wired : Wired (fileAt n b) a m s
-  pub tabled : Tabled m s
+  pub tabled : Tabled (n .charts) m s
 
 -- what was found answers the step, and has its places
 pub record Finds (n : Shape) (b config : List ℕ) (i : Set) (f : Found) : Type 0 where

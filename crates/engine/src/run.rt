@@ -168,8 +168,8 @@ fn of_body(
         return refused(limits::SHORT_ROWS);
     }
     let start = states_of(config);
-    let mut masks = [0u64; 336];
-    let mut small = [0u8; 160];
+    let mut masks = [0u64; search::MASKS];
+    let mut small = [0u8; search::SMALL];
     let down = plan::wire::wired(n, body, &mut masks, &mut small);
     let left = put_rows(
         n,

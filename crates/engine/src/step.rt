@@ -10,7 +10,8 @@ ghost use Rattle.meaning.specs.Count.{anyUpTo};
 ghost use Rattle.meaning.specs.File.{fileAt};
 ghost use Rattle.meaning.specs.Check.{notBelow, firstOf};
 ghost use Rattle.meaning.specs.Calls.{laidOver, stepOf, allPlaces, placesOf, nextIn};
-ghost use Rattle.search.specs.Table.{Row};
+ghost use Rattle.search.specs.Table.{masksFor, Row};
+ghost use Rattle.plan.specs.Wire.{Blank};
 ghost use Rattle.candidates.specs.Candidates.{Ready};
 ghost use Rattle.engine.specs.Step.{steppedOf, configTestsIn, stepAfter, placesAfter, Checked, Prepared, Finds};
 use checks::limits;
@@ -101,6 +102,29 @@ pub fn found(
     search::search(masks, small, n.charts, low)
 }
 
+// One step of a body, wired for it into masks that are new.
+fn found_in(n: Shape, body: &[u8], config: &[u8], input: u64, masks: &mut [u64]) -> Found
+    requires { ⌜ Checked n (now body) × Ready n (now body) (now config) × (masksFor (n .charts) ≤ length (now masks)) × Blank (masksFor 0) (now masks) ⌝ }
+    ensures { λ r. ⌜ Finds n (now (body .entry)) (now (config .entry)) input r ⌝ }
+{
+    let mut small = [0u8; search::SMALL];
+    let down = plan::wire::wired(n, body, masks, &mut small);
+    found(n, body, config, input, down, masks, &mut small)
+}
+
+// The same, with masks of its own. For few charts they are fewer: to zero them takes a good part of a step.
+fn found_new(n: Shape, body: &[u8], config: &[u8], input: u64) -> Found
+    requires { ⌜ Checked n (now body) × Ready n (now body) (now config) ⌝ }
+    ensures { λ r. ⌜ Finds n (now (body .entry)) (now (config .entry)) input r ⌝ }
+{
+    if n.charts <= search::FEW {
+        let mut masks = [0u64; search::FEW_MASKS];
+        return found_in(n, body, config, input, &mut masks);
+    }
+    let mut masks = [0u64; search::MASKS];
+    found_in(n, body, config, input, &mut masks)
+}
+
 // The first n states, over the front of a lent buffer.
 pub fn put_states(buffer: &mut [u8], states: [u8; 8], n: usize)
     requires { ⌜ (n ≤ 8) × (n ≤ length (now buffer)) ⌝ }
@@ -125,10 +149,7 @@ fn of_body(n: Shape, body: &[u8], config: &[u8], input: u64, next: &mut [u8]) ->
     if next.len() < n.charts {
         return refused(limits::SHORT_BUFFER);
     }
-    let mut masks = [0u64; 336];
-    let mut small = [0u8; 160];
-    let down = plan::wire::wired(n, body, &mut masks, &mut small);
-    let f = found(n, body, config, input, down, &mut masks, &mut small);
+    let f = found_new(n, body, config, input);
     if !f.has {
         return refused(limits::NO_STEP);
     }

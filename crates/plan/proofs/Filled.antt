@@ -1,5 +1,5 @@
--- Lists that a loop fills, one place in each turn. In order: from the front (filled); a row in a list, and a square of rows (row, joined); a part
--- that was lent and is back (put).
+-- Lists that a loop fills, one place in each turn. In order: a row in a list, and a square of rows (row, joined); a part that was lent and is back
+-- (put).
 -- Assumes nothing.
 use mathlib.Core.Path.{_≡_, refl, sym, ap, ap₂, _∙_}
 use mathlib.Core.List.{List, [], _∷_, _++_}
@@ -12,13 +12,6 @@ use lib.Seq.{length-take-le, getD-append-add, getD-take, getD-set-same, getD-set
 use Rattle.signals.specs.Mask.{_∪_, _∩_}
 use Rattle.signals.specs.Decide.{sets, A, B, C, D, ∅ₑ, _∪ₑ_, _∩ₑ_, _≐_}
 use Rattle.plan.specs.Wire.{RowAt, downIn, upIn}
-
--- ── from the front ──
-
--- one place more of f
-pub filled-more : (f : ℕ → ℕ) (l : List ℕ) (i v : ℕ) → i < length l → v ≡ f i → ((k : ℕ) → k < i → getD l k 0 ≡ f k) → (k : ℕ) → k < i + 1 → getD (set l i v) k 0 ≡ f k
-filled-more f l i v m e h =
-    below-more (λ (k : ℕ). getD (set l i v) k 0 ≡ f k) i (λ k p. getD-set-other l i k v 0 (λ q. omega arith) ∙ h k p) (getD-set-same l i v 0 m ∙ e)
 
 -- ── a row in a list ──
 

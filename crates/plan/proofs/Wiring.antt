@@ -26,7 +26,7 @@ use Rattle.wiring.specs.Wire.{own, down, downs, up, ups, back, backs}
 use Rattle.wiring.specs.Rows.{down₀, down₁, down₂, up₀, up₁, up₂, back₀, back₁, back₂, slaves-out, downs-step, ups-step, backs-step}
 use Rattle.nesting.specs.Known.{Wirable}
 use Rattle.nesting.proofs.Records.{Is, IsSlave, is-node, is-slave, lower-a, lower-b}
-use Rattle.plan.specs.Wire.{Joins, RowAt, downIn, upIn, AreRows, JoinsRows, Feeds, Wires, Whole}
+use Rattle.plan.specs.Wire.{Blank, Joins, RowAt, downIn, upIn, AreRows, JoinsRows, Feeds, Wires, Whole}
 
 -- ── a record that was read ──
 
@@ -351,10 +351,10 @@ module _ {n : Shape} {b : List ℕ} (w : Wirable n b) {j : ℕ} (p : j < n .node
 
 -- ── the whole, from an empty square ──
 
-pub wires-whole : (F : File) (l m r : List ℕ) → l ≡ replicate 64 0 → Wires F (wholeOf F) l m (replicate 16 0) r → Whole F m r
+pub wires-whole : (F : File) (l m r : List ℕ) → Blank 64 l → Wires F (wholeOf F) l m (replicate 16 0) r → Whole F m r
 wires-whole F l m r e h =
     record {
       rows-are = rows-first (h .rows-are);
-      back-is = λ c d u v. h .back-is c d u v ∙ ap (λ (s : Set). s ∪ back (F .chart) (wholeOf F) c d) (ap (λ (l : List ℕ). getD l (8 * d + c) 0) e ∙ getD-replicate 64 (8 * d + c) 0 0 (omega arith))
+      back-is = λ c d u v. h .back-is c d u v ∙ ap (λ (s : Set). s ∪ back (F .chart) (wholeOf F) c d) (e (8 * d + c) (omega arith))
           ∙ sets (back (F .chart) (wholeOf F) c d ∷ []) [] (∅ₑ ∪ₑ A ≐ A) tt;
     }

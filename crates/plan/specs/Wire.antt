@@ -51,6 +51,10 @@ pub record Wires (F : File) (t : Tree) (l m p q : List ℕ) : Type 0 where
   pub rows-are : JoinsRows p q (down t) (up t)
   pub back-is : Joins l m (back (F .chart) t)
 
+-- the first n masks are empty
+abbrev pub Blank : ℕ → List ℕ → Type 0
+Blank n l = (k : ℕ) → k < n → getD l k 0 ≡ 0
+
 -- the rows r are those of the whole, and the square m is its feedback
 pub record Whole (F : File) (m r : List ℕ) : Type 0 where
   pub rows-are : AreRows r (down (wholeOf F)) (up (wholeOf F))

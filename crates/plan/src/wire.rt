@@ -2,35 +2,24 @@
 // each two charts, what chart c gets of chart d at 8 * d + c. What the masks are is in the crate wiring (Wire), and that a step may go by them too.
 ghost use mathlib.Core.Path.{_≡_};
 ghost use Prim.Native.Nat.{_+_, _*_, _≤_, _<_};
-ghost use lib.ListN.{length, getD, replicate};
+ghost use lib.ListN.{length, getD};
 ghost use Rattle.signals.specs.Mask.{_∪_, _∩_, _∖_};
 ghost use Rattle.layout.specs.Body.{Holds, headAt, slaveAt};
 ghost use Rattle.meaning.specs.Count.{anyUpTo};
 ghost use Rattle.meaning.specs.Meaning.{same};
 ghost use Rattle.meaning.specs.File.{treeOf, fileAt};
 ghost use Rattle.wiring.specs.Wire.{own};
-ghost use Rattle.search.specs.Table.{Row};
+ghost use Rattle.search.specs.Table.{masksFor, Row};
 ghost use Rattle.nesting.specs.Known.{Wirable};
 ghost use Rattle.nesting.specs.Nearest.{Right};
-ghost use Rattle.plan.specs.Wire.{Joins, downIn, upIn, RowAt, AreRows, JoinsRows, Feeds, Wires, Whole};
+ghost use Rattle.plan.specs.Wire.{Blank, Joins, downIn, upIn, RowAt, AreRows, JoinsRows, Feeds, Wires, Whole};
 ghost use Rattle.plan.specs.Noted.{Notes, NotedNone, NearestIn};
 ghost use Rattle.plan.specs.Wired.{Wired};
 use layout::body::Shape;
 use nesting::NONE;
 
-// Where a search's tables have what the wiring gives: the square of feedback and the row `up` among its masks, the masters and the states of the
-// nearest slaves among its small numbers.
-const BACK: usize = 192;
-
-const BACK_END: usize = 256;
-
-const UP: usize = 328;
-
-const UP_END: usize = 336;
-
-const MASTER: usize = 72;
-
-const STATE: usize = 80;
+// Where a search's masks have what comes out of the whole of each chart's action.
+const UP: usize = 0;
 
 // Where the rows of a part have what of each chart's action gets up to its output. Before it stands what of a set offered to the part gets down to
 // each chart.
@@ -180,26 +169,26 @@ pub fn wire(n: Shape, body: &[u8], j: usize, back: &mut [u64], rows: &mut [u64; 
     join(rows, &part, 0, 0);
 }
 
-fn put_row(m: &mut [u64], row: [u64; 8])
-    requires { ⌜ length (now m) ≡ 8 ⌝ }
-    ensures { λ _. ⌜ Row (now (m .exit)) (λ c. getD row c 0) ⌝ }
+// What of each chart's action gets up out of the whole, among a search's masks.
+fn put_up(masks: &mut [u64], rows: &[u64; 16])
+    requires { ⌜ 8 ≤ length (now masks) ⌝ }
+    ensures { λ _. ⌜ RowAt 0 8 (upIn (now (rows .entry))) (now (masks .entry)) (now (masks .exit)) ⌝ }
 {
     let mut c: usize = 0;
     while c < 8 {
-        m[c] = row[c];
+        masks[UP + c] = rows[UP_ROW + c];
         c += 1;
     }
 }
 
-// One of a part's rows, the eight masks from `at` on.
-fn row_at(rows: [u64; 16], at: usize) -> [u64; 8]
-    requires { ⌜ at ≤ 8 ⌝ }
-    ensures { λ r. ⌜ Row r (λ c. getD rows (at + c) 0) ⌝ }
+// What of a set offered to the whole gets down to each chart.
+fn down_row(rows: &[u64; 16]) -> [u64; 8]
+    ensures { λ r. ⌜ Row r (downIn (now (rows .entry))) ⌝ }
 {
     let mut row = [0u64; 8];
     let mut c: usize = 0;
     while c < 8 {
-        row[c] = rows[at + c];
+        row[c] = rows[c];
         c += 1;
     }
     row
@@ -207,7 +196,7 @@ fn row_at(rows: [u64; 16], at: usize) -> [u64; 8]
 
 // The rows of the whole; `back` has its feedback.
 fn whole(n: Shape, body: &[u8], back: &mut [u64]) -> [u64; 16]
-    requires { ⌜ Wirable n (now body) × (now back ≡ replicate 64 0) ⌝ }
+    requires { ⌜ Wirable n (now body) × (length (now back) ≡ 64) × Blank 64 (now back) ⌝ }
     ensures { λ r. ⌜ Whole (fileAt n (now (body .entry))) (now (back .exit)) r ⌝ }
 {
     let mut rows = [0u64; 16];
@@ -225,8 +214,8 @@ fn note(n: Shape, body: &[u8], j: usize, near: &[u8], small: &mut [u8])
     if node.kind == 0 {
         let slave = nesting::enclosing(n, body, j, near);
         let c = node.a as usize;
-        small[MASTER + c] = slave.chart;
-        small[STATE + c] = slave.state;
+        small[search::MASTER + c] = slave.chart;
+        small[search::SLAVE_STATE + c] = slave.state;
     }
 }
 
@@ -237,8 +226,8 @@ fn note_none(small: &mut [u8])
 {
     let mut c: usize = 0;
     while c < 8 {
-        small[MASTER + c] = NONE;
-        small[STATE + c] = 0;
+        small[search::MASTER + c] = NONE;
+        small[search::SLAVE_STATE + c] = 0;
         c += 1;
     }
 }
@@ -264,11 +253,11 @@ pub fn nearest(n: Shape, body: &[u8], small: &mut [u8])
 // Wires a file that passed its check, into tables that are new: the feedback and `up` go into a search's masks, the nearest slaves into its small
 // numbers. The result is what of the input gets down to each chart.
 pub fn wired(n: Shape, body: &[u8], masks: &mut [u64], small: &mut [u8]) -> [u64; 8]
-    requires { ⌜ Wirable n (now body) × (now masks ≡ replicate 336 0) × (length (now small) ≡ 160) ⌝ }
+    requires { ⌜ Wirable n (now body) × (masksFor 0 ≤ length (now masks)) × Blank (masksFor 0) (now masks) × (length (now small) ≡ 160) ⌝ }
     ensures { λ r. ⌜ Wired (fileAt n (now (body .entry))) r (now (masks .exit)) (now (small .exit)) ⌝ }
 {
-    let rows = whole(n, body, &mut masks[BACK..BACK_END]);
-    put_row(&mut masks[UP..UP_END], row_at(rows, UP_ROW));
+    let rows = whole(n, body, &mut masks[search::BACK..search::AHEAD]);
+    put_up(masks, &rows);
     nearest(n, body, small);
-    row_at(rows, 0)
+    down_row(&rows)
 }

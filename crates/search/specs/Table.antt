@@ -1,4 +1,5 @@
--- The tables that a search reads, by chart c, candidate v and chart d. A chart has at most 8 candidates: the transitions that it may take now.
+-- The tables that a search reads, by chart c, candidate v and chart d. A chart has at most 8 candidates: the transitions that it may take now. What
+-- candidates have among the masks stands last, chart by chart, so that tables for fewer charts are shorter.
 use mathlib.Core.List.{List}
 use Prim.Native.Nat.{ℕ, _+_, _*_, _≤_, _<_}
 use mathlib.Core.Path.{_≡_}
@@ -8,25 +9,25 @@ use lib.ListN.{length, getD}
 module _ (m : List ℕ) where
   -- candidate v of chart c
   abbrev pub neededAt : ℕ → ℕ → ℕ
-  neededAt c v = getD m (8 * c + v) 0
+  neededAt c v = getD m (144 + (24 * c + v)) 0
 
   abbrev pub barredAt : ℕ → ℕ → ℕ
-  barredAt c v = getD m (64 + (8 * c + v)) 0
+  barredAt c v = getD m (152 + (24 * c + v)) 0
 
   abbrev pub actionAt : ℕ → ℕ → ℕ
-  actionAt c v = getD m (128 + (8 * c + v)) 0
+  actionAt c v = getD m (160 + (24 * c + v)) 0
 
   -- what chart c is offered of chart d's action
   abbrev pub backAt : ℕ → ℕ → ℕ
-  backAt c d = getD m (192 + (8 * d + c)) 0
+  backAt c d = getD m (8 + (8 * d + c)) 0
 
   -- what the charts from k on may still put in for chart c
   abbrev pub aheadAt : ℕ → ℕ → ℕ
-  aheadAt k c = getD m (256 + (8 * k + c)) 0
+  aheadAt k c = getD m (72 + (8 * k + c)) 0
 
   -- what of chart d's action comes out of the whole
   abbrev pub upAt : ℕ → ℕ
-  upAt d = getD m (328 + d) 0
+  upAt d = getD m d 0
 
 -- a row has a mask for each chart: l has f's
 abbrev pub Row : List ℕ → (ℕ → ℕ) → Type 0
@@ -57,8 +58,12 @@ module _ (s : List ℕ) where
   abbrev pub placeAt : ℕ → ℕ → ℕ
   placeAt c v = getD s (96 + (8 * c + v)) 0
 
+-- how many masks the tables of N charts have
+abbrev pub masksFor : ℕ → ℕ
+masksFor N = 144 + 24 * N
+
 -- what a search over N charts asks of its tables
 pub record Tables (N : ℕ) (m s : List ℕ) : Type 0 where
-  pub masks : length m ≡ 336
+  pub masks : masksFor N ≤ length m
   pub small : length s ≡ 160
   pub counts : (c : ℕ) → c < N → countAt s c ≤ 8

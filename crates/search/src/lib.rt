@@ -7,34 +7,45 @@ ghost use lib.ListN.{length, getD};
 ghost use Rattle.signals.specs.Mask.{_∪_, _∩_, within, apart};
 ghost use Rattle.meaning.specs.Meaning.{eqList};
 ghost use Rattle.meaning.specs.Calls.{made};
-ghost use Rattle.search.specs.Table.{Tables, actionAt, backAt, upAt};
+ghost use Rattle.search.specs.Table.{masksFor, Tables, actionAt, backAt, upAt};
 ghost use Rattle.search.specs.Trail.{trailIn, beginning, lowIn, columnIn, Room, RowPut, Lowers};
 ghost use Rattle.search.specs.Hunt.{wakes, fineAt, taken, settleOf, hunts, outcomeIn, firstFound, over, nothing, foundIn, BytesPut, Held, Takes, Rests, Hunted};
 ghost use Rattle.search.specs.Asks.{asksOf};
 
-// Where a search's tables have what it reads (specs/Table.antt). Among the masks: what candidates need, from 0 on, what they bar and put out; what
-// each chart is offered of a chart's action, and what it may still be; what comes out of the whole.
-const BARRED: usize = 64;
+// Where a search's tables have what it reads (specs/Table.antt). Among the masks: what comes out of the whole of each chart's action, from 0 on; what
+// each chart is offered of a chart's action, and what it may still be; then, SPAN masks for each chart, what its candidates need, bar and put out.
+pub const BACK: usize = 8;
 
-const ACTION: usize = 128;
+pub const AHEAD: usize = 72;
 
-const BACK: usize = 192;
+pub const NEEDED: usize = 144;
 
-const AHEAD: usize = 256;
+pub const BARRED: usize = 152;
 
-const UP: usize = 328;
+pub const ACTION: usize = 160;
+
+pub const SPAN: usize = 24;
 
 // Among the small numbers: where candidates lead, from 0 on, and how many there are; the nearest slave's master and state; the present state; the
 // places of candidates in their chart's list.
-const COUNT: usize = 64;
+pub const COUNT: usize = 64;
 
-const MASTER: usize = 72;
+pub const MASTER: usize = 72;
 
-const SLAVE_STATE: usize = 80;
+pub const SLAVE_STATE: usize = 80;
 
-const STATE: usize = 88;
+pub const STATE: usize = 88;
 
-const PLACE: usize = 96;
+pub const PLACE: usize = 96;
+
+// How many small numbers there are, how many masks for 8 charts, and how many for as few as 4.
+pub const SMALL: usize = 160;
+
+pub const MASKS: usize = 336;
+
+pub const FEW_MASKS: usize = 240;
+
+pub const FEW: usize = 4;
 
 // The masks that a trail has for a chart, and where among them what the chart needs and bars is (specs/Trail.antt).
 const WIDTH: usize = 10;
@@ -112,7 +123,7 @@ fn holds(g: Guard, low: u64, high: u64) -> bool
 // What the charts below k ask of chart k's action: what only it can put in for them, and what it must not. It contradicts itself where one of them
 // cannot be met whatever the action is.
 fn asks(masks: &[u64], trail: &[u64; 88], k: usize) -> Guard
-    requires { ⌜ (length (now masks) ≡ 336) × (k < 8) ⌝ }
+    requires { ⌜ (masksFor 0 ≤ length (now masks)) × (k < 8) ⌝ }
     ensures { λ r. ⌜ r ≡ asksOf (now (masks .entry)) (now (trail .entry)) k ⌝ }
 {
     let mut needed: u64 = 0;
@@ -135,17 +146,17 @@ fn asks(masks: &[u64], trail: &[u64; 88], k: usize) -> Guard
 
 // Whether chart k may take its candidate v: its own guard and what the charts before it ask of its action can still be met.
 fn fits(masks: &[u64], trail: &[u64; 88], asked: Guard, k: usize, v: usize) -> bool
-    requires { ⌜ (length (now masks) ≡ 336) × (k < 8) × (v < 8) × (asked ≡ asksOf (now masks) (now trail) k) ⌝ }
+    requires { ⌜ (masksFor (k + 1) ≤ length (now masks)) × (k < 8) × (v < 8) × (asked ≡ asksOf (now masks) (now trail) k) ⌝ }
     ensures { λ r. ⌜ ((s b : List ℕ) (o : ℕ) →
         r ≡ fineAt (now (masks .entry)) s (taken (now (masks .entry)) s (trailIn (now (trail .entry)) b k o) k v) k) ⌝ }
 {
-    let action = masks[ACTION + (8 * k + v)];
+    let action = masks[ACTION + (SPAN * k + v)];
     if !holds(asked, action, action) {
         return false;
     }
     let own = Guard {
-        needed: masks[8 * k + v],
-        barred: masks[BARRED + (8 * k + v)],
+        needed: masks[NEEDED + (SPAN * k + v)],
+        barred: masks[BARRED + (SPAN * k + v)],
     };
     let low = trail[WIDTH * k + k] | action & masks[BACK + (8 * k + k)];
     holds(own, low, low | masks[AHEAD + (8 * (k + 1) + k)])
@@ -153,7 +164,7 @@ fn fits(masks: &[u64], trail: &[u64; 88], asked: Guard, k: usize, v: usize) -> b
 
 // What each chart is surely offered once chart k has this action. It is a row of its own, so that its masks are computed side by side.
 fn lowered(masks: &[u64], trail: &[u64; 88], action: u64, k: usize) -> [u64; 8]
-    requires { ⌜ (length (now masks) ≡ 336) × (k < 8) ⌝ }
+    requires { ⌜ (masksFor 0 ≤ length (now masks)) × (k < 8) ⌝ }
     ensures { λ r. ⌜ r ≡ made 8 (λ c. lowIn (now (trail .entry)) k c ∪ action ∩ backAt (now (masks .entry)) c k) ⌝ }
 {
     let mut row = [0u64; 8];
@@ -179,7 +190,7 @@ fn put_row(trail: &mut [u64; 88], row: [u64; 8], k: usize)
 
 // Chart k has this action.
 fn lower(masks: &[u64], trail: &mut [u64; 88], action: u64, k: usize)
-    requires { ⌜ (length (now masks) ≡ 336) × (length (now trail) ≡ 88) × (k < 8) ⌝ }
+    requires { ⌜ (masksFor 0 ≤ length (now masks)) × (length (now trail) ≡ 88) × (k < 8) ⌝ }
     ensures { λ _. ⌜ Lowers (now (masks .entry)) action k (now (trail .entry)) (now (trail .exit)) ⌝ }
 {
     let row = lowered(masks, trail, action, k);
@@ -195,21 +206,21 @@ fn take(
     k: usize,
     v: usize,
 )
-    requires { ⌜ (length (now masks) ≡ 336) × (length (now small) ≡ 160) × Room (now trail) (now moves) × (k < 8) × (v < 8) ⌝ }
+    requires { ⌜ (masksFor (k + 1) ≤ length (now masks)) × (length (now small) ≡ 160) × Room (now trail) (now moves) × (k < 8) × (v < 8) ⌝ }
     ensures { λ _. ⌜ Takes (now (masks .entry)) (now (small .entry)) k v (now (trail .entry)) (now (moves .entry))
         (now (trail .exit)) (now (moves .exit)) ⌝ }
 {
-    trail[WIDTH * k + NEEDS] = masks[8 * k + v];
-    trail[WIDTH * k + BARS] = masks[BARRED + (8 * k + v)];
+    trail[WIDTH * k + NEEDS] = masks[NEEDED + (SPAN * k + v)];
+    trail[WIDTH * k + BARS] = masks[BARRED + (SPAN * k + v)];
     moves[STEPS * k] = small[8 * k + v];
     moves[STEPS * k + AWAKE] = 1;
     moves[STEPS * k + TAKEN] = small[PLACE + (8 * k + v)];
-    lower(masks, trail, masks[ACTION + (8 * k + v)], k);
+    lower(masks, trail, masks[ACTION + (SPAN * k + v)], k);
 }
 
 // Chart k is inactive: it takes none and keeps its state.
 fn rest(masks: &[u64], small: &[u8], trail: &mut [u64; 88], moves: &mut [u8; 24], k: usize)
-    requires { ⌜ (length (now masks) ≡ 336) × (length (now small) ≡ 160) × Room (now trail) (now moves) × (k < 8) ⌝ }
+    requires { ⌜ (masksFor 0 ≤ length (now masks)) × (length (now small) ≡ 160) × Room (now trail) (now moves) × (k < 8) ⌝ }
     ensures { λ _. ⌜ Rests (now (small .entry)) k (now (trail .entry)) (now (moves .entry)) (now (trail .exit)) (now (moves .exit)) ⌝ }
 {
     trail[WIDTH * k + NEEDS] = 0;
@@ -222,10 +233,10 @@ fn rest(masks: &[u64], small: &[u8], trail: &mut [u64; 88], moves: &mut [u8; 24]
 
 // What comes out of the whole once chart k takes its candidate v.
 fn shown_by(masks: &[u64], output: u64, k: usize, v: usize) -> u64
-    requires { ⌜ (length (now masks) ≡ 336) × (k < 8) × (v < 8) ⌝ }
+    requires { ⌜ (masksFor (k + 1) ≤ length (now masks)) × (k < 8) × (v < 8) ⌝ }
     ensures { λ r. ⌜ r ≡ output ∪ actionAt (now (masks .entry)) k v ∩ upAt (now (masks .entry)) k ⌝ }
 {
-    output | masks[ACTION + (8 * k + v)] & masks[UP + k]
+    output | masks[ACTION + (SPAN * k + v)] & masks[k]
 }
 
 // What chart c has in a column of `moves`, or the filler where there is no chart c.

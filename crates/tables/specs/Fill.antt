@@ -49,7 +49,7 @@ unfoldable pub isAgain : List ℕ → List ℕ → ℕ → ℕ → Transition �
 isAgain m s c n t = anyUpTo n (λ v. isAt m s c v t)
 
 unfoldable pub putMasks : List ℕ → ℕ → ℕ → Transition → List ℕ
-putMasks m c v t = set (set (set m (8 * c + v) (t .needed)) (64 + (8 * c + v)) (t .barred)) (128 + (8 * c + v)) (t .action)
+putMasks m c v t = set (set (set m (144 + (24 * c + v)) (t .needed)) (152 + (24 * c + v)) (t .barred)) (160 + (24 * c + v)) (t .action)
 
 -- where it leads, and its place p
 unfoldable pub putSmall : List ℕ → ℕ → ℕ → ℕ → Transition → List ℕ
@@ -92,9 +92,9 @@ module _ (ts : ℕ → List Transition) (cfg : ℕ → ℕ) (N : ℕ) (lows : Li
   pub record Until (m₀ s₀ : List ℕ) (k : ℕ) (m s : List ℕ) : Type 0 where
     pub listed : (c : ℕ) → c < k → Listed m s c (ts c) (cfg c) (keepAt m₀ c) (length (ts c)) (countAt s c)
     pub counts : (c : ℕ) → c < k → countAt s c ≤ 8
-    pub wires : (i : ℕ) → 192 ≤ i → getD m i 0 ≡ getD m₀ i 0
+    pub wires : (i : ℕ) → i < 144 → getD m i 0 ≡ getD m₀ i 0
     pub rest : (i : ℕ) → 64 + k ≤ i → i < 96 → getD s i 0 ≡ getD s₀ i 0
-    pub masks : length m ≡ 336
+    pub masks : length m ≡ length m₀
     pub small : length s ≡ 160
 
   -- all of it
@@ -109,8 +109,8 @@ module _ (ts : ℕ → List Transition) (cfg : ℕ → ℕ) (N : ℕ) (lows : Li
 -- row k of the first n charts is w, the rest as it was
 pub record AheadRow (k : ℕ) (w : ℕ → Set) (n : ℕ) (m₀ m : List ℕ) : Type 0 where
   pub row : (c : ℕ) → c < n → aheadAt m k c ≡ w c
-  pub below : (i : ℕ) → i < 256 + 8 * k → getD m i 0 ≡ getD m₀ i 0
-  pub above : (i : ℕ) → 256 + (8 * k + n) ≤ i → getD m i 0 ≡ getD m₀ i 0
+  pub below : (i : ℕ) → i < 72 + 8 * k → getD m i 0 ≡ getD m₀ i 0
+  pub above : (i : ℕ) → 72 + (8 * k + n) ≤ i → getD m i 0 ≡ getD m₀ i 0
   pub masks : length m ≡ length m₀
 
 -- row k from row k + 1: chart k's candidates put out u
@@ -120,8 +120,8 @@ aheadBy m k u c = u ∩ backAt m c k ∪ aheadAt m (suc k) c
 -- the rows from k on
 pub record AheadFrom (N : ℕ) (s : List ℕ) (k : ℕ) (m₀ m : List ℕ) : Type 0 where
   pub rows : (j c : ℕ) → k ≤ j → j ≤ N → c < N → aheadAt m j c ≡ ahead (N - j) j (λ e. mayAt m₀ s e ∩ backAt m₀ c e)
-  pub below : (i : ℕ) → i < 256 → getD m i 0 ≡ getD m₀ i 0
-  pub above : (i : ℕ) → 328 ≤ i → getD m i 0 ≡ getD m₀ i 0
+  pub below : (i : ℕ) → i < 72 → getD m i 0 ≡ getD m₀ i 0
+  pub above : (i : ℕ) → 144 ≤ i → getD m i 0 ≡ getD m₀ i 0
   pub masks : length m ≡ length m₀
 
 -- ── no search is needed ──

@@ -1,5 +1,5 @@
 -- `ahead_all` meets its contract. The loop makes the rows from the last chart down. Assumes nothing.
-use mathlib.Core.Path.{_≡_, sym, _∙_, subst}
+use mathlib.Core.Path.{_≡_, refl, _∙_, subst}
 use mathlib.Core.List.{List}
 use Prim.Native.Nat.{ℕ, suc, _-_, _≤_}
 use native.Mathlib.Omega.{arith}
@@ -11,19 +11,19 @@ use Rattle.candidates.proofs.ahead_all.Tie as tie
 
 abbrev Inv-loop : tie.InvT-loop
 Inv-loop masks₀ small charts k₀ masks k =
-    (k ≤ charts) × (length masks ≡ 336) × ((m : List ℕ) → AheadFrom charts small charts m masks₀ → AheadFrom charts small k m masks)
+    (k ≤ charts) × (length masks ≡ length masks₀) × ((m : List ℕ) → AheadFrom charts small charts m masks₀ → AheadFrom charts small k m masks)
 
 abbrev μ-loop : tie.MeasureT-loop
 μ-loop masks₀ small charts k₀ masks k = k
 
 loop-holds : tie.Need-loop-holds Inv-loop μ-loop
-loop-holds c = (omega arith, c .before .before .clear-row .ensures .masks ∙ c .before .before .before .before .before .before .pre .0 .masks, λ m h. h)
+loop-holds c = (omega arith, refl, λ m h. h)
 
 puts-out-requires : tie.Need-puts-out-requires Inv-loop μ-loop
 puts-out-requires c κs =
     let r = c .before .before .before .before .before .before .before .before .before .pre in
     let l = c .before .before .loop in
-    (record { masks = l .inv .1; small = r .0 .small }, omega arith, r .2 (l .k - 1) (omega arith))
+    (record { masks = omega (arith, l .inv .1, c .before .before .before .before .before .clear-row .ensures .masks, r .0 .masks); small = r .0 .small }, omega arith, r .2 (l .k - 1) (omega arith))
 
 loop-again : tie.Need-loop-again Inv-loop μ-loop
 loop-again c =
@@ -51,12 +51,12 @@ ahead-all-spec =
     (tie.spec
     Inv-loop
     μ-loop
-    (λ c κs. (c .before .before .before .pre .0 .masks, c .before .before .before .pre .1))
+    (λ c κs. (omega (arith, c .before .before .before .pre .0 .masks), c .before .before .before .pre .1))
     loop-holds
     (λ c. omega arith)
     puts-out-requires
-    (λ c κs. (c .before .before .before .before .loop .inv .1, c .before .before .before .before .before .before .before .before .before .before .before .pre .1, omega arith))
+    (λ c κs. (omega (arith, c .before .before .before .before .loop .inv .1, c .before .before .before .before .before .before .before .clear-row .ensures .masks, c .before .before .before .before .before .before .before .before .before .before .before .pre .0 .masks), c .before .before .before .before .before .before .before .before .before .before .before .pre .1, omega arith))
     (λ c. omega arith)
     loop-again
-    (λ c. c .before .loop .inv .1 ∙ sym (c .before .before .before .before .before .before .before .before .pre .0 .masks))
+    (λ c. c .before .loop .inv .1 ∙ c .before .before .before .before .clear-row .ensures .masks)
     returns)

@@ -18,7 +18,7 @@ list-all-requires c κs = (c .before .before .before .before .before .before .be
 ahead-all-requires : tie.Need-ahead-all-requires
 ahead-all-requires c κs =
     let u = c .before .before .before .before .before .before .list-all .ensures in
-    (record { masks = u .masks; small = u .small }, c .before .before .before .before .before .before .before .before .before .before .before .before .before .before .before .before .before .before .before .before .before .before .pre .0 .sized .charts, u .counts)
+    (record { masks = rw (u .masks) (c .before .before .before .before .before .before .before .before .before .before .before .before .before .before .before .before .before .before .before .before .before .before .pre .1 .masks); small = u .small }, c .before .before .before .before .before .before .before .before .before .before .before .before .before .before .before .before .before .before .before .before .before .before .pre .0 .sized .charts, u .counts)
 
 pub choose-spec : {M : Type 1} → statement M
 choose-spec =

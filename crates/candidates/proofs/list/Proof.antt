@@ -1,10 +1,10 @@
 -- `list` meets its contract. The loop: p transitions were considered. Assumes nothing.
 use mathlib.Core.Path.{_≡_, refl, sym, _∙_, subst}
-use Prim.Native.Nat.{_-_, _≤_}
+use Prim.Native.Nat.{_+_, _-_, _≤_}
 use native.Mathlib.Omega.{arith}
 use borrow.Author.Needs.{needs}
-use Rattle.candidates.specs.Candidates.{Left, Tabled, filling, listingBy, fromStart}
-use Rattle.candidates.specs.Candidates.Laws.{left-none, left-next, left-tabled, left-few, left-room}
+use Rattle.candidates.specs.Candidates.{Left, filling, listingBy, fromStart}
+use Rattle.candidates.specs.Candidates.Laws.{left-none, left-next, left-masks, left-small, left-tabled, left-few, left-room}
 use Rattle.candidates.proofs.list.Statement.{statement}
 use Rattle.candidates.proofs.list.Tie as tie
 
@@ -25,7 +25,7 @@ consider-requires c κs =
     let l = c .before .before .before .loop in (
       r .0,
       omega arith,
-      left-tabled (a .a) (fromStart (a .n) (a .body .now) (a .start)) (filling (a .masks .now) (a .small .now) 0) (l .p) (l .masks) (l .small) (l .have) (l .inv .1) (r .3),
+      left-tabled (a .a) (fromStart (a .n) (a .body .now) (a .start)) (filling (a .masks .now) (a .small .now) 0) (a .a .chart + 1) (l .p) (l .masks) (l .small) (l .have) (l .inv .1) (r .3),
       r .4,
       left-few (a .a) (fromStart (a .n) (a .body .now) (a .start)) (filling (a .masks .now) (a .small .now) 0) refl (a .count) (r .5) (l .p) (l .masks) (l .small) (l .have) (l .inv .1) (l .inv .0),
       left-room (a .a) (fromStart (a .n) (a .body .now) (a .start)) (filling (a .masks .now) (a .small .now) 0) refl (a .count) (r .5) (l .p) (l .masks) (l .small) (l .have) (l .inv .1) (c .before .before .loop-test .taken),
@@ -45,13 +45,6 @@ returns c =
     let e : l .p ≡ a .count = omega arith in
     (subst (λ p. Left (listingBy (a .a) (fromStart (a .n) (a .body .now) (a .start)) p (filling (a .masks .now) (a .small .now) 0)) (l .masks) (l .small) (l .have)) e (l .inv .1), left-few (a .a) (fromStart (a .n) (a .body .now) (a .start)) (filling (a .masks .now) (a .small .now) 0) refl (a .count) (r .5) (l .p) (l .masks) (l .small) (l .have) (l .inv .1) (l .inv .0))
 
--- the tables keep their lengths
-sized : (c : tie.After-loop Inv-loop μ-loop) → Tabled (c .before .loop .masks) (c .before .loop .small)
-sized c =
-    let a = c .before .before .before .before .before .args in
-    let l = c .before .loop in
-    left-tabled (a .a) (fromStart (a .n) (a .body .now) (a .start)) (filling (a .masks .now) (a .small .now) 0) (l .p) (l .masks) (l .small) (l .have) (l .inv .1) (c .before .before .before .before .before .pre .3)
-
 pub list-spec : {M : Type 1} → statement M
 list-spec =
     tie.close
@@ -65,6 +58,6 @@ list-spec =
     (λ c. omega arith)
     (λ c. omega arith)
     loop-again
-    (λ c. sized c .masks ∙ sym (c .before .before .before .before .before .pre .3 .masks))
-    (λ c. sized c .small ∙ sym (c .before .before .before .before .before .pre .3 .small))
+    (λ c. left-masks _ _ _ _ _ _ _ (c .before .loop .inv .1))
+    (λ c. left-small _ _ _ _ _ _ _ (c .before .loop .inv .1))
     returns)

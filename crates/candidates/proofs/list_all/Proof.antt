@@ -18,13 +18,13 @@ abbrev μ-loop : tie.MeasureT-loop
 
 loop-holds : tie.Need-loop-holds Inv-loop μ-loop
 unfolding startOf
-loop-holds c = let r = c .before .before .before .before .pre in (search needs, refl, until-none _ _ _ _ _ _ (r .0 .sized .charts) (r .2 .masks) (r .2 .small))
+loop-holds c = let r = c .before .before .before .before .pre in (search needs, refl, until-none _ _ _ _ _ _ (r .0 .sized .charts) (r .2 .small))
 
 list-chart-requires : tie.Need-list-chart-requires Inv-loop μ-loop
 list-chart-requires c κs =
     let r = c .before .before .before .before .before .before .before .before .before .pre in
     let l = c .before .before .before .before .loop in
-    (r .0, r .1, record { masks = l .inv .2 .masks; small = l .inv .2 .small }, c .before .before .if1 .taken, l .inv .1)
+    (r .0, r .1, record { masks = rw (l .inv .2 .masks) (r .2 .masks); small = l .inv .2 .small }, c .before .before .if1 .taken, l .inv .1)
 
 loop-again : tie.Need-loop-again Inv-loop μ-loop
 loop-again c = (omega arith, c .before .before .before .before .list-chart .ensures .0, c .before .before .before .before .list-chart .ensures .2 _ _ (c .before .before .before .before .before .before .before .before .before .loop .inv .2))
@@ -47,6 +47,6 @@ list-all-spec =
     (λ c. omega (arith, c .before .before .before .before .before .before .before .if1 .taken, c .before .before .before .before .before .before .before .before .before .before .before .before .before .before .pre .0 .sized .charts))
     (λ c. omega (arith, c .before .before .before .before .before .before .before .if1 .taken))
     loop-again
-    (λ c. c .before .before .loop .inv .2 .masks ∙ sym (c .before .before .before .before .before .before .before .pre .2 .masks))
+    (λ c. c .before .before .loop .inv .2 .masks)
     (λ c. c .before .before .loop .inv .2 .small ∙ sym (c .before .before .before .before .before .before .before .pre .2 .small))
     returns)

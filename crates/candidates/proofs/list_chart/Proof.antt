@@ -3,7 +3,7 @@ use mathlib.Core.Path.{refl, _∙_, ap}
 use Prim.Native.Nat.{_+_, _-_}
 use native.Mathlib.Omega.{arith}
 use borrow.Author.Needs.{needs}
-use Rattle.candidates.specs.Candidates.Laws.{start-next, chart-fits, chart-room, chart-tabled, chart-next}
+use Rattle.candidates.specs.Candidates.Laws.{start-next, chart-fits, chart-room, chart-tabled, chart-next, tabled-fewer}
 use Rattle.candidates.proofs.list_chart.Statement.{statement}
 use Rattle.candidates.proofs.list_chart.Tie as tie
 
@@ -16,7 +16,7 @@ list-requires c κs =
       r .0 .sized .holds,
       chart-fits (a .n) (a .body .now) (a .config .now) (r .0) (a .c) (a .start) _ (r .3) (r .4) h,
       search needs,
-      r .2,
+      tabled-fewer (a .c + 1) (r .2) (omega arith),
       omega arith,
       chart-room (a .n) (a .body .now) (a .config .now) (r .0) (a .c) (a .start) _ (r .3) (r .4) h,
     )
@@ -28,8 +28,8 @@ returns c =
     let h = c .before .before .before .before .before .before .before .before .before .before .before .before .head-at .ensures in
     let l = c .before .before .before .before .list .ensures .0 in (
       ap (λ x. a .start + x .transitions) h ∙ start-next (a .n) (a .body .now) (a .c) (a .start) (r .4),
-      chart-tabled _ _ _ _ _ _ _ _ _ _ _ _ (64 + a .c) l (r .2),
-      chart-next (a .n) (a .body .now) (a .config .now) (r .0) (a .t4) (a .may) (r .1) (a .masks .now) (a .small .now) (a .c) (a .start) _ _ _ _ _ _ (r .3) (r .4) h refl (c .before .before .before .before .before .before .before .before .others .ensures) l,
+      chart-tabled (a .n .charts) _ _ _ _ _ _ _ _ _ _ _ _ (64 + a .c) l (r .2),
+      chart-next (a .n) (a .body .now) (a .config .now) (r .0) (a .t4) (a .may) (r .1) (a .masks .now) (a .small .now) (a .c) (a .start) _ _ _ _ _ _ (r .2) (r .3) (r .4) h refl (c .before .before .before .before .before .before .before .before .others .ensures) l,
     )
 
 pub list-chart-spec : {M : Type 1} → statement M

@@ -180,12 +180,15 @@ module _ (a : Around) (g : ℕ → Transition) (f : Filling) where
   unfolding listing
   left-next p m s k m′ s′ k′ h l = rw (add-one p) (subst (λ z. Left (consideredBy a p (g p) z) m′ s′ k′) (λ i. record { masks = h .masks i; small = h .small i; count = h .count i }) l)
 
-  pub left-tabled : (p : ℕ) (m s : List ℕ) (k : ℕ) → Left (listingBy a g p f) m s k → Tabled (f .masks) (f .small) → Tabled m s
-  left-tabled p m s k h t =
-      record {
-        masks = ap length (h .masks) ∙ length-masks (a .chart) (a .state) (a .low) (a .own) (a .others) g p f ∙ t .masks;
-        small = ap length (h .small) ∙ length-small (a .chart) (a .state) (a .low) (a .own) (a .others) g p f ∙ t .small;
-      }
+  -- the tables keep their lengths
+  pub left-masks : (p : ℕ) (m s : List ℕ) (k : ℕ) → Left (listingBy a g p f) m s k → length m ≡ length (f .masks)
+  left-masks p m s k h = ap length (h .masks) ∙ length-masks (a .chart) (a .state) (a .low) (a .own) (a .others) g p f
+
+  pub left-small : (p : ℕ) (m s : List ℕ) (k : ℕ) → Left (listingBy a g p f) m s k → length s ≡ length (f .small)
+  left-small p m s k h = ap length (h .small) ∙ length-small (a .chart) (a .state) (a .low) (a .own) (a .others) g p f
+
+  pub left-tabled : (N p : ℕ) (m s : List ℕ) (k : ℕ) → Left (listingBy a g p f) m s k → Tabled N (f .masks) (f .small) → Tabled N m s
+  left-tabled N p m s k h t = record { masks = rw (left-masks p m s k h) (t .masks); small = left-small p m s k h ∙ t .small }
 
   module _ (z : f .count ≡ 0) (count : ℕ) (few : tally count (λ u. one (same (g u .from) (a .state))) ≤ 8) where
     pub left-few : (p : ℕ) (m s : List ℕ) (k : ℕ) → Left (listingBy a g p f) m s k → p ≤ count → k ≤ 8
@@ -243,14 +246,14 @@ module _ (n : Shape) (b config : List ℕ) where
 
   -- the table of chart c's candidates is made by its transitions
   pub chart-next : Ready n b config → (lows may : List ℕ) → Mays n b config (n .charts) may → (m s : List ℕ) (c start : ℕ) (head : Head) (own others : Set) (m′ s′ : List ℕ) (k : ℕ)
-      → c < n .charts → start ≡ startOf n b c → head ≡ headAt n b c → own ≡ backAt m c c → others ≡ othersAt m (n .charts) (λ e. getD may e 0) c
+      → Tabled (n .charts) m s → c < n .charts → start ≡ startOf n b c → head ≡ headAt n b c → own ≡ backAt m c c → others ≡ othersAt m (n .charts) (λ e. getD may e 0) c
       → Left (listing c (getD config c 0) (getD lows c 0) own others (fromStart n b start) (head .transitions) (filling m s 0)) m′ s′ k → NextChart n b config lows c m s m′ (set s′ (64 + c) k)
   unfolding transitionsOf leaving othersAt
-  chart-next r lows may my m s c start head own others m′ s′ k l es eh eo et h m₀ s₀ un =
+  chart-next r lows may my m s c start head own others m′ s′ k tb l es eh eo et h m₀ s₀ un =
       subst (λ z. UntilChart n b config lows m₀ s₀ z m′ (set s′ (64 + c) k)) (sym (add-one c))
       (rw (h .masks, h .small, h .count, es, eh) (subst (λ z. Until (transitionsOf n b) (λ d. getD config d 0) (n .charts) lows m₀ s₀ (suc c) (made z .masks) (set (made z .small) (64 + c) (made z .count)))
       (length-from (transitionAt n b) (startOf n b c) (headAt n b c .transitions))
-      (until-next (transitionsOf n b) (λ d. getD config d 0) (n .charts) lows m₀ s₀ (r .sized .charts) c l m s (getD lows c 0) own others (fromStart n b (startOf n b c)) un
+      (until-next (transitionsOf n b) (λ d. getD config d 0) (n .charts) lows m₀ s₀ (r .sized .charts) c l m s (getD lows c 0) own others (fromStart n b (startOf n b c)) (tb .masks) un
       (λ u q. nth-from (transitionAt n b) (startOf n b c) (headAt n b c .transitions) u (subst (λ z. u < z) (length-from (transitionAt n b) (startOf n b c) (headAt n b c .transitions)) q))
       (subst (λ z. tally z (λ u. one (same (fromStart n b (startOf n b c) u .from) (getD config c 0))) ≤ 8) (sym (length-from (transitionAt n b) (startOf n b c) (headAt n b c .transitions))) (r .room c l))
       refl eo (et ∙ join-cong (n .charts) _ _ (λ e q. ap (λ z. cond (same e c) 0 z ∩ backAt m c e) (my e q))))))
@@ -258,10 +261,14 @@ module _ (n : Shape) (b config : List ℕ) where
       made : ℕ → Filling
       made p = listing c (getD config c 0) (getD lows c 0) own others (fromStart n b (startOf n b c)) p (filling m s 0)
 
-pub chart-tabled : (c q : ℕ) (low own others : Set) (g : ℕ → Transition) (p : ℕ) (m s m′ s′ : List ℕ) (k d : ℕ) → Left (listing c q low own others g p (filling m s 0)) m′ s′ k → Tabled m s → Tabled m′ (set s′ d k)
-chart-tabled c q low own others g p m s m′ s′ k d h t =
+-- tables that have room for N charts have room for fewer
+pub tabled-fewer : {N : ℕ} {m s : List ℕ} (M : ℕ) → Tabled N m s → M ≤ N → Tabled M m s
+tabled-fewer M t l = record { masks = (let h = t .masks in omega arith); small = t .small }
+
+pub chart-tabled : (N c q : ℕ) (low own others : Set) (g : ℕ → Transition) (p : ℕ) (m s m′ s′ : List ℕ) (k d : ℕ) → Left (listing c q low own others g p (filling m s 0)) m′ s′ k → Tabled N m s → Tabled N m′ (set s′ d k)
+chart-tabled N c q low own others g p m s m′ s′ k d h t =
     record {
-      masks = ap length (h .masks) ∙ length-masks c q low own others g p (filling m s 0) ∙ t .masks;
+      masks = rw (h .masks, length-masks c q low own others g p (filling m s 0)) (t .masks);
       small = length-set s′ d k ∙ ap length (h .small) ∙ length-small c q low own others g p (filling m s 0) ∙ t .small;
     }
 
@@ -284,17 +291,17 @@ stated-next config c s₀ s h l =
 
 -- ── all of it ──
 
-pub chooses : (n : Shape) (b config base lows m₀ s₀ s₁ m s m′ : List ℕ) → Ready n b config → Tabled m₀ s₀ → Stated config (n .charts) s₀ s₁
+pub chooses : (n : Shape) (b config base lows m₀ s₀ s₁ m s m′ : List ℕ) → Ready n b config → Tabled (n .charts) m₀ s₀ → Stated config (n .charts) s₀ s₁
     → Raised (transitionsOf n b) (λ c. getD config c 0) (n .charts) m₀ s₁ base lows → UntilChart n b config lows m₀ s₁ (n .charts) m s → AheadFrom (n .charts) s 0 m m′
     → Chooses n b config base lows m₀ s₀ m′ s
 chooses n b config base lows m₀ s₀ s₁ m s m′ r tb st ra un ah = let few = r .sized .charts in
     record {
       chosen = chosen (transitionsOf n b) (λ c. getD config c 0) (n .charts) lows m₀ s₁ few m m′ s un ah (st .states);
-      raised = raised-same (transitionsOf n b) (λ c. getD config c 0) base (n .charts) m₀ s₁ m′ s lows few (λ i p q. ah .below i q ∙ un .wires i p) (λ i p q. un .rest i (omega arith) (omega arith)) ra;
-      wires = λ i p q. ah .below i q ∙ un .wires i p;
-      ups = λ i p. ah .above i p ∙ un .wires i (omega arith);
+      raised = raised-same (transitionsOf n b) (λ c. getD config c 0) base (n .charts) m₀ s₁ m′ s lows few (λ i p q. ah .below i q ∙ un .wires i (omega arith)) (λ i p q. un .rest i (omega arith) (omega arith)) ra;
+      wires = λ i p q. ah .below i q ∙ un .wires i (omega arith);
+      ups = λ i p. ah .below i (omega arith) ∙ un .wires i (omega arith);
       masters = λ i p q. un .rest i (omega arith) (omega arith) ∙ st .below i q;
-      tabled = record { masks = ah .masks ∙ un .masks; small = un .small };
+      tabled = record { masks = rw (ah .masks, un .masks) (tb .masks); small = un .small };
     }
 
 -- ── actions of a file in bytes ──

@@ -152,8 +152,8 @@ module _ (n : Shape) (b a m s m′ s′ config base lows : List ℕ) (sz : Sized
   wired-again =
       record {
         down-is = p .wired .down-is;
-        up-is = λ d l. ch .ups (328 + d) (omega arith) ∙ p .wired .up-is d l;
-        back-is = λ c d l r. ch .wires (192 + (8 * d + c)) (omega arith) (omega arith) ∙ p .wired .back-is c d l r;
+        up-is = λ d l. ch .ups d l ∙ p .wired .up-is d l;
+        back-is = λ c d l r. ch .wires (8 + (8 * d + c)) (omega arith) (omega arith) ∙ p .wired .back-is c d l r;
         nearest-is = λ c l. let q = p .wired .nearest-is c l in
             (ch .masters (72 + c) (omega (arith, sz .charts)) (omega (arith, sz .charts)) ∙ q .0, ch .masters (80 + c) (omega (arith, sz .charts)) (omega (arith, sz .charts)) ∙ q .1);
       }

@@ -18,7 +18,8 @@ use Rattle.meaning.specs.Meaning.{Outcome}
 use Rattle.meaning.specs.Laws.Bools.{and-l, and-r}
 use Rattle.search.specs.declared.Found.{Found}
 use Rattle.search.specs.declared.Guard.{Guard}
-use Rattle.search.specs.Table.{actionAt, upAt, countAt}
+use lib.ListN.{length}
+use Rattle.search.specs.Table.{masksFor, actionAt, upAt, countAt}
 use Rattle.search.specs.Trail.{Trail, trailIn, Keeps}
 use Rattle.search.specs.Trail.Laws.{keeps-refl, keeps-trans, keeps-fewer, keeps-room, trail-kept}
 use Rattle.search.specs.Hunt.{each, wakes, taken, rested, fineAt, hunts, outcomeIn, settleOf, over, foundIn, Held, Takes, Hunted}
@@ -209,7 +210,7 @@ module _ (t : ℕ) where
   asks-requires c κs =
       let b = c .before .before .before .before in
       let some = c .before .if1 .left in
-      (b .pre .1 .0 .masks, omega (arith, b .pre .1 .3, b .pre .1 .4))
+      (omega (arith, b .pre .1 .0 .masks), omega (arith, b .pre .1 .3, b .pre .1 .4))
 
   returns-2 : lts.Need-returns-2 (callees t) (at t) hunt.Post Inv-loop μ-loop
   returns-2 c =
@@ -257,7 +258,7 @@ module _ (t : ℕ) where
       let p = c .before .before .before .before .before .before .before .before in
       let b = entry p in
       let some = some-left p in
-      (b .pre .1 .0 .masks, b .pre .1 .0 .small, b .pre .1 .1, omega (arith, b .pre .1 .3, b .pre .1 .4))
+      (omega (arith, b .pre .1 .0 .masks), b .pre .1 .0 .small, b .pre .1 .1, omega (arith, b .pre .1 .3, b .pre .1 .4))
 
   hunt-requires : lts.Need-hunt-requires (callees t) (at t) hunt.Post Inv-loop μ-loop
   hunt-requires c κs =
@@ -310,6 +311,11 @@ module _ (t : ℕ) where
   few : (c : lts.At-loop (callees t) (at t) hunt.Post Inv-loop μ-loop) → entry (tested c) .args .charts - entry (tested c) .args .left < 8
   few c = let b = entry (tested c) in let some = some-left (tested c) in omega (arith, b .pre .1 .3, b .pre .1 .4)
 
+  roomy : (c : lts.At-loop (callees t) (at t) hunt.Post Inv-loop μ-loop) →
+      let a = entry (tested c) .args in
+      masksFor (a .charts - a .left + 1) ≤ length (a .masks .now)
+  roomy c = let b = entry (tested c) in let some = some-left (tested c) in omega (arith, b .pre .1 .0 .masks, b .pre .1 .4)
+
   counted : (c : lts.At-loop (callees t) (at t) hunt.Post Inv-loop μ-loop) →
       let a = entry (tested c) .args in
       countAt (a .small .now) (a .charts - a .left) ≤ 8
@@ -337,7 +343,7 @@ module _ (t : ℕ) where
   fits-requires c κs =
       let l = c .before .before in
       let b = entry (tested l) in (
-        b .pre .1 .0 .masks,
+        roomy l,
         few l,
         omega (arith, counted l),
         tested l .before .asks .ensures ∙ sym (asks-kept (b .args .masks .now) (few l) (l .loop .inv .1)),
@@ -347,12 +353,12 @@ module _ (t : ℕ) where
   take-requires c κs =
       let l = c .before .before .before .before .before .before in
       let b = entry (tested l) in
-      (b .pre .1 .0 .masks, b .pre .1 .0 .small, keeps-room (l .loop .inv .1) (b .pre .1 .1), few l, omega (arith, counted l))
+      (roomy l, b .pre .1 .0 .small, keeps-room (l .loop .inv .1) (b .pre .1 .1), few l, omega (arith, counted l))
 
   shown-by-requires : lts.Need-shown-by-requires (callees t) (at t) hunt.Post Inv-loop μ-loop
   shown-by-requires c κs =
       let l = c .before .before .before .before .before .before .before in
-      (entry (tested l) .pre .1 .0 .masks, few l, omega (arith, counted l))
+      (roomy l, few l, omega (arith, counted l))
 
   hunt-requires-2 : lts.Need-hunt-requires-2 (callees t) (at t) hunt.Post Inv-loop μ-loop
   hunt-requires-2 c κs =

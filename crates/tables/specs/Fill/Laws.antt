@@ -27,7 +27,7 @@ use Rattle.wiring.specs.Dropped.{ahead, test, join-cong}
 use Rattle.wiring.specs.Hunt.{mayOf}
 use Rattle.wiring.specs.Filter.{lasts}
 use Rattle.wiring.specs.Sure.{sureOf, surely, outside}
-use Rattle.search.specs.Table.{neededAt, barredAt, actionAt, backAt, aheadAt, toAt, countAt, masterAt, stateAt, placeAt}
+use Rattle.search.specs.Table.{masksFor, neededAt, barredAt, actionAt, backAt, aheadAt, toAt, countAt, masterAt, stateAt, placeAt}
 use Rattle.search.specs.Trail.{Trail}
 use Rattle.search.specs.Hunt.{each, wakes, taken, rested, fineAt, hunts}
 use Rattle.search.specs.Hunt.Laws.{each-none}
@@ -65,10 +65,10 @@ stays-trans m₀ s₀ m₁ s₁ m s d v a b = record { needed = b .needed ∙ a 
 -- ── put ──
 
 -- at other places of the masks nothing changes
-put-masks-off : (m : List ℕ) (c v : ℕ) (t : Transition) (i : ℕ) → i ≢ 8 * c + v → i ≢ 64 + (8 * c + v) → i ≢ 128 + (8 * c + v) → getD (putMasks m c v t) i 0 ≡ getD m i 0
+put-masks-off : (m : List ℕ) (c v : ℕ) (t : Transition) (i : ℕ) → i ≢ 144 + (24 * c + v) → i ≢ 152 + (24 * c + v) → i ≢ 160 + (24 * c + v) → getD (putMasks m c v t) i 0 ≡ getD m i 0
 unfolding putMasks
-put-masks-off m c v t i a b d = getD-set-other (set (set m (8 * c + v) (t .needed)) (64 + (8 * c + v)) (t .barred)) (128 + (8 * c + v)) i (t .action) 0 d
-    ∙ getD-set-other (set m (8 * c + v) (t .needed)) (64 + (8 * c + v)) i (t .barred) 0 b ∙ getD-set-other m (8 * c + v) i (t .needed) 0 a
+put-masks-off m c v t i a b d = getD-set-other (set (set m (144 + (24 * c + v)) (t .needed)) (152 + (24 * c + v)) (t .barred)) (160 + (24 * c + v)) i (t .action) 0 d
+    ∙ getD-set-other (set m (144 + (24 * c + v)) (t .needed)) (152 + (24 * c + v)) i (t .barred) 0 b ∙ getD-set-other m (144 + (24 * c + v)) i (t .needed) 0 a
 
 put-small-off : (s : List ℕ) (c v p : ℕ) (t : Transition) (i : ℕ) → i ≢ 8 * c + v → i ≢ 96 + (8 * c + v) → getD (putSmall s c v p t) i 0 ≡ getD s i 0
 unfolding putSmall
@@ -86,9 +86,9 @@ module _ (m s : List ℕ) (c v p : ℕ) (t : Transition) (lc : c < 8) (lv : v < 
   put-stays : (d u : ℕ) → d < 8 → u < 8 → (d ≢ c) → Stays m s (putMasks m c v t) (putSmall s c v p t) d u
   put-stays d u ld lu n =
       record {
-        needed = put-masks-off m c v t (8 * d + u) (λ e. n (omega arith)) (λ e. omega arith) (λ e. omega arith);
-        barred = put-masks-off m c v t (64 + (8 * d + u)) (λ e. omega arith) (λ e. n (omega arith)) (λ e. omega arith);
-        action = put-masks-off m c v t (128 + (8 * d + u)) (λ e. omega arith) (λ e. omega arith) (λ e. n (omega arith));
+        needed = put-masks-off m c v t (144 + (24 * d + u)) (λ e. n (omega arith)) (λ e. omega arith) (λ e. omega arith);
+        barred = put-masks-off m c v t (152 + (24 * d + u)) (λ e. omega arith) (λ e. n (omega arith)) (λ e. omega arith);
+        action = put-masks-off m c v t (160 + (24 * d + u)) (λ e. omega arith) (λ e. omega arith) (λ e. n (omega arith));
         to = put-small-off s c v p t (8 * d + u) (λ e. n (omega arith)) (λ e. omega arith);
         place = put-small-off s c v p t (96 + (8 * d + u)) (λ e. omega arith) (λ e. n (omega arith));
       }
@@ -96,22 +96,22 @@ module _ (m s : List ℕ) (c v p : ℕ) (t : Transition) (lc : c < 8) (lv : v < 
   put-earlier : (u : ℕ) → u < v → Stays m s (putMasks m c v t) (putSmall s c v p t) c u
   put-earlier u l =
       record {
-        needed = put-masks-off m c v t (8 * c + u) (λ e. omega arith) (λ e. omega arith) (λ e. omega arith);
-        barred = put-masks-off m c v t (64 + (8 * c + u)) (λ e. omega arith) (λ e. omega arith) (λ e. omega arith);
-        action = put-masks-off m c v t (128 + (8 * c + u)) (λ e. omega arith) (λ e. omega arith) (λ e. omega arith);
+        needed = put-masks-off m c v t (144 + (24 * c + u)) (λ e. omega arith) (λ e. omega arith) (λ e. omega arith);
+        barred = put-masks-off m c v t (152 + (24 * c + u)) (λ e. omega arith) (λ e. omega arith) (λ e. omega arith);
+        action = put-masks-off m c v t (160 + (24 * c + u)) (λ e. omega arith) (λ e. omega arith) (λ e. omega arith);
         to = put-small-off s c v p t (8 * c + u) (λ e. omega arith) (λ e. omega arith);
         place = put-small-off s c v p t (96 + (8 * c + u)) (λ e. omega arith) (λ e. omega arith);
       }
 
-  put-is : length m ≡ 336 → length s ≡ 160 → Is (putMasks m c v t) (putSmall s c v p t) c v t
+  put-is : masksFor (c + 1) ≤ length m → length s ≡ 160 → Is (putMasks m c v t) (putSmall s c v p t) c v t
   unfolding putMasks putSmall
   put-is lm ls =
       record {
-        needed = getD-set-other (set (set m (8 * c + v) (t .needed)) (64 + (8 * c + v)) (t .barred)) (128 + (8 * c + v)) (8 * c + v) (t .action) 0 (λ e. omega arith)
-            ∙ getD-set-other (set m (8 * c + v) (t .needed)) (64 + (8 * c + v)) (8 * c + v) (t .barred) 0 (λ e. omega arith) ∙ getD-set-same m (8 * c + v) (t .needed) 0 (omega arith);
-        barred = getD-set-other (set (set m (8 * c + v) (t .needed)) (64 + (8 * c + v)) (t .barred)) (128 + (8 * c + v)) (64 + (8 * c + v)) (t .action) 0 (λ e. omega arith)
-            ∙ getD-set-same (set m (8 * c + v) (t .needed)) (64 + (8 * c + v)) (t .barred) 0 (simp length-set (omega arith));
-        action = getD-set-same (set (set m (8 * c + v) (t .needed)) (64 + (8 * c + v)) (t .barred)) (128 + (8 * c + v)) (t .action) 0 (simp length-set (omega arith));
+        needed = getD-set-other (set (set m (144 + (24 * c + v)) (t .needed)) (152 + (24 * c + v)) (t .barred)) (160 + (24 * c + v)) (144 + (24 * c + v)) (t .action) 0 (λ e. omega arith)
+            ∙ getD-set-other (set m (144 + (24 * c + v)) (t .needed)) (152 + (24 * c + v)) (144 + (24 * c + v)) (t .barred) 0 (λ e. omega arith) ∙ getD-set-same m (144 + (24 * c + v)) (t .needed) 0 (omega arith);
+        barred = getD-set-other (set (set m (144 + (24 * c + v)) (t .needed)) (152 + (24 * c + v)) (t .barred)) (160 + (24 * c + v)) (152 + (24 * c + v)) (t .action) 0 (λ e. omega arith)
+            ∙ getD-set-same (set m (144 + (24 * c + v)) (t .needed)) (152 + (24 * c + v)) (t .barred) 0 (simp length-set (omega arith));
+        action = getD-set-same (set (set m (144 + (24 * c + v)) (t .needed)) (152 + (24 * c + v)) (t .barred)) (160 + (24 * c + v)) (t .action) 0 (simp length-set (omega arith));
         to = getD-set-other (set s (8 * c + v) (t .to)) (96 + (8 * c + v)) (8 * c + v) p 0 (λ e. omega arith) ∙ getD-set-same s (8 * c + v) (t .to) 0 (omega arith);
       }
 
@@ -203,10 +203,10 @@ module _ (c q : ℕ) (low own others : Set) where
     pub record Lists (p : ℕ) (f : Filling) : Type 0 where
       pub listed : Listed (f .masks) (f .small) c ts q keep p (f .count)
       pub stays : (d u : ℕ) → d < 8 → u < 8 → d ≢ c → Stays (f₀ .masks) (f₀ .small) (f .masks) (f .small) d u
-      pub wires : (i : ℕ) → 192 ≤ i → getD (f .masks) i 0 ≡ getD (f₀ .masks) i 0
+      pub wires : (i : ℕ) → i < 144 → getD (f .masks) i 0 ≡ getD (f₀ .masks) i 0
       pub rest : (i : ℕ) → 64 ≤ i → i < 96 → getD (f .small) i 0 ≡ getD (f₀ .small) i 0
 
-    lists-next : (p : ℕ) (t : Transition) (f : Filling) → nth ts p ≡ some t → keep (suc p) ≡ lastsBy low own others (some t) → length (f .masks) ≡ 336 → length (f .small) ≡ 160
+    lists-next : (p : ℕ) (t : Transition) (f : Filling) → nth ts p ≡ some t → keep (suc p) ≡ lastsBy low own others (some t) → masksFor (c + 1) ≤ length (f .masks) → length (f .small) ≡ 160
         → (t .from ≡ q → f .count < 8) → Lists p f → Lists (suc p) (step p t f)
     lists-next p t f e k lm ls room l = by-cases (λ h. Lists (suc p) h) p t f
         (λ a. same-but (other (l .listed) t e (λ w. false≢true (sym a ∙ rw w (same-refl q)))))
@@ -232,31 +232,31 @@ module _ (c q : ℕ) (low own others : Set) where
             }
 
     pub listing-lists : (g : ℕ → Transition) (k p : ℕ) → p ≤ k → leave g k ≤ 8 → ((u : ℕ) → u < k → nth ts u ≡ some (g u)) → ((u : ℕ) → u < k → keep (suc u) ≡ lastsBy low own others (some (g u)))
-        → length (f₀ .masks) ≡ 336 → length (f₀ .small) ≡ 160 → f₀ .count ≡ 0 → Lists p (listing c q low own others g p f₀)
+        → masksFor (c + 1) ≤ length (f₀ .masks) → length (f₀ .small) ≡ 160 → f₀ .count ≡ 0 → Lists p (listing c q low own others g p f₀)
     unfolding listing
     listing-lists g k zero l few at kp lm ls z = record { listed = rw z start; stays = λ d u ld lu n. stays-refl (f₀ .masks) (f₀ .small) d u; wires = λ i r. refl; rest = λ i r r₂. refl }
-    listing-lists g k (suc p) l few at kp lm ls z = lists-next p (g p) (listing c q low own others g p f₀) (at p l) (kp p l) (length-masks g p f₀ ∙ lm) (length-small g p f₀ ∙ ls)
+    listing-lists g k (suc p) l few at kp lm ls z = lists-next p (g p) (listing c q low own others g p f₀) (at p l) (kp p l) (let e = length-masks g p f₀ in omega arith) (length-small g p f₀ ∙ ls)
         (λ e. leave-room g p k f₀ z l few e) (listing-lists g k p (omega arith) few at kp lm ls z)
 
 -- ── one chart more ──
 
 module _ (ts : ℕ → List Transition) (cfg : ℕ → ℕ) (N : ℕ) (lows m₀ s₀ : List ℕ) (few : N ≤ 8) where
   -- the wiring of chart c is the same in tables that agree on it
-  others-same : (m m₁ : List ℕ) (may : ℕ → Set) (c : ℕ) → c < N → ((i : ℕ) → 192 ≤ i → i < 256 → getD m i 0 ≡ getD m₁ i 0) → othersAt m N may c ≡ othersAt m₁ N may c
+  others-same : (m m₁ : List ℕ) (may : ℕ → Set) (c : ℕ) → c < N → ((i : ℕ) → 8 ≤ i → i < 72 → getD m i 0 ≡ getD m₁ i 0) → othersAt m N may c ≡ othersAt m₁ N may c
   unfolding othersAt
-  others-same m m₁ may c l h = join-cong N _ _ (λ e r. ap (λ z. cond (same e c) 0 (may e) ∩ z) (h (192 + (8 * e + c)) (omega arith) (omega arith)))
+  others-same m m₁ may c l h = join-cong N _ _ (λ e r. ap (λ z. cond (same e c) 0 (may e) ∩ z) (h (8 + (8 * e + c)) (omega arith) (omega arith)))
 
-  keep-same : (m m₁ : List ℕ) (c v : ℕ) → c < N → ((i : ℕ) → 192 ≤ i → i < 256 → getD m i 0 ≡ getD m₁ i 0) → keepAt ts cfg N lows m c v ≡ keepAt ts cfg N lows m₁ c v
+  keep-same : (m m₁ : List ℕ) (c v : ℕ) → c < N → ((i : ℕ) → 8 ≤ i → i < 72 → getD m i 0 ≡ getD m₁ i 0) → keepAt ts cfg N lows m c v ≡ keepAt ts cfg N lows m₁ c v
   unfolding keepAt
-  keep-same m m₁ c v l h = ap₂ (λ a b. lastsBy (getD lows c 0) a b (pick (ts c) v)) (h (192 + (8 * c + c)) (omega arith) (omega arith)) (others-same m m₁ _ c l h)
+  keep-same m m₁ c v l h = ap₂ (λ a b. lastsBy (getD lows c 0) a b (pick (ts c) v)) (h (8 + (8 * c + c)) (omega arith) (omega arith)) (others-same m m₁ _ c l h)
 
   keep-by : (m : List ℕ) (c : ℕ) (low own others : Set) (u : ℕ) (t : Transition) → low ≡ getD lows c 0 → own ≡ backAt m c c → others ≡ othersAt m N (λ e. mayOf (ts e) (cfg e)) c
       → nth (ts c) u ≡ some t → keepAt ts cfg N lows m c (suc u) ≡ lastsBy low own others (some t)
   unfolding keepAt pick
   keep-by m c low own others u t el eo es e = rw (el, eo, es, e)
 
-  pub until-none : length m₀ ≡ 336 → length s₀ ≡ 160 → Until ts cfg N lows m₀ s₀ 0 m₀ s₀
-  until-none lm ls = record { listed = λ c l. absurd (omega arith); counts = λ c l. absurd (omega arith); wires = λ i l. refl; rest = λ i l b. refl; masks = lm; small = ls }
+  pub until-none : length s₀ ≡ 160 → Until ts cfg N lows m₀ s₀ 0 m₀ s₀
+  until-none ls = record { listed = λ c l. absurd (omega arith); counts = λ c l. absurd (omega arith); wires = λ i l. refl; rest = λ i l b. refl; masks = refl; small = ls }
 
   module _ (k : ℕ) (lk : k < N) (m s : List ℕ) (low own others : Set) (g : ℕ → Transition) where
     abbrev done : Filling
@@ -266,9 +266,9 @@ module _ (ts : ℕ → List Transition) (cfg : ℕ → ℕ) (N : ℕ) (lows m₀
     counted = set (done .small) (64 + k) (done .count)
 
     -- chart k gets its candidates
-    pub until-next : Until ts cfg N lows m₀ s₀ k m s → ((u : ℕ) → u < length (ts k) → nth (ts k) u ≡ some (g u)) → tally (length (ts k)) (λ u. one (same (g u .from) (cfg k))) ≤ 8
+    pub until-next : masksFor N ≤ length m → Until ts cfg N lows m₀ s₀ k m s → ((u : ℕ) → u < length (ts k) → nth (ts k) u ≡ some (g u)) → tally (length (ts k)) (λ u. one (same (g u .from) (cfg k))) ≤ 8
         → low ≡ getD lows k 0 → own ≡ backAt m k k → others ≡ othersAt m N (λ e. mayOf (ts e) (cfg e)) k → Until ts cfg N lows m₀ s₀ (suc k) (done .masks) counted
-    until-next un at room el eo es =
+    until-next lm un at room el eo es =
         record {
           listed = λ c l. go c l (same c k) refl;
           counts = λ c l. go′ c l (same c k) refl;
@@ -285,10 +285,10 @@ module _ (ts : ℕ → List Transition) (cfg : ℕ → ℕ) (N : ℕ) (lows m₀
         ls = length-small k (cfg k) low own others g (length (ts k)) f₀ ∙ un .small
 
         kept : (u : ℕ) → u < length (ts k) → keepAt ts cfg N lows m₀ k (suc u) ≡ lastsBy low own others (some (g u))
-        kept u l = keep-same m₀ m k (suc u) lk (λ i r _. sym (un .wires i r)) ∙ keep-by m k low own others u (g u) el eo es (at u l)
+        kept u l = keep-same m₀ m k (suc u) lk (λ i _ r. sym (un .wires i (omega arith))) ∙ keep-by m k low own others u (g u) el eo es (at u l)
 
         li : Lists k (cfg k) low own others (let h = few in omega arith) (ts k) (keepAt ts cfg N lows m₀ k) f₀ (length (ts k)) done
-        li = listing-lists k (cfg k) low own others (let h = few in omega arith) (ts k) (keepAt ts cfg N lows m₀ k) f₀ g (length (ts k)) (length (ts k)) (omega arith) room at kept (un .masks) (un .small) refl
+        li = listing-lists k (cfg k) low own others (let h = few in omega arith) (ts k) (keepAt ts cfg N lows m₀ k) f₀ g (length (ts k)) (length (ts k)) (omega arith) room at kept (omega arith) (un .small) refl
 
         full : done .count ≤ 8
         full = let h = count-leave k (cfg k) low own others g (length (ts k)) f₀ in omega arith
@@ -321,24 +321,24 @@ module _ (ts : ℕ → List Transition) (cfg : ℕ → ℕ) (N : ℕ) (lows m₀
 pub row-none : (k : ℕ) (w : ℕ → Set) (m : List ℕ) → AheadRow k w 0 m m
 row-none k w m = record { row = λ c l. absurd (omega arith); below = λ i l. refl; above = λ i l. refl; masks = refl }
 
-pub row-next : (k : ℕ) (w : ℕ → Set) (n : ℕ) (m₀ m : List ℕ) (v : Set) → AheadRow k w n m₀ m → 256 + (8 * k + n) < length m₀ → v ≡ w n → AheadRow k w (n + 1) m₀ (set m (256 + (8 * k + n)) v)
+pub row-next : (k : ℕ) (w : ℕ → Set) (n : ℕ) (m₀ m : List ℕ) (v : Set) → AheadRow k w n m₀ m → 72 + (8 * k + n) < length m₀ → v ≡ w n → AheadRow k w (n + 1) m₀ (set m (72 + (8 * k + n)) v)
 row-next k w n m₀ m v a l e =
     record {
       row = λ c r. go c r (same c n) refl;
-      below = λ i r. getD-set-other m (256 + (8 * k + n)) i v 0 (λ x. omega arith) ∙ a .below i r;
-      above = λ i r. getD-set-other m (256 + (8 * k + n)) i v 0 (λ x. omega arith) ∙ a .above i (omega arith);
-      masks = length-set m (256 + (8 * k + n)) v ∙ a .masks;
+      below = λ i r. getD-set-other m (72 + (8 * k + n)) i v 0 (λ x. omega arith) ∙ a .below i r;
+      above = λ i r. getD-set-other m (72 + (8 * k + n)) i v 0 (λ x. omega arith) ∙ a .above i (omega arith);
+      masks = length-set m (72 + (8 * k + n)) v ∙ a .masks;
     }
   where
-    go : (c : ℕ) → c < n + 1 → (b : Bool) → same c n ≡ b → getD (set m (256 + (8 * k + n)) v) (256 + (8 * k + c)) 0 ≡ w c
-    go c r true x = rw (same→≡ c n x) (getD-set-same m (256 + (8 * k + n)) v 0 (let h = a .masks in omega arith) ∙ e)
+    go : (c : ℕ) → c < n + 1 → (b : Bool) → same c n ≡ b → getD (set m (72 + (8 * k + n)) v) (72 + (8 * k + c)) 0 ≡ w c
+    go c r true x = rw (same→≡ c n x) (getD-set-same m (72 + (8 * k + n)) v 0 (let h = a .masks in omega arith) ∙ e)
     go c r false x = let z : c ≢ n = λ y. false≢true (sym x ∙ rw y (same-refl n)) in
-        getD-set-other m (256 + (8 * k + n)) (256 + (8 * k + c)) v 0 (λ y. omega arith) ∙ a .row c (omega arith)
+        getD-set-other m (72 + (8 * k + n)) (72 + (8 * k + c)) v 0 (λ y. omega arith) ∙ a .row c (omega arith)
 
 -- what stands before and after row k is still there to make it
 pub row-value : (k : ℕ) (w : ℕ → Set) (c : ℕ) (m₀ m : List ℕ) (u : Set) → AheadRow k w c m₀ m → c < 8 → k < 8 → u ∩ backAt m c k ∪ aheadAt m (k + 1) c ≡ aheadBy m₀ k u c
 unfolding aheadBy
-row-value k w c m₀ m u a l r = ap₂ (λ x y. u ∩ x ∪ y) (a .below (192 + (8 * k + c)) (omega arith)) (ap (λ z. aheadAt m z c) (add-one k) ∙ a .above (256 + (8 * suc k + c)) (omega arith))
+row-value k w c m₀ m u a l r = ap₂ (λ x y. u ∩ x ∪ y) (a .below (8 + (8 * k + c)) (omega arith)) (ap (λ z. aheadAt m z c) (add-one k) ∙ a .above (72 + (8 * suc k + c)) (omega arith))
 
 module _ (N : ℕ) (few : N ≤ 8) (s m₀ : List ℕ) where
   -- nothing is left after the last chart
@@ -352,9 +352,9 @@ module _ (N : ℕ) (few : N ≤ 8) (s m₀ : List ℕ) where
         masks = a .masks;
       }
 
-  may-same : (m : List ℕ) (c : ℕ) → c < N → countAt s c ≤ 8 → ((i : ℕ) → i < 256 → getD m i 0 ≡ getD m₀ i 0) → mayAt m s c ≡ mayAt m₀ s c
+  may-same : (m : List ℕ) (c : ℕ) → c < N → countAt s c ≤ 8 → ((i : ℕ) → 144 ≤ i → getD m i 0 ≡ getD m₀ i 0) → mayAt m s c ≡ mayAt m₀ s c
   unfolding mayAt
-  may-same m c l f h = join-cong (countAt s c) _ _ (λ v r. h (128 + (8 * c + v)) (omega arith))
+  may-same m c l f h = join-cong (countAt s c) _ _ (λ v r. h (160 + (24 * c + v)) (omega arith))
 
   pub from-next : (k : ℕ) (m m′ : List ℕ) (u : Set) → suc k ≤ N → countAt s k ≤ 8 → u ≡ mayAt m s k → AheadFrom N s (suc k) m₀ m → AheadRow k (aheadBy m k u) N m m′ → AheadFrom N s k m₀ m′
   unfolding ahead aheadBy
@@ -370,9 +370,9 @@ module _ (N : ℕ) (few : N ≤ 8) (s m₀ : List ℕ) where
       part c e = mayAt m₀ s e ∩ backAt m₀ c e
 
       go : (j c : ℕ) → k ≤ j → j ≤ N → c < N → (b : Bool) → same j k ≡ b → aheadAt m′ j c ≡ ahead (N - j) j (part c)
-      go j c p q x true y = rw (same→≡ j k y) (r .row c x ∙ ap₂ _∪_ (ap₂ _∩_ (e ∙ may-same m k (omega arith) f (a .below)) (a .below (192 + (8 * k + c)) (omega arith))) (a .rows (suc k) c (omega arith) (omega arith) x)
+      go j c p q x true y = rw (same→≡ j k y) (r .row c x ∙ ap₂ _∪_ (ap₂ _∩_ (e ∙ may-same m k (omega arith) f (a .above)) (a .below (8 + (8 * k + c)) (omega arith))) (a .rows (suc k) c (omega arith) (omega arith) x)
           ∙ sym (ap (λ n. ahead n k (part c)) (let h : N - k ≡ suc (N - suc k) = omega arith in h)))
-      go j c p q x false y = let z : j ≢ k = λ o. false≢true (sym y ∙ rw o (same-refl k)) in r .above (256 + (8 * j + c)) (omega arith) ∙ a .rows j c (omega arith) q x
+      go j c p q x false y = let z : j ≢ k = λ o. false≢true (sym y ∙ rw o (same-refl k)) in r .above (72 + (8 * j + c)) (omega arith) ∙ a .rows j c (omega arith) q x
 
 -- ── all of it ──
 
@@ -389,12 +389,12 @@ module _ (ts : ℕ → List Transition) (cfg : ℕ → ℕ) (N : ℕ) (lows m₀
   chosen m m′ s un a st =
       record {
         listed = λ c l. listed-kept m′ s c (ts c) (cfg c) (keepAt ts cfg N lows m₀ c) (keepAt ts cfg N lows m′ c)
-            (λ v. keep-same ts cfg N lows m₀ s₀ few m₀ m′ c v l (λ i p q. sym (a .below i q ∙ un .wires i p)))
+            (λ v. keep-same ts cfg N lows m₀ s₀ few m₀ m′ c v l (λ i p q. sym (a .below i q ∙ un .wires i (omega arith))))
             (listed-stays m s m′ s c (ts c) (cfg c) (keepAt ts cfg N lows m₀ c) (un .listed c l) (λ v r. let h = un .counts c l in
-            record { needed = a .below (8 * c + v) (omega arith); barred = a .below (64 + (8 * c + v)) (omega arith); action = a .below (128 + (8 * c + v)) (omega arith); to = refl; place = refl }));
+            record { needed = a .above (144 + (24 * c + v)) (omega arith); barred = a .above (152 + (24 * c + v)) (omega arith); action = a .above (160 + (24 * c + v)) (omega arith); to = refl; place = refl }));
         counts = un .counts;
-        ahead-at = λ k c p q. a .rows k c (omega arith) p q ∙ ahead-cong (N - k) k _ _ (λ e x. ap₂ _∩_ (sym (may-same N few s m m′ e (omega arith) (un .counts e (omega arith)) (a .below)))
-            (sym (a .below (192 + (8 * e + c)) (omega arith))));
+        ahead-at = λ k c p q. a .rows k c (omega arith) p q ∙ ahead-cong (N - k) k _ _ (λ e x. ap₂ _∩_ (sym (may-same N few s m m′ e (omega arith) (un .counts e (omega arith)) (a .above)))
+            (sym (a .below (8 + (8 * e + c)) (omega arith))));
         state-at = λ c l. un .rest (88 + c) (omega arith) (omega arith) ∙ st c l;
       }
 
@@ -482,11 +482,11 @@ module _ (ts : ℕ → List Transition) (cfg : ℕ → ℕ) (base : List ℕ) wh
       (A ≐ B ∪ₑ C ∷ []) (A ∪ₑ D ≐ B ∪ₑ (C ∪ₑ D)) tt (h c l)
 
   -- by tables with the same wiring and the same masters
-  pub raised-same : (k : ℕ) (m s m′ s′ lows : List ℕ) → k ≤ 8 → ((i : ℕ) → 192 ≤ i → i < 256 → getD m′ i 0 ≡ getD m i 0) → ((i : ℕ) → 72 ≤ i → i < 88 → getD s′ i 0 ≡ getD s i 0)
+  pub raised-same : (k : ℕ) (m s m′ s′ lows : List ℕ) → k ≤ 8 → ((i : ℕ) → 8 ≤ i → i < 72 → getD m′ i 0 ≡ getD m i 0) → ((i : ℕ) → 72 ≤ i → i < 88 → getD s′ i 0 ≡ getD s i 0)
       → Raised ts cfg k m s base lows → Raised ts cfg k m′ s′ base lows
   unfolding sureAt
   raised-same k m s m′ s′ lows few f g h c l = h c l ∙ ap (λ z. getD base c 0 ∪ z) (join-cong k _ _ (λ e r.
-      ap₂ (λ x y. cond (ltb x 8) 0 (sureOf (ts e) (cfg e)) ∩ y) (sym (g (72 + e) (omega arith) (omega arith))) (sym (f (192 + (8 * e + c)) (omega arith) (omega arith)))))
+      ap₂ (λ x y. cond (ltb x 8) 0 (sureOf (ts e) (cfg e)) ∩ y) (sym (g (72 + e) (omega arith) (omega arith))) (sym (f (8 + (8 * e + c)) (omega arith) (omega arith)))))
 
 module _ (E : ℕ → Chart) (state : ℕ → ℕ) (cfg : ℕ → ℕ) (N : ℕ) (enc : ℕ → Option ℕ) (sc : ℕ → ℕ) (t : Tree) (inp : Set) (m s base lows : List ℕ)
     (st : Stands N enc sc t) (ro : Rows E state cfg N enc sc t m s) where

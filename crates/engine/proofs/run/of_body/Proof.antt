@@ -4,7 +4,7 @@ use mathlib.Core.List.{List}
 use Prim.Native.Nat.{ℕ, _+_, _/_, _≤_, _<_}
 use native.Mathlib.Omega.{arith}
 use borrow.Author.Needs.{needs}
-use lib.ListN.{length, take}
+use lib.ListN.{length, take, getD-replicate}
 use Rattle.layout.specs.declared.body.Shape.{Shape}
 use Rattle.meaning.specs.File.{fileAt}
 use Rattle.meaning.specs.Check.{firstOf}
@@ -70,7 +70,7 @@ put-rows-requires c κs =
     let r = e .before .config-refusal .ensures in (
       s .pre,
       rw (begins _ _ _ (a .carried) (a .inputs .now) (a .rows .now) _ r (e .if1 .left) _ (t .states-of .ensures)) (valid _ _ _ (a .carried) (a .inputs .now) (a .rows .now) _ r (e .if1 .left)),
-      record { wired = w .wired .ensures; tabled = record { masks = search needs; small = search needs } },
+      record { wired = w .wired .ensures; tabled = record { masks = omega (arith, s .pre .sized .charts, w .wired .kept .1 .1 .0); small = search needs } },
       room _ _ _ (omega arith) (t .before .if2 .left),
     )
 
@@ -95,7 +95,7 @@ of-body-spec =
     states-of-requires
     (λ c. search needs)
     (λ c. search needs)
-    (λ c κs. search needs)
+    (λ c κs. (search needs, search needs, λ k p. getD-replicate 336 k 0 0 (omega arith), search needs))
     (λ c. search needs)
     (λ c. search needs)
     put-rows-requires

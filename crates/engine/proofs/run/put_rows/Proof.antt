@@ -71,7 +71,7 @@ lands n states d held x i r p = λ j. record { config = p .0 j; carried = p .1 j
 abbrev Inv-loop : tie.InvT-loop
 Inv-loop n body carried inputs down masks₀ small₀ rows₀ charts w states₀ held₀ at₀ left₀ masks small rows states held at left =
     So-far n body inputs (stand n states₀ held₀) rows₀ rows (stand n states held) at (length inputs - left) × Prepared n body down masks small
-    × (left ≤ length inputs)
+    × (left ≤ length inputs) × (length masks ≡ length masks₀)
 
 abbrev μ-loop : tie.MeasureT-loop
 μ-loop n body carried inputs down masks₀ small₀ rows₀ charts w states₀ held₀ at₀ left₀ masks small rows states held at left = left
@@ -102,7 +102,7 @@ loop-holds c =
     let s = c .before .before .before .before .before in
     let m = length (s .args .inputs .now) in
     let e : m - m ≡ 0 = omega arith in
-    (rw e (record { place = omega arith; long = refl; valid = s .pre .1; before = refl; behind = refl; carried = refl }), s .pre .2, omega arith)
+    (rw e (record { place = omega arith; long = refl; valid = s .pre .1; before = refl; behind = refl; carried = refl }), s .pre .2, omega arith, refl)
 
 array-share-prefix-states : tie.Need-array-share-prefix-states Inv-loop μ-loop
 array-share-prefix-states c = omega (arith, rw length-take at (configured (c .before)))
@@ -138,6 +138,7 @@ loop-again c =
           (lands (s .args .n) (l .states) (a .states) (l .held) (a .carried) (getD (s .args .inputs .now) i′ 0) r (c .before .after .ensures .1 (s .args .n .charts)))),
       f .found .ensures .1,
       omega (arith, c .before .after .ensures .0, l .inv .2),
+      f .found .kept .1 .1 .1 .1 .1 .0 ∙ l .inv .3,
     )
 
 returns : tie.Need-returns Inv-loop μ-loop
@@ -172,7 +173,7 @@ put-rows-spec =
     (λ c κs. c .before .before .before .before .before .before .before .before .before .before .before .before .before .loop-test .taken)
     (λ c. omega (arith, c .before .after .ensures .0))
     loop-again
-    (λ c. c .before .loop .inv .1 .tabled .masks ∙ sym (c .before .before .before .before .before .before .before .pre .2 .tabled .masks))
+    (λ c. c .before .loop .inv .3)
     (λ c. c .before .loop .inv .1 .tabled .small ∙ sym (c .before .before .before .before .before .before .before .pre .2 .tabled .small))
     (λ c. c .before .loop .inv .0 .long)
     returns)

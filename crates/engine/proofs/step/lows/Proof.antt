@@ -5,7 +5,7 @@ use native.Mathlib.Omega.{arith}
 use borrow.Author.Needs.{needs}
 use lib.ListN.{length, getD, length-set}
 use Rattle.signals.specs.Mask.{_∩_}
-use Rattle.plan.proofs.Filled.{filled-more}
+use Rattle.checks.specs.Parts.Laws.{fill-more}
 use Rattle.engine.proofs.step.lows.Statement.{statement}
 use Rattle.engine.proofs.step.lows.Tie as tie
 
@@ -22,7 +22,7 @@ loop-again : tie.Need-loop-again Inv-loop μ-loop
 loop-again c = (
   omega arith,
   simp length-set (c .before .loop .inv .1),
-  filled-more _ (c .before .loop .low) (c .before .loop .c) _ (omega arith) refl (c .before .loop .inv .2),
+  fill-more _ (c .before .loop .low) (c .before .loop .c) _ (c .before .loop .inv .2) refl (omega arith),
 )
 
 returns : tie.Need-returns Inv-loop μ-loop

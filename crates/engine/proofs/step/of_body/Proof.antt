@@ -66,41 +66,37 @@ returns-2 c =
     let q = by-room _ _ _ _ _ _ (e .before .config-refusal .ensures) (e .if1 .left) (c .before .if2 .taken) in
     refuses _ _ _ _ _ q (after-refused _ _ _ _ _ q) (c .refused2 .ensures)
 
-found-requires : tie.Need-found-requires
-found-requires c κs =
-    let w = c .before .before .before .before in
-    let e = w .before .before .before .before .before in
-    let s = e .before .before .before .before .before in (
-      s .pre,
-      ready-here _ _ _ (s .args .input) 0 _ (e .before .config-refusal .ensures) (e .if1 .left) (s .pre),
-      record { wired = w .wired .ensures; tabled = record { masks = search needs; small = search needs } },
-    )
+found-new-requires : tie.Need-found-new-requires
+found-new-requires c κs =
+    let e = c .before .before in
+    let s = e .before .before .before .before .before in
+    (s .pre, ready-here _ _ _ (s .args .input) 0 _ (e .before .config-refusal .ensures) (e .if1 .left) (s .pre))
 
 returns-3 : tie.Need-returns-3
 returns-3 c =
-    let f = c .before .before .before .before .before in
-    let e = f .before .before .before .before .before .before .before .before .before .before in
+    let f = c .before .before .before in
+    let e = f .before .before .before in
     let q = by-search _ _ _ _ _ _ (e .before .config-refusal .ensures) (e .if1 .left)
-    (f .before .before .before .before .before .before .before .before .if2 .left) (f .found .result) (f .found .ensures .0)
+    (f .before .if2 .left) (f .found-new .result) (f .found-new .ensures)
     (not-true _ (c .before .if3 .taken)) in
     refuses _ _ _ _ _ q (after-refused _ _ _ _ _ q) (c .refused3 .ensures)
 
 put-states-requires : tie.Need-put-states-requires
 put-states-requires c κs =
-    let f = c .before .before .before .before .before .before in
-    let e = f .before .before .before .before .before .before .before .before .before .before in
+    let f = c .before .before .before .before in
+    let e = f .before .before .before in
     let h = e .before .before .before .before .before .pre .sized .charts in
-    let l = f .before .before .before .before .before .before .before .before .if2 .left in
+    let l = f .before .if2 .left in
     (omega arith, omega arith)
 
 returns-4 : tie.Need-returns-4
 returns-4 c =
-    let f = c .before .before .before .before .before .before .before .before .before .before in
-    let e = f .before .before .before .before .before .before .before .before .before .before in
-    let l = f .before .before .before .before .before .before .before .before .if2 .left in
-    gives _ _ _ _ _ _ _ _ (by-found _ _ _ _ _ _ (e .before .config-refusal .ensures) (e .if1 .left) l (f .found .result) (f .found .ensures .0)
+    let f = c .before .before .before .before .before .before .before .before in
+    let e = f .before .before .before in
+    let l = f .before .if2 .left in
+    gives _ _ _ _ _ _ _ _ (by-found _ _ _ _ _ _ (e .before .config-refusal .ensures) (e .if1 .left) l (f .found-new .result) (f .found-new .ensures)
     (not-false _ (c .before .before .before .before .before .before .if3 .left)))
-    (by-places _ _ _ _ _ _ (e .before .config-refusal .ensures) (e .if1 .left) l (f .found .result) (f .found .ensures .0))
+    (by-places _ _ _ _ _ _ (e .before .config-refusal .ensures) (e .if1 .left) l (f .found-new .result) (f .found-new .ensures))
     (c .before .before .before .put-states .ensures)
 
 pub of-body-spec : {M : Type 1} → statement M
@@ -112,12 +108,7 @@ of-body-spec =
     returns
     (λ c κs. search needs)
     returns-2
-    (λ c. search needs)
-    (λ c. search needs)
-    (λ c κs. search needs)
-    (λ c. search needs)
-    (λ c. search needs)
-    found-requires
+    found-new-requires
     (λ c κs. search needs)
     returns-3
     put-states-requires

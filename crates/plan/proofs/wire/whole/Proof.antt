@@ -1,20 +1,19 @@
 -- `wire::whole` meets its contract: the whole is joined to empty rows and an empty square. Assumes nothing.
-use mathlib.Core.Path.{refl, ap}
+use mathlib.Core.Path.{refl}
 use borrow.Author.Needs.{needs}
-use lib.ListN.{length}
 use Rattle.meaning.specs.File.{fileAt}
 use Rattle.plan.proofs.Wiring.{wires-whole}
 use Rattle.plan.proofs.wire.whole.Statement.{statement}
 use Rattle.plan.proofs.wire.whole.Tie as tie
 
 wire-requires : tie.Need-wire-requires
-wire-requires c κs = let s = c .before .before .before .before .before in (s .pre .0, search needs, ap length (s .pre .1), refl)
+wire-requires c κs = let s = c .before .before .before .before .before in (s .pre .0, search needs, s .pre .1, refl)
 
 returns : tie.Need-returns
 unfolding fileAt
 returns c =
     let w = c .before .before in
-    wires-whole _ _ _ _ (w .before .before .before .before .before .before .pre .1) (w .wire .ensures)
+    wires-whole _ _ _ _ (w .before .before .before .before .before .before .pre .2) (w .wire .ensures)
 
 pub whole-spec : {M : Type 1} → statement M
 whole-spec = tie.close (tie.spec (λ c. search needs) wire-requires (λ c. search needs) returns)
