@@ -3,7 +3,6 @@ use mathlib.Core.Path.{_≡_, sym, ap, _∙_}
 use mathlib.Core.Bool.{Bool, true, false, _&&_, and-true, and-false}
 use mathlib.Core.List.{List}
 use Prim.Native.Nat.{ℕ, _<_}
-use borrow.Author.Needs.{needs}
 use borrow.Author.Tests.{not-true, not-false}
 use Rattle.search.specs.declared.Guard.{Guard}
 use Rattle.search.specs.Table.{actionAt}
@@ -11,6 +10,7 @@ use Rattle.search.specs.Trail.{trailIn}
 use Rattle.search.specs.Hunt.{taken, fineAt}
 use Rattle.search.specs.Asks.{asksOf}
 use Rattle.search.specs.Asks.Laws.{met, ownAt, fine-taken}
+use Rattle.search.proofs.Index.{inside-of, trail-row, low-in, row, chart-after, row-after, span, cell, cell-after, slot, needed-at, barred-at, action-at, back-at, ahead-at}
 use Rattle.search.proofs.fits.Statement.{statement}
 use Rattle.search.proofs.fits.Tie as tie
 
@@ -46,8 +46,38 @@ returns-2 c s b o =
 pub fits-spec : {M : Type 1} → statement M
 fits-spec =
     tie.close
-    (tie.spec (λ c. search needs) (λ c. search needs) (λ c. search needs) (λ c. search needs) (λ c. search needs) (λ c κs. search needs) returns
-    (λ c. search needs) (λ c. search needs) (λ c. search needs) (λ c. search needs) (λ c. search needs) (λ c. search needs) (λ c. search needs) (λ c. search needs)
-    (λ c. search needs) (λ c. search needs) (λ c. search needs) (λ c. search needs) (λ c. search needs) (λ c. search needs) (λ c. search needs)
-    (λ c. search needs) (λ c. search needs) (λ c. search needs) (λ c. search needs) (λ c. search needs) (λ c. search needs) (λ c. search needs)
-    (λ c. search needs) (λ c. search needs) (λ c. search needs) (λ c κs. search needs) returns-2)
+    (tie.spec
+    (λ c. let s = c .before in span (s .pre .1))
+    (λ c. let s = c .before in slot (s .pre .1) (s .pre .2))
+    (λ c. let s = c .before in action-at (s .pre .1) (s .pre .2) .fits)
+    (λ c. let s = c .before in action-at (s .pre .1) (s .pre .2) .bytes)
+    (λ c. let s = c .before .before in inside-of (s .pre .0) (action-at (s .pre .1) (s .pre .2)))
+    (λ c κs. tt)
+    returns
+    (λ c. let s = c .before .before .before .before in span (s .pre .1))
+    (λ c. let s = c .before .before .before .before in slot (s .pre .1) (s .pre .2))
+    (λ c. let s = c .before .before .before .before in needed-at (s .pre .1) (s .pre .2) .fits)
+    (λ c. let s = c .before .before .before .before in needed-at (s .pre .1) (s .pre .2) .bytes)
+    (λ c. let s = c .before .before .before .before .before in inside-of (s .pre .0) (needed-at (s .pre .1) (s .pre .2)))
+    (λ c. let s = c .before .before .before .before .before in span (s .pre .1))
+    (λ c. let s = c .before .before .before .before .before in slot (s .pre .1) (s .pre .2))
+    (λ c. let s = c .before .before .before .before .before in barred-at (s .pre .1) (s .pre .2) .fits)
+    (λ c. let s = c .before .before .before .before .before in barred-at (s .pre .1) (s .pre .2) .bytes)
+    (λ c. let s = c .before .before .before .before .before .before in inside-of (s .pre .0) (barred-at (s .pre .1) (s .pre .2)))
+    (λ c. let s = c .before .before .before .before .before .before in trail-row (s .pre .1))
+    (λ c. let s = c .before .before .before .before .before .before in low-in (s .pre .1) (s .pre .1) .fits)
+    (λ c. let s = c .before .before .before .before .before .before in low-in (s .pre .1) (s .pre .1) .bytes)
+    (λ c. let s = c .before .before .before .before .before .before in low-in (s .pre .1) (s .pre .1) .inside)
+    (λ c. let s = c .before .before .before .before .before .before .before in row (s .pre .1))
+    (λ c. let s = c .before .before .before .before .before .before .before in cell (s .pre .1) (s .pre .1))
+    (λ c. let s = c .before .before .before .before .before .before .before in back-at (s .pre .1) (s .pre .1) .fits)
+    (λ c. let s = c .before .before .before .before .before .before .before in back-at (s .pre .1) (s .pre .1) .bytes)
+    (λ c. let s = c .before .before .before .before .before .before .before .before in inside-of (s .pre .0) (back-at (s .pre .1) (s .pre .1)))
+    (λ c. let s = c .before .before .before .before .before .before .before .before in chart-after (s .pre .1))
+    (λ c. let s = c .before .before .before .before .before .before .before .before in row-after (s .pre .1))
+    (λ c. let s = c .before .before .before .before .before .before .before .before in cell-after (s .pre .1) (s .pre .1))
+    (λ c. let s = c .before .before .before .before .before .before .before .before in ahead-at (s .pre .1) (s .pre .1) .fits)
+    (λ c. let s = c .before .before .before .before .before .before .before .before in ahead-at (s .pre .1) (s .pre .1) .bytes)
+    (λ c. let s = c .before .before .before .before .before .before .before .before .before in inside-of (s .pre .0) (ahead-at (s .pre .1) (s .pre .1)))
+    (λ c κs. tt)
+    returns-2)
