@@ -8,9 +8,9 @@
  *   - memory that a call writes overlaps nothing else that is lent to the same call.
  *
  * Every call returns 0, or the number of its refusal. A refused call leaves every lent buffer (`config`, `next`, `rows`, `out`) as it was. The
- * single numbers behind pointers (`input`, `output`, `mark`, `carried_on`, `length`) are answers: they are always written, and are 0 where the
- * call is refused; so are all 8 `places`, and they are MESTECUR_NO_PLACE then. Where a call succeeds, the bytes of a buffer behind what it has to
- * say keep their values.
+ * single numbers behind pointers (`input`, `output`, `mark`, `carried_on`, `length`, `plain`) are answers: they are always written, and are 0
+ * where the call is refused; so are all 8 `places`, and they are MESTECUR_NO_PLACE then. Where a call succeeds, the bytes of a buffer behind what
+ * it has to say keep their values.
  *
  * A set of signals is a 64-bit number: bit n stands for signal n, 0 to 63. A configuration is one byte for each chart, its present state. */
 #ifndef MESTECUR_H
@@ -53,6 +53,10 @@ uint8_t mestecur_run(const uint8_t *file, size_t file_len, const uint8_t *config
 
 /* Writes to the front of `out` a file without slaves that makes the same steps, and its length to `length`. Refusals: 1 to 11, 40 to 42, 44, 45. */
 uint8_t mestecur_rewrite(const uint8_t *file, size_t file_len, uint8_t *out, size_t out_len, size_t *length);
+
+/* Writes to `plain` 1 if any two transitions from one state are told apart by a signal that one needs, the other bars and no feedback set of the file
+ * has, else 0. Every step of a plain file that is given has the mark 1. Refusals: 1 to 11. */
+uint8_t mestecur_plain(const uint8_t *file, size_t file_len, uint8_t *plain);
 
 /* The refusals. A call gives the first one, in the order named at the call, that applies. */
 enum {

@@ -6,6 +6,7 @@ use crate::day::line;
 use crate::first::first_configuration;
 use crate::interface::interface;
 use crate::limits::{refusal, SIGNALS};
+use crate::plain::is_plain;
 use crate::rewriting::rewrite;
 use crate::run::{run_model, Row};
 use crate::set::Set;
@@ -25,6 +26,7 @@ pub fn chart(command: &str, file: &[u8], words: &[&str]) -> Option<String> {
             .map_err(of_file),
         ("first", []) => first(file),
         ("interface", []) => faces(file),
+        ("plain", []) => plainness(file),
         ("step", [config, set]) => one_step(file, &configuration(config)?, typed_set(set)?),
         ("run", [config, sets @ ..]) => {
             let sets: Option<Vec<Set>> = sets.iter().map(|set| typed_set(set)).collect();
@@ -75,6 +77,17 @@ fn faces(file: &[u8]) -> Result<String, Refused> {
         output.hex(),
         shown(output)
     ))
+}
+
+/// Whether the file is plain, in words.
+fn plainness(file: &[u8]) -> Result<String, Refused> {
+    let model = accept(file).map_err(of_file)?;
+    let words = if is_plain(&model) {
+        "plain\n"
+    } else {
+        "not plain\n"
+    };
+    Ok(words.to_string())
 }
 
 /// A line for each set, nothing being carried to the first: the day program's, and the output as

@@ -7,7 +7,7 @@
 
 use crate::set::Set;
 use crate::step::NO_PLACES;
-use crate::{check, first, interface, rewrite, run, step, Places};
+use crate::{check, first, interface, plain, rewrite, run, step, Places};
 
 /// The value of each lent byte before a call.
 pub const FILL: u8 = 0xA5;
@@ -27,16 +27,18 @@ pub enum Op {
     Step,
     Run,
     Rewrite,
+    Plain,
 }
 
 /// All ops; the place of each is its number in the header.
-pub const OPS: [Op; 6] = [
+pub const OPS: [Op; 7] = [
     Op::Check,
     Op::First,
     Op::Interface,
     Op::Step,
     Op::Run,
     Op::Rewrite,
+    Op::Plain,
 ];
 
 /// One call, with all that is lent to it.
@@ -159,6 +161,14 @@ impl Command {
         }
     }
 
+    /// Whether a file is plain.
+    pub fn plain(name: &str, file: Vec<u8>) -> Command {
+        Command {
+            op: Op::Plain,
+            ..Command::check(name, file)
+        }
+    }
+
     /// Whether it is small enough to be recorded.
     pub fn can_be_recorded(&self) -> bool {
         let bytes = self.file.len().max(self.room);
@@ -215,6 +225,7 @@ impl Command {
             Op::Interface => vec![Set(one).hex(), Set(other).hex()],
             Op::Step => vec![Set(one).hex(), mark.to_string(), hex(&numbers.places), lent],
             Op::Rewrite => vec![one.to_string(), lent],
+            Op::Plain => vec![one.to_string()],
         }
     }
 
@@ -245,6 +256,10 @@ impl Command {
                 let length = rewritten.length as u64;
                 (rewritten.refusal, Numbers::two(length, 0))
             }
+            Op::Plain => {
+                let found = plain(file);
+                (found.refusal, Numbers::two(u64::from(found.plain), 0))
+            }
         }
     }
 }
@@ -258,6 +273,7 @@ fn word(op: Op) -> &'static str {
         Op::Step => "step",
         Op::Run => "run",
         Op::Rewrite => "rewrite",
+        Op::Plain => "plain",
     }
 }
 

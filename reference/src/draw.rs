@@ -44,12 +44,13 @@ impl Draw {
 
 /// A call with a random file.
 fn fresh(random: &mut Random, name: &str) -> Command {
-    let kind = random.below(12);
+    let kind = random.below(14);
     affordable(random, |random| match kind {
         0..=3 => file_command(random, name),
         4..=7 => step_command(random, name),
         8 | 9 => run_command(random, name),
-        _ => rewrite_command(random, name),
+        10 | 11 => rewrite_command(random, name),
+        _ => plain_command(random, name),
     })
 }
 
@@ -148,7 +149,7 @@ fn other_call(random: &mut Random, command: &mut Command) {
     fit_inputs(command);
     let charts = model.charts.len();
     command.room = match command.op {
-        Op::Check | Op::Interface => 0,
+        Op::Check | Op::Interface | Op::Plain => 0,
         Op::First | Op::Step => room(random, charts),
         Op::Run => room(random, command.inputs.len() * (ROW_HEAD_BYTES + charts)),
         Op::Rewrite => room(random, 2 * command.file.len() + NODES * NODE_BYTES),

@@ -6,8 +6,10 @@ use crate::cases::run::rows_bytes;
 use crate::check::accept;
 use crate::command::Command;
 use crate::file::Records;
+use crate::interface::chart_input;
 use crate::limits::*;
 use crate::model::{Chart, Model, Node, Slave, Transition};
+use crate::plain::{feedback_sets, pairs_from_one_state};
 use crate::set::Set;
 
 /// A deterministic source of numbers (splitmix64).
@@ -211,7 +213,7 @@ struct Tree<'a> {
 impl Tree<'_> {
     /// A node with all these charts inside; their numbers rise. It may be hidden.
     fn grow(&mut self, charts: Vec<u8>) -> u8 {
-        let mut made = self.grow_plain(charts);
+        let mut made = self.grow_unhidden(charts);
         while self.random.chance(self.shape.hide) && self.nodes.len() < NODES - 2 * CHARTS {
             let node = Node::Hidden {
                 part: made,
@@ -224,7 +226,7 @@ impl Tree<'_> {
     }
 
     /// A node with all these charts inside: a chart, decomposed or composed.
-    fn grow_plain(&mut self, charts: Vec<u8>) -> u8 {
+    fn grow_unhidden(&mut self, charts: Vec<u8>) -> u8 {
         if charts.len() == 1 {
             return self.push(Node::Chart { chart: charts[0] });
         }
@@ -698,4 +700,133 @@ fn transitions_of_one_state(chart: &Chart) -> Vec<Transition> {
         action: Set::one(number),
     };
     (0..STATE_TRANSITIONS as u32).map(one).collect()
+}
+
+/// A random file in which the transitions from each state are told apart by signals of no feedback
+/// set, and its shape with these signals. Some of the guards are empty but for that.
+pub fn divided(random: &mut Random, most_charts: usize) -> (Shape, Model) {
+    let (mut shape, mut model) = any(random, most_charts);
+    let own = Set::of(&shape.signals);
+    let mut others: Vec<u32> = Set::FULL.less(own).signals().collect();
+    random.shuffle(&mut others);
+    // three that nothing feeds back: enough to divide eight transitions
+    shape.signals.extend(&others[..3]);
+    let fed_back = Set::union(feedback_sets(&model).into_iter());
+    let free: Vec<u32> = Set::of(&shape.signals).less(fed_back).signals().collect();
+    let kept = random.pick(&[0, 20, 60]);
+    for chart in &mut model.charts {
+        lose_guards(random, chart, kept);
+        for state in 0..chart.states {
+            let from = chart.transitions.iter_mut().filter(|t| t.from == state);
+            divide(random, &mut from.collect::<Vec<&mut Transition>>(), &free);
+        }
+    }
+    (shape, model)
+}
+
+/// Empties the guards of a chart; each is kept with this chance.
+fn lose_guards(random: &mut Random, chart: &mut Chart, kept: usize) {
+    for transition in &mut chart.transitions {
+        if !random.chance(kept) {
+            (transition.needed, transition.barred) = (Set::EMPTY, Set::EMPTY);
+        }
+    }
+}
+
+/// Lets one half of the transitions need a signal that the other half bars, and divides each half by
+/// other signals.
+fn divide(random: &mut Random, out: &mut [&mut Transition], free: &[u32]) {
+    if out.len() < 2 {
+        return;
+    }
+    random.shuffle(out);
+    let signal = random.pick(free);
+    let left: Vec<u32> = free.iter().copied().filter(|&s| s != signal).collect();
+    let (needing, barring) = out.split_at_mut(out.len() / 2);
+    for transition in needing.iter_mut() {
+        transition.needed = transition.needed.joined(Set::one(signal));
+    }
+    for transition in barring.iter_mut() {
+        transition.barred = transition.barred.joined(Set::one(signal));
+    }
+    divide(random, needing, &left);
+    divide(random, barring, &left);
+}
+
+/// Random questions whether a file is plain.
+pub fn plain_commands(seed: u64, count: usize) -> Vec<Command> {
+    let mut random = Random::new(seed);
+    (0..count)
+        .map(|number| plain_command(&mut random, &format!("random-{number}")))
+        .collect()
+}
+
+/// One random question whether a file is plain. The file has two transitions from one state, and is
+/// mostly plain or nearly so.
+pub fn plain_command(random: &mut Random, name: &str) -> Command {
+    let bytes = random.pick(&[300, 500, 800, 1_300]);
+    let (shape, mut model) = loop {
+        let drawn = match random.below(5) {
+            0 => any(random, CHARTS),
+            _ => divided(random, CHARTS),
+        };
+        if drawn.1.file().len() <= bytes && has_pair(&drawn.1) {
+            break drawn;
+        }
+    };
+    for _ in 0..random.pick(&[0, 1, 1, 2, 4]) {
+        disturb(random, &shape, &mut model);
+    }
+    Command::plain(name, seldom_damaged(random, &model, 6))
+}
+
+/// Whether some two transitions leave one state.
+fn has_pair(model: &Model) -> bool {
+    let mut charts = model.charts.iter();
+    charts.any(|chart| !pairs_from_one_state(chart).is_empty())
+}
+
+/// Changes one thing that a file's being plain may hang on, or seems to.
+fn disturb(random: &mut Random, shape: &Shape, model: &mut Model) {
+    let place = random.below(model.charts.len());
+    let chart = &mut model.charts[place];
+    let mut signals: Vec<u32> = chart_input(chart).signals().collect();
+    signals.push(random.pick(&shape.signals));
+    let signal = Set::one(random.pick(&signals));
+    match random.below(6) {
+        0 => chart.feedback = chart.feedback.joined(signal),
+        1 => chart.extra = chart.extra.joined(signal),
+        2 | 3 => disturb_node(random, signal, model),
+        _ => disturb_transition(random, signal, chart),
+    }
+}
+
+/// Joins a signal to a node's x: a composed node feeds it back, a hidden one does not.
+fn disturb_node(random: &mut Random, signal: Set, model: &mut Model) {
+    let place = random.below(model.nodes.len());
+    match &mut model.nodes[place] {
+        Node::Chart { .. } => {}
+        Node::Composed { feedback: x, .. } | Node::Hidden { filtered: x, .. } => {
+            *x = x.joined(signal);
+        }
+    }
+}
+
+/// Takes a signal from a guard, adds it to one, or lets a transition stand where another stood.
+fn disturb_transition(random: &mut Random, signal: Set, chart: &mut Chart) {
+    if chart.transitions.is_empty() {
+        return;
+    }
+    let count = chart.transitions.len();
+    let (one, other) = (random.below(count), random.below(count));
+    let transition = &mut chart.transitions[one];
+    match random.below(4) {
+        0 => transition.needed = transition.needed.less(signal),
+        1 => transition.barred = transition.barred.less(signal),
+        2 => transition.needed = transition.needed.joined(signal),
+        _ if chart.transitions[one].from == chart.transitions[other].from => {
+            chart.transitions[one] = chart.transitions[other].clone();
+        }
+        _ => {}
+    }
 }

@@ -15,6 +15,7 @@
 //! - [`step`]: the meaning of a step, refusals 20 to 23; the places of 02, No. 1.
 //! - [`run`]: a run, refusal 27; what 02, No. 5 carries.
 //! - [`rewriting`]: the rewriting, refusals 40 to 45.
+//! - [`plain`]: whether a file is plain (02, No. 11).
 //! - [`agreement`]: the places of a step of the rewritten file (02, No. 1).
 //! - [`day`]: the day program, refusals 30 and 31.
 //! - [`chart`]: the command line tool's answers.
@@ -41,6 +42,7 @@ pub mod generate;
 pub mod interface;
 pub mod limits;
 pub mod model;
+pub mod plain;
 pub mod record;
 pub mod rewriting;
 pub mod run;
@@ -53,6 +55,7 @@ pub use check::check;
 pub use day::day;
 pub use first::first;
 pub use interface::{interface, Interface};
+pub use plain::{plain, Plain};
 pub use rewriting::{rewrite, Rewritten};
 pub use run::{run, Ran};
 pub use set::Set;

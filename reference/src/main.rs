@@ -1,7 +1,8 @@
 //! The command line:
 //!
 //! - `reference record KIND COMMANDS LINES` writes the recorded calls of a kind (`file`, `step`,
-//!   `run` or `rewrite`) to the file COMMANDS and the lines they answer to the file LINES.
+//!   `run`, `rewrite` or `plain`) to the file COMMANDS and the lines they answer to the file LINES.
+//! - `reference file NAME` prints the file of a named case.
 //! - `reference show` reads recorded calls on standard input and prints the lines they answer.
 //! - `reference day` reads the day program's input on standard input and prints what it prints.
 //! - `reference chart WORDS..` prints what the command line tool prints for words that are typed
@@ -13,18 +14,20 @@
 //!   configuration; prints how many of each kind were compared.
 
 use reference::command::decode_all;
-use reference::record::{commands, encode, lines, Kind};
+use reference::record::{commands, encode, lines, named, Kind, KINDS};
 use reference::words;
 use std::io::{Read, Write};
 use std::process::ExitCode;
 
 /// What can be said on the command line.
-const USE: &str = "use: reference record KIND COMMANDS LINES | show | day | chart WORDS.. \
+const USE: &str =
+    "use: reference record KIND COMMANDS LINES | file NAME | show | day | chart WORDS.. \
     | fuzz SEED COUNT | same SEED COUNT";
 
 fn main() -> ExitCode {
     words::done(|words| match *words {
         ["record", kind, calls, answers] => record(kind, calls, answers),
+        ["file", name] => file(name),
         ["show"] => show(),
         ["day"] => day(),
         ["chart", "rewrite", file, out] => rewrite(file, out),
@@ -36,12 +39,20 @@ fn main() -> ExitCode {
 
 /// Writes the calls of a kind and their lines.
 fn record(kind: &str, calls: &str, answers: &str) -> Result<(), String> {
-    let kind = Kind::of(kind).ok_or("the kinds are file, step, run, rewrite")?;
+    let kind = Kind::of(kind).ok_or("the kinds are file, step, run, rewrite, plain")?;
     let commands = commands(kind);
     write(calls, &encode(&commands))?;
     write(answers, lines(&commands).as_bytes())?;
     eprintln!("{} calls", commands.len());
     Ok(())
+}
+
+/// Prints the file of a named case.
+fn file(name: &str) -> Result<(), String> {
+    let cases = KINDS.into_iter().flat_map(named);
+    let mut files = cases.filter(|case| case.command.name == name);
+    let case = files.next().ok_or("there is no case of this name")?;
+    print(&case.command.file)
 }
 
 /// Prints the lines of the calls on standard input.

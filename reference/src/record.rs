@@ -11,16 +11,24 @@ pub enum Kind {
     Step,
     Run,
     Rewrite,
+    Plain,
 }
 
 /// All kinds.
-pub const KINDS: [Kind; 4] = [Kind::File, Kind::Step, Kind::Run, Kind::Rewrite];
+pub const KINDS: [Kind; 5] = [
+    Kind::File,
+    Kind::Step,
+    Kind::Run,
+    Kind::Rewrite,
+    Kind::Plain,
+];
 
 /// How many random calls a recording of each kind has, and their seeds.
 const RANDOM_FILES: (u64, usize) = (0x6669_6c65, 200);
 const RANDOM_STEPS: (u64, usize) = (0x7374_6570, 1_000);
 const RANDOM_RUNS: (u64, usize) = (0x0072_756e, 300);
 const RANDOM_REWRITINGS: (u64, usize) = (0x7265_7772, 250);
+const RANDOM_PLAINS: (u64, usize) = (0x706c_6169, 300);
 
 impl Kind {
     /// The kind of a word on the command line.
@@ -30,6 +38,7 @@ impl Kind {
             "step" => Some(Kind::Step),
             "run" => Some(Kind::Run),
             "rewrite" => Some(Kind::Rewrite),
+            "plain" => Some(Kind::Plain),
             _ => None,
         }
     }
@@ -48,6 +57,7 @@ pub fn named(kind: Kind) -> Vec<Case> {
             .collect(),
         Kind::Run => cases::run::cases(),
         Kind::Rewrite => cases::rewrite::cases(),
+        Kind::Plain => cases::plain::cases(),
     }
 }
 
@@ -58,6 +68,7 @@ pub fn random(kind: Kind) -> Vec<Command> {
         Kind::Step => generate::step_commands(RANDOM_STEPS.0, RANDOM_STEPS.1),
         Kind::Run => generate::run_commands(RANDOM_RUNS.0, RANDOM_RUNS.1),
         Kind::Rewrite => generate::rewrite_commands(RANDOM_REWRITINGS.0, RANDOM_REWRITINGS.1),
+        Kind::Plain => generate::plain_commands(RANDOM_PLAINS.0, RANDOM_PLAINS.1),
     }
 }
 

@@ -16,7 +16,7 @@ fn drawn(seed: u64, count: usize) -> Vec<Command> {
 /// The refusals that document 01 names at a call beside 1 to 11.
 fn own_refusals(op: Op) -> &'static [u8] {
     match op {
-        Op::Check | Op::Interface => &[],
+        Op::Check | Op::Interface | Op::Plain => &[],
         Op::First => &[22],
         Op::Step => &[20, 21, 22, 23],
         Op::Run => &[20, 21, 27],

@@ -47,7 +47,8 @@ fn reach_exactly(kind: Kind, which: &dyn Fn(&Recorded) -> bool, others: &[u8]) {
 }
 
 /// 01: "A step tests 1 to 11, then 20 to 23; a run 1 to 11, 20, 21, 27; the first configuration 1 to
-/// 11, 22; checking and the interface 1 to 11; the rewriting 1 to 11, 40 to 45." There is no 43.
+/// 11, 22; checking and the interface 1 to 11; the rewriting 1 to 11, 40 to 45." There is no 43. 02,
+/// No. 11: "Refusals: 1 to 11."
 #[test]
 fn every_refusal_of_every_call_is_reached() {
     reach_exactly(Kind::File, &|r| r.command.op == Op::Check, &[]);
@@ -56,6 +57,7 @@ fn every_refusal_of_every_call_is_reached() {
     reach_exactly(Kind::Step, &|_| true, &[20, 21, 22, 23]);
     reach_exactly(Kind::Run, &|_| true, &[20, 21, 27]);
     reach_exactly(Kind::Rewrite, &|_| true, &[40, 41, 42, 44, 45]);
+    reach_exactly(Kind::Plain, &|_| true, &[]);
 }
 
 #[test]
@@ -136,6 +138,7 @@ fn a_refusal_leaves_all_lent_bytes_and_gives_empty_answers() {
                 Op::Step => format!("{name} step {number} {zeros} n {none} {untouched}\n"),
                 Op::Run => format!("{name} run {number} {zeros} {untouched}\n"),
                 Op::Rewrite => format!("{name} rewrite {number} 0 {untouched}\n"),
+                Op::Plain => format!("{name} plain {number} 0\n"),
             };
             assert_eq!(answer.line, expected);
         }
@@ -152,6 +155,7 @@ fn there_are_enough_of_each_kind() {
     assert!(count(Kind::Step, false) > 150 && count(Kind::Step, true) >= 1_000);
     assert!(count(Kind::Run, false) > 50 && count(Kind::Run, true) >= 300);
     assert!(count(Kind::Rewrite, false) > 50 && count(Kind::Rewrite, true) >= 250);
+    assert!(count(Kind::Plain, false) > 80 && count(Kind::Plain, true) >= 300);
 }
 
 /// The random steps that are given, with their models and marks.
@@ -193,6 +197,15 @@ fn random_steps_have_all_shapes() {
 }
 
 #[test]
+fn random_files_are_plain_and_not_plain_in_good_number() {
+    let ends = |end: &str| {
+        let all = recording(Kind::Plain).iter().filter(|r| r.is_random);
+        all.filter(|r| r.answer.line.ends_with(end)).count()
+    };
+    assert!(ends(" plain 0 1\n") >= 100 && ends(" plain 0 0\n") >= 100);
+}
+
+#[test]
 fn a_command_byte_by_byte() {
     let command = Command::run("ab", vec![7, 8, 9], &[1], &[Set(0x0203)], 5);
     let command = command.carrying(Set(0x0405));
@@ -206,7 +219,7 @@ fn a_command_byte_by_byte() {
 
 #[test]
 fn lines_by_hand() {
-    use reference::cases::charts::{d, p1};
+    use reference::cases::charts::{d, n1, p1};
     let file = d().file();
     let line = |command: Command| command.answer().line;
     assert_eq!(line(Command::check("c", file.clone())), "c check 0\n");
@@ -244,6 +257,9 @@ fn lines_by_hand() {
     let length = p1().file().len();
     let whole = line(Command::rewrite("w", p1().file(), length));
     assert!(whole.starts_with(&format!("w rewrite 0 {length} 020001")));
+    assert_eq!(line(Command::plain("p", d().file())), "p plain 0 1\n");
+    assert_eq!(line(Command::plain("p", n1().file())), "p plain 0 0\n");
+    assert_eq!(line(Command::plain("p", vec![])), "p plain 1 0\n");
 }
 
 #[test]
@@ -252,7 +268,7 @@ fn broken_recordings_are_told() {
     assert!(decode_all(&good[..good.len() - 1]).is_err());
     assert!(decode_all(&good[..10]).is_err());
     let mut other = good.clone();
-    other[0] = 6;
+    other[0] = 7;
     assert!(decode_all(&other).is_err());
     other[0] = 3;
     assert!(decode_all(&other).is_err());

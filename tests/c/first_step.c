@@ -1,5 +1,5 @@
 /* Document 01's whole case: checks the file, takes its first configuration, asks for its interface, makes its three steps one by one, then as one
- * run and as two, rewrites it, and prints what it got. */
+ * run and as two, rewrites it, asks whether it is plain, and prints what it got. */
 #include <stdio.h>
 #include "mestecur.h"
 
@@ -52,7 +52,7 @@ static uint64_t run(uint8_t state, uint64_t carried, size_t from, size_t count) 
 }
 
 int main(void) {
-    uint8_t state = 9, out[sizeof file];
+    uint8_t state = 9, plain = 9, out[sizeof file];
     uint64_t input = 9, output = 9;
     size_t length = 9;
     printf("check: %d\n", mestecur_check(file, sizeof file));
@@ -71,5 +71,9 @@ int main(void) {
     printf(", %zu bytes\n", length);
     printf("rewrite without room: %d", mestecur_rewrite(file, sizeof file, out, sizeof out - 1, &length));
     printf(", %zu bytes\n", length);
+    printf("plain: %d", mestecur_plain(file, sizeof file, &plain));
+    printf(", %d\n", plain);
+    printf("plain without the first byte: %d", mestecur_plain(file + 1, sizeof file - 1, &plain));
+    printf(", %d\n", plain);
     return 0;
 }

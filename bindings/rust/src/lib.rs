@@ -155,3 +155,13 @@ pub fn rewrite(file: &[u8], buffer: &mut [u8]) -> Result<usize, Refusal> {
     })?;
     Ok(length)
 }
+
+/// Whether a file is plain: any two transitions from one state are told apart by a signal that one
+/// needs, the other bars and no feedback set of the file has. No step of a plain file has the mark no.
+/// Refusals 1 to 11.
+pub fn plain(file: &[u8]) -> Result<bool, Refusal> {
+    let mut plain = 0;
+    // SAFETY: the pointers are those of a slice with this length and of a number of our own.
+    Refusal::unless_zero(unsafe { raw::mestecur_plain(file.as_ptr(), file.len(), &mut plain) })?;
+    Ok(plain == 1)
+}

@@ -56,4 +56,7 @@ extern "C" {
         out_len: usize,
         length: *mut usize,
     ) -> u8;
+
+    /// Gives whether a file is plain.
+    pub fn mestecur_plain(file: *const u8, file_len: usize, plain: *mut u8) -> u8;
 }

@@ -3,7 +3,7 @@
 mod charts;
 
 use charts::{d, whole_case};
-use mestecur::{check, first, interface, rewrite, run, step, Refusal, Set};
+use mestecur::{check, first, interface, plain, rewrite, run, step, Refusal, Set};
 
 /// The number of a refused call.
 fn number<T: std::fmt::Debug>(answer: Result<T, Refusal>) -> u8 {
@@ -20,6 +20,7 @@ fn every_call_refuses(file: &[u8], refusal: u8) {
     let ran = run(file, &[0], Set(4), &[Set(1)], &mut buffer);
     assert_eq!(number(ran), refusal);
     assert_eq!(number(rewrite(file, &mut buffer)), refusal);
+    assert_eq!(number(plain(file)), refusal);
     assert_eq!(buffer, [0xA5; 300]);
 }
 

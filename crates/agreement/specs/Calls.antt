@@ -30,7 +30,7 @@ use Rattle.agreement.specs.Run.{run-is, carried-is}
 use Rattle.agreement.specs.Faces.{input-is, output-is}
 use Rattle.agreement.specs.Passed.{front, in-front, ended, smalls, body-bytes, ready}
 use Rattle.agreement.specs.New.{Regular}
-use Rattle.agreement.specs.Plain.{plain-same}
+use Rattle.agreement.specs.Slaveless.{slaveless-same}
 use Rattle.agreement.specs.Written.{encode-again}
 use Rattle.agreement.specs.Again.{Given, fits, new-passes, new-reads, new-slaves}
 use Rattle.agreement.specs.Bytes.{new-bytes as bytes-new}
@@ -230,11 +230,11 @@ module _ (f : List ℕ) (ab : AllBytes f) (room : ℕ) (ok : rewriteRefusal f ro
         (carriedOf (fileOf f′) config carried inputs) (λ n. ∅) (λ v. carried-is (fileOf f) (rg .ready) (fileOf f′) r inputs config carried v)
 
 -- a file without slaves rewrites to itself, without its front
-pub plain-rewrites : (f : List ℕ) → AllBytes f → refusalOf f ≡ 0 → fileOf f .slaves ≡ 0 → rewriteBytes f ≡ drop (endOf f - trailer f .distance) f
+pub slaveless-rewrites : (f : List ℕ) → AllBytes f → refusalOf f ≡ 0 → fileOf f .slaves ≡ 0 → rewriteBytes f ≡ drop (endOf f - trailer f .distance) f
 unfolding rewriteBytes fileOf
-plain-rewrites f ab e none-there = let p = passed f e in plain-same (fileOf f) (ready f p ab) (p .nodes) none-there ∙ encode-again f p ab
+slaveless-rewrites f ab e none-there = let p = passed f e in slaveless-same (fileOf f) (ready f p ab) (p .nodes) none-there ∙ encode-again f p ab
 
 -- rewritten again, a rewritten file stays as it is
 pub twice : (f : List ℕ) → AllBytes f → (room : ℕ) → rewriteRefusal f room ≡ 0 → rewriteBytes (rewriteBytes f) ≡ rewriteBytes f
-twice f ab room ok = plain-rewrites (rewriteBytes f) (new-bytes f ab room ok) (same-check f ab room ok) (no-slaves f ab room ok)
+twice f ab room ok = slaveless-rewrites (rewriteBytes f) (new-bytes f ab room ok) (same-check f ab room ok) (no-slaves f ab room ok)
     ∙ ap (λ k. drop k (rewriteBytes f)) (no-front f ab room ok)

@@ -18,17 +18,12 @@ use Rattle.meaning.specs.Meaning.{Set, ∅, guards, actions}
 use Rattle.meaning.specs.File.{File}
 use Rattle.meaning.specs.Count.Laws.{below-suc, or-left, or-right}
 use Rattle.meaning.specs.Rewriting.{unionUpTo, lacking, used, free, call}
+use Rattle.meaning.specs.Rewriting.Laws.{union-in}
 use Rattle.agreement.specs.Same.{Old}
 use Rattle.agreement.specs.Charts.{OldTs, OldChart}
 use mathlib.Core.Logic.{⊎-elim}
 
 -- ── unionUpTo ──
-
-pub union-in : (n : ℕ) (f : ℕ → Set) (i : ℕ) → i < n → f i ∖ unionUpTo n f ≡ ∅
-unfolding unionUpTo
-union-in zero f i l = absurd (omega arith)
-union-in (suc n) f i l = ⊎-elim (λ e. rw e (sets (unionUpTo n f ∷ f n ∷ []) [] (B ⊑ A ∪ₑ B) tt))
-    (λ m. sets (unionUpTo n f ∷ f n ∷ f i ∷ []) (C ⊑ A ∷ []) (C ⊑ A ∪ₑ B) tt (union-in n f i m)) (below-suc i n l)
 
 pub union-small : (k : ℕ) (g : ℕ → Set) → ((i : ℕ) → i < k → g i < 2 ^ 64) → unionUpTo k g < 2 ^ 64
 unfolding unionUpTo

@@ -3,7 +3,7 @@
 -- transitions (Every), a rewritten chart (Charts), how charts stand (Fit), places (Places), the same outcomes in the same order (Outcomes); over records, the call
 -- signals (Free), nodes renumbered (Renamed), laid down (Laid) and checked again (Recheck), the step (Step) and its places (Taken), the run (Run), the interfaces (Faces);
 -- over bytes, a file written and read back (Encoded, Reads), what passing 1 to 11 gives (Passed), the new records (New), the new file passes
--- (Again) and is made of bytes (Bytes); a file without slaves (Plain) and bytes read and written again (Written); two files computed (Examples).
+-- (Again) and is made of bytes (Bytes); a file without slaves (Slaveless) and bytes read and written again (Written); two files computed (Examples).
 pub mod Tree
 pub mod Same
 pub mod Active
@@ -27,7 +27,7 @@ pub mod Passed
 pub mod New
 pub mod Again
 pub mod Bytes
-pub mod Plain
+pub mod Slaveless
 pub mod Written
 pub mod Calls
 pub mod Examples

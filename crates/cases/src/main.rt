@@ -99,6 +99,17 @@ fn print_interface(file: &[u8]) {
     end_line();
 }
 
+fn print_plain(file: &[u8]) {
+    let p = engine::plainness::plain(file);
+    print_refusal(b" plain ", p.refusal);
+    if p.plain {
+        io::write_all(STDOUT_FILENO, b" 1");
+    } else {
+        io::write_all(STDOUT_FILENO, b" 0");
+    }
+    end_line();
+}
+
 fn print_mark(mark: bool) {
     if mark {
         io::write_all(STDOUT_FILENO, b" y");
@@ -151,7 +162,8 @@ fn print_call(op: u8, file: &[u8], config: &[u8], carried: u64, inputs: &[u64], 
         2 => print_interface(file),
         3 => print_step(file, config, first_of(inputs), lent),
         4 => print_run(file, config, carried, inputs, lent),
-        _ => print_rewriting(file, lent),
+        5 => print_rewriting(file, lent),
+        _ => print_plain(file),
     }
 }
 

@@ -11,6 +11,7 @@ pub enum Command {
     Check,
     First,
     Interface,
+    Plain,
     Step,
     Run,
     Rewrite,
@@ -42,6 +43,9 @@ fn command_of(word: &[u8]) -> Command {
     }
     if typed::is(word, b"interface") {
         return Command::Interface;
+    }
+    if typed::is(word, b"plain") {
+        return Command::Plain;
     }
     if typed::is(word, b"step") {
         return Command::Step;

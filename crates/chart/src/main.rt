@@ -24,6 +24,7 @@ fn answer(c: Command, file: &[u8]) {
         Command::Check => tell::check(file),
         Command::First => tell::first(file),
         Command::Interface => tell::interface(file),
+        Command::Plain => tell::plain(file),
         Command::Step => tell::run(file, true),
         Command::Run => tell::run(file, false),
         Command::Rewrite => tell::rewrite(file),

@@ -108,6 +108,20 @@ pub fn interface(file: &[u8]) {
     signals(f.output);
 }
 
+pub fn plain(file: &[u8]) {
+    let p = engine::plainness::plain(file);
+    let r = p.refusal;
+    if r != limits::ACCEPTED {
+        words::refusal(r);
+        return;
+    }
+    if p.plain {
+        say(b"plain\n");
+    } else {
+        say(b"not plain\n");
+    }
+}
+
 // A row as the day program's line, and behind it the output as signals, or the refusal's words.
 fn row(number: u64, row: &[u8])
     requires { ⌜ (10 ≤ length (now row)) × (length (now row) ≤ 26) ⌝ }

@@ -125,6 +125,7 @@ pub fn help(fd: i32) {
           chart check FILE               whether the file is in order\n  \
           chart first FILE               the first configuration\n  \
           chart interface FILE           the signals that it takes in, and those that it puts out\n  \
+          chart plain FILE               whether it is plain: then no step of it can ever be marked n\n  \
           chart step FILE CONFIG SET     one step from a configuration, and which transition each chart took\n  \
           chart run FILE CONFIG SET..    a step for each set in turn\n  \
           chart rewrite FILE OUT         writes the same chart without slaves to the file OUT\n\

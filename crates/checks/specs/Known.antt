@@ -1,4 +1,4 @@
--- What is known of a body once checks have passed, as the later checks and the readers need it.
+-- What is known of a body once checks have passed, as the later checks and the readers need it. Laws are in Known/Laws.antt.
 use mathlib.Core.Path.{_≡_}
 use mathlib.Core.Bool.{false}
 use mathlib.Core.List.{List}
@@ -8,6 +8,7 @@ use Rattle.layout.specs.declared.body.Shape.{Shape}
 use Rattle.meaning.specs.Numbers.{mostCharts, mostSlaves, mostNodes, mostTransitions}
 use Rattle.meaning.specs.File.{fileAt}
 use Rattle.meaning.specs.Check.{slaves?, nodes?}
+pub mod Laws
 
 -- after 3 and 4: the counts are within their limits and make the body's size
 pub record Sized (n : Shape) (b : List ℕ) : Type 0 where

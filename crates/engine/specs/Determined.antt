@@ -8,8 +8,10 @@ use Rattle.meaning.specs.Meaning.{Set}
 use Rattle.meaning.specs.Check.{refusalOf}
 use Rattle.meaning.specs.Calls.{firstRefusal, firstBytes, inputOf, outputOf, stepOf, placesOf, nextIn, runRefusal, runBytes, runCarried}
 use Rattle.meaning.specs.Rewriting.{rewriteRefusal, rewriteLength, rewriteOut}
+use Rattle.meaning.specs.Plain.{plainOf}
 use Rattle.engine.specs.Step.{steppedOf}
 use Rattle.engine.specs.declared.interface.Faces.{Faces}
+use Rattle.engine.specs.declared.plainness.Plainness.{Plainness}
 use Rattle.engine.specs.declared.rewriting.Rewritten.{Rewritten}
 use Rattle.engine.specs.declared.run.Ran.{Ran}
 use Rattle.engine.specs.declared.step.Stepped.{Stepped}
@@ -31,6 +33,10 @@ module _ (f : List ℕ) where
   pub interface-determined : (r r′ : Faces) → r ≡ record { refusal = refusalOf f; input = inputOf f; output = outputOf f }
       → r′ ≡ record { refusal = refusalOf f; input = inputOf f; output = outputOf f } → r ≡ r′
   interface-determined = one
+
+  pub plain-determined : (r r′ : Plainness) → r ≡ record { refusal = refusalOf f; plain = plainOf f }
+      → r′ ≡ record { refusal = refusalOf f; plain = plainOf f } → r ≡ r′
+  plain-determined = one
 
   pub first-determined : (b : List ℕ) (r r′ : ℕ) (c c′ : List ℕ) → (r ≡ firstRefusal f (length b)) × (c ≡ firstBytes f b)
       → (r′ ≡ firstRefusal f (length b)) × (c′ ≡ firstBytes f b) → (r ≡ r′) × (c ≡ c′)

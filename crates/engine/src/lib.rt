@@ -1,6 +1,7 @@
 // The public calls of the chart engine over files in bytes. None has a `requires`: what is wrong is refused by number.
 pub mod file;
 pub mod interface;
+pub mod plainness;
 pub mod rewriting;
 pub mod run;
 pub mod step;

@@ -4,6 +4,7 @@ ghost use mathlib.Core.Path.{_≡_};
 ghost use lib.ListN.{length};
 ghost use Rattle.meaning.specs.Count.{one};
 ghost use Rattle.meaning.specs.Check.{refusalOf};
+ghost use Rattle.meaning.specs.Plain.{plainOf};
 ghost use Rattle.meaning.specs.Rewriting.{rewriteRefusal, rewriteLength, rewriteOut};
 ghost use Rattle.meaning.specs.Calls.{firstRefusal, firstBytes, inputOf, outputOf, stepOf, placesOf, refusalIn, outputIn, markIn, nextIn, runRefusal, runBytes, runCarried};
 
@@ -34,6 +35,16 @@ pub extern "C" fn mestecur_interface(file: &[u8], input: &mut u64, output: &mut 
 }
 
 #[no_mangle]
+pub extern "C" fn mestecur_plain(file: &[u8], plain: &mut u8) -> u8
+    ensures { λ r. ⌜ r ≡ refusalOf (now (file .entry)) ⌝ }
+    ensures { λ r. ⌜ now (plain .exit) ≡ one (plainOf (now (file .entry))) ⌝ }
+{
+    let p = engine::plainness::plain(file);
+    *plain = number(p.plain);
+    p.refusal
+}
+
+#[no_mangle]
 pub extern "C" fn mestecur_step(
     file: &[u8],
     config: &[u8],
@@ -59,10 +70,10 @@ pub extern "C" fn mestecur_step(
 }
 
 // 1 for yes.
-fn number(mark: bool) -> u8
-    ensures { λ r. ⌜ r ≡ one mark ⌝ }
+fn number(yes: bool) -> u8
+    ensures { λ r. ⌜ r ≡ one yes ⌝ }
 {
-    if mark { 1 } else { 0 }
+    if yes { 1 } else { 0 }
 }
 
 #[no_mangle]

@@ -1,5 +1,6 @@
 -- The meaning of chart files. What a reader must believe, in document 01's order: the numbers that have names (Numbers, Count), the meaning of a
--- step (Meaning), the file (File), its check (Check), the public calls (Calls), the rewriting (Rewriting). The theorems are under Laws.
+-- step (Meaning), the file (File), its check (Check), the public calls (Calls), the rewriting (Rewriting), plain files (Plain). The theorems are
+-- under Laws.
 pub mod Numbers
 pub mod Count
 pub mod Meaning
@@ -7,4 +8,5 @@ pub mod File
 pub mod Check
 pub mod Calls
 pub mod Rewriting
+pub mod Plain
 pub mod Laws

@@ -1,59 +1,28 @@
--- What the proofs of several functions share: unions as a loop takes them; a chart's transitions and its slaves as they are read; where the nodes
--- made for a node begin. Assumes nothing.
+-- What the proofs of several functions share: how many transitions a rewritten chart has; a chart's slaves as they are read; where the nodes made for
+-- a node begin. Assumes nothing.
 use mathlib.Core.Path.{_≡_, refl, sym, ap, ap₂, _∙_}
 use mathlib.Core.Bool.{true, false}
-use mathlib.Core.List.{List, [], _∷_}
-use Prim.Native.Nat.{ℕ, _+_, _≤_, _<_}
+use mathlib.Core.List.{List}
+use Prim.Native.Nat.{ℕ, _+_}
 use native.Mathlib.Numerals.{add-one}
 use native.Mathlib.Omega.{arith}
 use lib.ListN.{length}
-use Rattle.signals.specs.Mask.{_∪_}
-use Rattle.signals.specs.Decide.{sets, A, ∅ₑ, _∪ₑ_, _≐_}
-use Rattle.layout.specs.Body.{headAt, slaveAt, transitionAt, startOf, from, transitionsOf}
-use Rattle.layout.specs.Body.Laws.{length-from, startOf-next, startOf-mono}
+use Rattle.layout.specs.Body.{headAt, slaveAt, transitionsOf}
+use Rattle.layout.specs.Body.Laws.{length-from}
 use Rattle.layout.specs.declared.body.Shape.{Shape}
 use Rattle.layout.specs.declared.record.Head.{Head}
 use Rattle.layout.specs.declared.record.Slave.{Slave}
 use Rattle.meaning.specs.Count.{one}
 use Rattle.meaning.specs.Count.Laws.{tally-more}
-use Rattle.meaning.specs.Meaning.{Set, ∅, same}
+use Rattle.meaning.specs.Meaning.{Set, same}
 use Rattle.meaning.specs.File.{File, fileAt, chartOf}
 use Rattle.meaning.specs.Laws.Bools.{same-refl, same-≢}
-use Rattle.meaning.specs.Rewriting.{unionUpTo, call, callIn, nearestSlave, rewrittenChart, isOf, count, beforeLast, start, newName}
+use Rattle.meaning.specs.Rewriting.{call, callIn, nearestSlave, rewrittenChart, isOf, count, beforeLast, start, newName}
 use Rattle.agreement.specs.Laid.{start-suc}
-use Rattle.rewrite.specs.Known.{Checked}
 use Rattle.rewrite.specs.Records.{idleCount}
 use Rattle.rewrite.specs.Records.Laws.{length-is}
 
--- ── unionUpTo ──
-
-pub union-none : (f : ℕ → Set) → ∅ ≡ unionUpTo 0 f
-unfolding unionUpTo
-union-none f = refl
-
-pub union-more : (k : ℕ) (f : ℕ → Set) → unionUpTo k f ∪ f k ≡ unionUpTo (k + 1) f
-unfolding unionUpTo
-union-more k f = rw add-one
-
-pub union-taken : (k : ℕ) (f : ℕ → Set) {all v : Set} → all ≡ unionUpTo k f → v ≡ f k → all ∪ v ≡ unionUpTo (k + 1) f
-union-taken k f h e = ap₂ _∪_ h e ∙ union-more k f
-
-pub union-left : (k : ℕ) (f : ℕ → Set) {all : Set} → all ≡ unionUpTo k f → f k ≡ ∅ → all ≡ unionUpTo (k + 1) f
-union-left k f {all} h e = sets (all ∷ []) [] (A ≐ A ∪ₑ ∅ₑ) tt ∙ union-taken k f h (sym e)
-
 -- ── a chart's transitions ──
-
--- h is the head of chart c, whose transitions begin at s
-module _ (n : Shape) (b : List ℕ) (c s : ℕ) {h : Head} (eh : h ≡ headAt n b c) (es : s ≡ startOf n b c) where
-  pub in-all : Checked n b → c < n .charts → s + h .transitions ≤ n .transitions
-  in-all w l = let e = ap (λ (h : Head). h .transitions) eh in omega (arith, w .summed, startOf-mono n b c (n .charts) l)
-
-  pub start-next : s + h .transitions ≡ startOf n b (c + 1)
-  start-next = let e = ap (λ (h : Head). h .transitions) eh in omega (arith, startOf-next n b c)
-
-  pub own-are : fileAt n b .chart c .transitions ≡ from (transitionAt n b) s (h .transitions)
-  unfolding fileAt chartOf transitionsOf
-  own-are = rw (es, eh)
 
 -- the rewritten chart's number
 pub length-rewritten : (n : Shape) (b : List ℕ) (c : ℕ) {h : Head} {κ : Set} → h ≡ headAt n b c

@@ -5,6 +5,7 @@ pub mod charts;
 pub mod damage;
 pub mod file;
 pub mod first_interface;
+pub mod plain;
 pub mod rewrite;
 pub mod rows;
 pub mod run;

@@ -56,6 +56,11 @@ pub fn raw(command: &Command, lent: &mut [u8]) -> (u8, Numbers) {
                 let refusal = mestecur_rewrite(file, long, out, room, &mut length);
                 (refusal, Numbers::two(length as u64, 0))
             }
+            Op::Plain => {
+                let mut plain = BEFORE as u8;
+                let refusal = mestecur_plain(file, long, &mut plain);
+                (refusal, Numbers::two(u64::from(plain), 0))
+            }
         }
     }
 }
@@ -77,6 +82,7 @@ pub fn binding(command: &Command, lent: &mut [u8]) -> (u8, Numbers) {
         Op::Run => mestecur::run(file, config, Set(command.carried.0), &inputs, lent)
             .map(|carried| Numbers::two(carried.0, 0)),
         Op::Rewrite => mestecur::rewrite(file, lent).map(|length| Numbers::two(length as u64, 0)),
+        Op::Plain => mestecur::plain(file).map(|plain| Numbers::two(u64::from(plain), 0)),
     };
     answer.map_or_else(
         |refusal: Refusal| (refusal.number(), Numbers::NONE),

@@ -1,21 +1,48 @@
--- Laws of the rewriting's refusals, in this order: what 42 gives of the list of a chart (`list-most`); that no sum of such lists passes the limit in
--- all (`sum-most`); so that a test of the sum behind 42 changes no first refusal, of the list (`sum-untested`) or of the call (`refusal-same`).
-use mathlib.Core.Path.{_≡_, sym, _∙_, ap}
+-- Laws of unions as a loop takes them, and that each set is in its union (`unionUpTo`); and of the rewriting's refusals, in this order: what 42 gives of
+-- the list of a chart (`list-most`); that no sum of such lists passes the limit in all (`sum-most`); so that a test of the sum behind 42 changes no
+-- first refusal, of the list (`sum-untested`) or of the call (`refusal-same`).
+use mathlib.Core.Path.{_≡_, refl, sym, _∙_, ap, ap₂}
 use mathlib.Core.Bool.{false}
 use mathlib.Core.List.{List, [], _∷_, _++_, append-assoc}
 use mathlib.Core.Logic.{⊎-elim}
-use Prim.Native.Nat.{ℕ, _*_, _≤_, _<_}
+use Prim.Native.Nat.{ℕ, zero, suc, _+_, _*_, _≤_, _<_}
 use native.Mathlib.Nat.{le-trans, mul-le-mul-left}
+use native.Mathlib.Numerals.{add-one}
 use native.Mathlib.Omega.{arith}
 use borrow.Author.Tests.{le-ltb, ltb-false}
 use lib.Dec.{ltb}
 use lib.ListN.{length}
+use Rattle.signals.specs.Mask.{_∪_, _∖_}
+use Rattle.signals.specs.Decide.{sets, A, B, C, ∅ₑ, _∪ₑ_, _≐_, _⊑_}
 use Rattle.meaning.specs.Numbers.{mostCharts, mostInChart, mostTransitions, mostNodes, noFreeSignal, manyFromState, manyInChart, manyNodes, shortOut}
-use Rattle.meaning.specs.Count.Laws.{any-never, tally-most}
+use Rattle.meaning.specs.Count.Laws.{below-suc, any-never, tally-most}
+use Rattle.meaning.specs.Meaning.{Set, ∅}
 use Rattle.meaning.specs.File.{File, trailer, shapeOf, fileAt, fileOf}
 use Rattle.meaning.specs.Check.{Test, firstOf, fileTests, refusalOf}
 use Rattle.meaning.specs.Check.Laws.{eq-or-not, firstOf-cong, firstOf-covered, passed, call-refused, call-passed, counted}
-use Rattle.meaning.specs.Rewriting.{rewrite, transitionsIn, noFree?, fromState?, inChart?, rewriteTests, rewriteBytes, rewriteRefusal}
+use Rattle.meaning.specs.Rewriting.{unionUpTo, rewrite, transitionsIn, noFree?, fromState?, inChart?, rewriteTests, rewriteBytes, rewriteRefusal}
+
+-- ── unionUpTo ──
+
+pub union-none : (f : ℕ → Set) → ∅ ≡ unionUpTo 0 f
+unfolding unionUpTo
+union-none f = refl
+
+pub union-more : (k : ℕ) (f : ℕ → Set) → unionUpTo k f ∪ f k ≡ unionUpTo (k + 1) f
+unfolding unionUpTo
+union-more k f = rw add-one
+
+pub union-taken : (k : ℕ) (f : ℕ → Set) {all v : Set} → all ≡ unionUpTo k f → v ≡ f k → all ∪ v ≡ unionUpTo (k + 1) f
+union-taken k f h e = ap₂ _∪_ h e ∙ union-more k f
+
+pub union-left : (k : ℕ) (f : ℕ → Set) {all : Set} → all ≡ unionUpTo k f → f k ≡ ∅ → all ≡ unionUpTo (k + 1) f
+union-left k f {all} h e = sets (all ∷ []) [] (A ≐ A ∪ₑ ∅ₑ) tt ∙ union-taken k f h (sym e)
+
+pub union-in : (n : ℕ) (f : ℕ → Set) (i : ℕ) → i < n → f i ∖ unionUpTo n f ≡ ∅
+unfolding unionUpTo
+union-in zero f i l = absurd (omega arith)
+union-in (suc n) f i l = ⊎-elim (λ e. rw e (sets (unionUpTo n f ∷ f n ∷ []) [] (B ⊑ A ∪ₑ B) tt))
+    (λ m. sets (unionUpTo n f ∷ f n ∷ f i ∷ []) (C ⊑ A ∷ []) (C ⊑ A ∪ₑ B) tt (union-in n f i m)) (below-suc i n l)
 
 -- ── inChart? ──
 

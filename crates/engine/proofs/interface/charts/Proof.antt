@@ -2,7 +2,7 @@
 -- transitions begin. Assumes nothing.
 use mathlib.Core.Path.{_≡_, refl, sym, ap₂, _∙_}
 use mathlib.Core.List.{List}
-use Prim.Native.Nat.{ℕ, _+_, _≤_, _<_, _-_}
+use Prim.Native.Nat.{ℕ, _+_, _≤_, _-_}
 use native.Mathlib.Omega.{arith}
 use borrow.Author.Needs.{needs}
 use lib.ListN.{length, length-set}
@@ -13,8 +13,8 @@ use Rattle.layout.specs.declared.record.Head.{Head}
 use Rattle.meaning.specs.Numbers.{mostCharts}
 use Rattle.meaning.specs.Meaning.{guards, actions, inFaceChart}
 use Rattle.meaning.specs.File.{fileAt, chartOf}
-use Rattle.layout.specs.Body.Laws.{startOf-none, startOf-next, startOf-mono}
-use Rattle.checks.specs.Known.{Summed}
+use Rattle.layout.specs.Body.Laws.{startOf-none}
+use Rattle.checks.specs.Known.Laws.{in-all, start-next}
 use Rattle.engine.specs.Faces.{OwnOf}
 use Rattle.checks.specs.Parts.Laws.{fill-more}
 use Rattle.engine.proofs.interface.charts.Statement.{statement}
@@ -22,12 +22,6 @@ use Rattle.engine.proofs.interface.charts.Tie as tie
 
 -- h is the head of chart c, whose transitions begin at s
 module _ (n : Shape) (b : List ℕ) (c s : ℕ) (h : Head) (eh : h ≡ headAt n b c) (es : s ≡ startOf n b c) where
-  room : Summed n b → c < n .charts → s + h .transitions ≤ n .transitions
-  room m l = rw (es, eh) (omega (arith, startOf-mono n b c (n .charts) l))
-
-  next : s + h .transitions ≡ startOf n b (c + 1)
-  next = ap₂ (λ (s : ℕ) (h : Head). s + h .transitions) es eh ∙ sym (startOf-next n b c)
-
   input-is : (v : ℕ) → v ≡ guards (from (transitionAt n b) s (h .transitions)) ∪ h .extra → v ≡ inFaceChart (fileAt n b .chart c)
   unfolding inFaceChart fileAt chartOf transitionsOf
   input-is v e = e ∙ ap₂ (λ (s : ℕ) (h : Head). guards (from (transitionAt n b) s (h .transitions)) ∪ h .extra) es eh
@@ -52,7 +46,7 @@ fits : (c : tie.After-head-at Inv-loop μ-loop)
     → c .before .before .before .loop .start + c .head-at .result .transitions ≤ c .before .before .before .before .before .args .n .transitions
 fits c =
     let l = c .before .before .before in
-    room _ _ _ _ _ (c .head-at .ensures) (l .loop .inv .3) (l .before .before .pre .1) (c .before .if1 .taken)
+    in-all _ _ _ _ (c .head-at .ensures) (l .loop .inv .3) (l .before .before .pre .1) (c .before .if1 .taken)
 
 guards-requires : tie.Need-guards-requires Inv-loop μ-loop
 guards-requires c κs = (c .before .before .before .before .before .before .pre .0, fits (c .before))
@@ -70,7 +64,7 @@ loop-again c =
       omega arith,
       simp length-set (i .inv .1),
       simp length-set (i .inv .2),
-      next _ _ _ _ _ (h .head-at .ensures) (i .inv .3),
+      start-next _ _ _ _ (h .head-at .ensures) (i .inv .3),
       record {
         input-at = fill-more _ (i .input) (i .c) _ (i .inv .4 .input-at)
             (input-is _ _ _ _ _ (h .head-at .ensures) (i .inv .3) _ (c .before .guards .ensures)) (omega arith);

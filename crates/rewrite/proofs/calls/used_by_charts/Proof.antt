@@ -14,7 +14,8 @@ use Rattle.layout.specs.declared.record.Transition.{Transition}
 use Rattle.meaning.specs.Meaning.{Set, guards, actions}
 use Rattle.meaning.specs.File.{fileAt, chartOf}
 use Rattle.meaning.specs.Rewriting.{unionUpTo}
-use Rattle.rewrite.proofs.Laws.{union-none, union-more, start-next, in-all, own-are}
+use Rattle.meaning.specs.Rewriting.Laws.{union-none, union-more}
+use Rattle.checks.specs.Known.Laws.{in-all, start-next, own-are}
 use Rattle.rewrite.proofs.calls.used_by_charts.Statement.{statement}
 use Rattle.rewrite.proofs.calls.used_by_charts.Tie as tie
 
@@ -46,7 +47,7 @@ room : (c : tie.After-struct-known2 Inv-loop μ-loop)
     → c .before .before .before .before .loop .start
     + c .before .head-at .result .transitions ≤ c .before .before .before .before .before .before .args .n .transitions
 room c = in-all _ _ _ _ (c .before .head-at .ensures) (c .before .before .before .before .loop .inv .1)
-    (c .before .before .before .before .before .before .pre) (c .before .before .if1 .taken)
+    (c .before .before .before .before .before .before .pre .summed) (c .before .before .if1 .taken)
 
 loop-again : tie.Need-loop-again Inv-loop μ-loop
 loop-again c =

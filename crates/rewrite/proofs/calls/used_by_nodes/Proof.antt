@@ -6,7 +6,7 @@ use Rattle.signals.specs.Mask.{_∪_}
 use Rattle.layout.specs.declared.record.Node.{Node}
 use Rattle.meaning.specs.File.{fileAt}
 use Rattle.meaning.specs.Rewriting.{unionUpTo}
-use Rattle.rewrite.proofs.Laws.{union-none, union-more}
+use Rattle.meaning.specs.Rewriting.Laws.{union-none, union-more}
 use Rattle.rewrite.proofs.calls.used_by_nodes.Statement.{statement}
 use Rattle.rewrite.proofs.calls.used_by_nodes.Tie as tie
 

@@ -15,7 +15,7 @@ use Rattle.layout.specs.declared.record.Transition.{Transition}
 use Rattle.meaning.specs.Meaning.{Set, ∅, same}
 use Rattle.meaning.specs.File.{File, fileAt}
 use Rattle.meaning.specs.Rewriting.{unionUpTo, call, isOf, touches, callsBy}
-use Rattle.rewrite.proofs.Laws.{union-none, union-taken, union-left}
+use Rattle.meaning.specs.Rewriting.Laws.{union-none, union-taken, union-left}
 use Rattle.rewrite.proofs.lay.calls_by.Statement.{statement}
 use Rattle.rewrite.proofs.lay.calls_by.Tie as tie
 

@@ -9,7 +9,8 @@ use Rattle.signals.specs.Mask.{single}
 use Rattle.meaning.specs.Meaning.{Set, ∅}
 use Rattle.meaning.specs.File.{File, fileAt}
 use Rattle.meaning.specs.Rewriting.{unionUpTo, call, isOf, callsOf}
-use Rattle.rewrite.proofs.Laws.{union-none, union-taken, union-left, is-of, is-not}
+use Rattle.meaning.specs.Rewriting.Laws.{union-none, union-taken, union-left}
+use Rattle.rewrite.proofs.Laws.{is-of, is-not}
 use Rattle.rewrite.proofs.lay.calls_of.Statement.{statement}
 use Rattle.rewrite.proofs.lay.calls_of.Tie as tie
 

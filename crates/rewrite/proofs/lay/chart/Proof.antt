@@ -17,7 +17,7 @@ use Rattle.layout.specs.Put.Laws.{put-append, put-length, room-first, room-next
 use Rattle.rewrite.specs.Turn.{put-is}
 use Rattle.rewrite.specs.Records.{idleCount, calledWith, idleWith}
 use Rattle.rewrite.specs.Records.Laws.{chart-bytes, count-most}
-use Rattle.rewrite.proofs.Laws.{in-all, own-are}
+use Rattle.checks.specs.Known.Laws.{in-all, own-are}
 use Rattle.rewrite.proofs.lay.chart.Statement.{statement}
 use Rattle.rewrite.proofs.lay.chart.Tie as tie
 
@@ -48,7 +48,7 @@ own-requires c κs =
     let w = p .3 in (
       p .0,
       p .1,
-      in-all _ _ _ _ (w .head) (w .start) (p .0) (w .there),
+      in-all _ _ _ _ (w .head) (w .start) (p .0 .summed) (w .there),
       room-first (a .out .now) (a .at) (owns (a .n) (a .body .now) (a .inner) (a .c) (a .start) (a .h .transitions))
           (rests (a .inner) (c .before .before .idle-count .result))
           (room-are _ _ _ _ _ _ _ (p .2) w (c .before .before .idle-count .ensures) (a .at) (a .out .now) (p .4)),

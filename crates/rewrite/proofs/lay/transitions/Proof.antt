@@ -13,7 +13,7 @@ use Rattle.meaning.specs.Rewriting.{rewrittenChart, inTurn, transitionsBytes}
 use Rattle.layout.specs.Put.{Put}
 use Rattle.layout.specs.Put.Laws.{put-length}
 use Rattle.rewrite.specs.Turn.{put-start, put-next, put-done, room-turn}
-use Rattle.rewrite.proofs.Laws.{start-next, in-all}
+use Rattle.checks.specs.Known.Laws.{in-all, start-next}
 use Rattle.rewrite.proofs.lay.transitions.Statement.{statement}
 use Rattle.rewrite.proofs.lay.transitions.Tie as tie
 
@@ -71,7 +71,7 @@ transitions-spec =
     let h = c .before .before .before .before .before .before .before .before .before .before .before .pre .0 .sized .transitions in
     let r = in-all _ _ _ _ (c .before .before .before .before .before .before .head-at .ensures)
     (c .before .before .before .before .before .before .before .before .loop .inv .1)
-    (c .before .before .before .before .before .before .before .before .before .before .before .pre .0)
+    (c .before .before .before .before .before .before .before .before .before .before .before .pre .0 .summed)
     (c .before .before .before .before .before .before .before .loop-test .taken) in omega arith)
     (λ c. omega arith)
     (λ c. omega arith)

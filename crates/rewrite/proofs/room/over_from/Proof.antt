@@ -18,7 +18,7 @@ use Rattle.meaning.specs.File.{fileAt, chartOf}
 use Rattle.meaning.specs.Rewriting.{call, callIn, nearestSlave, chartWith, rewrittenChart, leavingIn}
 use Rattle.rewrite.specs.Records.{idleCount}
 use Rattle.rewrite.specs.Records.Laws.{leaving-is, count-most}
-use Rattle.rewrite.proofs.Laws.{start-next, in-all, own-are}
+use Rattle.checks.specs.Known.Laws.{in-all, start-next, own-are}
 use Rattle.rewrite.proofs.room.over_from.Statement.{statement}
 use Rattle.rewrite.proofs.room.over_from.Tie as tie
 
@@ -47,7 +47,7 @@ loop-holds c = (omega arith, sym (startOf-none _ _), any-none _)
 
 room : (c : tie.After-head-at Inv-loop μ-loop)
     → c .before .before .loop .start + c .head-at .result .transitions ≤ c .before .before .before .before .args .n .transitions
-room c = in-all _ _ _ _ (c .head-at .ensures) (c .before .before .loop .inv .1) (c .before .before .before .before .pre .0)
+room c = in-all _ _ _ _ (c .head-at .ensures) (c .before .before .loop .inv .1) (c .before .before .before .before .pre .0 .summed)
     (c .before .loop-test .taken)
 
 -- what was asked of the chart

@@ -159,5 +159,5 @@ module _ (F G : File) (r : Reads F G) where
   })) shape-same body-same
 
 -- a file without slaves rewrites to itself
-pub plain-same : (F : File) → Ready F → nodes? F ≡ false → F .slaves ≡ 0 → encode (rewrite F) ≡ encode F
-plain-same F rd h e = encode-same F (rewrite F) (reads-same F rd e h)
+pub slaveless-same : (F : File) → Ready F → nodes? F ≡ false → F .slaves ≡ 0 → encode (rewrite F) ≡ encode F
+slaveless-same F rd h e = encode-same F (rewrite F) (reads-same F rd e h)

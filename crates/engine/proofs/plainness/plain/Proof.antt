@@ -1,0 +1,59 @@
+-- `plainness::plain` meets its contract: the file's refusal with no, or what its body says. Assumes nothing.
+use mathlib.Core.Path.{_≡_, sym, ap, _∙_}
+use mathlib.Core.Bool.{Bool, false}
+use mathlib.Core.List.{List}
+use Prim.Native.Nat.{ℕ}
+use native.Mathlib.Omega.{arith}
+use borrow.Author.Needs.{needs}
+use borrow.Author.Tests.{ne-eqb}
+use Rattle.layout.specs.declared.body.Shape.{Shape}
+use Rattle.meaning.specs.Meaning.{same}
+use Rattle.meaning.specs.File.{trailer, shapeOf, bodyOf, fileAt, fileOf}
+use Rattle.meaning.specs.Check.{refusalOf}
+use Rattle.meaning.specs.Plain.{plainIn, plainOf}
+use Rattle.checks.specs.Open.{Stands}
+use Rattle.engine.specs.declared.plainness.Plainness.{Plainness}
+use Rattle.engine.proofs.plainness.plain.Statement.{statement}
+use Rattle.engine.proofs.plainness.plain.Tie as tie
+
+module _ (f : List ℕ) where
+  abbrev answer : Plainness
+  answer = record { refusal = refusalOf f; plain = plainOf f }
+
+  refused : (r : ℕ) → (r ≡ 0 → ⊥) → r ≡ refusalOf f → _≡_ {A = Plainness} (record { refusal = r; plain = false }) answer
+  unfolding plainOf same
+  refused r h e = rw (← e, ne-eqb r 0 h)
+
+  given : refusalOf f ≡ 0 → (n : Shape) → n ≡ shapeOf (trailer f) → (b : List ℕ) → b ≡ bodyOf f
+      → _≡_ {A = Plainness} (record { refusal = 0; plain = plainIn (fileAt n b) }) answer
+  unfolding plainOf same fileOf
+  given h n en b eb = rw (h, en, eb)
+
+-- the body of a file that is not refused
+stands : (c : tie.Else1) → Stands (c .before .before .before .args .file .now) (c .before .opened .result)
+stands c = c .before .opened .ensures .stands (c .if1 .left)
+
+returns : tie.Need-returns
+returns c = refused _ _ (c .if1 .taken) (c .before .opened .ensures .refusal)
+
+is-plain-requires : tie.Need-is-plain-requires
+is-plain-requires c κs = let w = stands (c .before .before) in (rw (w .body) (w .sized), rw (w .body) (w .summed))
+
+returns-2 : tie.Need-returns-2
+returns-2 c =
+    let e = c .before .before .before in
+    let w = stands e in
+    ap {B = Plainness} (λ (p : Bool). record { refusal = 0; plain = p }) (c .is-plain .ensures)
+    ∙ given _ (sym (e .before .opened .ensures .refusal) ∙ e .if1 .left) _ (w .shape) _ (w .body)
+
+pub plain-spec : {M : Type 1} → statement M
+plain-spec =
+    tie.close
+    (tie.spec
+    (λ c κs. search needs)
+    returns
+    (λ c. stands (c .before) .order)
+    (λ c. stands (c .before) .order)
+    (λ c. let e = stands (c .before) .end in omega arith)
+    is-plain-requires
+    returns-2)

@@ -1,0 +1,30 @@
+// Whether a file is plain, so that no step of it can be marked no (document 02, No. 11).
+ghost use mathlib.Core.Path.{_≡_};
+ghost use Rattle.meaning.specs.Check.{refusalOf};
+ghost use Rattle.meaning.specs.Plain.{plainOf};
+use checks::limits;
+
+pub struct Plainness {
+    pub refusal: u8,
+    pub plain: bool,
+}
+
+pub fn plain(file: &[u8]) -> Plainness
+    ensures { λ r. ⌜ r ≡ record { refusal = refusalOf (now (file .entry)); plain = plainOf (now (file .entry)) } ⌝ }
+{
+    let o = checks::opening::opened(file);
+    let r = o.refusal;
+    if r != limits::ACCEPTED {
+        return Plainness {
+            refusal: r,
+            plain: false,
+        };
+    }
+    let n = o.shape;
+    let start = o.start;
+    let end = o.end;
+    Plainness {
+        refusal: limits::ACCEPTED,
+        plain: plain::is_plain(n, &file[start..end]),
+    }
+}

@@ -1,0 +1,168 @@
+-- A plain file, given a valid configuration and a long enough buffer, steps with mark yes or refuses with 23 (`plain-sure`), and so does every step of a
+-- run (`row-sure`). In this order: an answer without doubt (Sure); the tree of a plain file is plain, and so its steps are sure (`step-sure`); the same
+-- of bytes.
+use mathlib.Core.Path.{_≡_, refl, _∙_, ap}
+use mathlib.Core.Bool.{Bool, true, false, not, cond, false≢true}
+use mathlib.Core.List.{List, [], _∷_, _++_, append-assoc}
+use mathlib.Core.Logic.{_⊎_, inl, inr}
+use Prim.Native.Nat.{ℕ, zero, suc, _+_, _-_, _*_, _≤_, _<_}
+use native.Mathlib.Omega.{arith}
+use borrow.Author.Tests.{lt-ltb, le-ltb, not-true}
+use lib.Dec.{ltb}
+use lib.ListN.{length, getD, take, drop}
+use lib.Seq.{getD-append-add}
+use Rattle.signals.specs.Mask.{_∪_, Within}
+use Rattle.signals.specs.Decide.{sets, A, B, C, _∪ₑ_, _⊑_}
+use Rattle.layout.specs.Le.{bytes}
+use Rattle.layout.specs.Le.Laws.{length-bytes}
+use Rattle.meaning.specs.Numbers.{shortBuffer, noStep}
+use Rattle.meaning.specs.Count.{one}
+use Rattle.meaning.specs.Count.Laws.{any-never, any-all}
+use Rattle.meaning.specs.Meaning.{Set, ∅, same, Tree, Slaves, nil, snoc, Outcome, Answer, refused, given, agree, answer}
+use Rattle.meaning.specs.File.{File, whole, gather, treeOf, wholeOf, trailer, shapeOf, fileAt, fileOf}
+use Rattle.meaning.specs.Check.{Test, firstOf, fileTests, refusalOf}
+use Rattle.meaning.specs.Check.Laws.{firstOf-next, firstOf-[], firstOf-++, passed, call-passed, counted}
+use Rattle.meaning.specs.Check.Nodes.{Sound, sound}
+use Rattle.meaning.specs.Calls.{configTests, stepRefusal, outcomesIn, stepIn, stepOf, rowOf}
+use Rattle.meaning.specs.Rewriting.{unionUpTo}
+use Rattle.meaning.specs.Rewriting.Laws.{union-in}
+use Rattle.meaning.specs.Plain.{fedBack, anyDoubtful, plainIn, plainOf}
+use Rattle.meaning.specs.Laws.Bools.{same-refl, same→≡, agrees}
+use Rattle.meaning.specs.Laws.Names.{joined}
+use Rattle.meaning.specs.Laws.Trees.{tree₀, tree₁, tree₂, all-there}
+use Rattle.meaning.specs.Laws.Runs.{Valid, Leads, Stand, stepFrom, standAt, rowsFrom, row-at}
+use Rattle.plain.specs.Choices.{PlainChart, PlainTree, PlainSlaves, never-no}
+
+-- an answer without doubt: the mark is yes, or there is no permitted step
+abbrev pub Sure : Answer → Type 0
+Sure (refused r) = r ≡ noStep
+Sure (given o n m) = m ≡ true
+
+-- an answer that never is a step with mark no
+sure-answer : (l : List Outcome) → ((o : Set) (n : List ℕ) → answer l ≡ given o n false → ⊥) → Sure (answer l)
+unfolding answer
+sure-answer [] h = refl
+sure-answer (x ∷ xs) h = go (agree x xs) refl
+  where
+    go : (m : Bool) → agree x xs ≡ m → m ≡ true
+    go true e = refl
+    go false e = absurd (h (x .output) (x .next) (ap (given (x .output) (x .next)) e))
+
+-- ── a file ──
+
+module _ (F : File) (p : plainIn F ≡ true) where
+  abbrev PlainIn : Tree → Type 0
+  PlainIn t = PlainTree (F .chart) (fedBack F) t
+
+  abbrev PlainsIn : Slaves → Type 0
+  PlainsIn ss = PlainSlaves (F .chart) (fedBack F) ss
+
+  chart-plain : (c : ℕ) → c < F .charts → PlainChart (F .chart) (fedBack F) c
+  unfolding fedBack plainIn
+  chart-plain c l = (
+    sets (F .chart c .feedback ∷ unionUpTo (F .charts) (λ c. F .chart c .feedback) ∷ unionUpTo (F .nodes) (λ j. cond (same (F .kind j) 1) (F .x j) ∅) ∷ [])
+        (A ⊑ B ∷ []) (A ⊑ B ∪ₑ C) tt (union-in (F .charts) (λ c. F .chart c .feedback) c l),
+    any-never (F .charts) (λ c. anyDoubtful (fedBack F) (F .chart c .transitions)) (not-true _ p) c l,
+  )
+
+  x-plain : (j : ℕ) → j < F .nodes → F .kind j ≡ 1 → Within (F .x j) (fedBack F)
+  unfolding fedBack
+  x-plain j l e =
+      sets (F .x j ∷ unionUpTo (F .charts) (λ c. F .chart c .feedback) ∷ unionUpTo (F .nodes) (λ j. cond (same (F .kind j) 1) (F .x j) ∅) ∷ [])
+      (A ⊑ C ∷ []) (A ⊑ B ∪ₑ C) tt
+      (rw (ap (λ k. same k 1) e ∙ same-refl 1) at (union-in (F .nodes) (λ j. cond (same (F .kind j) 1) (F .x j) ∅) j l))
+
+  module _ (s : Sound F) where
+    plain-whole : (c : ℕ) (ss : Slaves) → c < F .charts → PlainsIn ss → PlainIn (whole c ss)
+    plain-whole c nil l h = chart-plain c l
+    plain-whole c (snoc ss i t) l h = (chart-plain c l, h)
+
+    plain-gather : (c k : ℕ) → k ≤ F .slaves → ((i : ℕ) → i < F .slaves → F .master i ≡ c → PlainIn (treeOf F (F .node i)))
+        → PlainsIn (gather (F .master) (λ i. treeOf F (F .node i)) c k)
+    unfolding gather
+    plain-gather c zero l h = tt
+    plain-gather c (suc k) l h = go (same (F .master k) c) refl (plain-gather c k (omega arith) h)
+      where
+        rest : Slaves
+        rest = gather (F .master) (λ i. treeOf F (F .node i)) c k
+
+        go : (b : Bool) → same (F .master k) c ≡ b → PlainsIn rest → PlainsIn (cond b (snoc rest k (treeOf F (F .node k))) rest)
+        go true e r = (r, h k (omega arith) (same→≡ (F .master k) c e))
+        go false e r = r
+
+    plain-node : (n j : ℕ) → j < n → j < F .nodes → PlainIn (treeOf F j)
+    plain-node zero j q l = absurd (omega arith)
+    plain-node (suc n) j q l = go (F .kind j) refl (λ i m. plain-node n i (omega arith) (omega arith))
+      where
+        go : (k : ℕ) → F .kind j ≡ k → ((i : ℕ) → i < j → PlainIn (treeOf F i)) → PlainIn (treeOf F j)
+        go zero e ih = rw (tree₀ F (s .ordered) j l e) (plain-whole (F .a j) (gather (F .master) (λ i. treeOf F (F .node i)) (F .a j) (F .slaves))
+            (s .chart-there j l e)
+            (plain-gather (F .a j) (F .slaves) (omega arith) (λ i a b. ih (F .node i) (s .ordered .lower₀ j l e i a b))))
+        go (suc zero) e ih = let h = s .ordered .lower₁ j l e in rw (tree₁ F (s .ordered) j l e) (ih (F .a j) (h .0), ih (F .b j) (h .1), x-plain j l e)
+        go (suc (suc k)) e ih = let e₂ : F .kind j ≡ 2 = (let h = s .ordered .kinds j l in omega arith) in
+            rw (tree₂ F (s .ordered) j l e₂) (ih (F .a j) (s .ordered .lower₂ j l e₂))
+
+    pub step-sure : 0 < F .nodes → (config : List ℕ) (i : Set) → Sure (stepIn F config i)
+    unfolding stepIn
+    step-sure z config i = sure-answer (outcomesIn F config i) (never-no (F .chart) (F .state) (λ c. getD config c 0) (wholeOf F) i (F .charts) (fedBack F)
+        (plain-node (F .nodes) (F .nodes - 1) (omega arith) (omega arith))
+        (λ c l. all-there F (s .ordered) (joined F (s .ordered) (s .rule10) (s .chart-there) (s .node-there)) (F .nodes - 1) c (omega arith) l))
+
+-- ── bytes ──
+
+-- "1 to 11" do not apply to a plain file
+pub plain-passes : (f : List ℕ) → plainOf f ≡ true → (refusalOf f ≡ 0) × (plainIn (fileOf f) ≡ true)
+unfolding plainOf
+plain-passes f p = go (same (refusalOf f) 0) refl p
+  where
+    go : (b : Bool) → same (refusalOf f) 0 ≡ b → cond b (plainIn (fileOf f)) false ≡ true → (refusalOf f ≡ 0) × (plainIn (fileOf f) ≡ true)
+    go true e h = (same→≡ (refusalOf f) 0 e, h)
+    go false e h = absurd (false≢true h)
+
+module _ (f : List ℕ) (p : plainOf f ≡ true) where
+  -- whatever the configuration
+  pub every-sure : (config : List ℕ) (i : Set) → Sure (stepIn (fileOf f) config i)
+  unfolding fileOf fileAt shapeOf
+  every-sure =
+      let h = passed f (plain-passes f p .0) in
+      step-sure (fileOf f) (plain-passes f p .1) (sound (fileOf f) (h .slaves) (h .nodes) (h .naming) (h .inside)) (counted (trailer f) (h .counts) .some-node)
+
+  -- a step that 1 to 11 and 20 to 22 do not refuse
+  pub unrefused-sure : (config : List ℕ) (i : Set) (room : ℕ) → stepRefusal f config room ≡ 0 → Sure (stepOf f config i room)
+  unfolding stepOf
+  unrefused-sure config i room e = rw (ap (λ r. same r 0) e ∙ same-refl 0) (every-sure config i)
+
+  -- "given a valid configuration and a long enough buffer"
+  pub plain-sure : (config : List ℕ) (i : Set) (room : ℕ) → Valid (fileOf f) config → fileOf f .charts ≤ room → Sure (stepOf f config i room)
+  unfolding stepRefusal configTests
+  plain-sure config i room v l = unrefused-sure config i room (ap firstOf (append-assoc (fileTests f) (configTests f config) (long ∷ []))
+      ∙ call-passed f (configTests f config ++ (long ∷ [])) (plain-passes f p .0)
+      ∙ firstOf-++ (configTests f config) (long ∷ []) (
+        agrees (length config) (fileOf f .charts) (v .long),
+        (any-all (fileOf f .charts) _ (λ c m. ap not (lt-ltb (getD config c 0) (fileOf f .chart c .states) (v .states c m))), tt),
+      )
+      ∙ firstOf-next long [] (le-ltb room (fileOf f .charts) l) ∙ firstOf-[])
+    where
+      long : Test
+      long = record { number = shortBuffer; applies = ltb room (fileOf f .charts) }
+
+-- ── the run ──
+
+-- behind the output
+behind : (o : Set) (l : List ℕ) (n : ℕ) → getD (bytes 8 o ++ l) (8 + n) 0 ≡ getD l n 0
+behind o l n = rw (length-bytes 8 o) at (getD-append-add (bytes 8 o) l n 0)
+
+-- a row's mark and refusal: 1 and 0, or 0 and 23
+abbrev pub SureRow : List ℕ → Type 0
+SureRow row = ((getD row 8 0 ≡ 1) × (getD row 9 0 ≡ 0)) ⊎ ((getD row 8 0 ≡ 0) × (getD row 9 0 ≡ noStep))
+
+sure-row : (r : Answer) (config : List ℕ) → Sure r → SureRow (rowOf r config)
+unfolding rowOf
+sure-row (refused r) config h = inr (behind ∅ _ 0, behind ∅ _ 1 ∙ h)
+sure-row (given o n m) config h = inl (behind o _ 0 ∙ ap one h, behind o _ 1)
+
+-- that each transition leads to a state of its chart (Leads), 7 tests
+pub row-sure : (f : List ℕ) → plainOf f ≡ true → Leads (fileOf f) → (s : Stand) (inputs : List Set) → Valid (fileOf f) (s .config) → (k : ℕ) → k < length inputs
+    → SureRow (take (10 + fileOf f .charts) (drop (k * (10 + fileOf f .charts)) (rowsFrom (fileOf f) s inputs)))
+row-sure f p w s inputs v k l = let t = standAt (fileOf f) s inputs k in
+    rw (row-at (fileOf f) w s inputs v k l) (sure-row (stepFrom (fileOf f) t (getD inputs k 0)) (t .config) (every-sure f p (t .config) (t .carried ∪ getD inputs k 0)))
