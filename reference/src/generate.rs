@@ -528,9 +528,14 @@ pub fn room(random: &mut Random, needed: usize) -> usize {
 
 /// Random checks, first configurations and interfaces.
 pub fn file_commands(seed: u64, count: usize) -> Vec<Command> {
+    drawn(seed, count, file_command)
+}
+
+/// So many random commands of a kind.
+fn drawn(seed: u64, count: usize, draw: fn(&mut Random, &str) -> Command) -> Vec<Command> {
     let mut random = Random::new(seed);
     (0..count)
-        .map(|number| file_command(&mut random, &format!("random-{number}")))
+        .map(|number| draw(&mut random, &format!("random-{number}")))
         .collect()
 }
 
@@ -646,11 +651,7 @@ pub fn run_command(random: &mut Random, name: &str) -> Command {
 
 /// Random rewritings of files with slaves.
 pub fn rewrite_commands(seed: u64, count: usize) -> Vec<Command> {
-    let mut random = Random::new(seed);
-    let random = &mut random;
-    (0..count)
-        .map(|number| rewrite_command(random, &format!("random-{number}")))
-        .collect()
+    drawn(seed, count, rewrite_command)
 }
 
 /// One random rewriting.
@@ -755,10 +756,7 @@ fn divide(random: &mut Random, out: &mut [&mut Transition], free: &[u32]) {
 
 /// Random questions whether a file is plain.
 pub fn plain_commands(seed: u64, count: usize) -> Vec<Command> {
-    let mut random = Random::new(seed);
-    (0..count)
-        .map(|number| plain_command(&mut random, &format!("random-{number}")))
-        .collect()
+    drawn(seed, count, plain_command)
 }
 
 /// One random question whether a file is plain. The file has two transitions from one state, and is

@@ -289,18 +289,6 @@ fn same_states(best: &[u8; 18], moves: &[u8; 24], charts: usize) -> bool
     true
 }
 
-// Puts eight bytes, the first of them at `at`.
-fn put_bytes(best: &mut [u8; 18], at: usize, row: [u8; 8])
-    requires { ⌜ (length (now best) ≡ 18) × (at ≤ 10) ⌝ }
-    ensures { λ _. ⌜ BytesPut at row (now (best .entry)) (now (best .exit)) ⌝ }
-{
-    let mut c: usize = 0;
-    while c < 8 {
-        best[at + c] = row[c];
-        c += 1;
-    }
-}
-
 // The eight bytes from `at` on.
 fn bytes_at(best: &[u8; 18], at: usize) -> [u8; 8]
     requires { ⌜ at ≤ 10 ⌝ }
@@ -458,7 +446,7 @@ pub fn search(masks: &[u64], small: &[u8], charts: usize, low: [u64; 8]) -> Foun
     let mut best = [0u8; 18];
     let mut shown = [0u64; 1];
     put_row(&mut trail, low, 0);
-    put_bytes(&mut best, PLACES, [NO_PLACE; 8]);
+    put_column(&mut best, PLACES, &moves, 0, TAKEN, NO_PLACE);
     hunt(
         masks,
         small,

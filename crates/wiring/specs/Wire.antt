@@ -124,11 +124,11 @@ awakeBy sc state cfg M act none = true
 awakeBy sc state cfg M act (some i) = act (sc i) && meets (cfg (sc i)) (M (sc i)) (state i)
 
 -- ── identities of sets ──
-own-on : (d : ℕ) → own d d ≡ full
+pub own-on : (d : ℕ) → own d d ≡ full
 unfolding own
 own-on d = ap (λ b. cond b full ∅) (same-refl d)
 
-own-off : (d c : ℕ) → same c d ≡ false → own d c ≡ ∅
+pub own-off : (d c : ℕ) → same c d ≡ false → own d c ≡ ∅
 unfolding own
 own-off d c e = ap (λ b. cond b full ∅) e
 

@@ -1,13 +1,14 @@
 -- `sides_of` meets its contract. The loop: the charts below c have put theirs in, and chart c's transitions begin at `start`.
 -- Assumes nothing.
-use mathlib.Core.Path.{_≡_, refl, ap, _∙_, subst}
-use Prim.Native.Nat.{_+_, _-_, _≤_}
+use mathlib.Core.Path.{_≡_, refl, _∙_, subst}
+use Prim.Native.Nat.{_-_, _≤_}
 use native.Mathlib.Omega.{arith}
 use borrow.Author.Needs.{needs}
 use lib.ListN.{length, length-set}
 use Rattle.layout.specs.Body.{startOf}
+use Rattle.checks.specs.Known.Laws.{in-all, start-next}
 use Rattle.candidates.specs.Candidates.{Sided}
-use Rattle.candidates.specs.Candidates.Laws.{start-next, chart-fits, sided-none, sided-next}
+use Rattle.candidates.specs.Candidates.Laws.{sided-none, sided-next}
 use Rattle.candidates.proofs.sides_of.Statement.{statement}
 use Rattle.candidates.proofs.sides_of.Tie as tie
 
@@ -26,7 +27,7 @@ puts-of-requires : tie.Need-puts-of-requires Inv-loop μ-loop
 puts-of-requires c κs =
     let s = c .before .before .before .before .before .before .before .before .before .before in
     let l = c .before .before .before .before .before .loop in
-    (s .pre .0 .sized .holds, chart-fits (s .args .n) (s .args .body .now) (s .args .config .now) (s .pre .0) (l .c) (l .start) _ (c .before .before .before .if1 .taken) (l .inv .1) (c .before .before .head-at .ensures))
+    (s .pre .0 .sized .holds, in-all (s .args .n) (s .args .body .now) (l .c) (l .start) (c .before .before .head-at .ensures) (l .inv .1) (s .pre .0 .summed) (c .before .before .before .if1 .taken))
 
 loop-again : tie.Need-loop-again Inv-loop μ-loop
 loop-again c =
@@ -36,7 +37,7 @@ loop-again c =
     let p = c .before .before .before .puts-of in
     let few = s .pre .0 .sized .charts in (
       omega arith,
-      ap (λ x. l .start + x .transitions) h ∙ start-next (s .args .n) (s .args .body .now) (l .c) (l .start) (l .inv .1),
+      start-next (s .args .n) (s .args .body .now) (l .c) (l .start) h (l .inv .1),
       length-set (l .may) (l .c) (p .result .may) ∙ l .inv .2,
       search needs,
       sided-next (s .args .n) (s .args .body .now) (s .args .config .now) (s .args .base) (s .args .masks .now) (s .args .small .now) (l .c) (l .may) (l .low) _ (l .start) _ _ (l .inv .4) (let k = l .inv .2 in omega arith) (l .inv .1) h (p .ensures) (c .before .raise .ensures),
@@ -67,7 +68,7 @@ sides-of-spec =
     (λ c. let s = c .before .before .before .before .before .before .before .before .before .before .before .before .before .before in let l = c .before .before .before .before .before .before .before .before .before .loop in omega (
       arith,
       s .pre .0 .sized .transitions,
-      chart-fits (s .args .n) (s .args .body .now) (s .args .config .now) (s .pre .0) (l .c) (l .start) _ (c .before .before .before .before .before .before .before .if1 .taken) (l .inv .1) (c .before .before .before .before .before .before .head-at .ensures),
+      in-all (s .args .n) (s .args .body .now) (l .c) (l .start) (c .before .before .before .before .before .before .head-at .ensures) (l .inv .1) (s .pre .0 .summed) (c .before .before .before .before .before .before .before .if1 .taken),
     ))
     (λ c. omega (arith, c .before .before .before .before .before .before .before .before .before .before .before .before .before .before .pre .0 .sized .charts))
     (λ c. search needs)

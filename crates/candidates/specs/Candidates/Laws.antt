@@ -1,4 +1,4 @@
--- Laws for choosing candidates. In order: where a chart's transitions stand (start-fits), what they put out (puts-none, puts-more, puts-done),
+-- Laws for choosing candidates. In order: where a transition stands (from-byte), what a chart's transitions put out (puts-none, puts-more, puts-done),
 -- what the other charts might (join-more, others-done), one transition (left-other to left-put), a filling by one transition more (left-none to
 -- left-room), one chart more (mays-next to chart-tabled), the present states (stated-none, stated-next), all of it (chooses), and that actions have no signal
 -- from 64 on (actions-small).
@@ -45,20 +45,6 @@ use Rattle.candidates.specs.Candidates.{Ready, Tabled, Left, filling, co
 pub from-byte : (n : Shape) (b : List ℕ) (t : ℕ) → getD b (24 * n .charts + 28 * t) 0 ≡ transitionAt n b t .from
 unfolding transitionAt transitionOf
 from-byte n b t = sym (getD-drop (transitionsFrom n + 28 * t) b 0 0 ∙ ap (λ i. getD b i 0) (let h : transitionsFrom n + 28 * t + 0 ≡ transitionsFrom n + 28 * t = omega arith in h))
-
-pub start-next : (n : Shape) (b : List ℕ) (c start : ℕ) → start ≡ startOf n b c → start + headAt n b c .transitions ≡ startOf n b (c + 1)
-unfolding startOf
-start-next n b c start e = rw (add-one c, e)
-
--- the transitions of chart c end where those of a later one begin, or before
-pub start-fits : (n : Shape) (b : List ℕ) (c k : ℕ) → c < k → startOf n b c + headAt n b c .transitions ≤ startOf n b k
-unfolding startOf
-start-fits n b c zero l = absurd (omega arith)
-start-fits n b c (suc k) l = go (same c k) refl (start-fits n b c k)
-  where
-    go : (x : Bool) → same c k ≡ x → (c < k → startOf n b c + headAt n b c .transitions ≤ startOf n b k) → startOf n b c + headAt n b c .transitions ≤ startOf n b k + headAt n b k .transitions
-    go true e r = rw (same→≡ c k e) (omega arith)
-    go false e r = let z : c ≢ k = λ w. false≢true (sym e ∙ rw w (same-refl k)) in let h = r (omega arith) in omega arith
 
 -- ── what transitions put out ──
 
@@ -237,9 +223,6 @@ module _ (n : Shape) (b config : List ℕ) where
         })
 
   module _ (r : Ready n b config) (c start : ℕ) (head : Head) (l : c < n .charts) (es : start ≡ startOf n b c) (eh : head ≡ headAt n b c) where
-    pub chart-fits : start + head .transitions ≤ n .transitions
-    chart-fits = rw (es, eh) (let h = start-fits n b c (n .charts) l in let s = r .summed in omega arith)
-
     pub chart-room : tally (head .transitions) (λ u. one (same (fromStart n b start u .from) (getD config c 0))) ≤ 8
     unfolding leaving
     chart-room = rw (es, eh) (r .room c l)

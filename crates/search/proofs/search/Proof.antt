@@ -10,8 +10,8 @@ use Rattle.meaning.specs.Meaning.{same}
 use Rattle.meaning.specs.Calls.{made}
 use Rattle.meaning.specs.Calls.Laws.{made-cong}
 use Rattle.search.specs.declared.Found.{Found}
-use Rattle.search.specs.Trail.{beginning, trailIn}
-use Rattle.search.specs.Trail.Laws.{begun}
+use Rattle.search.specs.Trail.{beginning, placeIn, columnIn, trailIn}
+use Rattle.search.specs.Trail.Laws.{filled-behind, begun}
 use Rattle.search.specs.Hunt.{hunts, over, nothing, foundIn, Held, BytesPut}
 use Rattle.search.proofs.search.Statement.{statement}
 use Rattle.search.proofs.search.Tie as tie
@@ -21,8 +21,8 @@ all : (m s w b low : List ℕ) (charts : ℕ) (f : Found) → trailIn w b 0 0 �
     over (hunts m s charts (charts - charts) (trailIn w b (charts - charts) 0)) f ≡ over (hunts m s charts 0 (beginning low)) nothing
 all m s w b low charts f e q = let z : charts - charts ≡ 0 = omega arith in rw (z, e, q)
 
--- nothing was found: zeros, but for the places
-module _ (f : List ℕ) (h : BytesPut 8 (replicate 8 noPlace) (replicate 18 0) f) where
+-- nothing was found: zeros, but for the places, of no chart
+module _ (b f : List ℕ) (h : BytesPut 8 (columnIn b 0 2 noPlace) (replicate 18 0) f) where
   pub begun-held : Held f (replicate 1 0)
   begun-held = record { bytes = h .long; output = refl }
 
@@ -33,7 +33,7 @@ module _ (f : List ℕ) (h : BytesPut 8 (replicate 8 noPlace) (replicate 18 0) f
         h .above 16 (omega arith),
         h .above 17 (omega arith),
         made-cong 8 (λ c. getD f (0 + c) 0) (λ c. 0) (λ c l. h .below (0 + c) (omega arith) ∙ getD-replicate 18 (0 + c) 0 0 (omega arith)),
-        made-cong 8 (λ c. getD f (8 + c) 0) (λ c. noPlace) (λ c l. h .row c l ∙ getD-replicate 8 c noPlace 0 l),
+        made-cong 8 (λ c. getD f (8 + c) 0) (λ c. noPlace) (λ c l. h .row c l ∙ filled-behind 0 (placeIn b) noPlace c (omega arith) l),
       )
 
 offered : (s : tie.Start) → length (s .args .low) ≡ 8
@@ -42,20 +42,20 @@ offered s = search needs
 hunt-requires : tie.Need-hunt-requires
 hunt-requires c κs =
     let b = c .before .before .before .before in
-    let r = b .before .before in
+    let r = b .before .before .before in
     let s = r .before .before .before .before in
-    (s .pre .0, record { masks = r .put-row .ensures .kept .long; small = refl }, begun-held _ (b .put-bytes .ensures), s .pre .1, omega arith)
+    (s .pre .0, record { masks = r .put-row .ensures .kept .long; small = refl }, begun-held (replicate 24 0) _ (b .put-column .ensures), s .pre .1, omega arith)
 
 returns : tie.Need-returns
 returns c =
     let h = c .before .before .before in
     let b = h .before .before .before .before .before in
-    let r = b .before .before in
+    let r = b .before .before .before in
     let s = r .before .before .before .before in
     let n = offered s in
     c .found-in .ensures ∙ h .hunt .ensures .found
     ∙ all (s .args .masks .now) (s .args .small .now) _ _ (s .args .low) (s .args .charts) _ (begun _ _ (s .args .low) n (r .put-row .ensures .row))
-    (begun-nothing _ (b .put-bytes .ensures))
+    (begun-nothing (replicate 24 0) _ (b .put-column .ensures))
 
 pub search-spec : {M : Type 1} → statement M
 search-spec = tie.close (tie.spec (λ c κs. search needs) (λ c κs. search needs) hunt-requires (λ c κs. search needs) returns)

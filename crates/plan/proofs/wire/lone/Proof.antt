@@ -1,6 +1,6 @@
 -- `wire::lone` meets its contract: at the chart's own place everything is joined, and nothing anywhere else. Assumes nothing.
 use mathlib.Core.Path.{_≡_, refl, sym, ap, _∙_}
-use mathlib.Core.Bool.{Bool, true, false, cond, false≢true}
+use mathlib.Core.Bool.{Bool, true, false}
 use mathlib.Core.List.{List, [], _∷_}
 use mathlib.Core.Logic.{_≢_}
 use Prim.Native.Nat.{ℕ, _+_, _*_, _<_}
@@ -12,19 +12,11 @@ use Rattle.signals.specs.Mask.{_∪_, _∩_}
 use Rattle.signals.specs.Decide.{sets, A, B, C, D, ∅ₑ, _∪ₑ_, _∩ₑ_, _≐_}
 use Rattle.layout.specs.declared.record.Head.{Head}
 use Rattle.meaning.specs.Meaning.{Set, same}
-use Rattle.meaning.specs.Laws.Bools.{same-refl, same→≡, same→≢, same-≢}
-use Rattle.wiring.specs.Wire.{own, full}
-use Rattle.plan.specs.Wire.{Joins, downIn, upIn, JoinsRows}
+use Rattle.meaning.specs.Laws.Bools.{same→≡, same→≢, same-≢}
+use Rattle.wiring.specs.Wire.{own, full, own-on, own-off}
+use Rattle.plan.specs.Wire.{Joins, JoinsRows}
 use Rattle.plan.proofs.wire.lone.Statement.{statement}
 use Rattle.plan.proofs.wire.lone.Tie as tie
-
-own-here : (d : ℕ) → own d d ≡ full
-unfolding own
-own-here d = ap (λ (b : Bool). cond b full 0) (same-refl d)
-
-own-off : (d c : ℕ) → c ≢ d → own d c ≡ 0
-unfolding own
-own-off d c h = ap (λ (b : Bool). cond b full 0) (same-≢ c d h)
 
 -- x is joined at k alone
 join-at : (l : List ℕ) (k x i : ℕ) (y : Set) → k < length l → (i ≡ k → y ≡ x) → (i ≢ k → y ≡ 0) → getD (set l k (getD l k 0 ∪ x)) i 0 ≡ getD l i 0 ∪ y
@@ -43,9 +35,9 @@ module _ (d : ℕ) (few : d < 8) where
       let nm : length m ≡ 16 = length-set l d (getD l d 0 ∪ full) ∙ n in
       record {
         down-is = λ c u. getD-set-other m (8 + d) c (getD m (8 + d) 0 ∪ full) 0 (λ z. omega arith)
-            ∙ join-at l d full c (own d c) (omega arith) (λ z. ap (own d) z ∙ own-here d) (own-off d c);
-        up-is = λ c u. join-at m (8 + d) full (8 + c) (own d c) (omega arith) (λ z. let y : c ≡ d = omega arith in ap (own d) y ∙ own-here d)
-            (λ z. own-off d c (λ y. z (ap (λ (k : ℕ). 8 + k) y)))
+            ∙ join-at l d full c (own d c) (omega arith) (λ z. ap (own d) z ∙ own-on d) (λ z. own-off d c (same-≢ c d z));
+        up-is = λ c u. join-at m (8 + d) full (8 + c) (own d c) (omega arith) (λ z. let y : c ≡ d = omega arith in ap (own d) y ∙ own-on d)
+            (λ z. own-off d c (same-≢ c d (λ y. z (ap (λ (k : ℕ). 8 + k) y))))
             ∙ ap (λ (s : Set). s ∪ own d c) (getD-set-other l d (8 + c) (getD l d 0 ∪ full) 0 (λ z. omega arith));
         long = length-set m (8 + d) (getD m (8 + d) 0 ∪ full) ∙ nm;
       }
@@ -55,12 +47,12 @@ module _ (d : ℕ) (few : d < 8) where
   square-joined l y x i n c e u v = ap (λ (z : Set). getD (set l (8 * d + d) (getD l (8 * d + d) 0 ∪ full ∩ z)) (8 * e + c) 0) i ∙
       join-at l (8 * d + d) (full ∩ x) (8 * e + c) (own d c ∩ own d e ∩ x) (omega arith)
       (λ z. let y : c ≡ d = omega arith in let y′ : e ≡ d = omega arith in
-      sets (own d c ∷ own d e ∷ full ∷ x ∷ []) (A ≐ C ∷ B ≐ C ∷ []) (A ∩ₑ B ∩ₑ D ≐ C ∩ₑ D) tt (ap (own d) y ∙ own-here d) (ap (own d) y′ ∙ own-here d))
+      sets (own d c ∷ own d e ∷ full ∷ x ∷ []) (A ≐ C ∷ B ≐ C ∷ []) (A ∩ₑ B ∩ₑ D ≐ C ∩ₑ D) tt (ap (own d) y ∙ own-on d) (ap (own d) y′ ∙ own-on d))
       (λ z. off c e (λ y y′. z (let q : 8 * e + c ≡ 8 * d + d = omega arith in q)) (same c d) refl)
     where
       off : (c e : ℕ) → (c ≡ d → e ≡ d → ⊥) → (b : Bool) → same c d ≡ b → own d c ∩ own d e ∩ x ≡ 0
-      off c e h false q = sets (own d c ∷ own d e ∷ x ∷ []) (A ≐ ∅ₑ ∷ []) (A ∩ₑ B ∩ₑ C ≐ ∅ₑ) tt (own-off d c (same→≢ c d q))
-      off c e h true q = sets (own d c ∷ own d e ∷ x ∷ []) (B ≐ ∅ₑ ∷ []) (A ∩ₑ B ∩ₑ C ≐ ∅ₑ) tt (own-off d e (h (same→≡ c d q)))
+      off c e h false q = sets (own d c ∷ own d e ∷ x ∷ []) (A ≐ ∅ₑ ∷ []) (A ∩ₑ B ∩ₑ C ≐ ∅ₑ) tt (own-off d c q)
+      off c e h true q = sets (own d c ∷ own d e ∷ x ∷ []) (B ≐ ∅ₑ ∷ []) (A ∩ₑ B ∩ₑ C ≐ ∅ₑ) tt (own-off d e (same-≢ e d (h (same→≡ c d q))))
 
 returns : tie.Need-returns
 unfolding full
