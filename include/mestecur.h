@@ -7,10 +7,14 @@
  *   - pointers to 64-bit numbers and to lengths are aligned as C asks;
  *   - memory that a call writes overlaps nothing else that is lent to the same call.
  *
- * Every call returns 0, or the number of its refusal. A refused call leaves every lent buffer (`config`, `next`, `rows`, `out`) as it was. The
- * single numbers behind pointers (`input`, `output`, `mark`, `carried_on`, `length`, `plain`) are answers: they are always written, and are 0
- * where the call is refused; so are all 8 `places`, and they are MESTECUR_NO_PLACE then. Where a call succeeds, the bytes of a buffer behind what
- * it has to say keep their values.
+ * Every call returns 0, or the number of its refusal. A refused call leaves every lent buffer (`config`, `next`, `rows`, `out`) as it was. Where
+ * a call succeeds, the bytes of a buffer behind what it has to say keep their values.
+ *
+ * The single numbers behind pointers (`input`, `output`, `mark`, `carried_on`, `length`, `plain`) are answers: every call writes them, and a
+ * refused call writes 0. `places` is an answer too: every step writes all 8 bytes, and a refused step writes MESTECUR_NO_PLACE to each.
+ *
+ * A file is edition 1 or edition 2, by a byte of its trailer. Under edition 2 an active chart may also stay, with no output and in its state, where
+ * no transition from that state is triggered. Every call takes both editions but mestecur_rewrite, which takes edition 1 alone.
  *
  * A set of signals is a 64-bit number: bit n stands for signal n, 0 to 63. A configuration is one byte for each chart, its present state. */
 #ifndef MESTECUR_H
@@ -32,13 +36,16 @@ uint8_t mestecur_first(const uint8_t *file, size_t file_len, uint8_t *config, si
 /* Gives the signals that the whole looks at, `input`, and those that it can put out, `output`. Refusals: 1 to 11. */
 uint8_t mestecur_interface(const uint8_t *file, size_t file_len, uint64_t *input, uint64_t *output);
 
-/* In `places`: no transition was taken. */
-enum { MESTECUR_NO_PLACE = 255 };
+/* In `places`, what is no transition's place. */
+enum {
+    MESTECUR_STAYED = 254,  /* the chart was active and stayed; edition 2 alone */
+    MESTECUR_NO_PLACE = 255 /* the chart was inactive, there is no such chart, or the step was refused */
+};
 
 /* Makes one step from a configuration under an input. Writes the next configuration to the front of `next`, what the whole puts out to `output`,
  * and to `mark` 1 if every permitted choice leads to the same output and the same next configuration, else 0. The step is the first permitted
- * choice in document 01's order; `places` says which: at c the place of the transition that chart c took in its own list, from 0 on, or
- * MESTECUR_NO_PLACE if it took none or there is no chart c. Refusals: 1 to 11, 20, 21, 22, 23. */
+ * choice in document 01's order, staying behind all transitions of a chart. `places` says which choice: at c stands the place of the transition
+ * that chart c took, counted from 0 in the chart's own list, or MESTECUR_STAYED, or MESTECUR_NO_PLACE. Refusals: 1 to 11, 20, 21, 22, 23. */
 uint8_t mestecur_step(const uint8_t *file, size_t file_len, const uint8_t *config, size_t config_len, uint64_t input, uint8_t *next,
                       size_t next_len, uint64_t *output, uint8_t *mark, uint8_t places[8]);
 
@@ -51,11 +58,12 @@ uint8_t mestecur_step(const uint8_t *file, size_t file_len, const uint8_t *confi
 uint8_t mestecur_run(const uint8_t *file, size_t file_len, const uint8_t *config, size_t config_len, uint64_t carried, const uint64_t *inputs,
                      size_t inputs_len, uint8_t *rows, size_t rows_len, uint64_t *carried_on);
 
-/* Writes to the front of `out` a file without slaves that makes the same steps, and its length to `length`. Refusals: 1 to 11, 40 to 42, 44, 45. */
+/* Writes to the front of `out` a file without slaves that makes the same steps, and its length to `length`. Refusals: 1 to 11, 46, 40 to 42, 44,
+ * 45. */
 uint8_t mestecur_rewrite(const uint8_t *file, size_t file_len, uint8_t *out, size_t out_len, size_t *length);
 
-/* Writes to `plain` 1 if any two transitions from one state are told apart by a signal that one needs, the other bars and no feedback set of the file
- * has, else 0. Every step of a plain file that is given has the mark 1. Refusals: 1 to 11. */
+/* Writes to `plain` 1 if the file is edition 1 and any two transitions from one state are told apart by a signal that one needs, the other bars and
+ * no feedback set of the file has, else 0. Every step of a plain file that is given has the mark 1. Refusals: 1 to 11. */
 uint8_t mestecur_plain(const uint8_t *file, size_t file_len, uint8_t *plain);
 
 /* The refusals. A call gives the first one, in the order named at the call, that applies. */
@@ -63,7 +71,7 @@ enum {
     MESTECUR_ACCEPTED = 0,
 
     MESTECUR_TOO_SHORT = 1,           /* the file has fewer than 12 bytes */
-    MESTECUR_EDITION = 2,             /* the edition is not 1 */
+    MESTECUR_EDITION = 2,             /* the edition is neither 1 nor 2 */
     MESTECUR_COUNTS = 3,              /* no chart or over 8, over 7 slaves, no node or over 64, or over 512 transitions */
     MESTECUR_DISTANCE = 4,            /* the trailer's distance is not the size of a body of so many records, or the file is shorter */
     MESTECUR_ZERO_BYTE = 5,           /* a byte that must be zero is not */
@@ -86,7 +94,8 @@ enum {
     MESTECUR_REWRITING_STATE = 41,   /* the result would have over 8 transitions from a state */
     MESTECUR_REWRITING_CHART = 42,   /* the result would have over 64 transitions in a chart */
     MESTECUR_REWRITING_NODES = 44,   /* the result would have over 64 nodes */
-    MESTECUR_REWRITING_ROOM = 45     /* the buffer is shorter than the result */
+    MESTECUR_REWRITING_ROOM = 45,    /* the buffer is shorter than the result */
+    MESTECUR_REWRITING_EDITION = 46  /* the file is edition 2, whose masters may stay and then cannot call a slave; tested right after 11 */
 };
 
 #ifdef __cplusplus

@@ -4,7 +4,7 @@ use reference::cases::charts::{chart, go, row_of_charts, wrapped};
 use reference::draw::choices;
 use reference::generate::{configuration, model, Random, Shape};
 use reference::limits::{CHARTS, STATE_TRANSITIONS};
-use reference::model::{Chart, Model, Node, Transition};
+use reference::model::{Chart, Edition, Model, Node, Transition};
 use reference::Set;
 
 /// A file, a configuration of it and an input to step with.
@@ -24,6 +24,12 @@ impl Subject {
             config,
             input: input.0,
         }
+    }
+
+    /// The same under edition 2.
+    fn staying(self) -> Subject {
+        let model = self.model.under(Edition::Second);
+        Subject::new(model, self.config, Set(self.input))
     }
 
     /// How many choices plain enumeration tries in a step.
@@ -203,6 +209,71 @@ fn last_bars() -> Subject {
         7 => [vec![], vec![60], vec![place]],
         _ => [vec![], vec![], vec![place, 60]],
     })
+}
+
+/// The everyday files under edition 2: what they did they do, and some lose the mark.
+pub fn everyday_staying() -> Vec<Subject> {
+    everyday().into_iter().map(Subject::staying).collect()
+}
+
+/// The hard family under edition 2, with so many transitions from each state.
+pub fn hard_staying(out: usize) -> Vec<Subject> {
+    (0..9)
+        .map(|seed| random_row(seed, CHARTS, out).staying())
+        .collect()
+}
+
+/// The worst files that `bench worst` found: among 200,000 with eight transitions from a state, and
+/// among 1,000,000 with two.
+pub fn worst_staying() -> [(&'static str, Subject); 2] {
+    [
+        ("the worst found, 8 from a state", drawn_staying(160_751, 8)),
+        ("the worst found, 2 from a state", drawn_staying(915_855, 2)),
+    ]
+}
+
+/// A file of edition 2 to look for hard ones among: as many charts as there can be, so many transitions
+/// from the only state of each; how many signals there are, and how many of them stand in guards,
+/// actions, feedback and input, is drawn too.
+pub fn drawn_staying(seed: u64, out: usize) -> Subject {
+    let mut random = Random::new(0x776f_7273 + (seed << 8));
+    let signals: Vec<u32> = (0..random.between(2, 16) as u32).collect();
+    let guard = random.pick(&[5, 10, 20, 30, 50]);
+    let action = random.pick(&[5, 10, 20, 30, 50]);
+    let feedback = random.pick(&[50, 100, 100]);
+    let charts = (0..CHARTS)
+        .map(|_| {
+            let moves = (0..out).map(|_| drawn_transition(&mut random, &signals, guard, action));
+            let moves = moves.collect();
+            Chart {
+                feedback: random.subset(&signals, feedback),
+                ..chart(1, &[], moves)
+            }
+        })
+        .collect();
+    let mut model = row_of_charts(charts);
+    feed_back(&mut model, random.subset(&signals, feedback));
+    let percent = random.pick(&[0, 0, 10, 30]);
+    let input = random.subset(&signals, percent);
+    Subject::new(model, vec![0; CHARTS], input).staying()
+}
+
+/// A transition of a chart of one state; each signal is in its guard and in its action with a chance.
+fn drawn_transition(
+    random: &mut Random,
+    signals: &[u32],
+    guard: usize,
+    action: usize,
+) -> Transition {
+    let guard = random.subset(signals, guard);
+    let split = random.subset(signals, 50);
+    Transition {
+        from: 0,
+        to: 0,
+        needed: guard.cut(split),
+        barred: guard.less(split),
+        action: random.subset(signals, action),
+    }
 }
 
 /// Four charts in a row, hidden again and again until there are so many nodes.

@@ -7,3 +7,4 @@ pub mod measure;
 pub mod parts;
 pub mod picture;
 pub mod table;
+pub mod worst;

@@ -1,17 +1,22 @@
-//! `bench [PART] [--picture FILE]`: measures and prints a table of each part, `check`, `step`, `run`,
-//! `rewriting` or `growth`, ratios first; all of them if none is named. The picture has the ratios of
-//! the parts measured as bars on a log scale.
+//! `bench [PART] [--picture FILE]`: measures and prints a table of each part, `check`, `step`,
+//! `staying` (steps of edition 2), `run`, `rewriting` or `growth`, ratios first; all of them if none is
+//! named. The picture has the ratios of the parts measured as bars on a log scale.
+//!
+//! `bench worst COUNT`: draws so many files of edition 2 with eight transitions from a state, and as many
+//! with two, and prints which of them has the hardest step.
 
 use bench::parts::{self, Part};
 use bench::picture::{picture, Bar};
+use bench::worst::worst;
 use reference::words;
 use std::process::ExitCode;
 
 /// What can be said on the command line.
-const USE: &str = "use: bench [check | step | run | rewriting | growth] [--picture FILE]";
+const USE: &str =
+    "use: bench [check | step | staying | run | rewriting | growth] [--picture FILE] | worst COUNT";
 
 /// All parts, in the order of the table.
-const NAMES: [&str; 5] = ["check", "step", "run", "rewriting", "growth"];
+const NAMES: [&str; 6] = ["check", "step", "staying", "run", "rewriting", "growth"];
 
 fn main() -> ExitCode {
     words::done(|words| match *words {
@@ -19,6 +24,7 @@ fn main() -> ExitCode {
         ["--picture", path] => measure(&NAMES, Some(path)),
         [name] if NAMES.contains(&name) => measure(&[name], None),
         [name, "--picture", path] if NAMES.contains(&name) => measure(&[name], Some(path)),
+        ["worst", count] => look_for_worst(count),
         _ => Err(USE.to_string()),
     })
 }
@@ -41,11 +47,21 @@ fn measure(names: &[&str], path: Option<&str>) -> Result<(), String> {
     }
 }
 
+/// Prints the hardest of so many files.
+fn look_for_worst(count: &str) -> Result<(), String> {
+    let count: u64 = count.parse().map_err(|_| USE)?;
+    for out in [8, 2] {
+        println!("{}", worst(out, count));
+    }
+    Ok(())
+}
+
 /// A part by its name.
 fn measured(name: &str) -> Vec<Part> {
     match name {
         "check" => vec![parts::check()],
         "step" => vec![parts::step()],
+        "staying" => vec![parts::staying()],
         "run" => parts::run(),
         "rewriting" => vec![parts::rewriting()],
         _ => parts::growth(),

@@ -1,4 +1,4 @@
-//! The parts of what is measured: checks, steps, runs, rewritings, and how time grows.
+//! The parts of what is measured: checks, steps of both editions, runs, rewritings, and how time grows.
 
 use crate::family::{self, Subject};
 use crate::hand;
@@ -175,6 +175,23 @@ pub fn step() -> Part {
     part("step", rows)
 }
 
+/// Steps of edition 2, where every active chart may also stay: 9 to the power 8 choices instead of 8 to
+/// the power 8, and 3 to the power 8 instead of 2 to the power 8.
+pub fn staying() -> Part {
+    let row = |label: &str, family: &[Subject]| row_of(label, family, |s| step_calls(s, true));
+    let everyday = taken_by(&family::everyday_staying(), |s| step_calls(s, true));
+    let mut rows = vec![
+        compared("everyday, 1 to 4 charts", &[together(&everyday)]),
+        compared("everyday, the median file", &everyday),
+        row("hard, 8 charts, 8 from a state", &family::hard_staying(8)),
+        row("hard, 8 charts, 2 from a state", &family::hard_staying(2)),
+    ];
+    for (label, subject) in family::worst_staying() {
+        rows.push(row(label, &[subject]));
+    }
+    part("step, edition 2", rows)
+}
+
 /// A step's answer and next configuration; a refused one has no answer.
 type Stepped = (Result<mestecur::Step, u8>, Vec<u8>);
 
@@ -197,9 +214,7 @@ fn hand_step(subject: &Subject) -> Stepped {
     let step = mestecur::Step {
         output: mestecur::Set(stepped.output),
         mark: stepped.mark,
-        places: stepped
-            .places
-            .map(|place| (place != hand::NO_PLACE).then_some(place)),
+        places: stepped.places.map(mestecur::Place::of),
     };
     (Ok(step), next)
 }

@@ -1,8 +1,11 @@
 //! The engine written by hand answers as the reference does, so that its times can be compared.
 
+use bench::family::{drawn_staying, hard_staying, worst_staying};
 use bench::hand;
+use bench::worst::{beginnings, worst};
 use reference::command::{Command, Numbers, Op, FILL};
 use reference::draw::Draw;
+use reference::Set;
 
 /// What a call tells: refusal, numbers, and the lent buffer.
 type Told = (u8, Numbers, Vec<u8>);
@@ -50,5 +53,34 @@ fn the_engine_by_hand_agrees_with_the_reference() {
             command.op = Op::Check;
         }
         assert_eq!(by_hand(&command), expected(&command), "{command:?}");
+    }
+}
+
+/// The hard files with two transitions from a state, and files among which the worst was looked for.
+#[test]
+fn hard_steps_of_edition_2_by_hand_agree_with_the_reference() {
+    let drawn = (0..300).map(|seed| drawn_staying(seed, 2));
+    let mut stayed = 0;
+    for subject in hard_staying(2).into_iter().chain(drawn) {
+        let (mut one, mut other) = ([9; 8], [9; 8]);
+        let (file, at) = (&subject.file, &subject.config);
+        let by_hand = hand::step(file, at, subject.input, &mut one);
+        let expected = reference::step(file, at, Set(subject.input), &mut other);
+        assert_eq!((by_hand.refusal, one), (expected.refusal, other));
+        assert_eq!(
+            (by_hand.output, by_hand.mark),
+            (expected.output.0, expected.mark)
+        );
+        assert_eq!(by_hand.places, expected.places);
+        stayed += usize::from(by_hand.places.contains(&hand::STAYED));
+    }
+    assert!(stayed > 50, "{stayed}");
+}
+
+/// The worst files are at least as hard as the first ones that the search meets.
+#[test]
+fn the_worst_found_are_hard() {
+    for ((_, subject), out) in worst_staying().into_iter().zip([8, 2]) {
+        assert!(beginnings(&subject) > worst(out, 500).beginnings);
     }
 }

@@ -116,7 +116,8 @@ fn rows_and_carried(file: &[u8], configuration: &[u8], sets: &[Set]) -> Result<S
     ))
 }
 
-/// The line of a run of one set, and a line for each chart: which transition it took.
+/// The line of a run of one set, and a line for each chart: which transition it took, or that it
+/// stayed.
 fn one_step(file: &[u8], configuration: &[u8], set: Set) -> Result<String, Refused> {
     let (row, _) = rows(file, configuration, &[set])?;
     let model = accept(file).map_err(of_file)?;
@@ -128,8 +129,9 @@ fn one_step(file: &[u8], configuration: &[u8], set: Set) -> Result<String, Refus
 
 fn took((chart, place): (usize, &Place)) -> String {
     match place {
-        Some(place) => format!("chart {chart} took transition {place}\n"),
-        None => format!("chart {chart} took no transition\n"),
+        Place::None => format!("chart {chart} took no transition\n"),
+        Place::Transition(place) => format!("chart {chart} took transition {place}\n"),
+        Place::Stay => format!("chart {chart} stayed\n"),
     }
 }
 

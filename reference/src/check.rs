@@ -2,7 +2,7 @@
 
 use crate::file::{NodeRecord, Records, Trailer};
 use crate::limits::*;
-use crate::model::Model;
+use crate::model::{Edition, Model};
 use crate::set::Set;
 
 /// 01: "Checking a chart file". 01: "checking and the interface [test] 1 to 11. ... Success is 0."
@@ -26,7 +26,7 @@ pub fn accept(file: &[u8]) -> Result<Model, u8> {
 fn accept_layout(file: &[u8]) -> Result<Records, u8> {
     refuse_if(file.len() < TRAILER_BYTES, refusal::TOO_SHORT)?;
     let trailer = Trailer::read(file);
-    refuse_if(trailer.edition != EDITION, refusal::EDITION)?;
+    refuse_if(Edition::of(trailer.edition).is_none(), refusal::EDITION)?;
     refuse_if(counts_out_of_range(&trailer), refusal::COUNTS)?;
     refuse_if(distance_wrong(&trailer, file.len()), refusal::DISTANCE)?;
     Ok(Records::read(file))

@@ -1,12 +1,12 @@
 //! Random calls of every kind for a long comparison, the same for the same seed: random files, right
-//! and damaged, the named cases with something altered, and some steps with many choices. Each is
-//! cheap enough for this engine, which tries every choice.
+//! and damaged, the named cases with something altered, and some steps with many choices. A third of
+//! the files are edition 2. Each call is cheap enough for this engine, which tries every choice.
 
 use crate::check::accept;
 use crate::command::{Command, Op, OPS};
 use crate::generate::*;
 use crate::limits::*;
-use crate::model::Model;
+use crate::model::{Edition, Model};
 use crate::record::{named, KINDS};
 use crate::set::Set;
 
@@ -42,15 +42,20 @@ impl Draw {
     }
 }
 
+/// An edition, edition 2 in a third of the cases.
+fn edition(random: &mut Random) -> Edition {
+    random.pick(&[Edition::First, Edition::First, Edition::Second])
+}
+
 /// A call with a random file.
 fn fresh(random: &mut Random, name: &str) -> Command {
-    let kind = random.below(14);
+    let (kind, edition) = (random.below(14), edition(random));
     affordable(random, |random| match kind {
-        0..=3 => file_command(random, name),
-        4..=7 => step_command(random, name),
-        8 | 9 => run_command(random, name),
-        10 | 11 => rewrite_command(random, name),
-        _ => plain_command(random, name),
+        0..=3 => file_command(random, edition, name),
+        4..=7 => step_command(random, edition, name),
+        8 | 9 => run_command(random, edition, name),
+        10 | 11 => rewrite_command(random, edition, name),
+        _ => plain_command(random, edition, name),
     })
 }
 
@@ -81,8 +86,8 @@ pub fn choices(command: &Command) -> usize {
 fn from_any_state(model: &Model) -> usize {
     let charts = model.charts.iter();
     let most = charts.map(|chart| {
-        let out = |state| chart.transitions.iter().filter(|t| t.from == state).count();
-        (0..chart.states).map(out).max().unwrap_or(0).max(1)
+        let places = |state| most_places(model.edition, chart, state);
+        (0..chart.states).map(places).max().unwrap_or(1)
     });
     most.product()
 }
@@ -94,7 +99,7 @@ fn hard_step(random: &mut Random, name: &str) -> Command {
         shape.charts = random.between(4, CHARTS);
         shape.out = random.between(4, STATE_TRANSITIONS);
         shape.states = random.between(1, 2);
-        let model = model(random, &shape);
+        let model = model(random, &shape).under(edition(random));
         let at = configuration(random, &model);
         let command = Command::step(
             name,
@@ -109,16 +114,28 @@ fn hard_step(random: &mut Random, name: &str) -> Command {
     }
 }
 
-/// A named call with something altered, once or more.
+/// A named call with something altered, once or more; in a third of the cases its file is edition 2.
 fn altered(random: &mut Random, named: &[Command], name: &str) -> Command {
     affordable(random, |random| {
         let mut command = random.pick(named);
         command.name = name.to_string();
+        set_edition(edition(random), &mut command.file);
         for _ in 0..random.pick(&[1, 1, 1, 2, 4]) {
             alter(random, &mut command);
         }
         command
     })
+}
+
+/// Puts an edition in the trailer of a file of another one; a file that is no edition's keeps its byte.
+fn set_edition(edition: Edition, file: &mut [u8]) {
+    if file.len() < TRAILER_BYTES {
+        return;
+    }
+    let byte = &mut file[file.len() - TRAILER_BYTES + EDITION_AT];
+    if Edition::of(*byte).is_some() {
+        *byte = edition.number();
+    }
 }
 
 /// Alters one thing of a call.

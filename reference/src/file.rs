@@ -6,7 +6,8 @@ use crate::limits::*;
 use crate::set::Set;
 
 /// 01: "distance back from the trailer's first byte to the body's first byte (4 bytes); charts,
-/// slaves, nodes, edition (1 byte each, edition 1); transitions (2 bytes); two zero bytes".
+/// slaves, nodes, edition (1 byte each, edition 1); transitions (2 bytes); two zero bytes". 02, No. 7
+/// adds edition 2, which is laid out alike.
 #[derive(Clone, PartialEq, Eq, Debug)]
 pub struct Trailer {
     pub distance: u32,

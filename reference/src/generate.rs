@@ -8,7 +8,7 @@ use crate::command::Command;
 use crate::file::Records;
 use crate::interface::chart_input;
 use crate::limits::*;
-use crate::model::{Chart, Model, Node, Slave, Transition};
+use crate::model::{Chart, Edition, Model, Node, Slave, Transition};
 use crate::plain::{feedback_sets, pairs_from_one_state};
 use crate::set::Set;
 
@@ -125,7 +125,7 @@ pub fn shape(random: &mut Random, most_charts: usize) -> Shape {
     }
 }
 
-/// A random file of a shape; it passes 1 to 11.
+/// A random file of a shape, of edition 1; it passes 1 to 11.
 pub fn model(random: &mut Random, shape: &Shape) -> Model {
     let charts: Vec<Chart> = (0..shape.charts).map(|_| chart(random, shape)).collect();
     let mut tree = Tree {
@@ -139,6 +139,7 @@ pub fn model(random: &mut Random, shape: &Shape) -> Model {
     let (mut slaves, nodes) = (tree.slaves, tree.nodes);
     slaves.sort_by_key(|slave| (slave.chart, slave.state));
     let mut made = Model {
+        edition: Edition::First,
         charts,
         slaves,
         nodes,
@@ -480,29 +481,38 @@ fn damage_transition(random: &mut Random, records: &mut Records) {
 
 /// How many choices there are at most from a configuration.
 pub fn most_choices(model: &Model, configuration: &[u8]) -> usize {
-    let out = |(chart, &state): (&Chart, &u8)| {
-        let from = chart.transitions.iter().filter(|t| t.from == state);
-        from.count().max(1)
-    };
-    model.charts.iter().zip(configuration).map(out).product()
+    let charts = model.charts.iter().zip(configuration);
+    charts
+        .map(|(chart, &state)| most_places(model.edition, chart, state))
+        .product()
+}
+
+/// How many places there are for a chart in a state: its transitions from there, and under edition 2
+/// staying. Where there are none it may still be inactive.
+pub fn most_places(edition: Edition, chart: &Chart, state: u8) -> usize {
+    let out = chart.transitions.iter().filter(|t| t.from == state).count();
+    match edition {
+        Edition::First => out.max(1),
+        Edition::Second => out + 1,
+    }
 }
 
 /// The most choices of a random step, so that a recording is soon made.
 const CHOICES: usize = 20_000;
 
-/// A shape for files of at most so many charts, and a file of it.
+/// A shape for files of at most so many charts, and a file of it, of edition 1.
 pub fn any(random: &mut Random, most_charts: usize) -> (Shape, Model) {
     let shape = shape(random, most_charts);
     let model = model(random, &shape);
     (shape, model)
 }
 
-/// A shape and a file of it that is not longer than asked.
-pub fn bounded(random: &mut Random, most_charts: usize, bytes: usize) -> (Shape, Model) {
+/// A shape and a file of it that is not longer than asked, of this edition.
+pub fn bounded(random: &mut Random, edition: Edition, bytes: usize) -> (Shape, Model) {
     loop {
-        let (shape, model) = any(random, most_charts);
+        let (shape, model) = any(random, CHARTS);
         if model.file().len() <= bytes {
-            return (shape, model);
+            return (shape, model.under(edition));
         }
     }
 }
@@ -526,22 +536,62 @@ pub fn room(random: &mut Random, needed: usize) -> usize {
     }
 }
 
-/// Random checks, first configurations and interfaces.
-pub fn file_commands(seed: u64, count: usize) -> Vec<Command> {
-    drawn(seed, count, file_command)
+/// What draws one random command with a file of an edition, under a name.
+type Source = fn(&mut Random, Edition, &str) -> Command;
+
+/// What is drawn for a recording: from which seed, how many, and with files of which edition.
+#[derive(Clone, Copy)]
+pub struct Drawing {
+    pub seed: u64,
+    pub count: usize,
+    pub edition: Edition,
 }
 
-/// So many random commands of a kind.
-fn drawn(seed: u64, count: usize, draw: fn(&mut Random, &str) -> Command) -> Vec<Command> {
-    let mut random = Random::new(seed);
-    (0..count)
-        .map(|number| draw(&mut random, &format!("random-{number}")))
-        .collect()
+impl Drawing {
+    /// The name of a random command.
+    fn name(&self, number: usize) -> String {
+        match self.edition {
+            Edition::First => format!("random-{number}"),
+            Edition::Second => format!("edition-2-random-{number}"),
+        }
+    }
+
+    /// So many commands.
+    fn commands(&self, draw: Source) -> Vec<Command> {
+        let mut random = Random::new(self.seed);
+        (0..self.count)
+            .map(|number| draw(&mut random, self.edition, &self.name(number)))
+            .collect()
+    }
+
+    /// So many commands, of which all whose answer depends on feedback are kept, of the others a part,
+    /// and a small one of the steps that are refused with 23.
+    fn telling(&self, draw: Source) -> Vec<Command> {
+        let mut random = Random::new(self.seed);
+        let mut commands = Vec::new();
+        while commands.len() < self.count {
+            let command = draw(&mut random, self.edition, &self.name(commands.len()));
+            let answer = command.answer();
+            let chance = match answer.refusal {
+                refusal::NO_STEP => 5,
+                _ => 30,
+            };
+            if answer != without_feedback(&command).answer() || random.chance(chance) {
+                commands.push(command);
+            }
+        }
+        commands
+    }
+}
+
+/// Random checks, first configurations and interfaces.
+pub fn file_commands(drawing: Drawing) -> Vec<Command> {
+    drawing.commands(file_command)
 }
 
 /// One random check, first configuration or interface; most of the files are damaged.
-pub fn file_command(random: &mut Random, name: &str) -> Command {
-    let (_, model) = bounded(random, CHARTS, 1_500);
+pub fn file_command(random: &mut Random, edition: Edition, name: &str) -> Command {
+    let (_, model) = bounded(random, edition, 1_500);
     let file = if random.chance(75) {
         damaged(random, &model)
     } else {
@@ -573,35 +623,16 @@ fn without_feedback(command: &Command) -> Command {
     }
 }
 
-/// Random calls of one kind. All whose answer hangs on feedback are kept, of the others a part, and a
-/// small one of the steps that are refused with 23.
-fn telling(seed: u64, count: usize, draw: fn(&mut Random, &str) -> Command) -> Vec<Command> {
-    let mut random = Random::new(seed);
-    let mut commands = Vec::new();
-    while commands.len() < count {
-        let command = draw(&mut random, &format!("random-{}", commands.len()));
-        let answer = command.answer();
-        let chance = match answer.refusal {
-            refusal::NO_STEP => 5,
-            _ => 30,
-        };
-        if answer != without_feedback(&command).answer() || random.chance(chance) {
-            commands.push(command);
-        }
-    }
-    commands
-}
-
 /// Random steps.
-pub fn step_commands(seed: u64, count: usize) -> Vec<Command> {
-    telling(seed, count, step_command)
+pub fn step_commands(drawing: Drawing) -> Vec<Command> {
+    drawing.telling(step_command)
 }
 
 /// One random step.
-pub fn step_command(random: &mut Random, name: &str) -> Command {
+pub fn step_command(random: &mut Random, edition: Edition, name: &str) -> Command {
     let bytes = random.pick(&[300, 400, 600, 800, 1_000, 1_300]);
     loop {
-        let (shape, model) = bounded(random, CHARTS, bytes);
+        let (shape, model) = bounded(random, edition, bytes);
         let right = configuration(random, &model);
         if most_choices(&model, &right) > CHOICES {
             continue;
@@ -617,15 +648,15 @@ pub fn step_command(random: &mut Random, name: &str) -> Command {
 }
 
 /// Random runs.
-pub fn run_commands(seed: u64, count: usize) -> Vec<Command> {
-    telling(seed, count, run_command)
+pub fn run_commands(drawing: Drawing) -> Vec<Command> {
+    drawing.telling(run_command)
 }
 
 /// One random run.
-pub fn run_command(random: &mut Random, name: &str) -> Command {
+pub fn run_command(random: &mut Random, edition: Edition, name: &str) -> Command {
     loop {
         let bytes = random.pick(&[300, 500, 700, 1_200]);
-        let (shape, model) = bounded(random, CHARTS, bytes);
+        let (shape, model) = bounded(random, edition, bytes);
         let states: Vec<Vec<u8>> = (0..STATES as u8).map(|state| vec![state; CHARTS]).collect();
         if states
             .iter()
@@ -650,15 +681,15 @@ pub fn run_command(random: &mut Random, name: &str) -> Command {
 }
 
 /// Random rewritings of files with slaves.
-pub fn rewrite_commands(seed: u64, count: usize) -> Vec<Command> {
-    drawn(seed, count, rewrite_command)
+pub fn rewrite_commands(drawing: Drawing) -> Vec<Command> {
+    drawing.commands(rewrite_command)
 }
 
 /// One random rewriting.
-pub fn rewrite_command(random: &mut Random, name: &str) -> Command {
+pub fn rewrite_command(random: &mut Random, edition: Edition, name: &str) -> Command {
     let bytes = random.pick(&[300, 400, 600, 900, 1_300]);
     let (_, mut model) = loop {
-        let (shape, model) = bounded(random, CHARTS, bytes);
+        let (shape, model) = bounded(random, edition, bytes);
         if !model.slaves.is_empty() {
             break (shape, model);
         }
@@ -755,13 +786,13 @@ fn divide(random: &mut Random, out: &mut [&mut Transition], free: &[u32]) {
 }
 
 /// Random questions whether a file is plain.
-pub fn plain_commands(seed: u64, count: usize) -> Vec<Command> {
-    drawn(seed, count, plain_command)
+pub fn plain_commands(drawing: Drawing) -> Vec<Command> {
+    drawing.commands(plain_command)
 }
 
 /// One random question whether a file is plain. The file has two transitions from one state, and is
-/// mostly plain or nearly so.
-pub fn plain_command(random: &mut Random, name: &str) -> Command {
+/// mostly plain or nearly so, its edition aside.
+pub fn plain_command(random: &mut Random, edition: Edition, name: &str) -> Command {
     let bytes = random.pick(&[300, 500, 800, 1_300]);
     let (shape, mut model) = loop {
         let drawn = match random.below(5) {
@@ -775,6 +806,7 @@ pub fn plain_command(random: &mut Random, name: &str) -> Command {
     for _ in 0..random.pick(&[0, 1, 1, 2, 4]) {
         disturb(random, &shape, &mut model);
     }
+    let model = model.under(edition);
     Command::plain(name, seldom_damaged(random, &model, 6))
 }
 
@@ -784,7 +816,7 @@ fn has_pair(model: &Model) -> bool {
     charts.any(|chart| !pairs_from_one_state(chart).is_empty())
 }
 
-/// Changes one thing that a file's being plain may hang on, or seems to.
+/// Changes one thing that a file's being plain may depend on, or seems to.
 fn disturb(random: &mut Random, shape: &Shape, model: &mut Model) {
     let place = random.below(model.charts.len());
     let chart = &mut model.charts[place];

@@ -12,9 +12,10 @@
 //! - [`check`]: refusals 1 to 11.
 //! - [`first`]: the first configuration.
 //! - [`interface`]: input and output interface.
-//! - [`step`]: the meaning of a step, refusals 20 to 23; the places of 02, No. 1.
+//! - [`step`]: the meaning of a step, refusals 20 to 23; the places of 02, No. 1; the staying of 02,
+//!   No. 7.
 //! - [`run`]: a run, refusal 27; what 02, No. 5 carries.
-//! - [`rewriting`]: the rewriting, refusals 40 to 45.
+//! - [`rewriting`]: the rewriting, refusals 40 to 46.
 //! - [`plain`]: whether a file is plain (02, No. 11).
 //! - [`agreement`]: the places of a step of the rewritten file (02, No. 1).
 //! - [`day`]: the day program, refusals 30 and 31.

@@ -1,7 +1,9 @@
 //! Document 01's limits and refusal numbers. No other module writes one of them as a number.
 
 /// 01: "charts, slaves, nodes, edition (1 byte each, edition 1)".
-pub const EDITION: u8 = 1;
+pub const FIRST_EDITION: u8 = 1;
+/// 02, No. 7: the number of the edition whose charts may stay.
+pub const SECOND_EDITION: u8 = 2;
 
 /// 01, No. 3: "charts not 1 to 8".
 pub const CHARTS: usize = 8;
@@ -21,6 +23,8 @@ pub const STATE_TRANSITIONS: usize = 8;
 pub const SIGNALS: u32 = 64;
 /// 02, No. 1: "the place of the transition taken in that chart's own list, or 255 for none".
 pub const NO_PLACE: u8 = 255;
+/// 02, No. 7: what a step's places have for a chart that stayed.
+pub const STAYED: u8 = 254;
 /// 01: "It reads standard input, at most 65,536 bytes".
 pub const DAY_INPUT: usize = 65_536;
 
@@ -28,6 +32,9 @@ pub const DAY_INPUT: usize = 65_536;
 pub const SET_BYTES: usize = 8;
 /// 01: "The last 12 bytes are the trailer".
 pub const TRAILER_BYTES: usize = 12;
+/// Where the edition stands in a trailer: behind the distance and the counts of charts, slaves and
+/// nodes.
+pub const EDITION_AT: usize = 7;
 /// 01: "Chart, 24 bytes".
 pub const CHART_BYTES: usize = 24;
 /// 01: "Transition, 28 bytes".
@@ -53,7 +60,7 @@ pub mod refusal {
     pub const SUCCESS: u8 = 0;
     /// "fewer than 12 bytes"
     pub const TOO_SHORT: u8 = 1;
-    /// "edition not 1"
+    /// 02, No. 7: neither edition 1 nor edition 2
     pub const EDITION: u8 = 2;
     /// "charts not 1 to 8, slaves over 7, nodes not 1 to 64, transitions over 512"
     pub const COUNTS: u8 = 3;
@@ -97,4 +104,6 @@ pub mod refusal {
     pub const REWRITING_NODES: u8 = 44;
     /// "rewriting: buffer shorter than the result"
     pub const REWRITING_ROOM: u8 = 45;
+    /// 02, No. 7: the file to be rewritten is edition 2
+    pub const REWRITING_EDITION: u8 = 46;
 }

@@ -48,9 +48,38 @@ pub enum Node {
     },
 }
 
+/// The rules that a file's charts go by.
+#[derive(Clone, Copy, PartialEq, Eq, Debug)]
+pub enum Edition {
+    /// 01: an active chart takes a transition.
+    First,
+    /// 02, No. 7: an active chart takes a transition, or stays where none is triggered.
+    Second,
+}
+
+impl Edition {
+    /// The edition of a number; none if there is no such edition.
+    pub fn of(number: u8) -> Option<Edition> {
+        match number {
+            FIRST_EDITION => Some(Edition::First),
+            SECOND_EDITION => Some(Edition::Second),
+            _ => None,
+        }
+    }
+
+    /// Its number in a trailer.
+    pub fn number(self) -> u8 {
+        match self {
+            Edition::First => FIRST_EDITION,
+            Edition::Second => SECOND_EDITION,
+        }
+    }
+}
+
 /// All of a file.
 #[derive(Clone, PartialEq, Eq, Debug)]
 pub struct Model {
+    pub edition: Edition,
     pub charts: Vec<Chart>,
     pub slaves: Vec<Slave>,
     pub nodes: Vec<Node>,
@@ -195,6 +224,7 @@ impl Model {
     pub fn of(records: &Records) -> Model {
         let chart = |number| Chart::of(&records.charts[number], records.transitions_of(number));
         Model {
+            edition: Edition::of(records.trailer.edition).expect("an edition that passed 2"),
             charts: (0..records.charts.len()).map(chart).collect(),
             slaves: records.slaves.iter().map(Slave::of).collect(),
             nodes: records.nodes.iter().map(Node::of).collect(),
@@ -214,7 +244,7 @@ impl Model {
                 charts: self.charts.len() as u8,
                 slaves: self.slaves.len() as u8,
                 nodes: self.nodes.len() as u8,
-                edition: EDITION,
+                edition: self.edition.number(),
                 transitions: 0,
                 zeros: [0; 2],
             },
@@ -222,6 +252,11 @@ impl Model {
         records.trailer.transitions = records.transitions.len() as u16;
         records.trailer.distance = records.trailer.body_bytes() as u32;
         records
+    }
+
+    /// The same charts, slaves and nodes under another edition.
+    pub fn under(self, edition: Edition) -> Model {
+        Model { edition, ..self }
     }
 
     /// The model as a file without front bytes.

@@ -3,7 +3,7 @@
 
 use crate::check::accept;
 use crate::limits::refusal;
-use crate::model::{Chart, Model, Node, Transition};
+use crate::model::{Chart, Edition, Model, Node, Transition};
 use crate::set::Set;
 
 /// The answer of [`plain`].
@@ -14,7 +14,7 @@ pub struct Plain {
 }
 
 /// 02, No. 11: "a yes or no that holds exactly then. ... Refusals: 1 to 11." A refused file's answer
-/// is no. Editions other than 1 are refused with 2.
+/// is no; so is that of every accepted file of edition 2.
 pub fn plain(file: &[u8]) -> Plain {
     match accept(file) {
         Ok(model) => Plain {
@@ -28,11 +28,12 @@ pub fn plain(file: &[u8]) -> Plain {
     }
 }
 
-/// "for any two transitions from one state": of one chart, two places of its list.
+/// "it is edition 1 and, for any two transitions from one state": of one chart, two places of its
+/// list.
 pub fn is_plain(model: &Model) -> bool {
     let feedback = feedback_sets(model);
     let mut pairs = model.charts.iter().flat_map(pairs_from_one_state);
-    pairs.all(|(one, other)| told_apart(&feedback, one, other))
+    model.edition == Edition::First && pairs.all(|(one, other)| told_apart(&feedback, one, other))
 }
 
 /// The feedback sets of a file: of each chart, and of each composed node. What a hidden node filters

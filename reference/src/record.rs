@@ -2,7 +2,8 @@
 
 use crate::cases::{self, Case};
 use crate::command::Command;
-use crate::generate;
+use crate::generate::{self, Drawing};
+use crate::model::Edition;
 
 /// The kinds of recordings.
 #[derive(Clone, Copy, PartialEq, Eq, Debug)]
@@ -23,12 +24,31 @@ pub const KINDS: [Kind; 5] = [
     Kind::Plain,
 ];
 
-/// How many random calls a recording of each kind has, and their seeds.
-const RANDOM_FILES: (u64, usize) = (0x6669_6c65, 200);
-const RANDOM_STEPS: (u64, usize) = (0x7374_6570, 1_000);
-const RANDOM_RUNS: (u64, usize) = (0x0072_756e, 300);
-const RANDOM_REWRITINGS: (u64, usize) = (0x7265_7772, 250);
-const RANDOM_PLAINS: (u64, usize) = (0x706c_6169, 300);
+/// The random calls of a recording of each kind: with files of edition 1, then of edition 2.
+const RANDOM_FILES: [Drawing; 2] = both((0x6669_6c65, 200), (0x6669_6c66, 60));
+const RANDOM_STEPS: [Drawing; 2] = both((0x7374_6570, 1_000), (0x7374_6571, 300));
+const RANDOM_RUNS: [Drawing; 2] = both((0x0072_756e, 300), (0x0072_756f, 150));
+const RANDOM_REWRITINGS: [Drawing; 2] = both((0x7265_7772, 250), (0x7265_7773, 40));
+const RANDOM_PLAINS: [Drawing; 2] = both((0x706c_6169, 300), (0x706c_616a, 40));
+
+/// What makes the calls of a drawing.
+type Make = fn(Drawing) -> Vec<Command>;
+
+/// Seed and number of calls with files of edition 1, and of edition 2.
+const fn both(first: (u64, usize), second: (u64, usize)) -> [Drawing; 2] {
+    [
+        Drawing {
+            seed: first.0,
+            count: first.1,
+            edition: Edition::First,
+        },
+        Drawing {
+            seed: second.0,
+            count: second.1,
+            edition: Edition::Second,
+        },
+    ]
+}
 
 impl Kind {
     /// The kind of a word on the command line.
@@ -44,32 +64,36 @@ impl Kind {
     }
 }
 
-/// The named cases of a kind.
+/// The named cases of a kind: of edition 1, then of edition 2.
 pub fn named(kind: Kind) -> Vec<Case> {
-    match kind {
-        Kind::File => [cases::file::cases(), cases::first_interface::cases()]
-            .into_iter()
-            .flatten()
-            .collect(),
-        Kind::Step => [cases::rows::cases(), cases::step::cases()]
-            .into_iter()
-            .flatten()
-            .collect(),
-        Kind::Run => cases::run::cases(),
-        Kind::Rewrite => cases::rewrite::cases(),
-        Kind::Plain => cases::plain::cases(),
-    }
+    let lists = match kind {
+        Kind::File => vec![
+            cases::file::cases(),
+            cases::first_interface::cases(),
+            cases::second::file_cases(),
+        ],
+        Kind::Step => vec![
+            cases::rows::cases(),
+            cases::step::cases(),
+            cases::second::step_cases(),
+        ],
+        Kind::Run => vec![cases::run::cases(), cases::second::run_cases()],
+        Kind::Rewrite => vec![cases::rewrite::cases(), cases::second::rewrite_cases()],
+        Kind::Plain => vec![cases::plain::cases(), cases::second::plain_cases()],
+    };
+    lists.into_iter().flatten().collect()
 }
 
 /// The random calls of a kind.
 pub fn random(kind: Kind) -> Vec<Command> {
-    match kind {
-        Kind::File => generate::file_commands(RANDOM_FILES.0, RANDOM_FILES.1),
-        Kind::Step => generate::step_commands(RANDOM_STEPS.0, RANDOM_STEPS.1),
-        Kind::Run => generate::run_commands(RANDOM_RUNS.0, RANDOM_RUNS.1),
-        Kind::Rewrite => generate::rewrite_commands(RANDOM_REWRITINGS.0, RANDOM_REWRITINGS.1),
-        Kind::Plain => generate::plain_commands(RANDOM_PLAINS.0, RANDOM_PLAINS.1),
-    }
+    let (drawings, make): ([Drawing; 2], Make) = match kind {
+        Kind::File => (RANDOM_FILES, generate::file_commands),
+        Kind::Step => (RANDOM_STEPS, generate::step_commands),
+        Kind::Run => (RANDOM_RUNS, generate::run_commands),
+        Kind::Rewrite => (RANDOM_REWRITINGS, generate::rewrite_commands),
+        Kind::Plain => (RANDOM_PLAINS, generate::plain_commands),
+    };
+    drawings.into_iter().flat_map(make).collect()
 }
 
 /// All calls of a kind, in the order of the recording.

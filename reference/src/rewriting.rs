@@ -2,7 +2,7 @@
 
 use crate::check::{accept, refuse_if};
 use crate::limits::*;
-use crate::model::{Chart, Model, Node, Slave, Transition};
+use crate::model::{Chart, Edition, Model, Node, Slave, Transition};
 use crate::set::Set;
 
 /// The answer of [`rewrite`].
@@ -12,7 +12,9 @@ pub struct Rewritten {
     pub length: usize,
 }
 
-/// 01: "the rewriting [tests] 1 to 11, 40 to 45. ... A refusal returns its number, ..., length 0".
+/// 01: "the rewriting [tests] 1 to 11, 40 to 45. ... A refusal returns its number, ..., length 0". 02,
+/// No. 7 puts 46 behind 11 and before 40: edition 2 has no rewriting, since a master that stays has no
+/// action to put a call in.
 /// Writes the rewritten file at the front of the lent buffer; "no front bytes are copied".
 pub fn rewrite(file: &[u8], room: &mut [u8]) -> Rewritten {
     match try_rewrite(file, room.len()) {
@@ -33,6 +35,7 @@ pub fn rewrite(file: &[u8], room: &mut [u8]) -> Rewritten {
 /// The file to be written, or the refusal.
 fn try_rewrite(file: &[u8], room: usize) -> Result<Vec<u8>, u8> {
     let model = accept(file)?;
+    refuse_if(model.edition == Edition::Second, refusal::REWRITING_EDITION)?;
     let calls = calls(&model).ok_or(refusal::REWRITING_SIGNALS)?;
     let rewritten = rewrite_model(&model, &calls);
     accept_limits(&rewritten)?;
@@ -95,6 +98,7 @@ fn used_signals(model: &Model) -> Set {
 pub fn rewrite_model(model: &Model, calls: &[Set]) -> Model {
     let charts = 0..model.charts.len() as u8;
     Model {
+        edition: model.edition,
         charts: charts
             .map(|chart| rewrite_chart(model, calls, chart))
             .collect(),

@@ -1,10 +1,11 @@
 //! 01, "The meaning of a step (003, sections 2.6 and 3)": every choice is made in order and held
-//! against all the equations; no output is grown or guessed. And 02, No. 1: which transitions moved.
+//! against all the equations; no output is grown or guessed. And of 02, No. 1: which transitions
+//! moved; No. 7: under edition 2 a chart may stay.
 
 use crate::check::{accept, refuse_if};
 use crate::interface::{chart_input, node_input};
-use crate::limits::{refusal, CHARTS, NO_PLACE};
-use crate::model::{Chart, Model, Node, Transition};
+use crate::limits::{refusal, CHARTS, NO_PLACE, STAYED};
+use crate::model::{Chart, Edition, Model, Node, Transition};
 use crate::set::Set;
 
 /// The answer of [`step`].
@@ -17,16 +18,32 @@ pub struct Stepped {
 }
 
 /// 02, No. 1: "for each chart, the place of the transition taken in that chart's own list, or 255
-/// for none. Entries past the last chart are 255".
+/// for none. Entries past the last chart are 255". 02, No. 7: 254 for a chart that stayed.
 pub type Places = [u8; CHARTS];
 
 /// 02, No. 1: "Refused steps carry 255 throughout."
 pub const NO_PLACES: Places = [NO_PLACE; CHARTS];
 
-/// A chart's part of a choice: the place of a transition in its own list, or none. 01: "A choice
-/// gives each chart one of its transitions or none." And "none comes before transition 0", as
-/// `None` does in Rust's order.
-pub type Place = Option<usize>;
+/// A chart's part of a choice. 01: "A choice gives each chart one of its transitions or none"; 02,
+/// No. 7 adds staying. Rust's order is that of the choices: none, the transitions by their places in
+/// the chart's own list, staying.
+#[derive(Clone, Copy, PartialEq, Eq, PartialOrd, Ord, Debug)]
+pub enum Place {
+    None,
+    Transition(usize),
+    Stay,
+}
+
+impl Place {
+    /// What a step's places have for it.
+    fn number(self) -> u8 {
+        match self {
+            Place::None => NO_PLACE,
+            Place::Transition(place) => place as u8,
+            Place::Stay => STAYED,
+        }
+    }
+}
 
 /// What a permitted choice leads to, as far as the mark asks: which transitions lead there is not in
 /// it.
@@ -68,11 +85,11 @@ pub fn step(file: &[u8], configuration: &[u8], input: Set, next: &mut [u8]) -> S
     }
 }
 
-/// A choice as 02, No. 1 has it in a step's answer.
+/// A choice as a step's answer has it.
 fn places(choice: &[Place]) -> Places {
     let mut places = NO_PLACES;
     for (entry, place) in places.iter_mut().zip(choice) {
-        *entry = place.map_or(NO_PLACE, |place| place as u8);
+        *entry = place.number();
     }
     places
 }
@@ -146,10 +163,17 @@ impl<'a> Situation<'a> {
         }
     }
 
-    /// The transition that a choice gives a chart.
+    /// A chart.
+    fn chart(&self, chart: u8) -> &'a Chart {
+        &self.model.charts[usize::from(chart)]
+    }
+
+    /// The transition that a choice gives a chart, if it gives it one.
     fn taken(&self, chart: u8, choice: &[Place]) -> Option<&'a Transition> {
-        let place = choice[usize::from(chart)]?;
-        Some(&self.model.charts[usize::from(chart)].transitions[place])
+        match choice[usize::from(chart)] {
+            Place::Transition(place) => Some(&self.chart(chart).transitions[place]),
+            Place::None | Place::Stay => None,
+        }
     }
 
     /// A chart's present state.
@@ -157,7 +181,7 @@ impl<'a> Situation<'a> {
         self.configuration[usize::from(chart)]
     }
 
-    /// A chart's state after the step. 01: with none it "keeps its state".
+    /// A chart's state after the step. 01: with none it "keeps its state"; so it does where it stays.
     fn after(&self, chart: u8, choice: &[Place]) -> u8 {
         match self.taken(chart, choice) {
             None => self.before(chart),
@@ -165,7 +189,8 @@ impl<'a> Situation<'a> {
         }
     }
 
-    /// A chart's own output. 01: with none it "puts out nothing"; else "Its output is the action."
+    /// A chart's own output. 01: with none it "puts out nothing", and likewise where it stays; else
+    /// "Its output is the action."
     fn own_output(&self, chart: u8, choice: &[Place]) -> Set {
         match self.taken(chart, choice) {
             None => Set::EMPTY,
@@ -228,7 +253,7 @@ impl<'a> Situation<'a> {
         match self.model.nodes[usize::from(node)] {
             // "Decomposed: ... the master's feedback serves all as in composition."
             Node::Chart { chart } if self.model.is_master(chart) => {
-                let feedback = self.model.charts[usize::from(chart)].feedback;
+                let feedback = self.chart(chart).feedback;
                 let fed = offered.joined(output.cut(feedback));
                 let to_master = fed.cut(self.chart_inputs[usize::from(chart)]);
                 self.chart_meets(chart, active, to_master, choice)
@@ -257,21 +282,38 @@ impl<'a> Situation<'a> {
 
     /// "Chart: inactive, it takes none, ... Active, it takes a transition from its present state.
     /// The guard holds if ... the offered set joined with the part of its own output in its
-    /// feedback."
+    /// feedback." Or, under edition 2, it is active and stays.
     fn chart_meets(&self, chart: u8, active: bool, offered: Set, choice: &[Place]) -> bool {
-        match self.taken(chart, choice) {
-            None => !active,
-            Some(transition) => {
+        match choice[usize::from(chart)] {
+            Place::None => !active,
+            Place::Transition(place) => {
+                let transition = &self.chart(chart).transitions[place];
                 active
                     && transition.from == self.before(chart)
-                    && guard_holds(&self.model.charts[usize::from(chart)], transition, offered)
+                    && guard_holds(self.chart(chart), transition, offered)
             }
+            Place::Stay => active && self.may_stay() && self.is_untriggered(chart, offered),
         }
+    }
+
+    /// Whether the file's charts may stay at all.
+    fn may_stay(&self) -> bool {
+        self.model.edition == Edition::Second
+    }
+
+    /// 02, No. 7: whether no transition from a chart's present state has its guard met on what the
+    /// chart is offered. A chart that stays puts out nothing, so nothing of its own joins that set,
+    /// and a transition that its own action would hinder counts as well.
+    fn is_untriggered(&self, chart: u8, offered: Set) -> bool {
+        let state = self.before(chart);
+        let mut out = self.chart(chart).transitions.iter();
+        !out.any(|transition| transition.from == state && guard_met(transition, offered))
     }
 
     /// Every choice that keeps present states and activity, in order. 01: "Choices are ordered by
     /// chart 0's place, then chart 1's and so on; none comes before transition 0." The others are
-    /// not permitted, whatever the sets; without them "At most 8 to the power 8 choices arise."
+    /// not permitted, whatever the sets; without them "At most 8 to the power 8 choices arise", and
+    /// 9 to the power 8 under edition 2.
     pub fn each_open_choice(&self, visit: &mut dyn FnMut(&[Place])) {
         self.settle(&mut Vec::new(), visit);
     }
@@ -291,16 +333,18 @@ impl<'a> Situation<'a> {
     }
 
     /// The places open to a chart once all lower charts have theirs: inactive "it takes none",
-    /// active "it takes a transition from its present state".
+    /// active "it takes a transition from its present state", or under edition 2 stays. They are in
+    /// order.
     fn open_places(&self, chart: u8, chosen: &[Place]) -> Vec<Place> {
         if !self.chart_active(chart, chosen) {
-            return vec![None];
+            return vec![Place::None];
         }
-        let transitions = &self.model.charts[usize::from(chart)].transitions;
-        (0..transitions.len())
+        let transitions = &self.chart(chart).transitions;
+        let taken = (0..transitions.len())
             .filter(|&place| transitions[place].from == self.before(chart))
-            .map(Some)
-            .collect()
+            .map(Place::Transition);
+        let stay = self.may_stay().then_some(Place::Stay);
+        taken.chain(stay).collect()
     }
 
     /// Whether a chart is active: it is as active as its nearest slave, and outside all slaves as
@@ -321,6 +365,13 @@ impl<'a> Situation<'a> {
 /// "The guard holds if all needed signals, and no barred one, are in the offered set joined with
 /// the part of its own output in its feedback. Its output is the action."
 fn guard_holds(chart: &Chart, transition: &Transition, offered: Set) -> bool {
-    let present = offered.joined(transition.action.cut(chart.feedback));
-    present.holds_all(transition.needed) && present.holds_none(transition.barred)
+    guard_met(
+        transition,
+        offered.joined(transition.action.cut(chart.feedback)),
+    )
+}
+
+/// Whether a set has all signals that a transition needs, and none that it bars.
+fn guard_met(transition: &Transition, set: Set) -> bool {
+    set.holds_all(transition.needed) && set.holds_none(transition.barred)
 }

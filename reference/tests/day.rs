@@ -5,6 +5,7 @@ use reference::cases::damage::{behind, changed};
 use reference::cases::file::one_fault;
 use reference::day;
 use reference::limits::DAY_INPUT;
+use reference::model::Edition;
 
 /// Inputs as front bytes.
 fn front(inputs: &[u64]) -> Vec<u8> {
@@ -71,6 +72,18 @@ fn several_states_are_joined_by_dots() {
 fn a_mark_of_no_is_n() {
     let input = behind(&front(&[0]), n1().file());
     assert_eq!(printed(&input), "1 0000000000000002 0 n\n");
+}
+
+/// The whole case under edition 2: without its signal the second day has a step in which the chart
+/// stays.
+#[test]
+fn the_whole_case_under_edition_2() {
+    let file = whole_case().under(Edition::Second).file();
+    let input = behind(&front(&[1, 0, 2]), file);
+    assert_eq!(
+        printed(&input),
+        "1 0000000000000002 1 y\n2 0000000000000000 1 y\n3 0000000000000000 0 y\n"
+    );
 }
 
 #[test]

@@ -1,8 +1,10 @@
 //! The calls of the long comparison: what they reach, and that they are the same each time.
 
+use reference::check::accept;
 use reference::command::{Command, Op, OPS};
 use reference::draw::{choices, Draw};
 use reference::limits::refusal;
+use reference::model::{Edition, Model};
 use std::collections::BTreeSet;
 
 /// So many calls of a seed.
@@ -13,14 +15,14 @@ fn drawn(seed: u64, count: usize) -> Vec<Command> {
         .collect()
 }
 
-/// The refusals that document 01 names at a call beside 1 to 11.
+/// The refusals that the documents name at a call beside 1 to 11.
 fn own_refusals(op: Op) -> &'static [u8] {
     match op {
         Op::Check | Op::Interface | Op::Plain => &[],
         Op::First => &[22],
         Op::Step => &[20, 21, 22, 23],
         Op::Run => &[20, 21, 27],
-        Op::Rewrite => &[40, 41, 42, 44, 45],
+        Op::Rewrite => &[40, 41, 42, 44, 45, 46],
     }
 }
 
@@ -42,6 +44,22 @@ fn some_steps_are_hard_and_few_are() {
     let commands = drawn(2, 5_000);
     let hard = commands.iter().filter(|c| choices(c) >= 2_000).count();
     assert!((20..=500).contains(&hard), "{hard}");
+}
+
+/// About a third of the accepted files, in every call.
+#[test]
+fn a_third_of_the_files_are_edition_2() {
+    let commands = drawn(6, 9_000);
+    for op in OPS {
+        let calls = commands.iter().filter(|command| command.op == op);
+        let accepted: Vec<Model> = calls.filter_map(|c| accept(&c.file).ok()).collect();
+        let second = accepted.iter().filter(|m| m.edition == Edition::Second);
+        let (count, all) = (second.count(), accepted.len());
+        assert!(
+            (27 * all..40 * all).contains(&(100 * count)),
+            "{op:?}: {count} of {all}"
+        );
+    }
 }
 
 #[test]

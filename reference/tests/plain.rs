@@ -6,7 +6,7 @@ use reference::cases::plain::answers;
 use reference::check::accept;
 use reference::generate::{any, divided, input, most_choices, Random, Shape};
 use reference::limits::{refusal, CHARTS};
-use reference::model::{Model, Node};
+use reference::model::{Edition, Model, Node};
 use reference::plain::{feedback_sets, is_plain, pairs_from_one_state};
 use reference::step::{Outcome, Situation};
 use reference::walk::{configurations, hides_inside, inputs, is_nested};
@@ -27,6 +27,17 @@ fn a_refused_file_is_not_plain() {
     assert_eq!(faults.len(), 11);
     for (refusal, file) in faults {
         let plain = false;
+        assert_eq!(reference::plain(&file), Plain { refusal, plain });
+    }
+}
+
+/// However its transitions are told apart.
+#[test]
+fn a_file_of_edition_2_is_not_plain_and_not_refused() {
+    let files = answers().into_iter().map(|known| known.file);
+    for model in files.map(|file| accept(&file).unwrap()) {
+        let file = model.under(Edition::Second).file();
+        let (refusal, plain) = (refusal::SUCCESS, false);
         assert_eq!(reference::plain(&file), Plain { refusal, plain });
     }
 }

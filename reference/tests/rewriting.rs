@@ -3,10 +3,11 @@
 use reference::agreement::Agreement;
 use reference::cases::charts::{d, p3};
 use reference::cases::damage::behind;
+use reference::cases::file::one_fault_under;
 use reference::check::accept;
 use reference::generate::{any, configuration, input, Random, Shape};
 use reference::limits::*;
-use reference::model::{Model, Node};
+use reference::model::{Edition, Model, Node};
 use reference::rewriting::{calls, rewrite_model};
 use reference::step::NO_PLACES;
 use reference::walk::{configurations, inputs, is_nested, with_slaves};
@@ -70,6 +71,23 @@ fn d_is_rewritten_byte_for_byte() {
     assert_eq!(rewritten(&d().file()), Ok(d_by_hand()));
     let fronted = behind(&[7; 30], d().file());
     assert_eq!(rewritten(&fronted), Ok(d_by_hand()));
+}
+
+/// 46 stands behind 11 and before 40, and a file without slaves has no rewriting either.
+#[test]
+fn edition_2_is_refused_with_46() {
+    let second = |model: Model| model.under(Edition::Second).file();
+    let mut none_free = d();
+    none_free.charts[0].extra = Set::FULL;
+    for model in [d(), p3(), none_free] {
+        assert_eq!(rewritten(&second(model)), Err(46));
+    }
+    let mut short = [0xA5; 3];
+    assert_eq!(rewrite(&second(d()), &mut short).refusal, 46);
+    assert_eq!(short, [0xA5; 3]);
+    for (number, file) in one_fault_under(Edition::Second) {
+        assert_eq!(rewritten(&file), Err(number));
+    }
 }
 
 #[test]
@@ -245,6 +263,7 @@ fn idle_transitions_of_a_slave_that_is_a_master_carry_no_call() {
 fn the_nodes_of_two_masters_by_hand() {
     use reference::cases::charts::{chart, composed, hidden, leaf, slave};
     let model = Model {
+        edition: Edition::First,
         charts: vec![
             chart(2, &[0], vec![]),
             chart(3, &[1], vec![]),

@@ -1,9 +1,10 @@
 //! Rows of a run, byte for byte, and a run as steps one after the other.
 
-use reference::cases::charts::{d, whole_case};
+use reference::cases::charts::{d, l2, whole_case};
 use reference::cases::run::whole_case_inputs;
 use reference::generate::{any, configuration, input, Random};
 use reference::limits::*;
+use reference::model::Edition;
 use reference::{run, step, Set};
 
 #[test]
@@ -49,18 +50,40 @@ fn the_signals_of_refused_steps_are_carried_uncut_until_a_step_is_given() {
     assert_eq!(rows[24..], [0x12, 0, 0, 0, 0, 0, 0, 0, 1, 0, 1, 1]);
 }
 
+/// L2 under edition 2: no step for none and for {5}, both carried; with {0} it stays, and that is a
+/// step, so nothing is carried on.
+#[test]
+fn staying_is_a_step_and_carries_nothing_on() {
+    let file = l2().under(Edition::Second).file();
+    let mut rows = [0xA5; 33];
+    let inputs = [Set::EMPTY, Set::one(5), Set::one(0)];
+    let mut carried = |count: usize| {
+        let ran = run(&file, &[0], Set::one(9), &inputs[..count], &mut rows);
+        assert_eq!(ran.refusal, refusal::SUCCESS);
+        ran.carried
+    };
+    assert_eq!(carried(1), Set::of(&[9]));
+    assert_eq!(carried(2), Set::of(&[5, 9]));
+    assert_eq!(carried(3), Set::EMPTY);
+    assert_eq!(rows[8..11], [0, 23, 0]);
+    assert_eq!(rows[19..22], [0, 23, 0]);
+    assert_eq!(rows[22..], [0, 0, 0, 0, 0, 0, 0, 0, 1, 0, 0]);
+}
+
 #[test]
 fn a_run_is_its_steps() {
     let mut random = Random::new(9);
     let mut refused = 0;
-    for _ in 0..300 {
+    for number in 0..500 {
         let (shape, model) = any(&mut random, 5);
+        let editions = [Edition::First, Edition::Second];
+        let model = model.under(editions[number % 2]);
         if model
             .charts
             .iter()
-            .map(|c| c.transitions.len().max(1))
+            .map(|c| c.transitions.len() + 1)
             .product::<usize>()
-            > 2_000
+            > 3_000
         {
             continue;
         }

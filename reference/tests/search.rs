@@ -1,15 +1,17 @@
 //! The search leaves out only choices that are not permitted, and keeps the order.
 
 use reference::generate::{any, configuration, input, Random};
-use reference::model::Model;
+use reference::model::{Edition, Model};
 use reference::step::{Outcome, Place, Situation};
 use reference::walk::every;
 
-/// Every choice there is, in order: for each chart none, then each of its transitions.
+/// Every choice there is, in order: for each chart none, then each of its transitions, then staying,
+/// which edition 1 never permits.
 fn all_choices(model: &Model) -> Vec<Vec<Place>> {
     let places = model.charts.iter().map(|chart| {
-        let taken = (0..chart.transitions.len()).map(Some);
-        [None].into_iter().chain(taken).collect()
+        let taken = (0..chart.transitions.len()).map(Place::Transition);
+        let none = [Place::None].into_iter();
+        none.chain(taken).chain([Place::Stay]).collect()
     });
     every(places.collect())
 }
@@ -25,13 +27,14 @@ fn permitted(situation: &Situation, choices: &[Vec<Place>]) -> Vec<(Vec<Place>, 
 #[test]
 fn open_choices_hold_all_permitted_ones_in_order() {
     let mut random = Random::new(4);
-    let (mut compared, mut with_slaves, mut several) = (0, 0, 0);
-    while compared < 400 {
+    let (mut compared, mut with_slaves, mut several, mut staying) = (0, 0, 0, 0);
+    while compared < 800 {
         let (shape, model) = any(&mut random, 5);
-        let places = model.charts.iter().map(|c| c.transitions.len() + 1);
-        if places.product::<usize>() > 5_000 {
+        let places = model.charts.iter().map(|c| c.transitions.len() + 2);
+        if places.product::<usize>() > 10_000 {
             continue;
         }
+        let model = model.under(random.pick(&[Edition::First, Edition::Second]));
         let at = configuration(&mut random, &model);
         let situation = Situation::new(&model, &at, input(&mut random, &shape));
         let all = all_choices(&model);
@@ -40,9 +43,17 @@ fn open_choices_hold_all_permitted_ones_in_order() {
         situation.each_open_choice(&mut |choice| open.push(choice.to_vec()));
         let expected = permitted(&situation, &all);
         assert_eq!(permitted(&situation, &open), expected);
+        let has_stay = expected
+            .iter()
+            .any(|(choice, _)| choice.contains(&Place::Stay));
+        assert!(model.edition == Edition::Second || !has_stay);
         compared += 1;
         with_slaves += usize::from(!model.slaves.is_empty());
         several += usize::from(expected.len() > 1);
+        staying += usize::from(has_stay);
     }
-    assert!(with_slaves > 100 && several > 50);
+    assert!(
+        with_slaves > 200 && several > 100 && staying > 150,
+        "{with_slaves} {several} {staying}"
+    );
 }

@@ -1,12 +1,12 @@
 /* Document 01's whole case: checks the file, takes its first configuration, asks for its interface, makes its three steps one by one, then as one
- * run and as two, rewrites it, asks whether it is plain, and prints what it got. */
+ * run and as two, rewrites it, asks whether it is plain; then, under edition 2, steps, rewrites and asks again. Prints what it got. */
 #include <stdio.h>
 #include "mestecur.h"
 
-enum { CHARTS = 1, INPUTS = 3, ROW = 10 + CHARTS, PLACES = 8 };
+enum { CHARTS = 1, INPUTS = 3, ROW = 10 + CHARTS, PLACES = 8, EDITION_FROM_END = 5 };
 
 /* One chart of 2 states; 0 to 1 needs {0} and puts out {1}; 1 to 0 needs {1}. */
-static const uint8_t file[] = {
+static uint8_t file[] = {
     /* chart: 2 states, initial state 0, 2 transitions, zeros; feedback; extra set */
     2, 0, 2, 0, 0, 0, 0, 0, 0, 0, 0, 0, 0, 0, 0, 0, 0, 0, 0, 0, 0, 0, 0, 0,
     /* transition: from 0 to 1, zeros; needed {0}; barred {}; action {1} */
@@ -75,5 +75,15 @@ int main(void) {
     printf(", %d\n", plain);
     printf("plain without the first byte: %d", mestecur_plain(file + 1, sizeof file - 1, &plain));
     printf(", %d\n", plain);
+    file[sizeof file - EDITION_FROM_END] = 2;
+    printf("edition 2\n");
+    for (size_t i = 0, s = state; i < INPUTS; i++) s = step((uint8_t)s, inputs[i]);
+    run(state, 0, 0, INPUTS);
+    printf("rewrite: %d", mestecur_rewrite(file, sizeof file, out, sizeof out, &length));
+    printf(", %zu bytes\n", length);
+    printf("plain: %d", mestecur_plain(file, sizeof file, &plain));
+    printf(", %d\n", plain);
+    file[sizeof file - EDITION_FROM_END] = 3;
+    printf("edition 3: %d\n", mestecur_check(file, sizeof file));
     return 0;
 }

@@ -32,9 +32,10 @@ fn refuse(applies: bool, number: u8) -> Result<(), u8> {
 fn found(file: &[u8]) -> Result<Body<'_>, u8> {
     let start = file.len().checked_sub(TRAILER).ok_or(1)?;
     let trailer = &file[start..];
-    refuse(trailer[7] != 1, 2)?;
+    refuse(trailer[7] != 1 && trailer[7] != STAY_EDITION, 2)?;
     let mut body = Body {
         bytes: &[],
+        edition: trailer[7],
         charts: usize::from(trailer[4]),
         transitions: usize::from(u16::from_le_bytes([trailer[8], trailer[9]])),
         slaves: usize::from(trailer[5]),

@@ -11,10 +11,14 @@ pub const SLAVE: usize = 4;
 /// The bytes of a node record.
 pub const NODE: usize = 20;
 
-/// A body and how many records of each kind it has.
+/// The edition whose charts may stay; the other one is 1.
+pub const STAY_EDITION: u8 = 2;
+
+/// A body, its edition, and how many records of each kind it has.
 #[derive(Clone, Copy)]
 pub struct Body<'a> {
     pub bytes: &'a [u8],
+    pub edition: u8,
     pub charts: usize,
     pub transitions: usize,
     pub slaves: usize,
@@ -65,6 +69,11 @@ pub fn set(bytes: &[u8], at: usize) -> u64 {
 }
 
 impl<'a> Body<'a> {
+    /// Whether its charts may stay.
+    pub fn may_stay(&self) -> bool {
+        self.edition == STAY_EDITION
+    }
+
     /// How long a body with these counts is.
     pub fn size(&self) -> usize {
         self.node_at(self.nodes)

@@ -1,7 +1,8 @@
 //! The engine's own algorithm, written by hand in plain Rust, to know what the proved one costs: check,
 //! fold the tree into masks, filter the candidates and skip equal ones, settle charts in order with what
 //! each is surely offered and could be and what the settled ones ask of the next one's action, stop
-//! where two permitted choices disagree.
+//! where two permitted choices disagree. Under edition 2 a chart may also stay, last of all, as long as
+//! none of the transitions from its state is surely triggered.
 
 mod check;
 mod layout;
@@ -10,7 +11,7 @@ mod search;
 mod wire;
 
 pub use rewriting::rewrite;
-pub use search::NO_PLACE;
+pub use search::{NO_PLACE, STAYED};
 
 use check::opened;
 use layout::Body;
@@ -69,6 +70,14 @@ fn fitting(body: &Body, config: &[u8]) -> Result<(), u8> {
         true => Err(21),
         false => Ok(()),
     }
+}
+
+/// How many beginnings of a choice the search of a step of edition 2 looks at: what its time grows with,
+/// on any machine.
+pub fn beginnings(file: &[u8], config: &[u8], input: u64) -> Result<usize, u8> {
+    let body = opened(file)?;
+    fitting(&body, config)?;
+    Ok(search::beginnings(&body, &wired(&body), config, input))
 }
 
 /// A row for each input; the refusal or 0, and what is carried after the last.

@@ -21,6 +21,9 @@ struct Plan<'a> {
 /// The length of what was written, or the refusal.
 fn rewritten(file: &[u8], out: &mut [u8]) -> Result<usize, u8> {
     let body = opened(file)?;
+    if body.may_stay() {
+        return Err(46);
+    }
     let calls = calls(&body).ok_or(40)?;
     let own = nearest(&body).map(|slave| match slave {
         NONE => 0,

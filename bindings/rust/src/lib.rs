@@ -7,24 +7,28 @@
 //!
 //! ```no_run
 //! # fn main() -> Result<(), Box<dyn std::error::Error>> {
-//! use mestecur::{first, step, Set};
+//! use mestecur::{first, step, Place, Set};
 //! let file = std::fs::read("door.chart")?;
 //! let (mut now, mut next) = ([0; 2], [0; 2]);
 //! first(&file, &mut now)?;
 //! let done = step(&file, &now, Set::from([0, 3]), &mut next)?;
 //! println!("puts out {} and goes to {next:?}", done.output);
-//! if let Some(place) = done.places[0] {
-//!     println!("chart 0 took transition {place} of its list");
+//! match done.places[0] {
+//!     Place::Transition(place) => println!("chart 0 took transition {place} of its list"),
+//!     Place::Stayed => println!("chart 0 stayed: nothing triggered it"),
+//!     Place::None => println!("chart 0 was inactive"),
 //! }
 //! # Ok(())
 //! # }
 //! ```
 
+mod place;
 pub mod raw;
 mod refusal;
 mod row;
 mod set;
 
+pub use place::{Place, Places};
 pub use refusal::Refusal;
 pub use row::{rows, rows_bytes, Given, Row};
 pub use set::{Set, Signals};
@@ -36,21 +40,14 @@ pub struct Interface {
     pub output: Set,
 }
 
-/// Of each chart the place, in its own list, of the transition that it took; none if it took none, or
-/// if there is no chart of this number.
-pub type Places = [Option<u8>; 8];
-
 /// What a step gives beside the next configuration: what the whole puts out, whether every permitted
-/// choice leads to the same output and the same next configuration, and which transitions were taken.
+/// choice leads to the same output and the same next configuration, and what each chart did.
 #[derive(Clone, Copy, PartialEq, Eq, Debug)]
 pub struct Step {
     pub output: Set,
     pub mark: bool,
     pub places: Places,
 }
-
-/// What the engine has for the place of no transition.
-const NO_PLACE: u8 = 255;
 
 /// Whether a file holds a chart. Refusals 1 to 11.
 pub fn check(file: &[u8]) -> Result<(), Refusal> {
@@ -83,7 +80,7 @@ pub fn interface(file: &[u8]) -> Result<Interface, Refusal> {
 /// One step from a configuration under an input; writes the next configuration to the front of the
 /// buffer. Refusals 1 to 11, 20 to 23.
 pub fn step(file: &[u8], config: &[u8], input: Set, next: &mut [u8]) -> Result<Step, Refusal> {
-    let (mut output, mut mark, mut places) = (0, 0, [NO_PLACE; 8]);
+    let (mut output, mut mark, mut places) = (0, 0, [Place::NO_PLACE; 8]);
     // SAFETY: the pointers are those of slices with these lengths, of two numbers and of eight bytes of
     // our own; the slice written is lent alone.
     Refusal::unless_zero(unsafe {
@@ -103,7 +100,7 @@ pub fn step(file: &[u8], config: &[u8], input: Set, next: &mut [u8]) -> Result<S
     Ok(Step {
         output: Set(output),
         mark: mark == 1,
-        places: places.map(|place| (place != NO_PLACE).then_some(place)),
+        places: places.map(Place::of),
     })
 }
 
@@ -139,7 +136,7 @@ pub fn run(
 }
 
 /// Writes a file without slaves that makes the same steps to the front of the buffer, and gives its
-/// length. Refusals 1 to 11, 40 to 42, 44, 45.
+/// length. Files of edition 2 can't be rewritten. Refusals 1 to 11, 46, 40 to 42, 44, 45.
 pub fn rewrite(file: &[u8], buffer: &mut [u8]) -> Result<usize, Refusal> {
     let mut length = 0;
     // SAFETY: the pointers are those of slices with these lengths and of a number of our own; the slice
@@ -156,9 +153,9 @@ pub fn rewrite(file: &[u8], buffer: &mut [u8]) -> Result<usize, Refusal> {
     Ok(length)
 }
 
-/// Whether a file is plain: any two transitions from one state are told apart by a signal that one
-/// needs, the other bars and no feedback set of the file has. No step of a plain file has the mark no.
-/// Refusals 1 to 11.
+/// Whether a file is plain: it is edition 1, and any two transitions from one state are told apart by
+/// a signal that one needs, the other bars and no feedback set of the file has. No step of a plain file
+/// has the mark no. Refusals 1 to 11.
 pub fn plain(file: &[u8]) -> Result<bool, Refusal> {
     let mut plain = 0;
     // SAFETY: the pointers are those of a slice with this length and of a number of our own.

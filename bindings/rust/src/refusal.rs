@@ -4,14 +4,15 @@ use std::error::Error;
 use std::fmt::{self, Display, Formatter};
 use std::num::NonZeroU8;
 
-/// The refusal of a call. It prints as its number and document 01's words for it.
+/// The refusal of a call. It prints as its number and the documents' words for it.
 #[derive(Clone, Copy, PartialEq, Eq, PartialOrd, Ord, Hash, Debug)]
 pub struct Refusal(NonZeroU8);
 
-/// Document 01's table, without the day program's numbers, which no call gives.
-const WORDS: [(u8, &str); 21] = [
+/// Document 01's table with what document 02 changes in it, without the day program's numbers, which
+/// no call gives.
+const WORDS: [(u8, &str); 22] = [
     (1, "fewer than 12 bytes"),
-    (2, "edition not 1"),
+    (2, "edition not 1 or 2"),
     (
         3,
         "charts not 1 to 8, slaves over 7, nodes not 1 to 64, transitions over 512",
@@ -63,6 +64,7 @@ const WORDS: [(u8, &str); 21] = [
     (42, "rewriting: a chart would have over 64"),
     (44, "rewriting: over 64 nodes"),
     (45, "rewriting: buffer shorter than the result"),
+    (46, "rewriting: the file is edition 2"),
 ];
 
 impl Refusal {
@@ -79,12 +81,12 @@ impl Refusal {
         }
     }
 
-    /// Its number in document 01's table.
+    /// Its number in the documents.
     pub fn number(self) -> u8 {
         self.0.get()
     }
 
-    /// Document 01's words for it.
+    /// The documents' words for it.
     pub fn words(self) -> &'static str {
         let found = WORDS.iter().find(|(number, _)| *number == self.number());
         found.map_or("no refusal of a call", |(_, words)| words)

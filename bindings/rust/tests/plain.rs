@@ -49,6 +49,14 @@ fn a_signal_that_is_fed_back_tells_nothing_apart() {
     }
 }
 
+#[test]
+fn edition_2_is_never_plain_and_not_refused() {
+    for file in [whole_case(), d(), alone(apart(&[])), alone(still(&[]))] {
+        assert_eq!(plain(&file), Ok(true));
+        assert_eq!(plain(&edition_2(file)), Ok(false));
+    }
+}
+
 /// N1 is not plain, and its step has the mark no; D is plain, and none of its steps has.
 #[test]
 fn marks() {

@@ -2,7 +2,7 @@
 
 mod charts;
 
-use charts::{d, whole_case};
+use charts::{d, edition_2, whole_case};
 use mestecur::{check, first, interface, plain, rewrite, run, step, Refusal, Set};
 
 /// The number of a refused call.
@@ -35,7 +35,8 @@ fn with(place: usize, value: u8) -> Vec<u8> {
 fn bad_files() {
     every_call_refuses(&[], 1);
     every_call_refuses(&whole_case()[101..], 1);
-    every_call_refuses(&with(107, 2), 2);
+    every_call_refuses(&with(107, 0), 2);
+    every_call_refuses(&with(107, 3), 2);
     every_call_refuses(&with(104, 0), 3);
     every_call_refuses(&with(100, 0x65), 4);
     every_call_refuses(&whole_case()[1..], 4);
@@ -100,6 +101,9 @@ fn first_and_rewriting() {
     let mut full = d();
     full[16..24].copy_from_slice(&[0xFF; 8]);
     assert_eq!(number(rewrite(&full, &mut short)), 40);
+    assert_eq!(number(rewrite(&edition_2(full), &mut short)), 46);
+    assert_eq!(number(rewrite(&edition_2(file), &mut [])), 46);
+    assert_eq!(number(rewrite(&edition_2(swapped()), &mut short)), 11);
     assert_eq!(short, [0xA5; 111]);
 }
 
@@ -109,9 +113,12 @@ fn a_refusal_prints_its_number_and_the_documents_words() {
     assert_eq!(refusal.to_string(), "refused 1: fewer than 12 bytes");
     let refusal: Box<dyn std::error::Error> = Box::new(Refusal::of(23).unwrap());
     assert_eq!(refusal.to_string(), "refused 23: no permitted step");
+    let words = |number| Refusal::of(number).unwrap().words();
+    assert_eq!(words(2), "edition not 1 or 2");
+    assert_eq!(words(46), "rewriting: the file is edition 2");
     assert_eq!(Refusal::of(0), None);
     let unknown = Refusal::of(99).unwrap().words();
-    for known in (1..=11).chain(20..=23).chain([27]).chain(40..=45) {
+    for known in (1..=11).chain(20..=23).chain([27]).chain(40..=46) {
         let words = Refusal::of(known).unwrap().words();
         assert_eq!(words == unknown, known == 43, "{known}");
     }

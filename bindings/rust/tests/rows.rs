@@ -3,7 +3,7 @@
 mod charts;
 
 use charts::*;
-use mestecur::{step, Set};
+use mestecur::{step, Place, Set};
 
 /// What a row says of one input: the next configuration, the output and the mark, or refusal 23.
 type Says<'a> = Option<(&'a [u8], &'a [u8], bool)>;
@@ -102,13 +102,13 @@ fn the_transitions_of_a_master_and_its_slave() {
         let input = input.iter().copied().collect();
         step(&d(), at, input, &mut [0; 2]).unwrap().places
     };
-    let places = |master: u8, slave: Option<u8>| {
-        let mut places = [None; 8];
-        (places[0], places[1]) = (Some(master), slave);
+    let places = |master: u8, slave: Place| {
+        let mut places = [Place::None; 8];
+        (places[0], places[1]) = (Place::Transition(master), slave);
         places
     };
-    assert_eq!(took(&[0, 0], &[0]), places(0, Some(0)));
-    assert_eq!(took(&[0, 0], &[]), places(1, None));
-    assert_eq!(took(&[1, 1], &[3]), places(2, Some(1)));
-    assert_eq!(took(&[0, 1], &[0, 3]), places(0, Some(1)));
+    assert_eq!(took(&[0, 0], &[0]), places(0, Place::Transition(0)));
+    assert_eq!(took(&[0, 0], &[]), places(1, Place::None));
+    assert_eq!(took(&[1, 1], &[3]), places(2, Place::Transition(1)));
+    assert_eq!(took(&[0, 1], &[0, 3]), places(0, Place::Transition(1)));
 }

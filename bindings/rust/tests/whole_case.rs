@@ -4,7 +4,8 @@ mod charts;
 
 use charts::{d, whole_case};
 use mestecur::{
-    check, first, interface, rewrite, rows, rows_bytes, run, step, Given, Refusal, Row, Set, Step,
+    check, first, interface, rewrite, rows, rows_bytes, run, step, Given, Place, Refusal, Row, Set,
+    Step,
 };
 
 /// A row's answer for a step that puts out these signals, all choices agreeing.
@@ -18,8 +19,8 @@ fn puts_out<const N: usize>(signals: [u8; N]) -> Given {
 /// The answer of a step that puts out these signals by this transition, all choices agreeing.
 fn by<const N: usize>(place: u8, signals: [u8; N]) -> Step {
     let Given { output, mark } = puts_out(signals);
-    let mut places = [None; 8];
-    places[0] = Some(place);
+    let mut places = [Place::None; 8];
+    places[0] = Place::Transition(place);
     Step {
         output,
         mark,
@@ -142,6 +143,8 @@ fn d_rewritten_makes_the_same_steps() {
 /// behind its two own ones, where the old one took none.
 fn with_idle(step: Step, state: u8) -> Step {
     let mut places = step.places;
-    places[1] = places[1].or(Some(2 + state));
+    if places[1] == Place::None {
+        places[1] = Place::Transition(2 + state);
+    }
     Step { places, ..step }
 }

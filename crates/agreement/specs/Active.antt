@@ -1,9 +1,8 @@
 -- Which charts are active, and that it is settled by the masters, which have lower numbers.
 use mathlib.Core.Path.{_≡_, refl}
 use mathlib.Core.Bool.{Bool, true, false, _&&_, _||_, cond, false≢true}
-use mathlib.Core.Option.{none, some}
 use Prim.Native.Nat.{ℕ, _<_}
-use Rattle.meaning.specs.Meaning.{Set, same, Chart, Tree, Slaves, leaf, comp, hide, dec, nil, snoc, Move, actionOf, inFaceChart, inFace, out, outs, okChart, meets, ok, oks}
+use Rattle.meaning.specs.Meaning.{Set, same, Chart, Tree, Slaves, leaf, comp, hide, dec, nil, snoc, Move, noMove, takes, stay, actionOf, inFaceChart, inFace, out, outs, okChart, meets, ok, oks}
 use Rattle.signals.specs.Mask.{_∪_, _∩_, _∖_}
 use Rattle.meaning.specs.Laws.Bools.{or-elim, same→≡, and-l, and-r}
 use Rattle.meaning.specs.File.{Has, HasS}
@@ -22,17 +21,20 @@ module _ (state : ℕ → ℕ) (cfg : ℕ → ℕ) (M : ℕ → Move) where
     actives nil f c = false
     actives (snoc ss i t) f c = cond (Has t c) (active t (f (state i)) c) (actives ss f c)
 
--- a move takes a transition
+-- a move is an active chart's: it takes a transition, or stays
 unfoldable pub some? : Move → Bool
-some? none = false
-some? (some t) = true
+some? noMove = false
+some? (takes t) = true
+some? stay = true
 
-pub okChart-some : (F : Set) (a : Bool) (o : Set) (s : ℕ) (m : Move) → okChart F a o s m ≡ true → some? m ≡ a
+pub okChart-some : (K : Chart) (a : Bool) (o : Set) (s : ℕ) (m : Move) → okChart K a o s m ≡ true → some? m ≡ a
 unfolding okChart some?
-okChart-some F false o s none e = refl
-okChart-some F false o s (some t) e = absurd (false≢true e)
-okChart-some F true o s none e = absurd (false≢true e)
-okChart-some F true o s (some t) e = refl
+okChart-some K false o s noMove e = refl
+okChart-some K false o s (takes t) e = absurd (false≢true e)
+okChart-some K false o s stay e = absurd (false≢true e)
+okChart-some K true o s noMove e = absurd (false≢true e)
+okChart-some K true o s (takes t) e = refl
+okChart-some K true o s stay e = refl
 
 either : (b b′ x y z : Bool) → (b ≡ true → x ≡ y) → (b′ ≡ true → x ≡ z) → (b || b′) ≡ true → x ≡ cond b y z
 either true b′ x y z f g h = f refl
@@ -46,19 +48,19 @@ module _ (E : ℕ → Chart) (state : ℕ → ℕ) (cfg : ℕ → ℕ) (M : ℕ 
   mutual
     unfolding ok Has active
 
-    -- a chart takes a transition exactly if it is active
+    -- a chart takes a transition, or stays, exactly if it is active
     pub ok-active : (t : Tree) (a : Bool) (o : Set) (c : ℕ) → Has t c ≡ true → ok E state cfg M t a o ≡ true → some? (M c) ≡ active state cfg M t a c
-    ok-active (leaf d) a o c h k = rw (same→≡ c d h) (okChart-some (E d .feedback) a o (cfg d) (M d) k)
+    ok-active (leaf d) a o c h k = rw (same→≡ c d h) (okChart-some (E d) a o (cfg d) (M d) k)
     ok-active (comp p q x) a o c h k = either (Has p c) (Has q c) _ _ _
         (λ e. ok-active p a ((o ∪ ((out M p ∪ out M q) ∩ x)) ∩ inFace E p) c e (and-l _ _ k))
         (λ e. ok-active q a ((o ∪ ((out M p ∪ out M q) ∩ x)) ∩ inFace E q) c e
         (and-r (ok E state cfg M p a ((o ∪ ((out M p ∪ out M q) ∩ x)) ∩ inFace E p)) _ k)) h
     ok-active (hide p x y) a o c h k = ok-active p a (o ∖ x) c h k
     ok-active (dec d ss) a o c h k = either (same c d) (HasS ss c) _ _ _
-        (λ e. rw (same→≡ c d e) (okChart-some (E d .feedback) a ((o ∪ (actionOf (M d) ∪ outs M ss) ∩ E d .feedback) ∩ inFaceChart (E d)) (cfg d) (M d)
+        (λ e. rw (same→≡ c d e) (okChart-some (E d) a ((o ∪ (actionOf (M d) ∪ outs M ss) ∩ E d .feedback) ∩ inFaceChart (E d)) (cfg d) (M d)
         (and-l _ _ k)))
         (λ e. oks-active ss (λ q. a && meets (cfg d) (M d) q) (o ∪ (actionOf (M d) ∪ outs M ss) ∩ E d .feedback) c e
-        (and-r (okChart (E d .feedback) a ((o ∪ (actionOf (M d) ∪ outs M ss) ∩ E d .feedback) ∩ inFaceChart (E d)) (cfg d) (M d)) _ k)) h
+        (and-r (okChart (E d) a ((o ∪ (actionOf (M d) ∪ outs M ss) ∩ E d .feedback) ∩ inFaceChart (E d)) (cfg d) (M d)) _ k)) h
 
     oks-active : (ss : Slaves) (f : ℕ → Bool) (z : Set) (c : ℕ) → HasS ss c ≡ true → oks E state cfg M ss f z ≡ true
         → some? (M c) ≡ actives state cfg M ss f c
@@ -83,22 +85,24 @@ module _ (state : ℕ → ℕ) (cfg : ℕ → ℕ) (M M₂ : ℕ → Move) (c : 
     actives-agree (snoc ss i t) f v h =
         both-ways (Has t c) (HasS ss c) _ _ _ _ (λ e. active-agree t (f (state i)) (v .1) e) (λ e. actives-agree ss f (v .0) e) h
 
--- in a tree without decomposed charts, every chart takes a transition from its state
+-- in a tree without decomposed charts, every chart takes a transition from its state, or stays
 abbrev pub Live : ℕ → Move → Type 0
-Live s none = ⊥
-Live s (some t) = t .from ≡ s
+Live s noMove = ⊥
+Live s (takes t) = t .from ≡ s
+Live s stay = Unit {0}
 
-okChart-live : (F : Set) (o : Set) (s : ℕ) (m : Move) → okChart F true o s m ≡ true → Live s m
+okChart-live : (K : Chart) (o : Set) (s : ℕ) (m : Move) → okChart K true o s m ≡ true → Live s m
 unfolding okChart
-okChart-live F o s none k = false≢true k
-okChart-live F o s (some t) k = same→≡ (t .from) s (and-l _ _ k)
+okChart-live K o s noMove k = false≢true k
+okChart-live K o s (takes t) k = same→≡ (t .from) s (and-l _ _ k)
+okChart-live K o s stay k = tt
 
 module _ (sig : ℕ → ℕ) (fbOf : ℕ → Set) (E : ℕ → Chart) (state : ℕ → ℕ) (cfg : ℕ → ℕ) (M : ℕ → Move) (c : ℕ) where
   mutual
     unfolding ok Has tree
 
     pub live : (t : Tree) (o : Set) → Has t c ≡ true → ok E state cfg M (tree sig fbOf t) true o ≡ true → Live (cfg c) (M c)
-    live (leaf d) o h k = rw (same→≡ c d h) (okChart-live (E d .feedback) o (cfg d) (M d) k)
+    live (leaf d) o h k = rw (same→≡ c d h) (okChart-live (E d) o (cfg d) (M d) k)
     live (comp p q x) o h k = or-elim (Has p c) (Has q c) _ (λ e. live p (z ∩ inFace E (tree sig fbOf p)) e (and-l _ _ k))
         (λ e. live q (z ∩ inFace E (tree sig fbOf q)) e (and-r (ok E state cfg M (tree sig fbOf p) true (z ∩ inFace E (tree sig fbOf p))) _ k)) h
       where
@@ -109,7 +113,7 @@ module _ (sig : ℕ → ℕ) (fbOf : ℕ → Set) (E : ℕ → Chart) (state : �
 
     live-s : (ss : Slaves) (d : ℕ) (x o : Set) → (same c d || HasS ss c) ≡ true → ok E state cfg M (nest sig fbOf ss d x) true o ≡ true
         → Live (cfg c) (M c)
-    live-s nil d x o h k = or-elim (same c d) false _ (λ e. rw (same→≡ c d e) (okChart-live (E d .feedback) o (cfg d) (M d) k))
+    live-s nil d x o h k = or-elim (same c d) false _ (λ e. rw (same→≡ c d e) (okChart-live (E d) o (cfg d) (M d) k))
         (λ e. absurd (false≢true e)) h
     live-s (snoc ss i t) d x o h k = or-elim (Has t c) (same c d || HasS ss c) _
         (λ e. live t (z ∩ inFace E (tree sig fbOf t)) e

@@ -17,12 +17,12 @@ use Rattle.layout.specs.declared.record.Trailer.{Trailer}
 use Rattle.layout.specs.declared.record.Head.{Head}
 use Rattle.layout.specs.declared.record.Transition.{Transition}
 use Rattle.layout.specs.declared.record.Node.{Node}
-use Rattle.meaning.specs.Numbers.{theEdition, mostCharts, mostSlaves, mostNodes, mostTransitions, mostStates, mostInChart, mostFromState}
+use Rattle.meaning.specs.Numbers.{firstEdition, mostCharts, mostSlaves, mostNodes, mostTransitions, mostStates, mostInChart, mostFromState}
 use Rattle.meaning.specs.Count.{anyUpTo, tally, one}
 use Rattle.meaning.specs.Count.Laws.{any-all, any-never, tally-cong, tally-front}
 use Rattle.meaning.specs.Meaning.{same}
 use Rattle.meaning.specs.File.{File, endOf, trailer, bodyOf, shapeOf, fileAt, fileOf}
-use Rattle.meaning.specs.Check.{differ, notBelow, counts?, distance?, nonzero, zeros?, chart?, charts?, ends?, leaving, transitions?, slaves?, nodeOfKind?, nodes?, names, named, held, naming?, inside?, refusalOf}
+use Rattle.meaning.specs.Check.{edition?, differ, notBelow, counts?, distance?, nonzero, zeros?, chart?, charts?, ends?, leaving, transitions?, slaves?, nodeOfKind?, nodes?, names, named, held, naming?, inside?, refusalOf}
 use Rattle.meaning.specs.Rewriting.{chartWith, rewrittenChart, rewrite, leavingIn, transitionsIn, noFree?, fromState?, inChart?, headFor, shapeIn, bodyBytes, encode}
 use Rattle.meaning.specs.Rewriting.Laws.{list-most, sum-most}
 use Rattle.meaning.specs.Laws.Bools.{same-refl, same→≡, same-≢}
@@ -126,6 +126,7 @@ module _ (F : File) (rg : Regular F) (gv : Given F) where
     sets = λ j l. let h = formed F rg (gv .room) j l in (h .x-small, h .y-small);
     size = let h = total in let g = gv .nodes in let c = rg .charts in omega arith;
     total = let h = total in omega arith;
+    one = λ c l. rg .ready .one c l;
   }
 
   w : Ordered R
@@ -272,7 +273,7 @@ module _ (F : File) (rg : Regular F) (gv : Given F) where
   pub again : Passed (encode R)
   again = record {
     long = let e = length-encode R fits in omega arith;
-    edition = equal _ theEdition (ap (λ t. t .edition) (trailer-is R fits));
+    edition = ap edition? (trailer-is R fits) ∙ unfold edition? in rw (equal 1 firstEdition refl);
     counts = counts;
     distance = distance;
     zeros = zeros;

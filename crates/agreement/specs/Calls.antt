@@ -16,14 +16,15 @@ use Rattle.meaning.specs.Count.{anyUpTo}
 use Rattle.meaning.specs.Count.Laws.{any-never, any-cong}
 use Rattle.meaning.specs.Meaning.{Set, ∅, same, refused, given}
 use Rattle.meaning.specs.File.{endOf, trailer, bodyOf, shapeOf, chartOf, fileAt, fileOf}
-use Rattle.meaning.specs.Numbers.{mostNodes, wrongLength, badState, shortBuffer, shortRows}
+use Rattle.meaning.specs.Numbers.{firstEdition, mostNodes, wrongLength, badState, shortBuffer, shortRows}
 use Rattle.meaning.specs.Check.Laws.{below, alike, firstOf-passes, Passed, passed, call-passed, counted, charted}
 use Rattle.meaning.specs.Check.{Test, firstOf, differ, notBelow, fileTests, refusalOf}
 use Rattle.meaning.specs.Calls.{made, laidOver, firstRefusal, initials, firstBytes, inputOf, outputOf, configTests, stepRefusal, stepIn, stepOf, allPlaces, placesIn, placesOf, runRefusal, rowsOf, carriedOf, runBytes, runCarried}
 use Rattle.meaning.specs.Calls.Laws.{made-cong}
-use Rattle.meaning.specs.Rewriting.{chartWith, rewrittenChart, rewriteTests, rewriteBytes, rewriteRefusal, rewrite, rewriteLength, shapeIn}
+use Rattle.meaning.specs.Rewriting.{chartWith, rewrittenChart, rewriteTests, rewriteBytes, stayTest, rewriteRefusal, rewrite, rewriteLength, shapeIn}
 use Rattle.meaning.specs.Laws.Bools.{same-refl, same→≡}
 use Rattle.meaning.specs.Laws.Runs.{Valid}
+use Rattle.meaning.specs.Laws.Editions.{edition-left}
 use Rattle.agreement.specs.Step.{Rewritten, step-is}
 use Rattle.agreement.specs.Taken.{PlacesAgree, taken-agree}
 use Rattle.agreement.specs.Run.{run-is, carried-is}
@@ -38,32 +39,34 @@ use Rattle.agreement.specs.Encoded.{length-encode, end-is, trailer-is}
 
 -- ── what a call that is not refused has ──
 
--- the file passes, 40 to 44 do not apply, and the result has room
+-- the file passes, it is of edition 1, 40 to 44 do not apply, and the result has room
 pub record Allowed (f : List ℕ) (room : ℕ) : Type 0 where
   pub checked : refusalOf f ≡ 0
+  pub one : trailer f .edition ≡ firstEdition
   pub given : Given (fileOf f)
   pub fits : length (rewriteBytes f) ≤ room
 
 pub allowed : (f : List ℕ) (room : ℕ) → rewriteRefusal f room ≡ 0 → Allowed f room
 unfolding rewriteRefusal rewriteTests
 allowed f room e =
-    let p = in-front f _ (ap firstOf (sym (append-assoc (fileTests f) (rewriteTests (fileOf f)) _)) ∙ e) in
-    let q = firstOf-passes _ (lit< tt, (lit< tt, (lit< tt, (lit< tt, (lit< tt, tt))))) (p .1) in
+    let p = in-front f _ (ap firstOf (sym (append-assoc (fileTests f) (stayTest f ∷ rewriteTests (fileOf f)) _)) ∙ e) in
+    let q = firstOf-passes _ (lit< tt, (lit< tt, (lit< tt, (lit< tt, (lit< tt, (lit< tt, tt)))))) (p .1) in
     record {
       checked = p .0;
+      one = edition-left f (passed f (p .0) .edition) (q .0);
       given = record {
-        room = q .0;
-        leaving = q .1 .0;
-        lists = q .1 .1 .0;
-        nodes = ltb-false mostNodes _ (q .1 .1 .1 .0);
+        room = q .1 .0;
+        leaving = q .1 .1 .0;
+        lists = q .1 .1 .1 .0;
+        nodes = ltb-false mostNodes _ (q .1 .1 .1 .1 .0);
       };
-      fits = ltb-false room _ (q .1 .1 .1 .1 .0);
+      fits = ltb-false room _ (q .1 .1 .1 .1 .1 .0);
     }
 
-pub regular : (f : List ℕ) → AllBytes f → Passed f → Regular (fileOf f)
+pub regular : (f : List ℕ) → AllBytes f → Passed f → trailer f .edition ≡ firstEdition → Regular (fileOf f)
 unfolding fileOf fileAt chartOf shapeOf
-regular f ab p = record {
-  ready = ready f p ab;
+regular f ab p one = record {
+  ready = ready f p ab one;
   some-chart = counted (trailer f) (p .counts) .some-chart;
   charts = counted (trailer f) (p .counts) .charts;
   most-states = λ c l. charted (shapeOf (trailer f)) (bodyOf f) (p .charts) c l .states;
@@ -84,7 +87,7 @@ module _ (f : List ℕ) (ab : AllBytes f) (room : ℕ) (ok : rewriteRefusal f ro
   h = allowed f room ok .checked
 
   rg : Regular (fileOf f)
-  rg = regular f ab (passed f h)
+  rg = regular f ab (passed f h) (allowed f room ok .one)
 
   r : Rewritten (fileOf f) (fileOf f′)
   unfolding rewriteBytes
@@ -109,6 +112,11 @@ module _ (f : List ℕ) (ab : AllBytes f) (room : ℕ) (ok : rewriteRefusal f ro
   unfolding rewriteLength rewriteBytes
   length-is = ap (λ n. cond (same n 0) (length f′) 0) ok ∙ ap (λ b. cond b (length f′) 0) (same-refl 0)
       ∙ length-encode (rewrite (fileOf f)) (fits (fileOf f) rg (allowed f room ok .given))
+
+  -- of edition 1
+  pub new-edition : trailer f′ .edition ≡ firstEdition
+  unfolding rewriteBytes
+  new-edition = ap (λ t. t .edition) (trailer-is (rewrite (fileOf f)) (fits (fileOf f) rg (allowed f room ok .given)))
 
   no-front : endOf f′ - trailer f′ .distance ≡ 0
   unfolding rewriteBytes
@@ -229,12 +237,15 @@ module _ (f : List ℕ) (ab : AllBytes f) (room : ℕ) (ok : rewriteRefusal f ro
     same-carried left = answer-same config _ _ (ap (rowsTest (length inputs) left) (r .charts)) (carriedOf (fileOf f) config carried inputs)
         (carriedOf (fileOf f′) config carried inputs) (λ n. ∅) (λ v. carried-is (fileOf f) (rg .ready) (fileOf f′) r inputs config carried v)
 
--- a file without slaves rewrites to itself, without its front
-pub slaveless-rewrites : (f : List ℕ) → AllBytes f → refusalOf f ≡ 0 → fileOf f .slaves ≡ 0 → rewriteBytes f ≡ drop (endOf f - trailer f .distance) f
+-- a file of edition 1 without slaves rewrites to itself, without its front
+pub slaveless-rewrites : (f : List ℕ) → AllBytes f → refusalOf f ≡ 0 → trailer f .edition ≡ firstEdition → fileOf f .slaves ≡ 0
+    → rewriteBytes f ≡ drop (endOf f - trailer f .distance) f
 unfolding rewriteBytes fileOf
-slaveless-rewrites f ab e none-there = let p = passed f e in slaveless-same (fileOf f) (ready f p ab) (p .nodes) none-there ∙ encode-again f p ab
+slaveless-rewrites f ab e one none-there =
+    let p = passed f e in slaveless-same (fileOf f) (ready f p ab one) (p .nodes) none-there ∙ encode-again f p ab one
 
 -- rewritten again, a rewritten file stays as it is
 pub twice : (f : List ℕ) → AllBytes f → (room : ℕ) → rewriteRefusal f room ≡ 0 → rewriteBytes (rewriteBytes f) ≡ rewriteBytes f
-twice f ab room ok = slaveless-rewrites (rewriteBytes f) (new-bytes f ab room ok) (same-check f ab room ok) (no-slaves f ab room ok)
+twice f ab room ok = slaveless-rewrites (rewriteBytes f) (new-bytes f ab room ok) (same-check f ab room ok) (new-edition f ab room ok)
+    (no-slaves f ab room ok)
     ∙ ap (λ k. drop k (rewriteBytes f)) (no-front f ab room ok)

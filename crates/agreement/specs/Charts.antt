@@ -1,5 +1,6 @@
 -- A rewritten chart: where its transitions stand, how many they are, its interface; a chart whose sets have no call.
-use mathlib.Core.Path.{_≡_, refl, sym, _∙_, ap}
+use mathlib.Core.Path.{_≡_, refl, sym, _∙_, ap, subst}
+use mathlib.Core.Bool.{false, cond}
 use mathlib.Core.Option.{Option, none, some}
 use mathlib.Core.List.{List, [], _∷_, _++_, map, append-nil}
 use Prim.Native.Nat.{ℕ, zero, suc, _+_, _≤_, _<_}
@@ -9,7 +10,7 @@ use lib.ListN.{length, length-append, length-map}
 use Rattle.signals.specs.Mask.{_∪_, single}
 use Rattle.signals.specs.Decide.{sets, A, B, C as Cₑ, D, ∅ₑ, _∪ₑ_, _≐_}
 use Rattle.layout.specs.declared.record.Transition.{Transition}
-use Rattle.meaning.specs.Meaning.{Set, ∅, Chart, nth, pick, guards, inFaceChart}
+use Rattle.meaning.specs.Meaning.{Set, ∅, Chart, Move, noMove, takes, stay, nth, behind, pick, guards, inFaceChart}
 use Rattle.meaning.specs.Rewriting.{callIn, idle, idles, called, chartWith}
 use Rattle.agreement.specs.Every.{Every}
 use Rattle.agreement.specs.Tree.{moveR}
@@ -22,37 +23,44 @@ place (some i) m s zero = suc (m + s)
 place (some i) m s (suc k) = suc k
 
 module _ (sig : ℕ → ℕ) where
-  nth-own : (κ : Option ℕ) (T : Transition → Set) (s : ℕ) (ts r : List Transition) (k : ℕ) → k < length ts
-      → nth (map (called sig κ T) ts ++ r) k ≡ moveR sig κ T s (nth ts k)
+  nth-own : (κ : Option ℕ) (T : Transition → Set) (s : ℕ) (d d′ : Move) (ts r : List Transition) (k : ℕ) → k < length ts
+      → nth d′ (map (called sig κ T) ts ++ r) k ≡ moveR sig κ T s (nth d ts k)
   unfolding nth moveR
-  nth-own κ T s [] r k l = absurd (omega arith)
-  nth-own κ T s (t ∷ ts) r zero l = refl
-  nth-own κ T s (t ∷ ts) r (suc k) l = nth-own κ T s ts r k (omega arith)
+  nth-own κ T s d d′ [] r k l = absurd (omega arith)
+  nth-own κ T s d d′ (t ∷ ts) r zero l = refl
+  nth-own κ T s d d′ (t ∷ ts) r (suc k) l = nth-own κ T s d d′ ts r k (omega arith)
 
-  nth-past : (κ : Option ℕ) (T : Transition → Set) (ts r : List Transition) (k : ℕ) → nth (map (called sig κ T) ts ++ r) (length ts + k) ≡ nth r k
+  nth-past : (κ : Option ℕ) (T : Transition → Set) (d : Move) (ts r : List Transition) (k : ℕ)
+      → nth d (map (called sig κ T) ts ++ r) (length ts + k) ≡ nth d r k
   unfolding nth
-  nth-past κ T [] r k = rw (zero-add k)
-  nth-past κ T (t ∷ ts) r k = rw (suc-add (length ts) k) (nth-past κ T ts r k)
+  nth-past κ T d [] r k = rw (zero-add k)
+  nth-past κ T d (t ∷ ts) r k = rw (suc-add (length ts) k) (nth-past κ T d ts r k)
 
-  nth-idles : (i b n q : ℕ) → q < n → nth (idles sig (some i) b n) q ≡ some (idle sig i (b + q))
+  nth-idles : (d : Move) (i b n q : ℕ) → q < n → nth d (idles sig (some i) b n) q ≡ takes (idle sig i (b + q))
   unfolding nth idles
-  nth-idles i b zero q l = absurd (omega arith)
-  nth-idles i b (suc n) zero l = ap (λ z. some (idle sig i z)) (sym (add-zero b))
-  nth-idles i b (suc n) (suc q) l = nth-idles i (suc b) n q (omega arith) ∙ ap (λ z. some (idle sig i z)) (omega arith)
+  nth-idles d i b zero q l = absurd (omega arith)
+  nth-idles d i b (suc n) zero l = ap (λ z. takes (idle sig i z)) (sym (add-zero b))
+  nth-idles d i b (suc n) (suc q) l = nth-idles d i (suc b) n q (omega arith) ∙ ap (λ z. takes (idle sig i z)) (omega arith)
+
+  pub nth-idle : (d : Move) (i : ℕ) (T : Transition → Set) (C : Chart) (q : ℕ) → q < C .states
+      → nth d (chartWith sig (some i) T C .transitions) (length (C .transitions) + q) ≡ takes (idle sig i q)
+  unfolding chartWith
+  nth-idle d i T C q l = nth-past (some i) T d (C .transitions) (idles sig (some i) zero (C .states)) q
+      ∙ nth-idles d i zero (C .states) q l
+      ∙ ap (λ z. takes (idle sig i z)) (zero-add q)
 
   pub idle-at : (i : ℕ) (T : Transition → Set) (C : Chart) (q : ℕ) → q < C .states
-      → pick (chartWith sig (some i) T C .transitions) (suc (length (C .transitions) + q)) ≡ some (idle sig i q)
+      → pick (chartWith sig (some i) T C) (suc (length (C .transitions) + q)) ≡ takes (idle sig i q)
   unfolding pick chartWith
-  idle-at i T C q l = nth-past (some i) T (C .transitions) (idles sig (some i) zero (C .states)) q ∙ nth-idles i zero (C .states) q l
-      ∙ ap (λ z. some (idle sig i z)) (zero-add q)
+  idle-at i T C q l = nth-idle (behind C) i T C q l
 
   pub pick-moved : (κ : Option ℕ) (T : Transition → Set) (C : Chart) (s v : ℕ) → v ≤ length (C .transitions) → s < C .states
-      → pick (chartWith sig κ T C .transitions) (place κ (length (C .transitions)) s v) ≡ moveR sig κ T s (pick (C .transitions) v)
+      → pick (chartWith sig κ T C) (place κ (length (C .transitions)) s v) ≡ moveR sig κ T s (pick C v)
   unfolding pick place moveR chartWith
   pick-moved none T C s zero l b = refl
-  pick-moved none T C s (suc k) l b = nth-own none T s (C .transitions) (idles sig none zero (C .states)) k (omega arith)
+  pick-moved none T C s (suc k) l b = nth-own none T s (behind C) (behind C) (C .transitions) (idles sig none zero (C .states)) k (omega arith)
   pick-moved (some i) T C s zero l b = idle-at i T C s b
-  pick-moved (some i) T C s (suc k) l b = nth-own (some i) T s (C .transitions) (idles sig (some i) zero (C .states)) k (omega arith)
+  pick-moved (some i) T C s (suc k) l b = nth-own (some i) T s (behind C) (behind C) (C .transitions) (idles sig (some i) zero (C .states)) k (omega arith)
 
   pub idles-length : (i b n : ℕ) → length (idles sig (some i) b n) ≡ n
   unfolding idles
@@ -99,18 +107,19 @@ module _ (sig : ℕ → ℕ) where
 
   -- transitions, and a chart, whose sets have no call
   abbrev pub OldTs : List Transition → Type 0
-  OldTs = Every (λ t. OldMove sig (some t))
+  OldTs = Every (λ t. OldMove sig (takes t))
 
-  old-nth : (ts : List Transition) (k : ℕ) → OldTs ts → OldMove sig (nth ts k)
+  old-nth : (ts : List Transition) (k : ℕ) → OldTs ts → OldMove sig (nth noMove ts k)
   unfolding nth
   old-nth [] k o = tt
   old-nth (t ∷ ts) zero o = o .0
   old-nth (t ∷ ts) (suc k) o = old-nth ts k (o .1)
 
-  pub old-pick : (ts : List Transition) (v : ℕ) → OldTs ts → OldMove sig (pick ts v)
+  -- of an edition 1 chart
+  pub old-pick : (C : Chart) (v : ℕ) → C .stays ≡ false → OldTs (C .transitions) → OldMove sig (pick C v)
   unfolding pick
-  old-pick ts zero o = tt
-  old-pick ts (suc k) o = old-nth ts k o
+  old-pick C zero e o = tt
+  old-pick C (suc k) e o = subst (OldMove sig) (sym (ap (λ b. nth (cond b stay noMove) (C .transitions) k) e)) (old-nth (C .transitions) k o)
 
   pub old-guards : (ts : List Transition) → OldTs ts → Old sig (guards ts)
   unfolding guards
@@ -118,7 +127,9 @@ module _ (sig : ℕ → ℕ) where
   old-guards (t ∷ ts) o = old-join sig (t .needed ∪ t .barred) (guards ts) (old-join sig (t .needed) (t .barred) (o .0 .0) (o .0 .1))
       (old-guards ts (o .1))
 
+  -- of edition 1
   pub record OldChart (C : Chart) : Type 0 where
+    pub one : C .stays ≡ false
     pub old-transitions : OldTs (C .transitions)
     pub old-feedback : Old sig (C .feedback)
     pub old-extra : Old sig (C .extra)

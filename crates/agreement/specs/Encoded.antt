@@ -2,6 +2,7 @@
 -- the file.
 use mathlib.Core.Path.{_≡_, refl, sym, _∙_, ap, ap₂, subst}
 use mathlib.Core.Logic.{⊎-elim}
+use mathlib.Core.Bool.{false}
 use mathlib.Core.List.{List, [], _∷_, _++_, append-assoc, append-nil}
 use Prim.Native.Nat.{ℕ, zero, suc, _+_, _*_, _-_, _^_, _≤_, _<_}
 use native.Mathlib.Nat.{mul-zero, mul-suc}
@@ -19,10 +20,11 @@ use Rattle.layout.specs.declared.record.Transition.{Transition}
 use Rattle.layout.specs.declared.record.Slave.{Slave}
 use Rattle.layout.specs.declared.record.Node.{Node}
 use Rattle.agreement.specs.Every.{Every, every-at}
-use Rattle.meaning.specs.Numbers.{theEdition}
+use Rattle.meaning.specs.Numbers.{firstEdition, stayEdition}
 use Rattle.meaning.specs.Count.{tally}
 use Rattle.meaning.specs.Count.Laws.{below-suc}
-use Rattle.meaning.specs.Meaning.{∅}
+use Rattle.meaning.specs.Meaning.{∅, same}
+use Rattle.meaning.specs.Laws.Bools.{same-≢}
 use Rattle.meaning.specs.File.{File, endOf, trailer, bodyOf, shapeOf, chartOf, fileAt, fileOf}
 use Rattle.meaning.specs.Rewriting.{inTurn, headFor, transitionsBytes, transitionsIn, shapeIn, bodyBytes, encode}
 
@@ -121,13 +123,14 @@ module _ (ts : ℕ → List Transition) where
 abbrev pub Small : Transition → Type 0
 Small t = (t .needed < 256 ^ 8) × (t .barred < 256 ^ 8) × (t .action < 256 ^ 8)
 
--- what a file written into bytes is asked for: numbers and sets within their widths
+-- what a file written into bytes is asked for: numbers and sets within their widths, and edition 1
 pub record Fits (F : File) : Type 0 where
   pub heads : (c : ℕ) → c < F .charts → (F .chart c .feedback < 256 ^ 8) × (F .chart c .extra < 256 ^ 8)
   pub lists : (c : ℕ) → c < F .charts → Every Small (F .chart c .transitions)
   pub sets : (j : ℕ) → j < F .nodes → (F .x j < 256 ^ 8) × (F .y j < 256 ^ 8)
   pub size : sizeOf (shapeIn F) < 256 ^ 4
   pub total : transitionsIn F < 256 ^ 2
+  pub one : (c : ℕ) → c < F .charts → F .chart c .stays ≡ false
 
 module _ (F : File) where
   -- records by number, and a chart's transitions
@@ -267,9 +270,18 @@ module _ (F : File) (ft : Fits F) where
   node-is j l = let u = node-there F j l in ap nodeOf (u .1) ∙ node-back (nodeIn F j) (u .0) (ft .sets j l .0) (ft .sets j l .1)
 
   pub chart-back : (c : ℕ) → c < F .charts → chartOf n b c ≡ F .chart c
-  unfolding chartOf headFor
+  unfolding chartOf headFor shapeIn
   chart-back c l = ap₂ (λ (h : Head) (ts : List Transition).
-      record { states = h .states; initial = h .initial; transitions = ts; feedback = h .feedback; extra = h .extra }) (head-is c l) (list-is c l)
+      record { states = h .states; initial = h .initial; transitions = ts; feedback = h .feedback; extra = h .extra; stays = same firstEdition stayEdition })
+      (head-is c l) (list-is c l)
+      ∙ ap (λ x. record {
+        states = F .chart c .states;
+        initial = F .chart c .initial;
+        transitions = F .chart c .transitions;
+        feedback = F .chart c .feedback;
+        extra = F .chart c .extra;
+        stays = x;
+      }) (same-≢ firstEdition stayEdition (λ z. omega arith) ∙ sym (ft .one c l))
 
   -- ── the trailer and the file ──
 
@@ -279,7 +291,7 @@ module _ (F : File) (ft : Fits F) where
     charts = F .charts;
     slaves = F .slaves;
     nodes = F .nodes;
-    edition = theEdition;
+    edition = firstEdition;
     transitions = transitionsIn F;
   }
 

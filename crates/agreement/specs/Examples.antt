@@ -10,7 +10,7 @@ use Rattle.layout.specs.Body.{headAt, transitionAt, slaveAt, nodeAt, startOf, f
 use Rattle.meaning.specs.Count.{tally, anyUpTo}
 use Rattle.meaning.specs.Meaning.{same, guards, actions}
 use Rattle.meaning.specs.File.{trailer, bodyOf, shapeOf, chartOf, fileAt, fileOf, gather, build, treeOf, Has}
-use Rattle.meaning.specs.Check.{firstOf, counts?, distance?, nonzero, zeros?, chart?, charts?, ends?, leaving, transitions?, rising, slave?, slaves?, nodeOfKind?, nodes?, names, named, held, naming?, inside?, fileTests}
+use Rattle.meaning.specs.Check.{firstOf, edition?, counts?, distance?, nonzero, zeros?, chart?, charts?, ends?, leaving, transitions?, rising, slave?, slaves?, nodeOfKind?, nodes?, names, named, held, naming?, inside?, fileTests}
 use Rattle.meaning.specs.Rewriting.{leavingIn, noFree?, fromState?, inChart?, rewriteTests, rewriteRefusal, unionUpTo, lacking, used, free, call, callIn, called, idle, idles, chartWith, nearestIn, nearestSlave, callsBy, rewrittenChart, start, newName, callsOf, composed, madeFor, laid, inTurn, headFor, transitionsBytes, shapeIn, bodyBytes, encode, transitionsIn, rewriteBytes}
 
 -- D: a master with one slave
@@ -93,5 +93,5 @@ nested-rewritten = refl
 
 -- both are files that the call rewrites, given room for the result
 both-pass : (rewriteRefusal chartD 336 ≡ 0) × (rewriteRefusal nested 600 ≡ 0)
-unfolding le bytes trailerOf trailerBytes headOf headBytes transitionOf transitionBytes slaveOf slaveBytes nodeOf nodeBytes headAt transitionAt slaveAt nodeAt startOf from transitionsOf trailer bodyOf shapeOf chartOf fileAt fileOf same gather build treeOf Has tally unionUpTo lacking used free call callIn called idle idles chartWith nearestIn nearestSlave callsBy rewrittenChart start newName callsOf composed madeFor laid inTurn headFor transitionsBytes shapeIn bodyBytes encode transitionsIn rewriteBytes guards actions bit single anyUpTo firstOf counts? distance? nonzero zeros? chart? charts? ends? leaving transitions? rising slave? slaves? nodeOfKind? nodes? names named held naming? inside? fileTests leavingIn noFree? fromState? inChart? rewriteTests rewriteRefusal
+unfolding le bytes trailerOf trailerBytes headOf headBytes transitionOf transitionBytes slaveOf slaveBytes nodeOf nodeBytes headAt transitionAt slaveAt nodeAt startOf from transitionsOf trailer bodyOf shapeOf chartOf fileAt fileOf same gather build treeOf Has tally unionUpTo lacking used free call callIn called idle idles chartWith nearestIn nearestSlave callsBy rewrittenChart start newName callsOf composed madeFor laid inTurn headFor transitionsBytes shapeIn bodyBytes encode transitionsIn rewriteBytes guards actions bit single anyUpTo firstOf edition? counts? distance? nonzero zeros? chart? charts? ends? leaving transitions? rising slave? slaves? nodeOfKind? nodes? names named held naming? inside? fileTests leavingIn noFree? fromState? inChart? rewriteTests rewriteRefusal
 both-pass = (refl, refl)

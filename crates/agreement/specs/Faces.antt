@@ -6,7 +6,7 @@ use Prim.Native.Nat.{ℕ, zero, suc, _<_}
 use Rattle.signals.specs.Mask.{_∪_, _∖_}
 use Rattle.signals.specs.Decide.{sets, A, B, C, D, ∅ₑ, _∪ₑ_, _∖ₑ_, _≐_, _⊑_, _⊥ₑ_}
 use Rattle.layout.specs.declared.record.Transition.{Transition}
-use Rattle.meaning.specs.Meaning.{Set, ∅, Chart, Tree, Slaves, leaf, comp, hide, dec, nil, snoc, Move, actions, inFaceChart, inFace, outFace, outFaces}
+use Rattle.meaning.specs.Meaning.{Set, ∅, Chart, Tree, Slaves, leaf, comp, hide, dec, nil, snoc, Move, noMove, actions, inFaceChart, inFace, outFace, outFaces}
 use Rattle.meaning.specs.File.{File, wholeOf}
 use Rattle.meaning.specs.Rewriting.{call, callIn, idle, idles, called, chartWith}
 use Rattle.meaning.specs.Laws.Names.{kap}
@@ -109,47 +109,49 @@ module _ (sig state : ℕ → ℕ) where
     -- ── inputs: `face-t`, for the choice in which no chart moves ──
 
     module _ (some-state : (c : ℕ) → c < N → 0 < E c .states) where
-      abbrev stay : ℕ → Move
-      stay c = none
+      abbrev rest : ℕ → Move
+      rest c = noMove
 
-      abbrev stayed : ℕ → Move
-      stayed c = moveR sig (kap c) (touch sig state (slv c)) 0 none
+      abbrev rested : ℕ → Move
+      rested c = moveR sig (kap c) (touch sig state (slv c)) 0 noMove
 
-      at : (c : ℕ) (κ : Option ℕ) (ss : Slaves) → c < N → kap c ≡ κ → slv c ≡ ss → At sig state (λ c. 0) E E′ stay stayed κ c ss
+      at : (c : ℕ) (κ : Option ℕ) (ss : Slaves) → c < N → kap c ≡ κ → slv c ≡ ss → At sig state (λ c. 0) E E′ rest rested κ c ss
       unfolding chartWith
-      at c κ ss l p q = subst₂ (λ κ ss. At sig state (λ c. 0) E E′ stay stayed κ c ss) p q (record {
+      at c κ ss l p q = subst₂ (λ κ ss. At sig state (λ c. 0) E E′ rest rested κ c ss) p q (record {
         moved = refl;
         fed = ap (λ C. C .feedback) (same-chart c l);
         faced = ap inFaceChart (same-chart c l) ∙ face-is sig (kap c) (touch sig state (slv c)) (E c) (some-state c l);
         old-feedback = old c l .old-feedback;
         old-face = old-faceChart sig (E c) (old c l);
         old-move = tt;
+        one = old c l .one;
+        one′ = ap (λ C. C .stays) (same-chart c l) ∙ old c l .one;
       })
 
       mutual
-        rw-t : (t : Tree) (κ : Option ℕ) → Fit sig kap slv N t κ → Rw sig state (λ c. 0) E E′ stay stayed t κ
+        rw-t : (t : Tree) (κ : Option ℕ) → Fit sig kap slv N t κ → Rw sig state (λ c. 0) E E′ rest rested t κ
         rw-t (leaf c) κ f = at c κ nil (f .0) (f .1) (f .2)
         rw-t (comp p q x) κ f = (rw-t p κ (f .0), rw-t q κ (f .1))
         rw-t (hide p x y) κ f = (f .0, rw-t p κ (f .1))
         rw-t (dec c ss) κ f = (at c κ ss (f .0) (f .1) (f .2), f .3, rw-s ss κ (f .4))
 
-        rw-s : (ss : Slaves) (κ : Option ℕ) → FitS sig kap slv N ss κ → Rws sig state (λ c. 0) E E′ stay stayed ss κ
+        rw-s : (ss : Slaves) (κ : Option ℕ) → FitS sig kap slv N ss κ → Rws sig state (λ c. 0) E E′ rest rested ss κ
         rw-s nil κ f = tt
         rw-s (snoc ss i t) κ f = (rw-s ss κ (f .0), f .1, rw-t t (some i) (f .2))
 
       pub in-t : ((i j : ℕ) → sig i ≡ sig j → i ≡ j) → (t : Tree) → Fit sig kap slv N t none → inFace E′ (tree sig fbs t) ≡ inFace E t
       unfolding callIn
-      in-t inj t f = face-t sig state inj (λ c. 0) E E′ stay stayed t none (rw-t t none f) ∙ sets (inFace E t ∷ []) [] (A ∪ₑ ∅ₑ ≐ A) tt
+      in-t inj t f = face-t sig state inj (λ c. 0) E E′ rest rested t none (rw-t t none f) ∙ sets (inFace E t ∷ []) [] (A ∪ₑ ∅ₑ ≐ A) tt
 
 -- ── the whole of a file ──
 
 module _ (F : File) (rd : Ready F) (F′ : File) (r : Rewritten F F′) where
   pub input-is : inFace (F′ .chart) (wholeOf F′) ≡ inFace (F .chart) (wholeOf F)
   input-is = ap (inFace (F′ .chart)) (whole-is F rd F′ r)
-      ∙ in-t (call F) (F .state) (kap F) (slavesOf F) (F .charts) (F .chart) (F′ .chart) (old-chart F (rd .small)) (chart-is F rd F′ r)
+      ∙ in-t (call F) (F .state) (kap F) (slavesOf F) (F .charts) (F .chart) (F′ .chart) (old-chart F (rd .small) (rd .one)) (chart-is F rd F′ r)
       (rd .some-state) (call-inj F) (wholeOf F) (fits F rd)
 
   pub output-is : outFace (F′ .chart) (wholeOf F′) ≡ outFace (F .chart) (wholeOf F)
   output-is = ap (outFace (F′ .chart)) (whole-is F rd F′ r)
-      ∙ out-t (call F) (F .state) (kap F) (slavesOf F) (F .charts) (F .chart) (F′ .chart) (old-chart F (rd .small)) (chart-is F rd F′ r)
+      ∙ out-t (call F) (F .state) (kap F) (slavesOf F) (F .charts) (F .chart) (F′ .chart) (old-chart F (rd .small) (rd .one)) (chart-is F rd F′ r)
       (wholeOf F) none (fits F rd)

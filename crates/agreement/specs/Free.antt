@@ -210,9 +210,10 @@ module _ (F : File) where
         vs : List ℕ
         vs = t .needed ∷ t .barred ∷ guards ts ∷ used F ∷ []
 
-    pub old-chart : (c : ℕ) → c < F .charts → OldChart (call F) (F .chart c)
+    pub old-chart : ((c : ℕ) → c < F .charts → F .chart c .stays ≡ false) → (c : ℕ) → c < F .charts → OldChart (call F) (F .chart c)
     unfolding used
-    old-chart c l = record {
+    old-chart one c l = record {
+      one = one c l;
       old-transitions = old-list ts (sets vs H (A ⊑ D) tt h) (sets vs H (B ⊑ D) tt h);
       old-feedback = call-old (F .chart c .feedback) (sets vs H (C ⊑ D) tt h);
       old-extra = call-old (F .chart c .extra) (sets vs H (Eₑ ⊑ D) tt h);

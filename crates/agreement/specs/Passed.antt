@@ -26,7 +26,9 @@ use Rattle.meaning.specs.File.{endOf, trailer, bodyOf, shapeOf, chartOf, fileAt
 use Rattle.meaning.specs.Check.{Test, firstOf, notBelow, ends?, transitions?, fileTests, refusalOf}
 use Rattle.meaning.specs.Check.Nodes.{sound}
 use Rattle.meaning.specs.Check.Laws.{below, Numbered, Passes, firstOf-[], firstOf-passes, firstOf-++, firstOf-before, Passed, numbered, counted, charted, eq-or-not}
+use Rattle.meaning.specs.Numbers.{firstEdition}
 use Rattle.meaning.specs.Rewriting.{used}
+use Rattle.meaning.specs.Laws.Editions.{one-stays}
 use Rattle.agreement.specs.Every.{Every, every-from, every-imp}
 use Rattle.agreement.specs.Encoded.{Small}
 use Rattle.agreement.specs.Free.{union-small}
@@ -114,9 +116,10 @@ module _ (f : List ℕ) (p : Passed f) where
 
     -- ── all of it ──
 
-    pub ready : Ready (fileOf f)
+    -- of an edition 1 file
+    pub ready : trailer f .edition ≡ firstEdition → Ready (fileOf f)
     unfolding fileOf fileAt chartOf shapeOf transitionsOf
-    ready = record {
+    ready one = record {
       sound = sound (fileOf f) (p .slaves) (p .nodes) (p .naming) (p .inside);
       some-node = counted (trailer f) (p .counts) .some-node;
       some-state = λ c l. charted n b (p .charts) c l .some-state;
@@ -126,4 +129,5 @@ module _ (f : List ℕ) (p : Passed f) where
           let g = charted n b (p .charts) c l .states in
           let e = length-from (transitionAt n b) (startOf n b c) (headAt n b c .transitions) in omega arith;
       small = used-small;
+      one = λ c l. one-stays f one c;
     }

@@ -1,6 +1,6 @@
 -- Places after the rewriting (document 02, No. 1): a transition keeps its place, and where a chart takes none an idle transition stands, if it has any.
 -- So an outcome is turned into one of the rewritten file, and the answer is the same. In this order: one place; the places of a choice; outcomes.
-use mathlib.Core.Path.{_≡_, refl, _∙_, ap, ap₂}
+use mathlib.Core.Path.{_≡_, refl, sym, _∙_, ap, ap₂}
 use mathlib.Core.Bool.{Bool, true, false, _&&_, cond}
 use mathlib.Core.Logic.{_⊎_, inl, inr}
 use mathlib.Core.Option.{Option, none, some}
@@ -9,8 +9,9 @@ use Prim.Native.Nat.{ℕ, zero, suc, _+_, _≤_, _<_}
 use native.Mathlib.Omega.{arith}
 use lib.ListN.{length}
 use Rattle.meaning.specs.Numbers.{noPlace}
-use Rattle.meaning.specs.Meaning.{same, Outcome, eqList, agree, answer, given, upto, placeOf, placesFrom, firstPlaces}
+use Rattle.meaning.specs.Meaning.{same, Chart, pick, Outcome, eqList, agree, answer, given, upto, placeOf, placesFrom, firstPlaces}
 use Rattle.meaning.specs.Laws.Bools.{same-refl, same→≡, same-≢}
+use Rattle.meaning.specs.Laws.Choices.{place-own}
 use Rattle.agreement.specs.Charts.{place}
 
 -- ── one place ──
@@ -21,11 +22,18 @@ turnedPlace none m s p = p
 turnedPlace (some i) m s p = cond (same p noPlace) (m + s) p
 
 -- a chart's list is too short for 255 to be a place
-pub place-turned : (κ : Option ℕ) (m s v : ℕ) → v ≤ m → m ≤ noPlace → placeOf (place κ m s v) ≡ turnedPlace κ m s (placeOf v)
-unfolding placeOf place turnedPlace
-place-turned none m s v l b = refl
-place-turned (some i) m s zero l b = rw (same-refl noPlace)
-place-turned (some i) m s (suc k) l b = rw (same-≢ k noPlace (λ e. omega arith))
+pub place-turned : (κ : Option ℕ) (C C′ : Chart) (s v : ℕ) → v ≤ length (C .transitions) → length (C .transitions) ≤ noPlace
+    → ((w : ℕ) → place κ (length (C .transitions)) s v ≡ suc w → w < length (C′ .transitions))
+    → placeOf (pick C′ (place κ (length (C .transitions)) s v)) (place κ (length (C .transitions)) s v)
+    ≡ turnedPlace κ (length (C .transitions)) s (placeOf (pick C v) v)
+unfolding place turnedPlace
+place-turned none C C′ s zero l b h = unfold pick placeOf in refl
+place-turned none C C′ s (suc k) l b h = place-own C′ k (h k refl) ∙ sym (place-own C k (omega arith))
+place-turned (some i) C C′ s zero l b h =
+    place-own C′ (length (C .transitions) + s) (h (length (C .transitions) + s) refl)
+    ∙ unfold pick placeOf in rw (same-refl noPlace)
+place-turned (some i) C C′ s (suc k) l b h =
+    place-own C′ k (h k refl) ∙ rw (place-own C k (omega arith), same-≢ k noPlace (λ e. omega arith))
 
 -- it stays, or an idle transition's stands where there was none
 pub turned-or-idle : (κ : Option ℕ) (m s p : ℕ) → (turnedPlace κ m s p ≡ p) ⊎ ((i : ℕ) × (κ ≡ some i) × (p ≡ noPlace) × (turnedPlace κ m s p ≡ m + s))
@@ -50,17 +58,6 @@ module _ (kap : ℕ → Option ℕ) (own : ℕ → ℕ) (cfg : ℕ → ℕ) wher
   length-turned c [] = refl
   length-turned c (p ∷ ps) = ap suc (length-turned (suc c) ps)
 
-  -- those of a choice ch, and of the choice ch′ that stands for it in the rewritten file
-  pub places-turned : (ch ch′ : ℕ → ℕ) (c n : ℕ)
-      → ((i : ℕ) → c ≤ i → i < c + n → (ch i ≤ own i) × (own i ≤ noPlace) × (ch′ i ≡ place (kap i) (own i) (cfg i) (ch i)))
-      → placesFrom ch′ c n ≡ turnedPlaces c (placesFrom ch c n)
-  unfolding placesFrom turnedPlaces
-  places-turned ch ch′ c zero h = refl
-  places-turned ch ch′ c (suc n) h =
-      let g = h c (omega arith) (omega arith) in
-      ap₂ _∷_ (ap placeOf (g .2) ∙ place-turned (kap c) (own c) (cfg c) (ch c) (g .0) (g .1))
-      (places-turned ch ch′ (suc c) n (λ i l m. h i (omega arith) (omega arith)))
-
   -- ── outcomes ──
 
   unfoldable pub turned : Outcome → Outcome
@@ -81,6 +78,26 @@ module _ (kap : ℕ → Option ℕ) (own : ℕ → ℕ) (cfg : ℕ → ℕ) wher
   unfolding firstPlaces turned turnedPlaces
   first-turned [] = refl
   first-turned (o ∷ os) = refl
+
+-- the places of a choice ch, and of the choice ch′ that stands for it in the rewritten file
+module _ (kap : ℕ → Option ℕ) (E E′ : ℕ → Chart) (cfg : ℕ → ℕ) where
+  abbrev own : ℕ → ℕ
+  own c = length (E c .transitions)
+
+  pub record Stands (ch ch′ : ℕ → ℕ) (c : ℕ) : Type 0 where
+    pub place-there : ch c ≤ own c
+    pub few : own c ≤ noPlace
+    pub is : ch′ c ≡ place (kap c) (own c) (cfg c) (ch c)
+    pub new-there : (w : ℕ) → place (kap c) (own c) (cfg c) (ch c) ≡ suc w → w < length (E′ c .transitions)
+
+  pub places-turned : (ch ch′ : ℕ → ℕ) (c n : ℕ) → ((i : ℕ) → c ≤ i → i < c + n → Stands ch ch′ i)
+      → placesFrom E′ ch′ c n ≡ turnedPlaces kap own cfg c (placesFrom E ch c n)
+  unfolding placesFrom turnedPlaces
+  places-turned ch ch′ c zero h = refl
+  places-turned ch ch′ c (suc n) h =
+      let g = h c (omega arith) (omega arith) in
+      ap₂ _∷_ (ap (λ v. placeOf (pick (E′ c) v) v) (g .is) ∙ place-turned (kap c) (E c) (E′ c) (cfg c) (ch c) (g .place-there) (g .few) (g .new-there))
+      (places-turned ch ch′ (suc c) n (λ i l m. h i (omega arith) (omega arith)))
 
 module _ {A B : Type 0} (g : A → B) where
   pub map-cond : (b : Bool) (x : A) → map g (cond b (x ∷ []) []) ≡ cond b (g x ∷ []) []

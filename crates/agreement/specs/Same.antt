@@ -10,9 +10,10 @@ use Rattle.signals.specs.Mask.{_∪_, _∩_, _∖_, single, bit, within, apart}
 use Rattle.signals.specs.Mask.Laws.{bit-single, bit-none, single-apart}
 use Rattle.signals.specs.Decide.{sets, A, B, C, D, E as Eₑ, F as Fₑ, G as Gₑ, H as Hₑ, ∅ₑ, _∪ₑ_, _∩ₑ_, _∖ₑ_, _≐_, _⊑_, _⊥ₑ_}
 use Rattle.layout.specs.declared.record.Transition.{Transition}
-use Rattle.meaning.specs.Meaning.{Set, ∅, same, Chart, Tree, Slaves, leaf, comp, hide, dec, nil, snoc, Move, actionOf, after, inFaceChart, inFace, inFaces, out, outs, okChart, meets, ok, oks}
+use Rattle.meaning.specs.Meaning.{Set, ∅, same, Chart, Tree, Slaves, leaf, comp, hide, dec, nil, snoc, Move, noMove, takes, stay, actionOf, after, inFaceChart, inFace, inFaces, out, outs, okChart, meets, ok, oks}
 use Rattle.meaning.specs.Rewriting.{callIn, called, idle}
 use Rattle.meaning.specs.Laws.Bools.{or-l, or-r, same-refl, same→≡, same→≢, same-≢, and-l, and-i, and-cong, not-true}
+use Rattle.meaning.specs.Laws.Editions.{okOne, ok-one}
 use Rattle.agreement.specs.Tree.{calls, on, tree, nest, touch, moveR}
 
 -- ── sets without calls ──
@@ -22,10 +23,11 @@ module _ (sig : ℕ → ℕ) where
   abbrev pub Old : Set → Type 0
   Old s = (i : ℕ) → single (sig i) ∩ s ≡ ∅
 
-  -- a move whose sets have no call
+  -- a move of edition 1 whose sets have no call
   abbrev pub OldMove : Move → Type 0
-  OldMove none = Unit {0}
-  OldMove (some t) = Old (t .needed) × Old (t .barred) × Old (t .action)
+  OldMove noMove = Unit {0}
+  OldMove (takes t) = Old (t .needed) × Old (t .barred) × Old (t .action)
+  OldMove stay = ⊥
 
   -- the enclosing slave is not i
   abbrev pub Apart : Option ℕ → ℕ → Type 0
@@ -104,6 +106,8 @@ pub record At (sig state : ℕ → ℕ) (cfg : ℕ → ℕ) (E E′ : ℕ → Ch
   pub old-feedback : Old sig (E c .feedback)
   pub old-face : Old sig (inFaceChart (E c))
   pub old-move : OldMove sig (M c)
+  pub one : E c .stays ≡ false
+  pub one′ : E′ c .stays ≡ false
 
 -- there is a slave
 abbrev pub Some : Slaves → Type 0
@@ -137,7 +141,7 @@ hit-zero n s h = not-true (λ e. false≢true (sym (bit-none n) ∙ ap (λ z. bi
     s-is e = sets (single n ∷ s ∷ []) (A ⊑ B ∷ B ≐ ∅ₑ ∷ []) (B ≐ A) tt h (same→≡ s 0 e)
 
 -- an own transition of an active chart
-own : (sig : ℕ → ℕ) (κ : Option ℕ) (o F T : Set) (t : Transition) → OldMove sig (some t) → T ∩ F ≡ ∅
+own : (sig : ℕ → ℕ) (κ : Option ℕ) (o F T : Set) (t : Transition) → OldMove sig (takes t) → T ∩ F ≡ ∅
     → (within (t .needed ∪ callIn sig κ) ((o ∪ callIn sig κ) ∪ ((t .action ∪ T) ∩ F))
     && apart (t .barred) ((o ∪ callIn sig κ) ∪ ((t .action ∪ T) ∩ F)))
     ≡ (within (t .needed) (o ∪ (t .action ∩ F)) && apart (t .barred) (o ∪ (t .action ∩ F)))
@@ -148,19 +152,19 @@ own sig κ o F T t om tf = ap₂ (λ p q. eqb p 0 && eqb q 0)
     (call-old sig κ (t .barred) (om .1)) tf)
 
 okChart-R : (sig : ℕ → ℕ) (κ : Option ℕ) (a : Bool) (o F : Set) (T : Transition → Set) (s : ℕ) (m : Move) → OldMove sig m → Old sig o → Old sig F
-    → ((t : Transition) → T t ∩ F ≡ ∅) → Awake sig κ a → okChart F true (o ∪ on sig κ a) s (moveR sig κ T s m) ≡ okChart F a o s m
-unfolding okChart moveR called idle on callIn
+    → ((t : Transition) → T t ∩ F ≡ ∅) → Awake sig κ a → okOne F true (o ∪ on sig κ a) s (moveR sig κ T s m) ≡ okOne F a o s m
+unfolding okOne moveR called idle on callIn
 okChart-R sig none false o F T s m om oo oF tf w = absurd (false≢true w)
-okChart-R sig none true o F T s none om oo oF tf w = refl
-okChart-R sig none true o F T s (some t) om oo oF tf w = ap (λ b. same (t .from) s && b) (own sig none o F (T t) t om (tf t))
-okChart-R sig (some i) true o F T s (some t) om oo oF tf w = ap (λ b. same (t .from) s && b) (own sig (some i) o F (T t) t om (tf t))
-okChart-R sig (some i) false o F T s (some t) om oo oF tf w =
+okChart-R sig none true o F T s noMove om oo oF tf w = refl
+okChart-R sig none true o F T s (takes t) om oo oF tf w = ap (λ b. same (t .from) s && b) (own sig none o F (T t) t om (tf t))
+okChart-R sig (some i) true o F T s (takes t) om oo oF tf w = ap (λ b. same (t .from) s && b) (own sig (some i) o F (T t) t om (tf t))
+okChart-R sig (some i) false o F T s (takes t) om oo oF tf w =
     ap (λ b. same (t .from) s && (b && apart (t .barred) ((o ∪ ∅) ∪ ((t .action ∪ T t) ∩ F)))) lacks ∙ and-false (same (t .from) s)
   where
     lacks : within (t .needed ∪ callIn sig (some i)) ((o ∪ ∅) ∪ ((t .action ∪ T t) ∩ F)) ≡ false
     lacks = hit-zero (sig i) _ (sets (single (sig i) ∷ t .needed ∷ o ∷ (t .action ∪ T t) ∷ F ∷ []) (A ⊥ₑ C ∷ A ⊥ₑ Eₑ ∷ [])
         (A ⊑ (B ∪ₑ A) ∖ₑ (C ∪ₑ ∅ₑ ∪ₑ D ∩ₑ Eₑ)) tt (oo i) (oF i))
-okChart-R sig (some i) true o F T s none om oo oF tf w =
+okChart-R sig (some i) true o F T s noMove om oo oF tf w =
     ap (λ b. same s s && (within ∅ ((o ∪ callIn sig (some i)) ∪ (∅ ∩ F)) && b)) hits ∙ law (same s s) (within ∅ ((o ∪ callIn sig (some i)) ∪ (∅ ∩ F)))
   where
     hits : apart (single (sig i)) ((o ∪ callIn sig (some i)) ∪ (∅ ∩ F)) ≡ false
@@ -169,9 +173,11 @@ okChart-R sig (some i) true o F T s none om oo oF tf w =
     law : (a b : Bool) → (a && (b && false)) ≡ false
     law true b = and-false b
     law false b = refl
-okChart-R sig (some i) false o F T s none om oo oF tf w =
+okChart-R sig (some i) false o F T s noMove om oo oF tf w =
     and-i (same-refl s) (and-i (none-zero _ (sets (o ∷ F ∷ []) [] (∅ₑ ⊑ A ∪ₑ ∅ₑ ∪ₑ ∅ₑ ∩ₑ B) tt))
     (none-zero _ (sets (single (sig i) ∷ o ∷ F ∷ []) (A ⊥ₑ B ∷ []) (A ⊥ₑ B ∪ₑ ∅ₑ ∪ₑ ∅ₑ ∩ₑ C) tt (oo i))))
+okChart-R sig none true o F T s stay om oo oF tf w = absurd om
+okChart-R sig (some i) a o F T s stay om oo oF tf w = absurd om
 
 -- ── interfaces ──
 
@@ -182,8 +188,9 @@ In j (snoc ss i t) = In j ss || same j i
 
 -- the calls that a move makes
 made : (sig state : ℕ → ℕ) → Slaves → Move → Set
-made sig state ss none = ∅
-made sig state ss (some t) = touch sig state ss t
+made sig state ss noMove = ∅
+made sig state ss (takes t) = touch sig state ss t
+made sig state ss stay = ∅
 
 module _ (sig state : ℕ → ℕ) (inj : (i j : ℕ) → sig i ≡ sig j → i ≡ j) (cfg : ℕ → ℕ) (E E′ : ℕ → Chart) (M M′ : ℕ → Move) where
   abbrev RwT : Tree → Option ℕ → Type 0
@@ -244,8 +251,9 @@ module _ (sig state : ℕ → ℕ) (inj : (i j : ℕ) → sig i ≡ sig j → i 
 
   action-old : (m : Move) → OldMove sig m → Old sig (actionOf m)
   unfolding actionOf
-  action-old none o = old-none sig
-  action-old (some t) o = o .2
+  action-old noMove o = old-none sig
+  action-old (takes t) o = o .2
+  action-old stay o = absurd o
 
   mutual
     unfolding out
@@ -263,22 +271,25 @@ module _ (sig state : ℕ → ℕ) (inj : (i j : ℕ) → sig i ≡ sig j → i 
   -- the action of a rewritten move
   action-moved : (κ : Option ℕ) (ss : Slaves) (s : ℕ) (m : Move) → actionOf (moveR sig κ (touch sig state ss) s m) ≡ actionOf m ∪ made sig state ss m
   unfolding actionOf moveR called made idle
-  action-moved κ ss s (some t) = refl
-  action-moved none ss s none = sets [] [] (∅ₑ ≐ ∅ₑ ∪ₑ ∅ₑ) tt
-  action-moved (some i) ss s none = sets [] [] (∅ₑ ≐ ∅ₑ ∪ₑ ∅ₑ) tt
+  action-moved κ ss s (takes t) = refl
+  action-moved κ ss s stay = sets [] [] (∅ₑ ≐ ∅ₑ ∪ₑ ∅ₑ) tt
+  action-moved none ss s noMove = sets [] [] (∅ₑ ≐ ∅ₑ ∪ₑ ∅ₑ) tt
+  action-moved (some i) ss s noMove = sets [] [] (∅ₑ ≐ ∅ₑ ∪ₑ ∅ₑ) tt
 
   action-at : (κ : Option ℕ) (c : ℕ) (ss : Slaves) → AtC κ c ss → actionOf (M′ c) ≡ actionOf (M c) ∪ made sig state ss (M c)
   action-at κ c ss at = ap actionOf (at .moved) ∙ action-moved κ ss (cfg c) (M c)
 
   made-nil : (m : Move) → made sig state nil m ≡ ∅
   unfolding made touch
-  made-nil none = refl
-  made-nil (some t) = refl
+  made-nil noMove = refl
+  made-nil (takes t) = refl
+  made-nil stay = refl
 
   made-calls : (ss : Slaves) (m : Move) → made sig state ss m ∖ calls sig ss ≡ ∅
   unfolding made
-  made-calls ss none = sets (calls sig ss ∷ []) [] (∅ₑ ⊑ A) tt
-  made-calls ss (some t) = touch-calls sig state ss t
+  made-calls ss noMove = sets (calls sig ss ∷ []) [] (∅ₑ ⊑ A) tt
+  made-calls ss (takes t) = touch-calls sig state ss t
+  made-calls ss stay = sets (calls sig ss ∷ []) [] (∅ₑ ⊑ A) tt
 
   mutual
     unfolding out tree
@@ -310,9 +321,9 @@ module _ (sig state : ℕ → ℕ) (inj : (i j : ℕ) → sig i ≡ sig j → i 
 
   nest-ok : (ss : Slaves) (c : ℕ) (x z : Set) → (out M′ (nest sig fbs ss c x) ∩ x) ∖ z ≡ ∅
       → okR (nest sig fbs ss c x) (z ∩ inFace E′ (nest sig fbs ss c x))
-      ≡ (okChart (E′ c .feedback) true (z ∩ inFaceChart (E′ c)) (cfg c) (M′ c) && parts ss z)
+      ≡ (okChart (E′ c) true (z ∩ inFaceChart (E′ c)) (cfg c) (M′ c) && parts ss z)
   unfolding ok parts tree inFace out
-  nest-ok nil c x z h = sym (and-true (okChart (E′ c .feedback) true (z ∩ inFaceChart (E′ c)) (cfg c) (M′ c)))
+  nest-ok nil c x z h = sym (and-true (okChart (E′ c) true (z ∩ inFaceChart (E′ c)) (cfg c) (M′ c)))
   nest-ok (snoc ss i t) c x z h =
       ap₂ _&&_
       (ap (okR (nest sig fbs ss c x)) (sets (z ∷ IN ∷ IT ∷ ON ∷ OT ∷ x ∷ []) ((D ∪ₑ Eₑ) ∩ₑ Fₑ ⊑ A ∷ [])
@@ -320,7 +331,7 @@ module _ (sig state : ℕ → ℕ) (inj : (i j : ℕ) → sig i ≡ sig j → i 
       ∙ nest-ok ss c x z (sets (z ∷ ON ∷ OT ∷ x ∷ []) ((B ∪ₑ C) ∩ₑ D ⊑ A ∷ []) (B ∩ₑ D ⊑ A) tt h))
       (ap (okR (tree sig fbs t)) (sets (z ∷ IN ∷ IT ∷ ON ∷ OT ∷ x ∷ []) ((D ∪ₑ Eₑ) ∩ₑ Fₑ ⊑ A ∷ [])
       ((A ∩ₑ (B ∪ₑ C) ∪ₑ (D ∪ₑ Eₑ) ∩ₑ Fₑ) ∩ₑ C ≐ A ∩ₑ C) tt h))
-      ∙ and-assoc (okChart (E′ c .feedback) true (z ∩ inFaceChart (E′ c)) (cfg c) (M′ c)) (parts ss z) (okR (tree sig fbs t) (z ∩ IT))
+      ∙ and-assoc (okChart (E′ c) true (z ∩ inFaceChart (E′ c)) (cfg c) (M′ c)) (parts ss z) (okR (tree sig fbs t) (z ∩ IT))
     where
       IN : Set
       IN = inFace E′ (nest sig fbs ss c x)
@@ -336,14 +347,14 @@ module _ (sig state : ℕ → ℕ) (inj : (i j : ℕ) → sig i ≡ sig j → i 
 
   nest-top : (ss : Slaves) → Some ss → (c : ℕ) (x o : Set)
       → okR (nest sig fbs ss c x) o
-      ≡ (okChart (E′ c .feedback) true ((o ∪ (out M′ (nest sig fbs ss c x) ∩ x)) ∩ inFaceChart (E′ c)) (cfg c) (M′ c)
+      ≡ (okChart (E′ c) true ((o ∪ (out M′ (nest sig fbs ss c x) ∩ x)) ∩ inFaceChart (E′ c)) (cfg c) (M′ c)
       && parts ss (o ∪ (out M′ (nest sig fbs ss c x) ∩ x)))
   unfolding ok parts tree inFace out
   nest-top nil e c x o = absurd e
   nest-top (snoc ss i t) e c x o =
       ap (λ b. b && okR (tree sig fbs t) (Z ∩ inFace E′ (tree sig fbs t)))
       (nest-ok ss c x Z (sets (o ∷ ON ∷ OT ∷ x ∷ []) [] (B ∩ₑ D ⊑ A ∪ₑ (B ∪ₑ C) ∩ₑ D) tt))
-      ∙ and-assoc (okChart (E′ c .feedback) true (Z ∩ inFaceChart (E′ c)) (cfg c) (M′ c)) (parts ss Z)
+      ∙ and-assoc (okChart (E′ c) true (Z ∩ inFaceChart (E′ c)) (cfg c) (M′ c)) (parts ss Z)
       (okR (tree sig fbs t) (Z ∩ inFace E′ (tree sig fbs t)))
     where
       ON : Set
@@ -392,13 +403,15 @@ module _ (sig state : ℕ → ℕ) (inj : (i j : ℕ) → sig i ≡ sig j → i 
           ∙ ap (λ n. cond (n && hits t j) (single (sig j)) ∅) (sym (or-false (In j ss)))
 
   -- a permitted move makes a slave's call exactly if the slave is active
-  made-at : (ss : Slaves) (F : Set) (a : Bool) (o : Set) (s : ℕ) (m : Move) → okChart F a o s m ≡ true → (j : ℕ) → In j ss ≡ true
+  made-at : (ss : Slaves) (F : Set) (a : Bool) (o : Set) (s : ℕ) (m : Move) → okOne F a o s m ≡ true → (j : ℕ) → In j ss ≡ true
       → single (sig j) ∩ made sig state ss m ≡ cond (a && meets s m (state j)) (single (sig j)) ∅
-  unfolding okChart made meets after hits
-  made-at ss F false o s none k j h = sets (single (sig j) ∷ []) [] (A ∩ₑ ∅ₑ ≐ ∅ₑ) tt
-  made-at ss F false o s (some t) k j h = absurd (false≢true k)
-  made-at ss F true o s none k j h = absurd (false≢true k)
-  made-at ss F true o s (some t) k j h = touch-at ss t j
+  unfolding okOne made meets after hits
+  made-at ss F false o s noMove k j h = sets (single (sig j) ∷ []) [] (A ∩ₑ ∅ₑ ≐ ∅ₑ) tt
+  made-at ss F false o s (takes t) k j h = absurd (false≢true k)
+  made-at ss F false o s stay k j h = absurd (false≢true k)
+  made-at ss F true o s noMove k j h = absurd (false≢true k)
+  made-at ss F true o s stay k j h = absurd (false≢true k)
+  made-at ss F true o s (takes t) k j h = touch-at ss t j
       ∙ ap₂ (λ n q. cond (n && (same q (state j) || same (t .to) (state j))) (single (sig j)) ∅) h (same→≡ (t .from) s (and-l _ _ k))
 
   -- what the parts of a decomposed chart are offered before the cut, in the original
@@ -423,14 +436,16 @@ module _ (sig state : ℕ → ℕ) (inj : (i j : ℕ) → sig i ≡ sig j → i 
 
   master-ok : (c : ℕ) (ss : Slaves) (κ : Option ℕ) (a : Bool) (o z : Set) → AtC κ c ss → RwS ss κ → Old sig o → Awake sig κ a
       → z ≡ (zone c ss o ∪ on sig κ a) ∪ made sig state ss (M c)
-      → okChart (E′ c .feedback) true (z ∩ inFaceChart (E′ c)) (cfg c) (M′ c)
-      ≡ okChart (E c .feedback) a (zone c ss o ∩ inFaceChart (E c)) (cfg c) (M c)
+      → okChart (E′ c) true (z ∩ inFaceChart (E′ c)) (cfg c) (M′ c)
+      ≡ okChart (E c) a (zone c ss o ∩ inFaceChart (E c)) (cfg c) (M c)
   unfolding made
   master-ok c ss κ a o z at r oo w ez =
-      rw (cut, at .fed, at .moved)
+      ok-one (E′ c) (at .one′) true _ (cfg c) (M′ c)
+      ∙ rw (cut, at .fed, at .moved)
       (okChart-R sig κ a (zone c ss o ∩ inFaceChart (E c)) (E c .feedback) (touch sig state ss) (cfg c) (M c) (at .old-move)
       (old-cut sig (zone c ss o) (inFaceChart (E c)) (at .old-face)) (at .old-feedback)
-      (λ t. made-old ss (some t) (E c .feedback) (at .old-feedback)) w)
+      (λ t. made-old ss (takes t) (E c .feedback) (at .old-feedback)) w)
+      ∙ sym (ok-one (E c) (at .one) a _ (cfg c) (M c))
     where
       cut : z ∩ inFaceChart (E′ c) ≡ (zone c ss o ∩ inFaceChart (E c)) ∪ on sig κ a
       cut = ap₂ _∩_ ez (at .faced)
@@ -454,9 +469,11 @@ module _ (sig state : ℕ → ℕ) (inj : (i j : ℕ) → sig i ≡ sig j → i 
     -- offered the nearest call exactly if it is active, the rewritten tree permits what the tree does
     pub ok-t : (t : Tree) (κ : Option ℕ) (a : Bool) (o : Set) → RwT t κ → Old sig o → Awake sig κ a
         → okR (tree sig fbs t) (o ∪ on sig κ a) ≡ ok E state cfg M t a o
-    ok-t (leaf c) κ a o r oo w = rw (r .moved, r .fed)
+    ok-t (leaf c) κ a o r oo w = ok-one (E′ c) (r .one′) true _ (cfg c) (M′ c)
+        ∙ rw (r .moved, r .fed)
         (okChart-R sig κ a o (E c .feedback) (touch sig state nil) (cfg c) (M c) (r .old-move) oo (r .old-feedback)
         (λ t. sets (E c .feedback ∷ []) [] (∅ₑ ∩ₑ A ≐ ∅ₑ) tt) w)
+        ∙ sym (ok-one (E c) (r .one) a o (cfg c) (M c))
     ok-t (comp p q x) κ a o r oo w =
         ap₂ _&&_
         (ap (okR (tree sig fbs p)) (offer o U U′ x (inFace E p) (inFace E′ (tree sig fbs p)) κ a same-out (face-t p κ (r .0)) oo old-out
@@ -486,7 +503,8 @@ module _ (sig state : ℕ → ℕ) (inj : (i j : ℕ) → sig i ≡ sig j → i 
         nest-top ss (r .1) c (fbs c ∪ calls sig ss) ((o ∪ on sig κ a) ∖ calls sig ss)
         ∙ and-cong _ _ _ _ (master-ok c ss κ a o Z (r .0) (r .2) oo w (zone-is c ss κ a o (r .0) (r .2) oo))
         (λ k. parts-ok ss κ a Z (zone c ss o) (made sig state ss (M c)) (λ q. a && meets (cfg c) (M c) q) (r .2) (zone-old c ss κ o (r .0) oo)
-        (zone-is c ss κ a o (r .0) (r .2) oo) (made-old ss (M c)) (made-at ss (E c .feedback) a (zone c ss o ∩ inFaceChart (E c)) (cfg c) (M c) k))
+        (zone-is c ss κ a o (r .0) (r .2) oo) (made-old ss (M c)) (made-at ss (E c .feedback) a (zone c ss o ∩ inFaceChart (E c)) (cfg c) (M c)
+        (sym (ok-one (E c) (r .0 .one) a _ (cfg c) (M c)) ∙ k)))
       where
         Z : Set
         Z = ((o ∪ on sig κ a) ∖ calls sig ss) ∪ (out M′ (nest sig fbs ss c (fbs c ∪ calls sig ss)) ∩ (fbs c ∪ calls sig ss))

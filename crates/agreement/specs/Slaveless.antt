@@ -11,7 +11,7 @@ use Rattle.signals.specs.Decide.{sets, A, ∅ₑ, _∪ₑ_, _≐_}
 use Rattle.layout.specs.Body.{sizeOf}
 use Rattle.layout.specs.Record.{trailerBytes, headBytes, slaveBytes, nodeBytes}
 use Rattle.layout.specs.declared.record.Transition.{Transition}
-use Rattle.meaning.specs.Numbers.{theEdition}
+use Rattle.meaning.specs.Numbers.{firstEdition}
 use Rattle.meaning.specs.Count.{tally}
 use Rattle.meaning.specs.Count.Laws.{or-left, or-right, any-never, tally-cong}
 use Rattle.meaning.specs.Meaning.{Set, ∅}
@@ -57,6 +57,7 @@ module _ (F : File) (rd : Ready F) (none-there : F .slaves ≡ 0) where
         transitions = ts;
         feedback = F .chart c .feedback;
         extra = F .chart c .extra;
+        stays = F .chart c .stays;
       })
       (append-nil (map (called (call F) none (callsBy F c)) (F .chart c .transitions))
       ∙ stays (call F) (callsBy F c) (no-calls c) (F .chart c .transitions))
@@ -135,7 +136,7 @@ module _ (F G : File) (r : Reads F G) where
 
   shape-same : shapeIn G ≡ shapeIn F
   unfolding shapeIn
-  shape-same = λ i. record { charts = r .charts i; transitions = total-same i; slaves = r .slaves i; nodes = r .nodes i }
+  shape-same = λ i. record { charts = r .charts i; transitions = total-same i; slaves = r .slaves i; nodes = r .nodes i; edition = firstEdition }
 
   body-same : bodyBytes G ≡ bodyBytes F
   unfolding bodyBytes
@@ -154,7 +155,7 @@ module _ (F G : File) (r : Reads F G) where
     charts = s .charts;
     slaves = s .slaves;
     nodes = s .nodes;
-    edition = theEdition;
+    edition = firstEdition;
     transitions = s .transitions;
   })) shape-same body-same
 

@@ -1,14 +1,14 @@
 -- The rewritten file steps as the file does, from each valid configuration and for each input (`step-is`), and takes the same transitions but for
 -- idle ones (`places-are`, and Taken). What is asked of the file is in Ready; its runs are in Run, its interfaces in Faces.
 use mathlib.Core.Path.{_≡_, refl, sym, _∙_, ap, ap₂, subst, fun-ext}
-use mathlib.Core.Bool.{true, _&&_}
+use mathlib.Core.Bool.{true, false, _&&_}
 use mathlib.Core.Option.{none}
 use mathlib.Core.List.{List, map}
 use Prim.Native.Nat.{ℕ, zero, suc, _+_, _-_, _^_, _≤_, _<_}
 use native.Mathlib.Omega.{arith}
 use lib.ListN.{length, getD}
 use Rattle.signals.specs.Mask.{_∪_, _∩_, _∖_}
-use Rattle.meaning.specs.Meaning.{Set, Chart, Move, Tree, Slaves, leaf, comp, hide, dec, nil, snoc, inFace, ok, permitted, moves, upd, upto, Outcome, outcome, search, outcomes, answer, firstPlaces}
+use Rattle.meaning.specs.Meaning.{Set, Chart, Move, Tree, Slaves, leaf, comp, hide, dec, nil, snoc, lastPlace, inFace, ok, permitted, moves, upd, upto, Outcome, outcome, search, outcomes, answer, firstPlaces}
 use Rattle.meaning.specs.File.{File, treeOf, wholeOf, Has}
 use Rattle.meaning.specs.Numbers.{noPlace}
 use Rattle.meaning.specs.Calls.{outcomesIn, stepIn}
@@ -47,7 +47,7 @@ module _ (E : ℕ → Chart) (s₁ s₂ : ℕ → ℕ) (cfg : ℕ → ℕ) (t : 
   free-search : (n c : ℕ) (ch : ℕ → ℕ) → search E s₁ cfg t inp N n c ch ≡ search E s₂ cfg t inp N n c ch
   unfolding search outcome
   free-search zero c ch = rw (h (moves E ch))
-  free-search (suc n) c ch = ap (upto (length (E c .transitions))) (fun-ext (λ v. free-search n (suc c) (upd ch c v)))
+  free-search (suc n) c ch = ap (upto (lastPlace (E c))) (fun-ext (λ v. free-search n (suc c) (upd ch c v)))
 
 -- ── the whole ──
 
@@ -61,6 +61,8 @@ pub record Ready (F : File) : Type 0 where
   pub few : (c : ℕ) → c < F .charts → length (F .chart c .transitions) + F .chart c .states < noPlace
   -- its sets are of 64 signals
   pub small : used F < 2 ^ 64
+  -- "Demand 3 covers edition 1" (document 02, No. 7)
+  pub one : (c : ℕ) → c < F .charts → F .chart c .stays ≡ false
 
 -- a file that is the rewriting of F as far as it is read
 pub record Rewritten (F F′ : File) : Type 0 where
@@ -125,7 +127,7 @@ module _ (F : File) (rd : Ready F) where
         (λ M. free-t (call F) fbs (F′ .chart) (F′ .state) (F .state) cfg M (wholeOf F) (inp ∩ inFace (F′ .chart) T)) (F .charts) zero (λ c. zero)
         ∙ same-outcomes (call F) (F .state) (call-inj F) (kap F) (slavesOf F) (F .charts) (F .chart) (F′ .chart) cfg (wholeOf F) inp chart-is fits
         (above-node F (s .ordered) (s .rule11) (F .nodes) last (let h = is-last in omega arith) (let h = is-last in omega arith)) has
-        (old-chart F (rd .small)) (v .states) (λ c l. let h = rd .few c l in omega arith))
+        (old-chart F (rd .small) (rd .one)) (v .states) (λ c l. let h = rd .few c l in omega arith))
       where
         cfg : ℕ → ℕ
         cfg c = getD config c 0

@@ -1,7 +1,7 @@
 -- Which transitions a step of the rewritten file takes (document 02, No. 1): the definition of what agrees (`PlacesAgree`), and that it holds of two
 -- steps (`taken-agree`).
 use mathlib.Core.Path.{_≡_, refl, sym, _∙_, ap, subst}
-use mathlib.Core.Bool.{true}
+use mathlib.Core.Bool.{true, false}
 use mathlib.Core.Logic.{_⊎_, inl, inr, ⊎-elim, _≢_}
 use mathlib.Core.Option.{Option, none, some}
 use mathlib.Core.List.{List, [], _∷_, _++_}
@@ -13,17 +13,18 @@ use lib.ListN.{length, getD, replicate, length-append, List·getD-eq-default}
 use Rattle.signals.specs.Mask.{_∩_}
 use Rattle.layout.specs.declared.record.Transition.{Transition}
 use Rattle.meaning.specs.Numbers.{mostCharts, noPlace}
-use Rattle.meaning.specs.Meaning.{Set, Outcome, Answer, nth, pick, inFace, ok, permitted, moves, placeOf, placesFrom, firstPlaces, agree, answer}
+use Rattle.meaning.specs.Meaning.{Set, Chart, Outcome, Answer, noMove, takes, nth, pick, lastPlace, inFace, ok, permitted, moves, placeOf, placesFrom, firstPlaces, agree, answer}
 use Rattle.meaning.specs.File.{File, wholeOf}
 use Rattle.meaning.specs.Calls.{outcomesIn, stepIn, allPlaces, placesIn, refusalIn}
 use Rattle.meaning.specs.Rewriting.{call, chartWith, idle}
-use Rattle.meaning.specs.Laws.Choices.{length-places}
+use Rattle.meaning.specs.Laws.Choices.{place-own, length-places}
+use Rattle.meaning.specs.Laws.Editions.{places-one}
 use Rattle.meaning.specs.Laws.Names.{kap}
 use Rattle.meaning.specs.Laws.Runs.{Valid}
 use Rattle.meaning.specs.Laws.Demand2.{given-first}
 use Rattle.agreement.specs.Tree.{touch}
 use Rattle.agreement.specs.Fit.{slavesOf}
-use Rattle.agreement.specs.Charts.{idle-at, places, places-none}
+use Rattle.agreement.specs.Charts.{nth-idle, places, places-none}
 use Rattle.agreement.specs.Active.{Live, live}
 use Rattle.agreement.specs.Places.{turnedPlace, turned-or-idle, turnedPlaces, length-turned}
 use Rattle.agreement.specs.Step.{Ready, Rewritten, has, whole-is, chart-is, step-is, places-are}
@@ -36,7 +37,7 @@ module _ (F F′ : File) (config : List ℕ) (a : Answer) (ps ps′ : List ℕ) 
     pub one-of-its : c < F .charts
     pub none-taken : getD ps c noPlace ≡ noPlace
     pub slave : ℕ
-    pub is-idle : nth (F′ .chart c .transitions) (getD ps′ c noPlace) ≡ some (idle (call F) slave (getD config c 0))
+    pub is-idle : nth noMove (F′ .chart c .transitions) (getD ps′ c noPlace) ≡ takes (idle (call F) slave (getD config c 0))
 
   -- "the places agree, except that" so
   pub record PlacesAgree : Type 0 where
@@ -89,7 +90,7 @@ module _ (F F′ : File) (rd : Ready F) (rw′ : Rewritten F F′) (config : Lis
       go (x ∷ xs) e b = (
         ap (λ l. refusalIn (answer l)) e,
         let g = given-first (F .chart) (F .state) cfg (wholeOf F) inp (F .charts) (x .output) (x .next) (agree x xs) (ap answer e) in
-            let z : length (firstPlaces os) ≡ F .charts = ap length (g .places) ∙ length-places (g .choice) zero (F .charts) in
+            let z : length (firstPlaces os) ≡ F .charts = ap length (g .places) ∙ length-places (F .chart) (g .choice) zero (F .charts) in
             let y : length (firstPlaces os) ≡ length (x .places) = ap (λ l. length (firstPlaces l)) e in
             omega arith,
       )
@@ -110,11 +111,10 @@ module _ (F F′ : File) (rd : Ready F) (rw′ : Rewritten F F′) (config : Lis
   old-place c = getD-all (firstPlaces os) c
 
   -- chart c's idle transition for its present state
-  idle-there : (c i : ℕ) → c < F .charts → kap F c ≡ some i → nth (F′ .chart c .transitions) (own c + cfg c) ≡ some (idle (call F) i (cfg c))
-  unfolding pick
-  idle-there c i l e = ap (λ C. nth (C .transitions) (own c + cfg c)) (chart-is F rd F′ rw′ c l)
-      ∙ subst (λ κ. nth (chartWith (call F) κ (touch (call F) (F .state) (slavesOf F c)) (F .chart c) .transitions) (own c + cfg c) ≡ some (idle (call F) i (cfg c)))
-      (sym e) (idle-at (call F) i (touch (call F) (F .state) (slavesOf F c)) (F .chart c) (cfg c) (v .states c l))
+  idle-there : (c i : ℕ) → c < F .charts → kap F c ≡ some i → nth noMove (F′ .chart c .transitions) (own c + cfg c) ≡ takes (idle (call F) i (cfg c))
+  idle-there c i l e = ap (λ C. nth noMove (C .transitions) (own c + cfg c)) (chart-is F rd F′ rw′ c l)
+      ∙ subst (λ κ. nth noMove (chartWith (call F) κ (touch (call F) (F .state) (slavesOf F c)) (F .chart c) .transitions) (own c + cfg c) ≡ takes (idle (call F) i (cfg c)))
+      (sym e) (nth-idle (call F) noMove i (touch (call F) (F .state) (slavesOf F c)) (F .chart c) (cfg c) (v .states c l))
 
   abbrev Idles : ℕ → Type 0
   Idles c = IdleStands F F′ config (stepIn F config inp) (placesIn F config inp) (placesIn F′ config inp) c
@@ -131,7 +131,7 @@ module _ (F F′ : File) (rd : Ready F) (rw′ : Rewritten F F′) (config : Lis
         one-of-its = some-given c l .1;
         none-taken = old-place c ∙ w .2;
         slave = w .0;
-        is-idle = ap (nth (F′ .chart c .transitions)) (new-place c ∙ there ∙ w .3) ∙ idle-there c (w .0) (some-given c l .1) (w .1);
+        is-idle = ap (nth noMove (F′ .chart c .transitions)) (new-place c ∙ there ∙ w .3) ∙ idle-there c (w .0) (some-given c l .1) (w .1);
       }))
       (turned-or-idle (kap F c) (own c) (cfg c) (getD (firstPlaces os) c noPlace))
     where
@@ -152,18 +152,25 @@ module _ (F F′ : File) (rd : Ready F) (rw′ : Rewritten F F′) (config : Lis
       go (some i) = let e = places (call F) i T (F .chart c) in omega arith
 
   -- a place of a choice
-  getD-places : (ch : ℕ → ℕ) (k n c : ℕ) → c < n → getD (placesFrom ch k n) c noPlace ≡ placeOf (ch (k + c))
+  getD-places : (E : ℕ → Chart) (ch : ℕ → ℕ) (k n c : ℕ) → c < n
+      → getD (placesFrom E ch k n) c noPlace ≡ placeOf (pick (E (k + c)) (ch (k + c))) (ch (k + c))
   unfolding placesFrom
-  getD-places ch k zero c l = absurd (omega arith)
-  getD-places ch k (suc n) zero l = ap (λ z. placeOf (ch z)) (let e : k ≡ k + 0 = omega arith in e)
-  getD-places ch k (suc n) (suc c) l = getD-places ch (suc k) n c (omega arith)
-      ∙ ap (λ z. placeOf (ch z)) (let e : suc k + c ≡ k + suc c = omega arith in e)
+  getD-places E ch k zero c l = absurd (omega arith)
+  getD-places E ch k (suc n) zero l = ap (λ z. placeOf (pick (E z) (ch z)) (ch z)) (let e : k ≡ k + 0 = omega arith in e)
+  getD-places E ch k (suc n) (suc c) l = getD-places E ch (suc k) n c (omega arith)
+      ∙ ap (λ z. placeOf (pick (E z) (ch z)) (ch z)) (let e : suc k + c ≡ k + suc c = omega arith in e)
+
+  one′ : (c : ℕ) → c < F .charts → F′ .chart c .stays ≡ false
+  unfolding chartWith
+  one′ c l = ap (λ C. C .stays) (chart-is F rd F′ rw′ c l) ∙ rd .one c l
 
   -- a choice that gives a chart a transition from its state has its place
-  has-place : (c w : ℕ) → w ≤ length (F′ .chart c .transitions) → c < F .charts → Live (cfg c) (pick (F′ .chart c .transitions) w) → placeOf w ≢ noPlace
-  unfolding pick placeOf
-  has-place c zero b l h e = h
-  has-place c (suc k) b l h e = let a = new-length c l in let f = rd .few c l in omega arith
+  has-place : (c w : ℕ) → w ≤ lastPlace (F′ .chart c) → c < F .charts → Live (cfg c) (pick (F′ .chart c) w) → placeOf (pick (F′ .chart c) w) w ≢ noPlace
+  has-place c zero b l h e = unfold pick in h
+  has-place c (suc k) b l h e =
+      let n = places-one (F′ .chart c) (one′ c l) in
+      let p = place-own (F′ .chart c) k (omega arith) in
+      let a = new-length c l in let f = rd .few c l in omega arith
 
   always : refusalIn (stepIn F config inp) ≡ 0 → (c : ℕ) → c < F .charts → getD (placesIn F′ config inp) c noPlace ≢ noPlace
   unfolding stepIn answer permitted moves placesIn
@@ -179,7 +186,8 @@ module _ (F F′ : File) (rd : Ready F) (rw′ : Rewritten F F′) (config : Lis
           has-place c (g .choice c) (g .chosen .places c l′) l
           (live (call F) (λ c. F .chart c .feedback) (F′ .chart) (F′ .state) cfg (moves (F′ .chart) (g .choice)) c (wholeOf F) _ (has F rd c l) k)
           (sym (getD-all (firstPlaces (outcomesIn F′ config inp)) c ∙ ap (λ ps. getD ps c noPlace) (g .places)
-          ∙ getD-places (g .choice) zero (F′ .charts) c l′ ∙ ap (λ z. placeOf (g .choice z)) (zero-add c)) ∙ q)
+          ∙ getD-places (F′ .chart) (g .choice) zero (F′ .charts) c l′
+          ∙ ap (λ z. placeOf (pick (F′ .chart z) (g .choice z)) (g .choice z)) (zero-add c)) ∙ q)
 
   pub taken-agree : PlacesAgree F F′ config (stepIn F config inp) (placesIn F config inp) (placesIn F′ config inp)
   unfolding placesIn

@@ -5,7 +5,7 @@ use mathlib.Core.Option.{Option, none, some}
 use Prim.Native.Nat.{ℕ}
 use Rattle.signals.specs.Mask.{_∪_, single}
 use Rattle.layout.specs.declared.record.Transition.{Transition}
-use Rattle.meaning.specs.Meaning.{Set, ∅, same, Tree, Slaves, leaf, comp, hide, dec, nil, snoc, Move}
+use Rattle.meaning.specs.Meaning.{Set, ∅, same, Tree, Slaves, leaf, comp, hide, dec, nil, snoc, Move, noMove, takes, stay}
 use Rattle.meaning.specs.Rewriting.{callIn, called, idle}
 
 -- sig: the call signal of each slave; state: its state
@@ -38,6 +38,7 @@ module _ (sig : ℕ → ℕ) where
 
   -- what a move becomes
   unfoldable pub moveR : Option ℕ → (Transition → Set) → ℕ → Move → Move
-  moveR κ T s (some t) = some (called sig κ T t)
-  moveR none T s none = none
-  moveR (some i) T s none = some (idle sig i s)
+  moveR κ T s (takes t) = takes (called sig κ T t)
+  moveR κ T s stay = stay
+  moveR none T s noMove = noMove
+  moveR (some i) T s noMove = takes (idle sig i s)

@@ -17,7 +17,7 @@ use Rattle.layout.specs.Body.{transitionsFrom, slavesFrom, nodesFrom, sizeOf, h
 use Rattle.layout.specs.Body.Laws.{length-from, getD-from, startOf-mono}
 use Rattle.layout.specs.declared.body.Shape.{Shape}
 use Rattle.layout.specs.declared.record.Transition.{Transition}
-use Rattle.meaning.specs.Numbers.{theEdition}
+use Rattle.meaning.specs.Numbers.{firstEdition}
 use Rattle.meaning.specs.Count.{anyUpTo, tally}
 use Rattle.meaning.specs.Count.Laws.{or-left, or-right, any-never}
 use Rattle.meaning.specs.File.{File, endOf, trailer, bodyOf, shapeOf, chartOf, fileAt, fileOf}
@@ -132,7 +132,7 @@ unfolding nonzero
 zero-of s at k m h i l = getD-drop at s (k + i) 0 ∙ ap (λ z. getD s z 0) (let e : at + (k + i) ≡ at + k + i = omega arith in e)
     ∙ alike (getD s (at + k + i) 0) 0 (any-never m (λ i. differ (getD s (at + k + i) 0) 0) h i l)
 
-module _ (f : List ℕ) (p : Passed f) (ab : AllBytes f) where
+module _ (f : List ℕ) (p : Passed f) (ab : AllBytes f) (one : trailer f .edition ≡ firstEdition) where
   abbrev n : Shape
   n = shapeOf (trailer f)
 
@@ -244,7 +244,7 @@ module _ (f : List ℕ) (p : Passed f) (ab : AllBytes f) where
 
   shape-again : shapeIn F ≡ n
   unfolding shapeIn fileAt shapeOf
-  shape-again = λ i. record { charts = n .charts; transitions = transitions-are i; slaves = n .slaves; nodes = n .nodes }
+  shape-again = λ i. record { charts = n .charts; transitions = transitions-are i; slaves = n .slaves; nodes = n .nodes; edition = sym one i }
 
   trailer-here : trailerBytes (trailer f) ≡ drop (endOf f) f
   unfolding trailer
@@ -256,7 +256,7 @@ module _ (f : List ℕ) (p : Passed f) (ab : AllBytes f) where
     charts = n .charts;
     slaves = n .slaves;
     nodes = n .nodes;
-    edition = theEdition;
+    edition = firstEdition;
     transitions = n .transitions;
   } ≡ trailer f
   unfolding shapeOf
@@ -265,7 +265,7 @@ module _ (f : List ℕ) (p : Passed f) (ab : AllBytes f) where
     charts = trailer f .charts;
     slaves = trailer f .slaves;
     nodes = trailer f .nodes;
-    edition = sym (alike (trailer f .edition) theEdition (p .edition)) i;
+    edition = sym one i;
     transitions = trailer f .transitions;
   }
 
@@ -284,7 +284,7 @@ module _ (f : List ℕ) (p : Passed f) (ab : AllBytes f) where
     charts = s .charts;
     slaves = s .slaves;
     nodes = s .nodes;
-    edition = theEdition;
+    edition = firstEdition;
     transitions = s .transitions;
   })) shape-again body-again
       ∙ ap (λ t. b ++ trailerBytes t) trailer-same ∙ ap (λ z. b ++ z) trailer-here ∙ front

@@ -10,6 +10,7 @@ use Rattle.layout.specs.declared.body.Shape.{Shape}
 use Rattle.layout.specs.declared.record.Transition.{Transition}
 use Rattle.meaning.specs.Numbers.{mostFromState}
 use Rattle.meaning.specs.Meaning.{Set}
+use Rattle.meaning.specs.File.{chartOf}
 use Rattle.meaning.specs.Check.{leaving}
 use Rattle.wiring.specs.Hunt.{mayOf}
 use Rattle.search.specs.Table.{masksFor, stateAt}
@@ -63,11 +64,11 @@ Mays n b config k may = (c : ℕ) → c < k → getD may c 0 ≡ mayOf (transiti
 -- of the first k charts, and what each chart is surely offered by them, lows
 pub record Sided (n : Shape) (b config base m s : List ℕ) (k : ℕ) (may lows : List ℕ) : Type 0 where
   pub mays : Mays n b config k may
-  pub raised : Raised (transitionsOf n b) (λ c. getD config c 0) k m s base lows
+  pub raised : Raised (chartOf n b) (λ c. getD config c 0) k m s base lows
 
 -- the first k charts have their candidates
 abbrev pub UntilChart : Shape → List ℕ → List ℕ → List ℕ → List ℕ → List ℕ → ℕ → List ℕ → List ℕ → Type 0
-UntilChart n b config lows m₀ s₀ k m s = Until (transitionsOf n b) (λ c. getD config c 0) (n .charts) lows m₀ s₀ k m s
+UntilChart n b config lows m₀ s₀ k m s = Until (chartOf n b) (λ c. getD config c 0) (n .charts) lows m₀ s₀ k m s
 
 -- chart c gets its candidates
 abbrev pub NextChart : Shape → List ℕ → List ℕ → List ℕ → ℕ → List ℕ → List ℕ → List ℕ → List ℕ → Type 0
@@ -81,8 +82,8 @@ pub record Stated (config : List ℕ) (k : ℕ) (s₀ s : List ℕ) : Type 0 whe
 
 -- all charts have theirs, and the rest of the tables m₀ and s₀ is as it was: the wiring, the masters and their states
 pub record Chooses (n : Shape) (b config base lows m₀ s₀ m s : List ℕ) : Type 0 where
-  pub chosen : Chosen (transitionsOf n b) (λ c. getD config c 0) (n .charts) lows m s
-  pub raised : Raised (transitionsOf n b) (λ c. getD config c 0) (n .charts) m s base lows
+  pub chosen : Chosen (chartOf n b) (λ c. getD config c 0) (n .charts) lows m s
+  pub raised : Raised (chartOf n b) (λ c. getD config c 0) (n .charts) m s base lows
   pub wires : (i : ℕ) → 8 ≤ i → i < 72 → getD m i 0 ≡ getD m₀ i 0
   pub ups : (i : ℕ) → i < 8 → getD m i 0 ≡ getD m₀ i 0
   pub masters : (i : ℕ) → 72 ≤ i → i < 88 → getD s i 0 ≡ getD s₀ i 0

@@ -1,7 +1,7 @@
 // The candidates of a step: for each chart the transitions that it may take now, and what later charts may put out. How the tables are laid out
 // is in the crate search (Table); that a search over them answers the step is in the crate tables.
 ghost use mathlib.Core.Path.{_≡_};
-ghost use mathlib.Core.Option.{some};
+ghost use mathlib.Core.List.{List};
 ghost use Prim.Native.Nat.{ℕ, _+_, _*_, _≤_, _<_};
 ghost use lib.ListN.{length, getD};
 ghost use Rattle.layout.specs.Body.{Holds, transitionAt, startOf};
@@ -9,7 +9,8 @@ ghost use Rattle.layout.specs.Body.{from as fromOn};
 ghost use Rattle.meaning.specs.Count.{tally, one};
 ghost use Rattle.meaning.specs.Meaning.{same};
 ghost use Rattle.signals.specs.Mask.{_∪_, _∩_};
-ghost use Rattle.wiring.specs.Sure.{sureOf};
+ghost use Rattle.wiring.specs.Sure.{sureOf, sureIn};
+ghost use Rattle.meaning.specs.Numbers.{stayEdition};
 ghost use Rattle.wiring.specs.Hunt.{mayOf};
 ghost use Rattle.search.specs.Table.{masksFor, backAt, countAt, Row};
 ghost use Rattle.tables.specs.Filled.{mayAt};
@@ -40,7 +41,7 @@ pub struct Sides {
 }
 
 // Where transition t starts.
-fn from_at(n: Shape, body: &[u8], t: usize) -> u8
+pub fn from_at(n: Shape, body: &[u8], t: usize) -> u8
     requires { ⌜ Holds n (now body) × (t < n .transitions) ⌝ }
     ensures { λ r. ⌜ r ≡ transitionAt n (now (body .entry)) t .from ⌝ }
 {
@@ -104,6 +105,16 @@ fn raise(masks: &[u64], small: &[u8], low: &mut [u64], c: usize, u: u64)
     }
 }
 
+// What a chart surely puts out, if u is what all its transitions from its state do: nothing, where it may stay.
+fn surely(n: Shape, u: u64) -> u64
+    ensures { λ r. ⌜ r ≡ sureIn (same (n .edition) stayEdition) u ⌝ }
+{
+    if n.edition == checks::limits::STAY_EDITION as usize {
+        return 0;
+    }
+    u
+}
+
 // What each chart might put out from its present state, and what each is surely offered; `base` has what it is of the input.
 fn sides_of(
     n: Shape,
@@ -125,7 +136,8 @@ fn sides_of(
         let count = head.transitions as usize;
         let puts = puts_of(n, body, start, count, config[c]);
         may[c] = puts.may;
-        raise(masks, small, &mut low, c, puts.sure);
+        let sure = surely(n, puts.sure);
+        raise(masks, small, &mut low, c, sure);
         start += count;
         c += 1;
     }
@@ -133,7 +145,7 @@ fn sides_of(
 }
 
 // What the charts other than c might put in for it.
-fn others(masks: &[u64], charts: usize, may: [u64; 8], c: usize) -> u64
+pub fn others(masks: &[u64], charts: usize, may: [u64; 8], c: usize) -> u64
     requires { ⌜ (masksFor 0 ≤ length (now masks)) × (charts ≤ 8) × (c < charts) ⌝ }
     ensures { λ r. ⌜ r ≡ othersAt (now (masks .entry)) charts (λ e. getD may e 0) c ⌝ }
 {
@@ -150,7 +162,7 @@ fn others(masks: &[u64], charts: usize, may: [u64; 8], c: usize) -> u64
 
 // Whether a transition can be met, its own action counted, whatever the others do.
 fn lasts(t: Transition, low: u64, own: u64, others: u64) -> bool
-    ensures { λ r. ⌜ r ≡ lastsBy low own others (some t) ⌝ }
+    ensures { λ r. ⌜ r ≡ lastsBy low own others t ⌝ }
 {
     let sure = low | t.action & own;
     signals::within(t.needed, sure | others) & signals::apart(t.barred, sure)
@@ -360,7 +372,7 @@ fn put_states(small: &mut [u8], config: &[u8], charts: usize)
 }
 
 // Fills in all that a search needs of a configuration and of what each chart is offered of the input, `base`. The wiring and the masters are there.
-// The result is what each chart is surely offered: of the input, and of what other charts put out whatever they do.
+// The result has what each chart might put out, and what each is surely offered: of the input, and of what other charts put out whatever they do.
 pub fn choose(
     n: Shape,
     body: &[u8],
@@ -368,9 +380,10 @@ pub fn choose(
     base: [u64; 8],
     masks: &mut [u64],
     small: &mut [u8],
-) -> [u64; 8]
+) -> Sides
     requires { ⌜ Ready n (now body) (now config) × Tabled (n .charts) (now masks) (now small) ⌝ }
-    ensures { λ r. ⌜ Chooses n (now (body .entry)) (now (config .entry)) base r (now (masks .entry)) (now (small .entry)) (now (masks .exit)) (now (small .exit)) ⌝ }
+    ensures { λ r. ⌜ Mays n (now (body .entry)) (now (config .entry)) (n .charts) (r .may)
+        × Chooses n (now (body .entry)) (now (config .entry)) base (r .low) (now (masks .entry)) (now (small .entry)) (now (masks .exit)) (now (small .exit)) ⌝ }
 {
     put_states(small, config, n.charts);
     let known = sides_of(n, body, config, base, masks, small);
@@ -378,17 +391,17 @@ pub fn choose(
     let may = known.may;
     list_all(n, body, config, low, may, masks, small);
     ahead_all(masks, small, n.charts);
-    low
+    known
 }
 
-// Whether a chart that is surely active has no candidate.
-pub fn is_stuck(small: &[u8], charts: usize) -> bool
-    requires { ⌜ (length (now small) ≡ 160) × (charts ≤ 8) ⌝ }
-    ensures { λ r. ⌜ r ≡ stuck (now (small .entry)) charts ⌝ }
+// Whether a chart that is surely active has no candidate, and cannot stay.
+pub fn is_stuck(small: &[u8], stays: &[u8], charts: usize) -> bool
+    requires { ⌜ (length (now small) ≡ 160) × (length (now stays) ≡ 9) × (charts ≤ 8) ⌝ }
+    ensures { λ r. ⌜ ((g : List ℕ) → r ≡ stuck (now (small .entry)) g (now (stays .entry)) charts) ⌝ }
 {
     let mut c: usize = 0;
     while c < charts {
-        if (small[search::COUNT + c] == 0) & !(small[search::MASTER + c] < 8) {
+        if (small[search::COUNT + c] == 0) & (!(small[search::MASTER + c] < 8) & !(stays[c] != 0)) {
             return true;
         }
         c += 1;

@@ -175,7 +175,7 @@ fn carried(set: u64) {
     }
 }
 
-// What a chart took: the place of a transition in its own list, or none.
+// What a chart did: it took the transition at a place of its own list, or none, or stayed.
 fn took(chart: usize, place: u8) {
     say(b"chart ");
     io::print_decimal(STDOUT_FILENO, chart as u64);
@@ -183,12 +183,16 @@ fn took(chart: usize, place: u8) {
         say(b" took no transition\n");
         return;
     }
+    if place == search::STAY_PLACE {
+        say(b" stayed\n");
+        return;
+    }
     say(b" took transition ");
     io::print_decimal(STDOUT_FILENO, place as u64);
     say(b"\n");
 }
 
-// What each of so many charts took in a step that is given, a line each.
+// What each of so many charts did in a step that is given, a line each.
 fn taken(file: &[u8], charts: usize, config: &[u8], input: u64)
     requires { ⌜ charts ≤ 8 ⌝ }
 {

@@ -29,7 +29,7 @@ fn say_line(text: &[u8], k: usize) {
     say(&text[at..e]);
 }
 
-// Which line of the words a refusal has: 1 to 11, 20 to 23, 27, 40 to 42, 44, 45.
+// Which line of the words a refusal has: 1 to 11, 20 to 23, 27, 40 to 42, 44 to 46.
 fn line_of(refusal: u8) -> u8 {
     if refusal < limits::WRONG_LENGTH {
         return refusal;
@@ -51,7 +51,7 @@ fn say_words(refusal: u8) {
     say_line(
         b"accepted\n\
           fewer than 12 bytes\n\
-          edition not 1\n\
+          edition neither 1 nor 2\n\
           charts not 1 to 8, slaves over 7, nodes not 1 to 64, transitions over 512\n\
           distance is not the body size made by the counts, or exceeds length less 12\n\
           a byte laid down as zero byte isn't zero\n\
@@ -73,7 +73,8 @@ fn say_words(refusal: u8) {
           a state would have over 8 transitions out\n\
           a chart would have over 64\n\
           over 64 nodes\n\
-          buffer shorter than the result\n",
+          buffer shorter than the result\n\
+          edition 2, in which charts may stay; only edition 1 can be rewritten\n",
         line_of(refusal) as usize,
     );
 }
@@ -126,7 +127,7 @@ pub fn help(fd: i32) {
           chart first FILE               the first configuration\n  \
           chart interface FILE           the signals that it takes in, and those that it puts out\n  \
           chart plain FILE               whether it is plain: then no step of it can ever be marked n\n  \
-          chart step FILE CONFIG SET     one step from a configuration, and which transition each chart took\n  \
+          chart step FILE CONFIG SET     one step from a configuration, and what each chart did\n  \
           chart run FILE CONFIG SET..    a step for each set in turn\n  \
           chart rewrite FILE OUT         writes the same chart without slaves to the file OUT\n\
           \n\

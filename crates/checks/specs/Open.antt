@@ -9,9 +9,9 @@ use lib.ListN.{take, drop}
 use Rattle.layout.specs.Body.{sizeOf}
 use Rattle.layout.specs.declared.body.Shape.{Shape}
 use Rattle.layout.specs.declared.record.Trailer.{Trailer}
-use Rattle.meaning.specs.Numbers.{theEdition, otherEdition, badCounts, badDistance, notZero, badNode, badNaming, badInside}
+use Rattle.meaning.specs.Numbers.{otherEdition, badCounts, badDistance, notZero, badNode, badNaming, badInside}
 use Rattle.meaning.specs.File.{endOf, trailer, bodyOf, shapeOf, fileAt}
-use Rattle.meaning.specs.Check.{Test, differ, counts?, nonzero, zeros?, nodes?, naming?, inside?, refusalOf}
+use Rattle.meaning.specs.Check.{Test, differ, edition?, counts?, nonzero, zeros?, nodes?, naming?, inside?, refusalOf}
 use Rattle.checks.specs.Known.{Sized, Summed}
 use Rattle.checks.specs.declared.opening.Opening.{Opening}
 pub mod Laws
@@ -19,7 +19,7 @@ pub mod Laws
 -- 2 to 4, of a trailer that stands at `end`
 abbrev pub trailerTests : Trailer → ℕ → List Test
 trailerTests t end =
-    record { number = otherEdition; applies = differ (t .edition) theEdition }
+    record { number = otherEdition; applies = edition? t }
     ∷ record { number = badCounts; applies = counts? t }
     ∷ record { number = badDistance; applies = differ (t .distance) (sizeOf (shapeOf t)) || ltb end (t .distance) }
     ∷ []

@@ -1,6 +1,8 @@
 // The numbers of document 01 that have a name: limits, bytes of a record, and refusals. Each stands here once.
 
-pub const EDITION: u8 = 1;
+pub const FIRST_EDITION: u8 = 1;
+
+pub const STAY_EDITION: u8 = 2;
 
 pub const MOST_CHARTS: u8 = 8;
 
@@ -76,3 +78,5 @@ pub const MANY_IN_CHART: u8 = 42;
 pub const MANY_NODES: u8 = 44;
 
 pub const SHORT_OUT: u8 = 45;
+
+pub const MAY_STAY: u8 = 46;

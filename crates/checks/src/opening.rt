@@ -22,6 +22,7 @@ fn refused(r: u8) -> Opening
             transitions: 0,
             slaves: 0,
             nodes: 0,
+            edition: 0,
         },
         start: 0,
         end: 0,

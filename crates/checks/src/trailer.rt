@@ -4,13 +4,13 @@ ghost use mathlib.Core.Bool.{_||_};
 ghost use lib.Dec.{ltb};
 ghost use Rattle.layout.specs.Body.{sizeOf};
 ghost use Rattle.meaning.specs.File.{shapeOf};
-ghost use Rattle.meaning.specs.Check.{counts?, differ, firstOf};
+ghost use Rattle.meaning.specs.Check.{edition?, counts?, differ, firstOf};
 ghost use Rattle.checks.specs.Open.{trailerTests};
 use crate::limits;
 use layout::body::Shape;
 use layout::record::Trailer;
 
-// How many records of each kind the trailer says there are.
+// How many records of each kind the trailer says there are, and the edition.
 pub fn shape(t: Trailer) -> Shape
     ensures { λ r. ⌜ r ≡ shapeOf t ⌝ }
 {
@@ -19,7 +19,15 @@ pub fn shape(t: Trailer) -> Shape
         transitions: t.transitions as usize,
         slaves: t.slaves as usize,
         nodes: t.nodes as usize,
+        edition: t.edition as usize,
     }
+}
+
+// 2: neither of the two editions.
+fn other_edition(t: Trailer) -> bool
+    ensures { λ r. ⌜ r ≡ edition? t ⌝ }
+{
+    (t.edition != limits::FIRST_EDITION) & (t.edition != limits::STAY_EDITION)
 }
 
 // 3: a count out of its limits.
@@ -44,7 +52,7 @@ fn bad_distance(t: Trailer, end: usize) -> bool
 pub fn refusal(t: Trailer, end: usize) -> u8
     ensures { λ r. ⌜ r ≡ firstOf (trailerTests t end) ⌝ }
 {
-    if t.edition != limits::EDITION {
+    if other_edition(t) {
         return limits::OTHER_EDITION;
     }
     if bad_counts(t) {

@@ -11,14 +11,18 @@ use Rattle.meaning.specs.Numbers.{wrongLength, badState, shortBuffer}
 use Rattle.meaning.specs.Count.{anyUpTo}
 use Rattle.meaning.specs.Meaning.{Set, same, Answer, refused}
 use Rattle.meaning.specs.File.{File, fileAt}
-use Rattle.meaning.specs.Check.{Test, firstOf, differ, notBelow, transitions?}
+use Rattle.meaning.specs.Check.{Test, firstOf, differ, notBelow, charts?, transitions?}
 use Rattle.meaning.specs.Check.Nodes.{Sound}
 use Rattle.meaning.specs.Calls.{stepIn, allPlaces, placesIn, refusalIn, outputIn, markIn}
+use Rattle.search.specs.Trail.{beginning}
+use Rattle.search.specs.Hunt.{over, nothing}
+use Rattle.search.specs.Stays.{huntsBoth}
 use Rattle.search.specs.declared.Found.{Found}
 use Rattle.tables.specs.Filled.{answerOf}
 use Rattle.checks.specs.Known.{Sized, Summed}
 use Rattle.plan.specs.Wired.{Wired}
 use Rattle.candidates.specs.Candidates.{Tabled}
+use Rattle.staying.specs.Staying.{Stays}
 use Rattle.engine.specs.declared.step.Stepped.{Stepped}
 pub mod Laws
 
@@ -47,6 +51,7 @@ placesAfter F config i room = cond (same (refusalAfter F config room) 0) (places
 pub record Checked (n : Shape) (b : List ℕ) : Type 0 where
   pub sized : Sized n b
   pub summed : Summed n b
+  pub charts : charts? n b ≡ false
   pub transitions : transitions? n b ≡ false
   pub sound : Sound (fileAt n b)
 
@@ -54,6 +59,17 @@ pub record Checked (n : Shape) (b : List ℕ) : Type 0 where
 pub record Prepared (n : Shape) (b a m s : List ℕ) : Type 0 where
   pub wired : Wired (fileAt n b) a m s
   pub tabled : Tabled (n .charts) m s
+
+-- what a search over tables finds, low being what each chart is surely offered before any is settled
+abbrev pub searchedOf : ℕ → List ℕ → List ℕ → List ℕ → List ℕ → List ℕ → Found
+searchedOf N low m s g y = over (huntsBoth m s g y N 0 (beginning low)) nothing
+
+-- what was found is what a search finds that was told which charts may stay
+pub record Searched (n : Shape) (b config low m s : List ℕ) (f : Found) : Type 0 where
+  pub guards : List ℕ
+  pub stays : List ℕ
+  pub told : Stays n b config low m guards stays
+  pub found : f ≡ searchedOf (n .charts) low m s guards stays
 
 -- what was found answers the step, and has its places
 pub record Finds (n : Shape) (b config : List ℕ) (i : Set) (f : Found) : Type 0 where

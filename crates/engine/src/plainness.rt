@@ -21,6 +21,12 @@ pub fn plain(file: &[u8]) -> Plainness
         };
     }
     let n = o.shape;
+    if n.edition != limits::FIRST_EDITION as usize {
+        return Plainness {
+            refusal: limits::ACCEPTED,
+            plain: false,
+        };
+    }
     let start = o.start;
     let end = o.end;
     Plainness {

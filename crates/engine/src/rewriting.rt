@@ -61,7 +61,7 @@ fn of_body(n: Shape, body: &[u8], out: &mut [u8]) -> Rewritten
     if out.len() < size {
         return refused(limits::SHORT_OUT);
     }
-    rewrite::lay::lay(n, body, &sets, &inner, m, limits::EDITION, out);
+    rewrite::lay::lay(n, body, &sets, &inner, m, limits::FIRST_EDITION, out);
     Rewritten {
         refusal: limits::ACCEPTED,
         length: size,
@@ -78,6 +78,9 @@ pub fn rewriting(file: &[u8], out: &mut [u8]) -> Rewritten
         return refused(r);
     }
     let n = o.shape;
+    if n.edition == limits::STAY_EDITION as usize {
+        return refused(limits::MAY_STAY);
+    }
     let start = o.start;
     let end = o.end;
     of_body(n, &file[start..end], out)

@@ -10,16 +10,18 @@ ghost use Rattle.meaning.specs.Count.{anyUpTo};
 ghost use Rattle.meaning.specs.File.{fileAt};
 ghost use Rattle.meaning.specs.Check.{notBelow, firstOf};
 ghost use Rattle.meaning.specs.Calls.{laidOver, stepOf, allPlaces, placesOf, nextIn};
-ghost use Rattle.search.specs.Table.{masksFor, Row};
+ghost use Rattle.search.specs.Table.{masksFor, Tables, Row};
+ghost use Rattle.search.specs.Stays.{Guards};
 ghost use Rattle.plan.specs.Wire.{Blank};
-ghost use Rattle.candidates.specs.Candidates.{Ready};
-ghost use Rattle.engine.specs.Step.{steppedOf, configTestsIn, stepAfter, placesAfter, Checked, Prepared, Finds};
+ghost use Rattle.candidates.specs.Candidates.{Ready, Mays};
+ghost use Rattle.engine.specs.Step.{steppedOf, configTestsIn, stepAfter, placesAfter, Checked, Prepared, searchedOf, Searched, Finds};
+use candidates::Sides;
 use checks::limits;
 use layout::body::Shape;
 use search::Found;
 
 // The answer of a step beside the next configuration: 0 or the refusal, the output, whether all permitted choices agree, and of each chart the
-// place of the transition taken in its list, 255 for none.
+// place of the transition taken in its list, 254 if it stayed, 255 for none.
 pub struct Stepped {
     pub refusal: u8,
     pub output: u64,
@@ -81,7 +83,44 @@ fn lows(down: [u64; 8], input: u64) -> [u64; 8]
     low
 }
 
-// One step of a wired body from a configuration. The tables are ready for another.
+// What a search over filled tables finds; none is made where a chart is stuck.
+fn searched(
+    masks: &[u64],
+    small: &[u8],
+    guards: &[u64],
+    stays: &[u8],
+    charts: usize,
+    low: [u64; 8],
+) -> Found
+    requires { ⌜ Tables charts (now masks) (now small) × (charts ≤ 8) × Guards (now guards) (now stays) ⌝ }
+    ensures { λ r. ⌜ r ≡ searchedOf charts low (now (masks .entry)) (now (small .entry)) (now (guards .entry)) (now (stays .entry)) ⌝ }
+{
+    if candidates::is_stuck(small, stays, charts) {
+        return search::none();
+    }
+    search::search(masks, small, guards, stays, charts, low)
+}
+
+// The same where charts may stay: their triggers are noted first.
+fn found_staying(
+    n: Shape,
+    body: &[u8],
+    config: &[u8],
+    sides: Sides,
+    masks: &[u64],
+    small: &[u8],
+) -> Found
+    requires { ⌜ Ready n (now body) (now config) × Tables (n .charts) (now masks) (now small) × Mays n (now body) (now config) (n .charts) (sides .may) ⌝ }
+    ensures { λ r. ⌜ Searched n (now (body .entry)) (now (config .entry)) (sides .low) (now (masks .entry)) (now (small .entry)) r ⌝ }
+{
+    let low = sides.low;
+    let may = sides.may;
+    let mut guards = [0u64; search::GUARDS];
+    let stays = staying::stays(n, body, config, low, may, masks, &mut guards);
+    searched(masks, small, &guards, &stays, n.charts, low)
+}
+
+// One step of a wired body from a configuration. The tables are ready for another. Where no chart may stay there is no trigger to make room for.
 pub fn found(
     n: Shape,
     body: &[u8],
@@ -95,11 +134,14 @@ pub fn found(
     ensures { λ r. ⌜ Finds n (now (body .entry)) (now (config .entry)) input r × Prepared n (now (body .entry)) down (now (masks .exit)) (now (small .exit)) ⌝ }
 {
     let base = lows(down, input);
-    let low = candidates::choose(n, body, config, base, masks, small);
-    if candidates::is_stuck(small, n.charts) {
-        return search::none();
+    let sides = candidates::choose(n, body, config, base, masks, small);
+    if n.edition == limits::STAY_EDITION as usize {
+        return found_staying(n, body, config, sides, masks, small);
     }
-    search::search(masks, small, n.charts, low)
+    let low = sides.low;
+    let guards = [0u64; 0];
+    let stays = [0u8; search::STAYS];
+    searched(masks, small, &guards, &stays, n.charts, low)
 }
 
 // One step of a body, wired for it into masks that are new.

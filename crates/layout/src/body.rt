@@ -7,12 +7,13 @@ use crate::record::Node;
 use crate::record::Slave;
 use crate::record::Transition;
 
-// How many records of each kind a body has.
+// How many records of each kind a body has, and the edition by which it is read.
 pub struct Shape {
     pub charts: usize,
     pub transitions: usize,
     pub slaves: usize,
     pub nodes: usize,
+    pub edition: usize,
 }
 
 // The body's size made by the counts.

@@ -8,7 +8,7 @@ use Rattle.layout.specs.Body.{sizeOf, transitionsFrom, slavesFrom, nodesFrom, h
 use Rattle.layout.specs.declared.body.Shape.{Shape}
 use Rattle.layout.specs.declared.record.Trailer.{Trailer}
 use Rattle.layout.specs.declared.record.Transition.{Transition}
-use Rattle.meaning.specs.Numbers.{theEdition, mostCharts, mostSlaves, mostNodes, mostTransitions, mostStates, mostInChart, mostFromState, tooShort, otherEdition, badCounts, badDistance, notZero, badChart, badTransition, badSlave, badNode, badNaming, badInside}
+use Rattle.meaning.specs.Numbers.{firstEdition, stayEdition, mostCharts, mostSlaves, mostNodes, mostTransitions, mostStates, mostInChart, mostFromState, tooShort, otherEdition, badCounts, badDistance, notZero, badChart, badTransition, badSlave, badNode, badNaming, badInside}
 use Rattle.meaning.specs.Count.{anyUpTo, tally, one}
 use Rattle.meaning.specs.Meaning.{same}
 use Rattle.meaning.specs.File.{File, treeOf, Has, endOf, trailer, bodyOf, shapeOf, fileAt}
@@ -34,6 +34,10 @@ abbrev pub differ : ℕ → ℕ → Bool
 differ m n = not (same m n)
 
 -- ── 2 to 4: the trailer ──
+
+-- 2: the edition is neither 1 nor 2 (RULES 3.2)
+unfoldable pub edition? : Trailer → Bool
+edition? t = differ (t .edition) firstEdition && differ (t .edition) stayEdition
 
 -- 3: "charts not 1 to 8, slaves over 7, nodes not 1 to 64, transitions over 512"
 unfoldable pub counts? : Trailer → Bool
@@ -175,7 +179,7 @@ bodyTests n b =
 unfoldable pub fileTests : List ℕ → List Test
 fileTests f =
     record { number = tooShort; applies = ltb (length f) 12 }
-    ∷ record { number = otherEdition; applies = differ (trailer f .edition) theEdition }
+    ∷ record { number = otherEdition; applies = edition? (trailer f) }
     ∷ record { number = badCounts; applies = counts? (trailer f) }
     ∷ record { number = badDistance; applies = distance? f }
     ∷ record { number = notZero; applies = nonzero f (endOf f + 10) 2 || zeros? (shapeOf (trailer f)) (bodyOf f) }

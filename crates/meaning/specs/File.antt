@@ -7,6 +7,7 @@ use Rattle.layout.specs.Record.{trailerOf}
 use Rattle.layout.specs.Body.{headAt, transitionsOf, slaveAt, nodeAt}
 use Rattle.layout.specs.declared.body.Shape.{Shape}
 use Rattle.layout.specs.declared.record.Trailer.{Trailer}
+use Rattle.meaning.specs.Numbers.{stayEdition}
 use Rattle.meaning.specs.Meaning.{Set, same, Chart, Tree, Slaves, leaf, comp, hide, dec, nil, snoc}
 
 -- ── records by number ──
@@ -82,7 +83,7 @@ unfoldable pub bodyOf : List ℕ → List ℕ
 bodyOf f = take (trailer f .distance) (drop (endOf f - trailer f .distance) f)
 
 unfoldable pub shapeOf : Trailer → Shape
-shapeOf t = record { charts = t .charts; transitions = t .transitions; slaves = t .slaves; nodes = t .nodes }
+shapeOf t = record { charts = t .charts; transitions = t .transitions; slaves = t .slaves; nodes = t .nodes; edition = t .edition }
 
 unfoldable pub chartOf : Shape → List ℕ → ℕ → Chart
 chartOf n b c =
@@ -92,6 +93,7 @@ chartOf n b c =
       transitions = transitionsOf n b c;
       feedback = headAt n b c .feedback;
       extra = headAt n b c .extra;
+      stays = same (n .edition) stayEdition;
     }
 
 unfoldable pub fileAt : Shape → List ℕ → File

@@ -1,13 +1,15 @@
--- Theorems on the meaning of chart files: tests (Bools), choices in order (Choices), charts inside a tree (Above), the tree of a file by node
+-- Theorems on the meaning of chart files: tests (Bools), the test of a guard (Guards), choices in order (Choices), charts inside a tree (Above), the tree of a file by node
 -- kind (Trees), values of its nodes (Folds), the sets of a chart (Faces), and what rule 10 gives, that each node has one place in the whole
--- (Names). Then the demands: the step in words (Demand2), the rows of a run (Runs), the table (Thirteen).
+-- (Names); what the editions do not share (Editions). Then the demands: the step in words (Demand2), the rows of a run (Runs), the table (Thirteen).
 pub mod Bools
+pub mod Guards
 pub mod Choices
 pub mod Above
 pub mod Trees
 pub mod Folds
 pub mod Faces
 pub mod Names
+pub mod Editions
 pub mod Demand2
 pub mod Runs
 pub mod Thirteen

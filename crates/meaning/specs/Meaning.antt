@@ -1,15 +1,14 @@
 -- The meaning of a step (document 01, "The meaning of a step"; source document 003, sections 2.6 and 3), over a tree of parts.
 -- Here: charts and the tree; interfaces; what a choice puts out; when a choice is permitted; all choices in order; the step's answer.
 -- Laws are elsewhere: that interfaces cut nothing off and how the tree folds into masks in the crate wiring, the rewriting in agreement.
-use mathlib.Core.Bool.{Bool, true, false, _&&_, _||_, cond}
-use mathlib.Core.Option.{Option, none, some}
+use mathlib.Core.Bool.{Bool, true, false, _&&_, _||_, not, cond}
 use mathlib.Core.List.{List, [], _∷_, _++_}
-use Prim.Native.Nat.{ℕ, zero, suc}
+use Prim.Native.Nat.{ℕ, zero, suc, _-_}
 use lib.Dec.{eqb}
 use lib.ListN.{length}
-use Rattle.signals.specs.Mask.{_∪_, _∩_, _∖_, within, apart}
+use Rattle.signals.specs.Mask.{_∪_, _∩_, _∖_, bit, within, apart}
 use Rattle.layout.specs.declared.record.Transition.{Transition}
-use Rattle.meaning.specs.Numbers.{noStep, noPlace}
+use Rattle.meaning.specs.Numbers.{mostSignals, noStep, noPlace, stayPlace}
 
 -- a set of signals, as a mask; the empty set
 abbrev pub Set : Type 0
@@ -30,6 +29,7 @@ pub record Chart : Type 0 where
   pub transitions : List Transition
   pub feedback : Set
   pub extra : Set
+  pub stays : Bool  -- may it stay? in an edition 2 file (document 02, No. 7)
 
 -- A part: a chart; two parts composed, with their feedback; a part hidden, x filtered from its input and y hidden from its output; a chart
 -- decomposed by its slaves, of which each is named by its record's number. Charts are named by number too.
@@ -44,30 +44,77 @@ mutual
     nil : Slaves
     snoc : Slaves → ℕ → Tree → Slaves
 
--- ── moves: "A choice gives each chart one of its transitions or none" ──
+-- ── moves (RULES 5.2): a choice gives each chart none, one of its transitions, or, in edition 2, staying ──
 
-abbrev pub Move : Type 0
-Move = Option Transition
+pub data Move : Type 0 where
+  noMove : Move
+  takes : Transition → Move
+  stay : Move
 
-unfoldable pub nth : List Transition → ℕ → Move
-nth [] k = none
-nth (t ∷ ts) zero = some t
-nth (t ∷ ts) (suc k) = nth ts k
+-- transition k of the list; past its end, m
+unfoldable pub nth : Move → List Transition → ℕ → Move
+nth m [] k = m
+nth m (t ∷ ts) zero = takes t
+nth m (t ∷ ts) (suc k) = nth m ts k
 
--- the move at a place, "none comes before transition 0": 0 is none, suc k is transition k
-unfoldable pub pick : List Transition → ℕ → Move
-pick ts zero = none
-pick ts (suc k) = nth ts k
+-- what comes behind a chart's transitions: staying, if the chart may stay (RULES 5.8)
+abbrev pub behind : Chart → Move
+behind C = cond (C .stays) stay noMove
 
--- "Its output is the action"; taking none it "puts out nothing"
+-- the move at a place, "none comes before transition 0": 0 is none, suc k is transition k, and after the last transition comes staying
+unfoldable pub pick : Chart → ℕ → Move
+pick C zero = noMove
+pick C (suc k) = nth (behind C) (C .transitions) k
+
+-- the last place that a choice may give the chart
+unfoldable pub lastPlace : Chart → ℕ
+lastPlace C = cond (C .stays) (suc (length (C .transitions))) (length (C .transitions))
+
+-- what a chart puts out: the action of the transition that it takes, else nothing (RULES 5.4)
 unfoldable pub actionOf : Move → Set
-actionOf none = ∅
-actionOf (some t) = t .action
+actionOf noMove = ∅
+actionOf (takes t) = t .action
+actionOf stay = ∅
 
--- the state after the step; taking none it "keeps its state"
+-- the state after the step; taking none it "keeps its state", and so it does staying
 unfoldable pub after : ℕ → Move → ℕ
-after s none = s
-after s (some t) = t .to
+after s noMove = s
+after s (takes t) = t .to
+after s stay = s
+
+-- ── the test of a guard ──
+
+-- the lowest signal of a set, of the k signals from n on; where none is there, the first behind them
+unfoldable pub lowestFrom : ℕ → ℕ → Set → ℕ
+lowestFrom zero n s = n
+lowestFrom (suc k) n s = cond (bit s n) n (lowestFrom k (suc n) s)
+
+abbrev pub lowest : Set → ℕ
+lowest s = lowestFrom mostSignals 0 s
+
+-- a guard is met; or the lowest of its needed signals that are absent; or, where all are there, the lowest of its barred ones that are present
+pub data Tested : Type 0 where
+  met : Tested
+  absent : ℕ → Tested
+  present : ℕ → Tested
+
+-- needed signals are looked up in i and barred ones in j: one and the same set, but where a search knows only bounds on it
+unfoldable pub guard : Set → Set → Set → Set → Tested
+guard needed barred i j = cond (within needed i) (cond (apart barred j) met (present (lowest (barred ∩ j)))) (absent (lowest (needed ∖ i)))
+
+abbrev pub isMet : Tested → Bool
+isMet met = true
+isMet (absent n) = false
+isMet (present n) = false
+
+-- the guard of a transition is met
+unfoldable pub met? : Transition → Set → Set → Bool
+met? t i j = isMet (guard (t .needed) (t .barred) i j)
+
+-- nothing triggers a chart at s: each transition from s has a guard that is not met
+unfoldable pub untriggered : List Transition → ℕ → Set → Set → Bool
+untriggered [] s i j = true
+untriggered (t ∷ ts) s i j = not (same (t .from) s && met? t i j) && untriggered ts s i j
 
 -- ── interfaces ──
 
@@ -125,17 +172,18 @@ module _ (M : ℕ → Move) where
 
 -- ── when a choice is permitted ──
 
--- "Chart: inactive, it takes none [..]. Active, it takes a transition from its present state. The guard holds if all needed signals, and no
--- barred one, are in the offered set joined with the part of its own output in its feedback."
--- Here of a chart: its feedback, whether it is active, the offered set, its present state, its move.
-unfoldable pub okChart : Set → Bool → Set → ℕ → Move → Bool
-okChart F false o s none = true
-okChart F false o s (some t) = false
-okChart F true o s none = false
-okChart F true o s (some t) =
-    same (t .from) s && (within (t .needed) (o ∪ (t .action ∩ F)) && apart (t .barred) (o ∪ (t .action ∩ F)))
+-- The rule of a chart (RULES 5.6, 5.7). An inactive chart takes none. An active one takes a transition from its present state whose guard is met on what
+-- it is offered, joined with what its own action feeds back to it; or it stays, where it may and nothing triggers it on what it is offered alone.
+-- Here of a chart: whether it is active, the offered set, its present state, its move.
+unfoldable pub okChart : Chart → Bool → Set → ℕ → Move → Bool
+okChart C false o s noMove = true
+okChart C false o s (takes t) = false
+okChart C false o s stay = false
+okChart C true o s noMove = false
+okChart C true o s (takes t) = same (t .from) s && met? t (o ∪ (t .action ∩ C .feedback)) (o ∪ (t .action ∩ C .feedback))
+okChart C true o s stay = C .stays && untriggered (C .transitions) s o o
 
--- the master's "state before or after the step is the slave's state" q
+-- the master is in the slave's state q before the step or after it (RULES 5.3); one that stays is in its state both times
 unfoldable pub meets : ℕ → Move → ℕ → Bool
 meets s m q = same s q || same (after s m) q
 
@@ -144,7 +192,7 @@ module _ (E : ℕ → Chart) (state : ℕ → ℕ) (cfg : ℕ → ℕ) (M : ℕ 
   unfoldable mutual
     -- a part, whether it is active, and the set that it is offered
     pub ok : Tree → Bool → Set → Bool
-    ok (leaf c) a o = okChart (E c .feedback) a o (cfg c) (M c)
+    ok (leaf c) a o = okChart (E c) a o (cfg c) (M c)
     -- "Each part is offered the offered set joined with the part of that union in x, cut to the part's interface."
     ok (comp l r x) a o =
         ok l a ((o ∪ ((out M l ∪ out M r) ∩ x)) ∩ inFace E l) && ok r a ((o ∪ ((out M l ∪ out M r) ∩ x)) ∩ inFace E r)
@@ -153,7 +201,7 @@ module _ (E : ℕ → Chart) (state : ℕ → ℕ) (cfg : ℕ → ℕ) (M : ℕ 
     -- "the master's feedback serves all as in composition. A slave is active exactly if the master is active and its state before or after
     -- the step is the slave's state."
     ok (dec c ss) a o =
-        okChart (E c .feedback) a ((o ∪ ((actionOf (M c) ∪ outs M ss) ∩ E c .feedback)) ∩ inFaceChart (E c)) (cfg c) (M c)
+        okChart (E c) a ((o ∪ ((actionOf (M c) ∪ outs M ss) ∩ E c .feedback)) ∩ inFaceChart (E c)) (cfg c) (M c)
         && oks ss (λ q. a && meets (cfg c) (M c) q) (o ∪ ((actionOf (M c) ∪ outs M ss) ∩ E c .feedback))
 
     -- slaves, whether one is active by its state, and what all are offered before the cut
@@ -173,22 +221,24 @@ upd ch c v i = cond (same i c) v (ch i)
 
 -- the moves of a choice of places
 unfoldable pub moves : (ℕ → Chart) → (ℕ → ℕ) → ℕ → Move
-moves E ch c = pick (E c .transitions) (ch c)
+moves E ch c = pick (E c) (ch c)
 
 -- the states after the step, of charts c, c + 1, .. (n of them)
 unfoldable pub nexts : (ℕ → ℕ) → (ℕ → Move) → ℕ → ℕ → List ℕ
 nexts cfg M c zero = []
 nexts cfg M c (suc n) = after (cfg c) (M c) ∷ nexts cfg M (suc c) n
 
--- "for each chart, the place of the transition taken in that chart's own list, or 255 for none" (document 02, No. 1): 0 is none, suc k is transition
--- k; of charts c, c + 1, .. (n of them)
-unfoldable pub placeOf : ℕ → ℕ
-placeOf zero = noPlace
-placeOf (suc k) = k
+-- what an answer has for a chart (RULES 5.11): the place of its transition in its own list, 254 if it stayed, 255 if it took none; of a move at a place
+-- of the choice
+unfoldable pub placeOf : Move → ℕ → ℕ
+placeOf noMove v = noPlace
+placeOf (takes t) v = v - 1
+placeOf stay v = stayPlace
 
-unfoldable pub placesFrom : (ℕ → ℕ) → ℕ → ℕ → List ℕ
-placesFrom ch c zero = []
-placesFrom ch c (suc n) = placeOf (ch c) ∷ placesFrom ch (suc c) n
+-- of charts c, c + 1, .. (n of them)
+unfoldable pub placesFrom : (ℕ → Chart) → (ℕ → ℕ) → ℕ → ℕ → List ℕ
+placesFrom E ch c zero = []
+placesFrom E ch c (suc n) = placeOf (pick (E c) (ch c)) (ch c) ∷ placesFrom E ch (suc c) n
 
 -- what a permitted choice gives: the output of the whole, the next configuration, and the places of the transitions taken
 pub record Outcome : Type 0 where
@@ -197,7 +247,7 @@ pub record Outcome : Type 0 where
   pub places : List ℕ
 
 unfoldable pub outcomeOf : (ℕ → Chart) → (ℕ → ℕ) → Tree → ℕ → (ℕ → ℕ) → Outcome
-outcomeOf E cfg t N ch = record { output = out (moves E ch) t; next = nexts cfg (moves E ch) zero N; places = placesFrom ch zero N }
+outcomeOf E cfg t N ch = record { output = out (moves E ch) t; next = nexts cfg (moves E ch) zero N; places = placesFrom E ch zero N }
 
 module _ {A : Type 0} where
   -- f 0 ++ f 1 ++ .. ++ f m
@@ -213,7 +263,7 @@ module _ (E : ℕ → Chart) (state : ℕ → ℕ) (cfg : ℕ → ℕ) (t : Tree
   -- "Choices are ordered by chart 0's place, then chart 1's and so on": n charts are left, c is the next
   unfoldable pub search : ℕ → ℕ → (ℕ → ℕ) → List Outcome
   search zero c ch = outcome ch
-  search (suc n) c ch = upto (length (E c .transitions)) (λ v. search n (suc c) (upd ch c v))
+  search (suc n) c ch = upto (lastPlace (E c)) (λ v. search n (suc c) (upd ch c v))
 
   -- the outcomes of all permitted choices, in the order of choices
   unfoldable pub outcomes : List Outcome

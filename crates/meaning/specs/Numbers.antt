@@ -3,8 +3,12 @@ use Prim.Native.Nat.{ℕ}
 
 -- ── limits ──
 
-abbrev pub theEdition : ℕ
-theEdition = 1
+-- the edition that is written, and the one in which an untriggered part may stay (document 02, No. 7)
+abbrev pub firstEdition : ℕ
+firstEdition = 1
+
+abbrev pub stayEdition : ℕ
+stayEdition = 2
 
 -- signals are 0 to 63
 abbrev pub mostSignals : ℕ
@@ -36,6 +40,10 @@ mostFromState = 8
 -- in a step's places: no transition was taken
 abbrev pub noPlace : ℕ
 noPlace = 255
+
+-- in a step's places: the chart stayed
+abbrev pub stayPlace : ℕ
+stayPlace = 254
 
 -- bytes on the day program's standard input
 abbrev pub mostInput : ℕ
@@ -111,3 +119,6 @@ manyNodes = 44
 
 abbrev pub shortOut : ℕ
 shortOut = 45
+
+abbrev pub mayStay : ℕ
+mayStay = 46

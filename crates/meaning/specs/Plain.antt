@@ -4,9 +4,10 @@ use mathlib.Core.List.{List, [], _∷_}
 use Prim.Native.Nat.{ℕ}
 use Rattle.signals.specs.Mask.{_∪_, _∩_, _∖_}
 use Rattle.layout.specs.declared.record.Transition.{Transition}
+use Rattle.meaning.specs.Numbers.{firstEdition}
 use Rattle.meaning.specs.Count.{anyUpTo}
 use Rattle.meaning.specs.Meaning.{Set, ∅, same}
-use Rattle.meaning.specs.File.{File, fileOf}
+use Rattle.meaning.specs.File.{File, trailer, fileOf}
 use Rattle.meaning.specs.Check.{refusalOf, differ}
 use Rattle.meaning.specs.Rewriting.{unionUpTo}
 
@@ -36,6 +37,6 @@ anyDoubtful f (t ∷ ts) = doubtfulWith f t ts || anyDoubtful f ts
 unfoldable pub plainIn : File → Bool
 plainIn F = not (anyUpTo (F .charts) (λ c. anyDoubtful (fedBack F) (F .chart c .transitions)))
 
--- "A file is plain if it is edition 1 and [..]": 2 refuses other editions. "Refusals: 1 to 11"; a refused file's answer is no.
+-- "A file is plain if it is edition 1 and [..]". "Refusals: 1 to 11"; a refused file's answer is no.
 unfoldable pub plainOf : List ℕ → Bool
-plainOf f = cond (same (refusalOf f) 0) (plainIn (fileOf f)) false
+plainOf f = cond (same (refusalOf f) 0) (same (trailer f .edition) firstEdition && plainIn (fileOf f)) false

@@ -14,10 +14,10 @@ use Rattle.layout.specs.declared.body.Shape.{Shape}
 use Rattle.layout.specs.declared.record.Head.{Head}
 use Rattle.layout.specs.declared.record.Transition.{Transition}
 use Rattle.layout.specs.declared.record.Node.{Node}
-use Rattle.meaning.specs.Numbers.{theEdition, mostSignals, mostFromState, mostInChart, mostNodes, noFreeSignal, manyFromState, manyInChart, manyNodes, shortOut}
+use Rattle.meaning.specs.Numbers.{firstEdition, stayEdition, mostSignals, mostFromState, mostInChart, mostNodes, noFreeSignal, manyFromState, manyInChart, manyNodes, shortOut, mayStay}
 use Rattle.meaning.specs.Count.{anyUpTo, tally, one}
 use Rattle.meaning.specs.Meaning.{Set, ∅, same, Chart, Tree, Slaves, leaf, comp, hide, dec, nil, snoc, guards, actions}
-use Rattle.meaning.specs.File.{File, wholeOf, Has, fileOf}
+use Rattle.meaning.specs.File.{File, trailer, wholeOf, Has, fileOf}
 use Rattle.meaning.specs.Check.{Test, firstOf, fileTests}
 use Rattle.meaning.specs.Calls.{laidOver}
 pub mod Laws
@@ -102,6 +102,7 @@ module _ (call : ℕ → ℕ) where
         transitions = map (called κ added) (C .transitions) ++ idles κ zero (C .states);
         feedback = C .feedback;
         extra = C .extra;
+        stays = C .stays;
       }
 
 -- the nearest slave around chart c, in a part that stands in the slave κ
@@ -260,7 +261,7 @@ unfoldable pub transitionsIn : File → ℕ
 transitionsIn F = tally (F .charts) (λ c. length (F .chart c .transitions))
 
 unfoldable pub shapeIn : File → Shape
-shapeIn F = record { charts = F .charts; transitions = transitionsIn F; slaves = F .slaves; nodes = F .nodes }
+shapeIn F = record { charts = F .charts; transitions = transitionsIn F; slaves = F .slaves; nodes = F .nodes; edition = firstEdition }
 
 -- "The body, in order": charts, transitions, slaves, nodes
 unfoldable pub bodyBytes : File → List ℕ
@@ -279,20 +280,25 @@ encode F =
       charts = F .charts;
       slaves = F .slaves;
       nodes = F .nodes;
-      edition = theEdition;
+      edition = firstEdition;
       transitions = transitionsIn F;
     })
 
--- ── what the call answers: "the rewriting 1 to 11, 40 to 45" ──
+-- ── what the call answers: 1 to 11, 46 for edition 2, then 40 to 45 (RULES 3.5, 3.6) ──
 
 -- "no front bytes are copied"
 unfoldable pub rewriteBytes : List ℕ → List ℕ
 rewriteBytes f = encode (rewrite (fileOf f))
 
+-- 46
+abbrev pub stayTest : List ℕ → Test
+stayTest f = record { number = mayStay; applies = same (trailer f .edition) stayEdition }
+
 -- 45: "buffer shorter than the result"
 unfoldable pub rewriteRefusal : List ℕ → ℕ → ℕ
 rewriteRefusal f room =
-    firstOf (fileTests f ++ rewriteTests (fileOf f) ++ (record { number = shortOut; applies = ltb room (length (rewriteBytes f)) } ∷ []))
+    firstOf
+    (fileTests f ++ (stayTest f ∷ rewriteTests (fileOf f)) ++ (record { number = shortOut; applies = ltb room (length (rewriteBytes f)) } ∷ []))
 
 -- the length of the result; "A refusal returns [..] length 0"
 unfoldable pub rewriteLength : List ℕ → ℕ → ℕ

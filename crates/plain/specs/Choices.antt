@@ -13,13 +13,14 @@ use Rattle.meaning.specs.File.{Has, HasS}
 use Rattle.meaning.specs.Plain.{anyDoubtful}
 use Rattle.meaning.specs.Laws.Bools.{or-elim, and-l, and-r, same→≡}
 use Rattle.meaning.specs.Laws.Demand2.{Choice, Permitted, given-first, mark-no}
+use Rattle.meaning.specs.Laws.Editions.{ok-one}
 use Rattle.plain.specs.Moves.{same-fed, one-move}
 
--- ── a tree whose feedback is in f, and no two transitions of whose charts are doubtful ──
+-- ── a tree of edition 1 whose feedback is in f, and no two transitions of whose charts are doubtful ──
 
 module _ (E : ℕ → Chart) (f : Set) where
   abbrev pub PlainChart : ℕ → Type 0
-  PlainChart c = Within (E c .feedback) f × (anyDoubtful f (E c .transitions) ≡ false)
+  PlainChart c = Within (E c .feedback) f × (anyDoubtful f (E c .transitions) ≡ false) × (E c .stays ≡ false)
 
   abbrev mutual
     pub PlainTree : Tree → Type 0
@@ -46,10 +47,11 @@ module _ (E : ℕ → Chart) (state : ℕ → ℕ) (cfg : ℕ → ℕ) (f : Set)
   abbrev Alike : ℕ → Type 0
   Alike c = moves E ch c ≡ moves E ch₂ c
 
-  alike-chart : (d : ℕ) (a : Bool) (o p : Set) → PlainChart E f d → o ∖ f ≡ p ∖ f → okChart (E d .feedback) a o (cfg d) (moves E ch d) ≡ true
-      → okChart (E d .feedback) a p (cfg d) (moves E ch₂ d) ≡ true → Alike d
+  alike-chart : (d : ℕ) (a : Bool) (o p : Set) → PlainChart E f d → o ∖ f ≡ p ∖ f → okChart (E d) a o (cfg d) (moves E ch d) ≡ true
+      → okChart (E d) a p (cfg d) (moves E ch₂ d) ≡ true → Alike d
   unfolding moves
-  alike-chart d a o p w e h k = one-move f (E d .feedback) (w .0) (cfg d) (E d .transitions) (w .1) a (ch d) (ch₂ d) o p e h k
+  alike-chart d a o p w e h k = one-move f (E d .feedback) (w .0) (cfg d) (E d) (w .2) (w .1) a (ch d) (ch₂ d) o p e
+      (sym (ok-one (E d) (w .2) a o (cfg d) (pick (E d) (ch d))) ∙ h) (sym (ok-one (E d) (w .2) a p (cfg d) (pick (E d) (ch₂ d))) ∙ k)
 
   mutual
     unfolding ok Has
@@ -73,9 +75,9 @@ module _ (E : ℕ → Chart) (state : ℕ → ℕ) (cfg : ℕ → ℕ) (f : Set)
         fed = same-fed f o p e (out (moves E ch) l ∪ out (moves E ch) r) (out (moves E ch₂) l ∪ out (moves E ch₂) r) x (w .2)
     alike (hide l x y) a o p w e h k c q = alike l a (o ∖ x) (p ∖ x) w (same-less f o p e x) h k c q
     alike (dec d ss) a o p w e h k c q = or-elim (same c d) (HasS ss c) (Alike c) (λ i. rw (same→≡ c d i) master)
-        (λ i. alike-slaves ss (λ s. a && meets (cfg d) (moves E ch d) s) z z₂ (w .1) fed (and-r (okChart (E d .feedback) a _ (cfg d) (moves E ch d)) _ h)
+        (λ i. alike-slaves ss (λ s. a && meets (cfg d) (moves E ch d) s) z z₂ (w .1) fed (and-r (okChart (E d) a _ (cfg d) (moves E ch d)) _ h)
         (ap (λ m. oks E state cfg (moves E ch₂) ss (λ s. a && meets (cfg d) m s) z₂) master
-        ∙ and-r (okChart (E d .feedback) a _ (cfg d) (moves E ch₂ d)) _ k) c i) q
+        ∙ and-r (okChart (E d) a _ (cfg d) (moves E ch₂ d)) _ k) c i) q
       where
         z : Set
         z = o ∪ (actionOf (moves E ch d) ∪ outs (moves E ch) ss) ∩ E d .feedback
@@ -112,7 +114,7 @@ module _ (E : ℕ → Chart) (state : ℕ → ℕ) (cfg : ℕ → ℕ) (t : Tree
     where
       go : (c : ℕ) → Dec (c < N) → moves E ch c ≡ moves E ch₂ c
       go c (yes l) = alike E state cfg f ch ch₂ t true (inp ∩ inFace E t) (inp ∩ inFace E t) w refl p p₂ c (has c l)
-      go c (no l) = unfold moves in ap (pick (E c .transitions)) (q .others c (omega arith) ∙ sym (q₂ .others c (omega arith)))
+      go c (no l) = unfold moves in ap (pick (E c)) (q .others c (omega arith) ∙ sym (q₂ .others c (omega arith)))
 
   pub never-no : (o : Set) (n : List ℕ) → answer (outcomes E state cfg t inp N) ≡ given o n false → ⊥
   never-no o n e =

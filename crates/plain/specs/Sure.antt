@@ -2,7 +2,7 @@
 -- run (`row-sure`). In this order: an answer without doubt (Sure); the tree of a plain file is plain, and so its steps are sure (`step-sure`); the same
 -- of bytes.
 use mathlib.Core.Path.{_≡_, refl, _∙_, ap}
-use mathlib.Core.Bool.{Bool, true, false, not, cond, false≢true}
+use mathlib.Core.Bool.{Bool, true, false, _&&_, not, cond, false≢true}
 use mathlib.Core.List.{List, [], _∷_, _++_, append-assoc}
 use mathlib.Core.Logic.{_⊎_, inl, inr}
 use Prim.Native.Nat.{ℕ, zero, suc, _+_, _-_, _*_, _≤_, _<_}
@@ -15,7 +15,7 @@ use Rattle.signals.specs.Mask.{_∪_, Within}
 use Rattle.signals.specs.Decide.{sets, A, B, C, _∪ₑ_, _⊑_}
 use Rattle.layout.specs.Le.{bytes}
 use Rattle.layout.specs.Le.Laws.{length-bytes}
-use Rattle.meaning.specs.Numbers.{shortBuffer, noStep}
+use Rattle.meaning.specs.Numbers.{firstEdition, shortBuffer, noStep}
 use Rattle.meaning.specs.Count.{one}
 use Rattle.meaning.specs.Count.Laws.{any-never, any-all}
 use Rattle.meaning.specs.Meaning.{Set, ∅, same, Tree, Slaves, nil, snoc, Outcome, Answer, refused, given, agree, answer}
@@ -27,7 +27,8 @@ use Rattle.meaning.specs.Calls.{configTests, stepRefusal, outcomesIn, stepIn, s
 use Rattle.meaning.specs.Rewriting.{unionUpTo}
 use Rattle.meaning.specs.Rewriting.Laws.{union-in}
 use Rattle.meaning.specs.Plain.{fedBack, anyDoubtful, plainIn, plainOf}
-use Rattle.meaning.specs.Laws.Bools.{same-refl, same→≡, agrees}
+use Rattle.meaning.specs.Laws.Bools.{and-l, and-r, same-refl, same→≡, agrees}
+use Rattle.meaning.specs.Laws.Editions.{one-stays}
 use Rattle.meaning.specs.Laws.Names.{joined}
 use Rattle.meaning.specs.Laws.Trees.{tree₀, tree₁, tree₂, all-there}
 use Rattle.meaning.specs.Laws.Runs.{Valid, Leads, Stand, stepFrom, standAt, rowsFrom, row-at}
@@ -50,7 +51,7 @@ sure-answer (x ∷ xs) h = go (agree x xs) refl
 
 -- ── a file ──
 
-module _ (F : File) (p : plainIn F ≡ true) where
+module _ (F : File) (p : plainIn F ≡ true) (one-edition : (c : ℕ) → c < F .charts → F .chart c .stays ≡ false) where
   abbrev PlainIn : Tree → Type 0
   PlainIn t = PlainTree (F .chart) (fedBack F) t
 
@@ -63,6 +64,7 @@ module _ (F : File) (p : plainIn F ≡ true) where
     sets (F .chart c .feedback ∷ unionUpTo (F .charts) (λ c. F .chart c .feedback) ∷ unionUpTo (F .nodes) (λ j. cond (same (F .kind j) 1) (F .x j) ∅) ∷ [])
         (A ⊑ B ∷ []) (A ⊑ B ∪ₑ C) tt (union-in (F .charts) (λ c. F .chart c .feedback) c l),
     any-never (F .charts) (λ c. anyDoubtful (fedBack F) (F .chart c .transitions)) (not-true _ p) c l,
+    one-edition c l,
   )
 
   x-plain : (j : ℕ) → j < F .nodes → F .kind j ≡ 1 → Within (F .x j) (fedBack F)
@@ -111,12 +113,13 @@ module _ (F : File) (p : plainIn F ≡ true) where
 -- ── bytes ──
 
 -- "1 to 11" do not apply to a plain file
-pub plain-passes : (f : List ℕ) → plainOf f ≡ true → (refusalOf f ≡ 0) × (plainIn (fileOf f) ≡ true)
+pub plain-passes : (f : List ℕ) → plainOf f ≡ true → (refusalOf f ≡ 0) × (plainIn (fileOf f) ≡ true) × (trailer f .edition ≡ firstEdition)
 unfolding plainOf
 plain-passes f p = go (same (refusalOf f) 0) refl p
   where
-    go : (b : Bool) → same (refusalOf f) 0 ≡ b → cond b (plainIn (fileOf f)) false ≡ true → (refusalOf f ≡ 0) × (plainIn (fileOf f) ≡ true)
-    go true e h = (same→≡ (refusalOf f) 0 e, h)
+    go : (b : Bool) → same (refusalOf f) 0 ≡ b → cond b (same (trailer f .edition) firstEdition && plainIn (fileOf f)) false ≡ true
+        → (refusalOf f ≡ 0) × (plainIn (fileOf f) ≡ true) × (trailer f .edition ≡ firstEdition)
+    go true e h = (same→≡ (refusalOf f) 0 e, and-r (same (trailer f .edition) firstEdition) _ h, same→≡ _ _ (and-l _ _ h))
     go false e h = absurd (false≢true h)
 
 module _ (f : List ℕ) (p : plainOf f ≡ true) where
@@ -125,7 +128,7 @@ module _ (f : List ℕ) (p : plainOf f ≡ true) where
   unfolding fileOf fileAt shapeOf
   every-sure =
       let h = passed f (plain-passes f p .0) in
-      step-sure (fileOf f) (plain-passes f p .1) (sound (fileOf f) (h .slaves) (h .nodes) (h .naming) (h .inside)) (counted (trailer f) (h .counts) .some-node)
+      step-sure (fileOf f) (plain-passes f p .1) (λ c l. one-stays f (plain-passes f p .2) c) (sound (fileOf f) (h .slaves) (h .nodes) (h .naming) (h .inside)) (counted (trailer f) (h .counts) .some-node)
 
   -- a step that 1 to 11 and 20 to 22 do not refuse
   pub unrefused-sure : (config : List ℕ) (i : Set) (room : ℕ) → stepRefusal f config room ≡ 0 → Sure (stepOf f config i room)

@@ -3,7 +3,7 @@ ghost use mathlib.Core.Path.{_≡_};
 ghost use Prim.Native.Nat.{_+_, _≤_, _<_};
 ghost use lib.ListN.{length};
 ghost use Rattle.layout.specs.Record.{headBytes, transitionBytes, nodeBytes, trailerBytes};
-ghost use Rattle.meaning.specs.Numbers.{theEdition, mostNodes};
+ghost use Rattle.meaning.specs.Numbers.{firstEdition, mostNodes};
 ghost use Rattle.meaning.specs.Calls.{laidOver};
 ghost use lib.Seq.{sets};
 ghost use Rattle.layout.specs.Body.{transitionAt};
@@ -434,7 +434,7 @@ pub fn lay(
     out: &mut [u8],
 )
     requires { ⌜ Checked n (now body) × CallsIn (fileAt n (now body)) (now calls) × InnerIn (fileAt n (now body)) (now inner)
-        × Fits (fileAt n (now body)) × (m ≡ shapeIn (rewrite (fileAt n (now body)))) × (edition ≡ theEdition)
+        × Fits (fileAt n (now body)) × (m ≡ shapeIn (rewrite (fileAt n (now body)))) × (edition ≡ firstEdition)
         × (length (encode (rewrite (fileAt n (now body)))) ≤ length (now out)) ⌝ }
     ensures { λ _. ⌜ now (out .exit) ≡ laidOver (encode (rewrite (fileAt n (now (body .entry))))) (now (out .entry)) ⌝ }
 {

@@ -168,5 +168,6 @@ pub fn shape(n: Shape, body: &[u8], inner: &[u64; 8]) -> Shape
         transitions: transitions,
         slaves: 0,
         nodes: nodes,
+        edition: checks::limits::FIRST_EDITION as usize,
     }
 }

@@ -48,18 +48,22 @@ module _ (m s : List ℕ) where
         output = t .output ∪ actionAt m k v ∩ upAt m k;
       }
 
-  -- chart k is inactive: it takes none, so that it needs and bars nothing, and keeps its state
-  unfoldable pub rested : Trail → ℕ → Trail
-  rested t k =
+  -- chart k takes no transition: it needs, bars and puts out nothing, and keeps its state; whether it is active, and what stands for its place
+  unfoldable pub idled : ℕ → ℕ → Trail → ℕ → Trail
+  idled active place t k =
       record {
         low = t .low;
         needed = t .needed ++ (0 ∷ []);
         barred = t .barred ++ (0 ∷ []);
         next = t .next ++ (stateAt s k ∷ []);
-        awake = t .awake ++ (0 ∷ []);
-        places = t .places ++ (noPlace ∷ []);
+        awake = t .awake ++ (active ∷ []);
+        places = t .places ++ (place ∷ []);
         output = t .output;
       }
+
+  -- it is inactive
+  abbrev pub rested : Trail → ℕ → Trail
+  rested t k = idled 0 noPlace t k
 
   -- Settled chart d can still be met, charts from k on being left: what it needs is in what it may be offered, and what it bars in nothing that
   -- it surely is.
@@ -70,14 +74,6 @@ module _ (m s : List ℕ) where
   -- every chart up to k can still be met
   unfoldable pub fineAt : Trail → ℕ → Bool
   fineAt t k = every (suc k) (passesAt t (suc k))
-
-  -- n charts are left, k is the next
-  unfoldable pub hunts : ℕ → ℕ → Trail → List Outcome
-  hunts zero k t = record { output = t .output; next = t .next ++ replicate (8 - k) 0; places = t .places ++ replicate (8 - k) noPlace } ∷ []
-  hunts (suc n) k t =
-      cond (wakes t k)
-      (each (countAt s k) (λ v. cond (fineAt (taken t k v) k) (hunts n (suc k) (taken t k v)) []))
-      (cond (fineAt (rested t k) k) (hunts n (suc k) (rested t k)) [])
 
 -- the outcome of N charts that are all settled, o coming out of the whole
 abbrev pub outcomeIn : List ℕ → ℕ → ℕ → Outcome
@@ -144,13 +140,7 @@ pub record Takes (m s : List ℕ) (k v : ℕ) (w b w′ b′ : List ℕ) : Type 
   pub kept : Keeps k w b w′ b′
   pub grown : (o : ℕ) → trailIn w′ b′ (k + 1) (o ∪ actionAt m k v ∩ upAt m k) ≡ taken m s (trailIn w b k o) k v
 
--- the same where chart k is inactive
-pub record Rests (s : List ℕ) (k : ℕ) (w b w′ b′ : List ℕ) : Type 0 where
+-- the same where chart k takes no transition
+pub record Idles (active place : ℕ) (s : List ℕ) (k : ℕ) (w b w′ b′ : List ℕ) : Type 0 where
   pub kept : Keeps k w b w′ b′
-  pub grown : (m : List ℕ) (o : ℕ) → trailIn w′ b′ (k + 1) o ≡ rested m s (trailIn w b k o) k
-
--- a search for the charts left, after what stands in f and g was found, leaves what it finds in f′ and g′; the beginning stays
-pub record Hunted (m s : List ℕ) (charts left o : ℕ) (w b f g w′ b′ f′ g′ : List ℕ) : Type 0 where
-  pub found : foundIn f′ g′ ≡ over (hunts m s left (charts - left) (trailIn w b (charts - left) o)) (foundIn f g)
-  pub kept : Keeps (charts - left) w b w′ b′
-  pub held : Held f′ g′
+  pub grown : (m : List ℕ) (o : ℕ) → trailIn w′ b′ (k + 1) o ≡ idled m s active place (trailIn w b k o) k

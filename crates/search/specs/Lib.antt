@@ -1,6 +1,7 @@
 -- The search over tables of masks: what the tables hold (Table), what a beginning of a choice is and where it stands (Trail), what the search
--- finds (Hunt), and what settled charts ask of the next one's action (Asks).
+-- finds (Hunt), what settled charts ask of the next one's action (Asks), and the search with charts that may stay (Stays).
 pub mod Table
 pub mod Trail
 pub mod Hunt
 pub mod Asks
+pub mod Stays

@@ -2,15 +2,17 @@
 ghost use mathlib.Core.Path.{_≡_};
 ghost use mathlib.Core.Bool.{_&&_, not};
 ghost use mathlib.Core.List.{List};
-ghost use Prim.Native.Nat.{ℕ, _+_, _≤_, _<_};
+ghost use Prim.Native.Nat.{ℕ, _+_, _*_, _≤_, _<_};
 ghost use lib.ListN.{length, getD};
 ghost use Rattle.signals.specs.Mask.{_∪_, _∩_, within, apart};
 ghost use Rattle.meaning.specs.Meaning.{eqList};
+ghost use Rattle.meaning.specs.Numbers.{noPlace, stayPlace};
 ghost use Rattle.meaning.specs.Calls.{made};
 ghost use Rattle.search.specs.Table.{masksFor, Tables, actionAt, backAt, upAt};
 ghost use Rattle.search.specs.Trail.{trailIn, beginning, lowIn, columnIn, Room, RowPut, Lowers};
-ghost use Rattle.search.specs.Hunt.{wakes, fineAt, taken, settleOf, hunts, outcomeIn, firstFound, over, nothing, foundIn, BytesPut, Held, Takes, Rests, Hunted};
+ghost use Rattle.search.specs.Hunt.{wakes, fineAt, taken, settleOf, outcomeIn, firstFound, over, nothing, foundIn, BytesPut, Held, Takes, Idles};
 ghost use Rattle.search.specs.Asks.{asksOf};
+ghost use Rattle.search.specs.Stays.{trips, calmAt, calmAll, huntsBoth, Guards, Hunted};
 
 // Where a search's tables have what it reads (specs/Table.antt). Among the masks: what comes out of the whole of each chart's action, from 0 on; what
 // each chart is offered of a chart's action, and what it may still be; then, SPAN masks for each chart, what its candidates need, bar and put out.
@@ -37,6 +39,18 @@ pub const SLAVE_STATE: usize = 80;
 pub const STATE: usize = 88;
 
 pub const PLACE: usize = 96;
+
+// The masks that a chart's triggers have, what they need first, and where what they bar begins; how many there are for 8 charts (specs/Stays.antt).
+pub const TRIGGERS: usize = 16;
+
+pub const TRIGGER_BARS: usize = 8;
+
+pub const GUARDS: usize = 128;
+
+// What a search is told of charts that may stay: a number for each chart, and behind them 0 if none may.
+pub const STAYS: usize = 9;
+
+pub const SOME_STAY: usize = 8;
 
 // How many small numbers there are, how many masks for 8 charts, and how many for as few as 4.
 pub const SMALL: usize = 160;
@@ -71,8 +85,10 @@ const HAS: usize = 16;
 
 const AGREE: usize = 17;
 
-// The place of no transition.
+// The place of no transition, and of staying.
 pub const NO_PLACE: u8 = 255;
+
+pub const STAY_PLACE: u8 = 254;
 
 // What was found so far: the first permitted choice's outcome, if there is one, and whether all others agree with it. Places do not count for that.
 pub struct Found {
@@ -218,17 +234,112 @@ fn take(
     lower(masks, trail, masks[ACTION + (SPAN * k + v)], k);
 }
 
-// Chart k is inactive: it takes none and keeps its state.
-fn rest(masks: &[u64], small: &[u8], trail: &mut [u64; 88], moves: &mut [u8; 24], k: usize)
+// Chart k takes no transition and keeps its state; 1 if it is active, and what stands for its place.
+fn idle(
+    masks: &[u64],
+    small: &[u8],
+    trail: &mut [u64; 88],
+    moves: &mut [u8; 24],
+    k: usize,
+    active: u8,
+    place: u8,
+)
     requires { ⌜ (masksFor 0 ≤ length (now masks)) × (length (now small) ≡ 160) × Room (now trail) (now moves) × (k < 8) ⌝ }
-    ensures { λ _. ⌜ Rests (now (small .entry)) k (now (trail .entry)) (now (moves .entry)) (now (trail .exit)) (now (moves .exit)) ⌝ }
+    ensures { λ _. ⌜ Idles active place (now (small .entry)) k (now (trail .entry)) (now (moves .entry)) (now (trail .exit)) (now (moves .exit)) ⌝ }
 {
     trail[WIDTH * k + NEEDS] = 0;
     trail[WIDTH * k + BARS] = 0;
     moves[STEPS * k] = small[STATE + k];
-    moves[STEPS * k + AWAKE] = 0;
-    moves[STEPS * k + TAKEN] = NO_PLACE;
+    moves[STEPS * k + AWAKE] = active;
+    moves[STEPS * k + TAKEN] = place;
     lower(masks, trail, 0, k);
+}
+
+// Chart k is inactive.
+fn rest(masks: &[u64], small: &[u8], trail: &mut [u64; 88], moves: &mut [u8; 24], k: usize)
+    requires { ⌜ (masksFor 0 ≤ length (now masks)) × (length (now small) ≡ 160) × Room (now trail) (now moves) × (k < 8) ⌝ }
+    ensures { λ _. ⌜ Idles 0 noPlace (now (small .entry)) k (now (trail .entry)) (now (moves .entry)) (now (trail .exit)) (now (moves .exit)) ⌝ }
+{
+    idle(masks, small, trail, moves, k, 0, NO_PLACE);
+}
+
+// Chart k stays: it is active.
+fn stay(masks: &[u64], small: &[u8], trail: &mut [u64; 88], moves: &mut [u8; 24], k: usize)
+    requires { ⌜ (masksFor 0 ≤ length (now masks)) × (length (now small) ≡ 160) × Room (now trail) (now moves) × (k < 8) ⌝ }
+    ensures { λ _. ⌜ Idles 1 stayPlace (now (small .entry)) k (now (trail .entry)) (now (moves .entry)) (now (trail .exit)) (now (moves .exit)) ⌝ }
+{
+    idle(masks, small, trail, moves, k, 1, STAY_PLACE);
+}
+
+// Whether one of the first n triggers of chart d holds, where what the chart is surely offered is low and what it may be offered is high.
+pub fn trips(guards: &[u64], d: usize, n: usize, low: u64, high: u64) -> bool
+    requires { ⌜ (16 * (d + 1) ≤ length (now guards)) × (d < 8) × (n ≤ 8) ⌝ }
+    ensures { λ r. ⌜ r ≡ trips (now (guards .entry)) d n low high ⌝ }
+{
+    let mut v: usize = 0;
+    while v < n {
+        let trigger = Guard {
+            needed: guards[TRIGGERS * d + v],
+            barred: guards[TRIGGERS * d + (TRIGGER_BARS + v)],
+        };
+        if holds(trigger, high, low) {
+            return true;
+        }
+        v += 1;
+    }
+    false
+}
+
+// Whether chart d, if it stays, is not surely triggered, where the charts below k are settled.
+fn calm(
+    masks: &[u64],
+    guards: &[u64],
+    stays: &[u8],
+    trail: &[u64; 88],
+    moves: &[u8; 24],
+    k: usize,
+    d: usize,
+) -> bool
+    requires { ⌜ (masksFor 0 ≤ length (now masks)) × Guards (now guards) (now stays) × (k ≤ 8) × (d < k) ⌝ }
+    ensures { λ r. ⌜ ((s : List ℕ) (o : ℕ) →
+        r ≡ calmAt (now (masks .entry)) s (now (guards .entry)) (now (stays .entry)) (trailIn (now (trail .entry)) (now (moves .entry)) k o) k d) ⌝ }
+{
+    if moves[STEPS * d + TAKEN] != STAY_PLACE {
+        return true;
+    }
+    let n = stays[d] as usize;
+    if n == 0 {
+        return true;
+    }
+    let low = trail[WIDTH * k + d];
+    let high = low | masks[AHEAD + (8 * k + d)];
+    !trips(guards, d, n - 1, low, high)
+}
+
+// The same of all charts below k. Where no chart may stay, none is looked for.
+fn all_calm(
+    masks: &[u64],
+    guards: &[u64],
+    stays: &[u8],
+    trail: &[u64; 88],
+    moves: &[u8; 24],
+    k: usize,
+) -> bool
+    requires { ⌜ (masksFor 0 ≤ length (now masks)) × Guards (now guards) (now stays) × (k ≤ 8) ⌝ }
+    ensures { λ r. ⌜ ((s : List ℕ) (o : ℕ) →
+        r ≡ calmAll (now (masks .entry)) s (now (guards .entry)) (now (stays .entry)) (trailIn (now (trail .entry)) (now (moves .entry)) k o) k) ⌝ }
+{
+    if stays[SOME_STAY] == 0 {
+        return true;
+    }
+    let mut d: usize = 0;
+    while d < k {
+        if !calm(masks, guards, stays, trail, moves, k, d) {
+            return false;
+        }
+        d += 1;
+    }
+    true
 }
 
 // What comes out of the whole once chart k takes its candidate v.
@@ -340,10 +451,13 @@ fn disagree(best: &[u8; 18]) -> bool
 }
 
 // What the charts left to be settled give, from chart charts - left on, joined to what was found before, in `best` and `shown`. The charts before it
-// stand in `trail` and `moves`, and stay there; what it writes stands behind them. So that nothing is copied, all four are lent.
+// stand in `trail` and `moves`, and stay there; what it writes stands behind them. So that nothing is copied, all four are lent. Nothing is found
+// where a settled chart stays and is surely triggered.
 fn hunt(
     masks: &[u64],
     small: &[u8],
+    guards: &[u64],
+    stays: &[u8],
     trail: &mut [u64; 88],
     moves: &mut [u8; 24],
     best: &mut [u8; 18],
@@ -352,15 +466,19 @@ fn hunt(
     left: usize,
     output: u64,
 )
-    requires { ⌜ Tables charts (now masks) (now small) × Room (now trail) (now moves) × Held (now best) (now shown) × (charts ≤ 8) × (left ≤ charts) ⌝ }
-    ensures { λ _. ⌜ Hunted (now (masks .entry)) (now (small .entry)) charts left output (now (trail .entry)) (now (moves .entry))
+    requires { ⌜ Tables charts (now masks) (now small) × Room (now trail) (now moves) × Held (now best) (now shown) × (charts ≤ 8) × (left ≤ charts)
+        × Guards (now guards) (now stays) ⌝ }
+    ensures { λ _. ⌜ Hunted (now (masks .entry)) (now (small .entry)) (now (guards .entry)) (now (stays .entry)) charts left output (now (trail .entry)) (now (moves .entry))
         (now (best .entry)) (now (shown .entry)) (now (trail .exit)) (now (moves .exit)) (now (best .exit)) (now (shown .exit)) ⌝ }
 {
+    let k = charts - left;
+    if !all_calm(masks, guards, stays, trail, moves, k) {
+        return;
+    }
     if left == 0 {
         settle(output, moves, charts, best, shown);
         return;
     }
-    let k = charts - left;
     let asked = asks(masks, trail, k);
     if !signals::apart(asked.needed, asked.barred) {
         return;
@@ -373,6 +491,8 @@ fn hunt(
         hunt(
             masks,
             small,
+            guards,
+            stays,
             trail,
             moves,
             best,
@@ -392,6 +512,8 @@ fn hunt(
             hunt(
                 masks,
                 small,
+                guards,
+                stays,
                 trail,
                 moves,
                 best,
@@ -406,6 +528,26 @@ fn hunt(
         }
         v += 1;
     }
+    if stays[k] == 0 {
+        return;
+    }
+    if asked.needed != 0 {
+        return;
+    }
+    stay(masks, small, trail, moves, k);
+    hunt(
+        masks,
+        small,
+        guards,
+        stays,
+        trail,
+        moves,
+        best,
+        shown,
+        charts,
+        left - 1,
+        output,
+    );
 }
 
 // Nothing found yet.
@@ -436,10 +578,18 @@ fn found_in(best: &[u8; 18], shown: &[u64; 1]) -> Found
     }
 }
 
-// What a search over the charts finds, where low is what each is surely offered of the input.
-pub fn search(masks: &[u64], small: &[u8], charts: usize, low: [u64; 8]) -> Found
-    requires { ⌜ Tables charts (now masks) (now small) × (charts ≤ 8) ⌝ }
-    ensures { λ r. ⌜ r ≡ over (hunts (now (masks .entry)) (now (small .entry)) charts 0 (beginning low)) nothing ⌝ }
+// What a search over the charts finds, where low is what each is surely offered of the input. `guards` has the triggers of charts that may stay, and
+// `stays` how many there are (specs/Stays.antt).
+pub fn search(
+    masks: &[u64],
+    small: &[u8],
+    guards: &[u64],
+    stays: &[u8],
+    charts: usize,
+    low: [u64; 8],
+) -> Found
+    requires { ⌜ Tables charts (now masks) (now small) × (charts ≤ 8) × Guards (now guards) (now stays) ⌝ }
+    ensures { λ r. ⌜ r ≡ over (huntsBoth (now (masks .entry)) (now (small .entry)) (now (guards .entry)) (now (stays .entry)) charts 0 (beginning low)) nothing ⌝ }
 {
     let mut trail = [0u64; 88];
     let mut moves = [0u8; 24];
@@ -450,6 +600,8 @@ pub fn search(masks: &[u64], small: &[u8], charts: usize, low: [u64; 8]) -> Foun
     hunt(
         masks,
         small,
+        guards,
+        stays,
         &mut trail,
         &mut moves,
         &mut best,

@@ -2,7 +2,6 @@
 -- what later charts may put out. Laws are in Fill/Laws.antt.
 use mathlib.Core.Path.{_≡_}
 use mathlib.Core.Bool.{Bool, true, false, _&&_, not, cond}
-use mathlib.Core.Option.{some}
 use mathlib.Core.List.{List}
 use Prim.Native.Nat.{ℕ, zero, suc, _+_, _*_, _-_, _≤_, _<_}
 use lib.Dec.{ltb}
@@ -10,26 +9,31 @@ use lib.ListN.{length, getD, set}
 use Rattle.signals.specs.Mask.{_∪_, _∩_}
 use Rattle.layout.specs.declared.record.Transition.{Transition}
 use Rattle.meaning.specs.Count.{anyUpTo}
-use Rattle.meaning.specs.Meaning.{Set, same, Move, pick, actionOf}
+use Rattle.meaning.specs.Meaning.{Set, same, Chart, Move, met?, pick, actionOf}
 use Rattle.wiring.specs.Wire.{join}
 use Rattle.wiring.specs.Dropped.{ahead, test}
-use Rattle.wiring.specs.Sure.{sureOf}
+use Rattle.wiring.specs.Sure.{sureOf, sureIn}
 use Rattle.wiring.specs.Hunt.{mayOf}
 use Rattle.search.specs.Table.{neededAt, barredAt, actionAt, backAt, aheadAt, toAt, countAt, masterAt, stateAt}
+use Rattle.search.specs.Stays.{staysAt}
 use Rattle.tables.specs.Filled.{Listed, mayAt}
 pub mod Laws
 
 -- ── a move tested alone ──
 
 -- low: what its chart is surely offered; own: what of the chart's own action gets back to it; others: all that the others might put in
-unfoldable pub lastsBy : Set → Set → Set → Move → Bool
-lastsBy low own others M = test M (low ∪ actionOf M ∩ own) (low ∪ actionOf M ∩ own ∪ others)
+unfoldable pub keptBy : Set → Set → Set → Chart → ℕ → Move → Bool
+keptBy low own others K q M = test K q M (low ∪ actionOf M ∩ own) (low ∪ actionOf M ∩ own ∪ others)
+
+-- a transition
+unfoldable pub lastsBy : Set → Set → Set → Transition → Bool
+lastsBy low own others t = met? t (low ∪ t .action ∩ own ∪ others) (low ∪ t .action ∩ own)
 
 -- what the charts other than c might put in for it, each of its `may`
 unfoldable pub othersAt : List ℕ → ℕ → (ℕ → Set) → ℕ → Set
 othersAt m N may c = join N (λ e. cond (same e c) 0 (may e) ∩ backAt m c e)
 
--- what chart e surely puts out: u, if it stands in no slave
+-- what chart e surely puts out: u, if it stands in no slave; of one that may stay, u is nothing (`sureIn`)
 unfoldable pub sureAt : List ℕ → ℕ → Set → Set
 sureAt s e u = cond (ltb (masterAt s e) 8) 0 u
 
@@ -68,7 +72,7 @@ module _ (c q : ℕ) (low own others : Set) where
   unfoldable pub considered : ℕ → Transition → Filling → Filling
   considered p t f =
       pickFilling (same (t .from) q)
-      (pickFilling (lastsBy low own others (some t)) (pickFilling (isAgain (f .masks) (f .small) c (f .count) t) f (put c p t f)) f)
+      (pickFilling (lastsBy low own others t) (pickFilling (isAgain (f .masks) (f .small) c (f .count) t) f (put c p t f)) f)
       f
 
   -- the first p transitions of g
@@ -78,19 +82,19 @@ module _ (c q : ℕ) (low own others : Set) where
 
 -- ── all charts ──
 
-module _ (ts : ℕ → List Transition) (cfg : ℕ → ℕ) where
+module _ (E : ℕ → Chart) (cfg : ℕ → ℕ) where
   -- lows has what base has, and what the first k charts surely put in
   abbrev pub Raised : ℕ → List ℕ → List ℕ → List ℕ → List ℕ → Type 0
-  Raised k m s base lows = (c : ℕ) → c < 8 → getD lows c 0 ≡ getD base c 0 ∪ join k (λ e. sureAt s e (sureOf (ts e) (cfg e)) ∩ backAt m c e)
+  Raised k m s base lows = (c : ℕ) → c < 8 → getD lows c 0 ≡ getD base c 0 ∪ join k (λ e. sureAt s e (sureIn (E e .stays) (sureOf (E e .transitions) (cfg e))) ∩ backAt m c e)
 
-module _ (ts : ℕ → List Transition) (cfg : ℕ → ℕ) (N : ℕ) (lows : List ℕ) where
+module _ (E : ℕ → Chart) (cfg : ℕ → ℕ) (N : ℕ) (lows : List ℕ) where
   -- the move of chart c at place v is kept
   unfoldable pub keepAt : List ℕ → ℕ → ℕ → Bool
-  keepAt m c v = lastsBy (getD lows c 0) (backAt m c c) (othersAt m N (λ e. mayOf (ts e) (cfg e)) c) (pick (ts c) v)
+  keepAt m c v = keptBy (getD lows c 0) (backAt m c c) (othersAt m N (λ e. mayOf (E e .transitions) (cfg e)) c) (E c) (cfg c) (pick (E c) v)
 
   -- the first k charts have their candidates; of the tables m₀ and s₀ the rest is as it was
   pub record Until (m₀ s₀ : List ℕ) (k : ℕ) (m s : List ℕ) : Type 0 where
-    pub listed : (c : ℕ) → c < k → Listed m s c (ts c) (cfg c) (keepAt m₀ c) (length (ts c)) (countAt s c)
+    pub listed : (c : ℕ) → c < k → Listed m s c (E c .transitions) (cfg c) (keepAt m₀ c) (length (E c .transitions)) (countAt s c)
     pub counts : (c : ℕ) → c < k → countAt s c ≤ 8
     pub wires : (i : ℕ) → i < 144 → getD m i 0 ≡ getD m₀ i 0
     pub rest : (i : ℕ) → 64 + k ≤ i → i < 96 → getD s i 0 ≡ getD s₀ i 0
@@ -99,7 +103,7 @@ module _ (ts : ℕ → List Transition) (cfg : ℕ → ℕ) (N : ℕ) (lows : Li
 
   -- all of it
   pub record Chosen (m s : List ℕ) : Type 0 where
-    pub listed : (c : ℕ) → c < N → Listed m s c (ts c) (cfg c) (keepAt m c) (length (ts c)) (countAt s c)
+    pub listed : (c : ℕ) → c < N → Listed m s c (E c .transitions) (cfg c) (keepAt m c) (length (E c .transitions)) (countAt s c)
     pub counts : (c : ℕ) → c < N → countAt s c ≤ 8
     pub ahead-at : (k c : ℕ) → k ≤ N → c < N → aheadAt m k c ≡ ahead (N - k) k (λ e. mayAt m s e ∩ backAt m c e)
     pub state-at : (c : ℕ) → c < N → stateAt s c ≡ cfg c
@@ -126,6 +130,6 @@ pub record AheadFrom (N : ℕ) (s : List ℕ) (k : ℕ) (m₀ m : List ℕ) : Ty
 
 -- ── no search is needed ──
 
--- a chart that stands in no slave has no candidate
-unfoldable pub stuck : List ℕ → ℕ → Bool
-stuck s N = anyUpTo N (λ c. same (countAt s c) 0 && not (ltb (masterAt s c) 8))
+-- a chart that stands in no slave has no candidate, and cannot stay
+unfoldable pub stuck : List ℕ → List ℕ → List ℕ → ℕ → Bool
+stuck s g y N = anyUpTo N (λ c. same (countAt s c) 0 && (not (ltb (masterAt s c) 8) && not (staysAt g y c)))

@@ -1,6 +1,6 @@
 -- What the tables of a search hold for a file, a configuration and an input: the wiring, the present states, and the candidates.
 use mathlib.Core.Path.{_≡_}
-use mathlib.Core.Bool.{Bool, true, false}
+use mathlib.Core.Bool.{Bool, true, false, _&&_}
 use mathlib.Core.Option.{Option, none, some}
 use mathlib.Core.List.{List}
 use mathlib.Core.Logic.{_≢_}
@@ -8,12 +8,13 @@ use Prim.Native.Nat.{ℕ, zero, suc, _-_, _≤_, _<_}
 use lib.ListN.{length, getD, take}
 use Rattle.signals.specs.Mask.{_∪_, _∩_}
 use Rattle.layout.specs.declared.record.Transition.{Transition}
-use Rattle.meaning.specs.Meaning.{Set, Chart, Tree, nth, Answer, refused, given}
+use Rattle.meaning.specs.Meaning.{Set, Chart, Tree, noMove, takes, nth, lastPlace, untriggered, Answer, refused, given}
 use Rattle.wiring.specs.Wire.{join, down, up, back}
 use Rattle.wiring.specs.Sure.{surely}
 use Rattle.wiring.specs.Dropped.{ahead}
 use Rattle.search.specs.Table.{neededAt, barredAt, actionAt, backAt, aheadAt, upAt, toAt, countAt, masterAt, slaveStateAt, stateAt, placeAt}
 use Rattle.search.specs.Hunt.{answerIn}
+use Rattle.search.specs.Stays.{staysAt, calm}
 use Rattle.search.specs.declared.Found.{Found}
 
 module _ (m s : List ℕ) where
@@ -28,10 +29,10 @@ module _ (m s : List ℕ) where
   -- kept (its place is one more), or is an earlier candidate again, or is a candidate of its own, which has its place.
   pub data Listed (c : ℕ) (ts : List Transition) (q : ℕ) (keep : ℕ → Bool) : ℕ → ℕ → Type 0 where
     start : Listed c ts q keep zero zero
-    other : {p n : ℕ} → Listed c ts q keep p n → (t : Transition) → nth ts p ≡ some t → t .from ≢ q → Listed c ts q keep (suc p) n
+    other : {p n : ℕ} → Listed c ts q keep p n → (t : Transition) → nth noMove ts p ≡ takes t → t .from ≢ q → Listed c ts q keep (suc p) n
     fails : {p n : ℕ} → Listed c ts q keep p n → keep (suc p) ≡ false → Listed c ts q keep (suc p) n
-    again : {p n : ℕ} → Listed c ts q keep p n → (t : Transition) → nth ts p ≡ some t → (v : ℕ) → v < n → Is c v t → Listed c ts q keep (suc p) n
-    fresh : {p n : ℕ} → Listed c ts q keep p n → (t : Transition) → nth ts p ≡ some t → t .from ≡ q → keep (suc p) ≡ true → Is c n t
+    again : {p n : ℕ} → Listed c ts q keep p n → (t : Transition) → nth noMove ts p ≡ takes t → (v : ℕ) → v < n → Is c v t → Listed c ts q keep (suc p) n
+    fresh : {p n : ℕ} → Listed c ts q keep p n → (t : Transition) → nth noMove ts p ≡ takes t → t .from ≡ q → keep (suc p) ≡ true → Is c n t
         → placeAt s c n ≡ p → Listed c ts q keep (suc p) (suc n)
 
   -- what chart c's candidates put out, all together
@@ -53,6 +54,12 @@ module _ (E : ℕ → Chart) (cfg : ℕ → ℕ) (N : ℕ) (t : Tree) where
   pub record Candidates (keep : ℕ → ℕ → Bool) (m s : List ℕ) : Type 0 where
     pub listed : (c : ℕ) → c < N → Listed m s c (E c .transitions) (cfg c) (keep c) (length (E c .transitions)) (countAt s c)
     pub ahead-at : (k c : ℕ) → k ≤ N → c < N → aheadAt m k c ≡ ahead (N - k) k (λ e. mayAt m s e ∩ back E t c e)
+
+-- charts that may stay: whose staying is open and kept, and their triggers
+module _ (E : ℕ → Chart) (cfg : ℕ → ℕ) (N : ℕ) where
+  pub record Stayers (keep : ℕ → ℕ → Bool) (g y : List ℕ) : Type 0 where
+    pub open-at : (c : ℕ) → c < N → staysAt g y c ≡ (E c .stays && keep c (lastPlace (E c)))
+    pub calm-at : (c : ℕ) → c < N → staysAt g y c ≡ true → (lo hi : Set) → calm g y c lo hi ≡ untriggered (E c .transitions) (cfg c) lo hi
 
 module _ (E : ℕ → Chart) (cfg : ℕ → ℕ) (N : ℕ) (enc : ℕ → Option ℕ) (t : Tree) (inp : Set) where
   -- what each chart is surely offered before any is settled: of the input, and of what charts surely put out

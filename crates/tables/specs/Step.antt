@@ -1,12 +1,13 @@
 -- A step by tables, for a file that rules 9 to 11 allow: where the wiring is in the tables and the candidates are chosen, a search over them
--- answers the step and has its places, and where a chart is stuck there is nothing to search.
+-- answers the step and has its places.
 use mathlib.Core.Path.{_≡_, ap}
 use mathlib.Core.Bool.{true}
 use mathlib.Core.List.{List}
-use Prim.Native.Nat.{ℕ, zero, _-_, _<_}
+use Prim.Native.Nat.{ℕ, zero, _-_, _≤_, _<_}
 use native.Mathlib.Omega.{arith}
-use lib.ListN.{getD}
+use lib.ListN.{length, getD}
 use Rattle.signals.specs.Mask.{_∩_}
+use Rattle.meaning.specs.Numbers.{stayPlace}
 use Rattle.meaning.specs.Meaning.{Set, actionOf, moves}
 use Rattle.meaning.specs.File.{File, wholeOf}
 use Rattle.meaning.specs.Calls.{stepIn, placesIn}
@@ -15,37 +16,38 @@ use Rattle.meaning.specs.Laws.Names.{Rule10, kap}
 use Rattle.wiring.specs.Wire.{down, Small}
 use Rattle.wiring.specs.Stand.{stands}
 use Rattle.search.specs.Trail.{beginning}
-use Rattle.search.specs.Hunt.{hunts, over, nothing}
+use Rattle.search.specs.Hunt.{over, nothing}
+use Rattle.search.specs.Stays.{huntsBoth}
 use Rattle.search.specs.declared.Found.{Found}
-use Rattle.tables.specs.Filled.{Rows, Candidates, Lows, answerOf}
-use Rattle.tables.specs.Fill.{Chosen, Raised, stuck}
-use Rattle.tables.specs.Fill.Laws.{candidates, lows-are, hunts-stuck}
+use Rattle.tables.specs.Filled.{Rows, Candidates, Stayers, Lows, answerOf}
+use Rattle.tables.specs.Fill.{keepAt, Chosen, Raised, stuck}
+use Rattle.tables.specs.Fill.Laws.{candidates, stayers-last, lows-are, hunts-stuck}
 use Rattle.tables.specs.Whole.{keeps, found-is, places-is}
 
 module _ (F : File) (some-node : 0 < F .nodes) (w : Ordered F) (r : Rule10 F) (r11 : Rule11 F)
     (chart-there : (j : ℕ) → j < F .nodes → F .kind j ≡ 0 → F .a j < F .charts) (node-there : (i : ℕ) → i < F .slaves → (F .node i < F .nodes) × (F .master i < F .charts))
-    (config : List ℕ) (inp : Set) (si : Small inp) (sa : (ch : ℕ → ℕ) (e : ℕ) → Small (actionOf (moves (F .chart) ch e))) (m s base lows : List ℕ)
+    (config : List ℕ) (inp : Set) (si : Small inp) (sa : (ch : ℕ → ℕ) (e : ℕ) → Small (actionOf (moves (F .chart) ch e))) (m s g y base lows : List ℕ)
+    (few : (c : ℕ) → c < F .charts → length (F .chart c .transitions) ≤ stayPlace)
     (ro : Rows (F .chart) (F .state) (λ c. getD config c 0) (F .charts) (kap F) (F .master) (wholeOf F) m s)
-    (ch : Chosen (λ c. F .chart c .transitions) (λ c. getD config c 0) (F .charts) lows m s)
-    (ra : Raised (λ c. F .chart c .transitions) (λ c. getD config c 0) (F .charts) m s base lows) (bs : (c : ℕ) → c < F .charts → getD base c 0 ≡ inp ∩ down (wholeOf F) c) where
+    (ch : Chosen (F .chart) (λ c. getD config c 0) (F .charts) lows m s)
+    (ra : Raised (F .chart) (λ c. getD config c 0) (F .charts) m s base lows) (bs : (c : ℕ) → c < F .charts → getD base c 0 ≡ inp ∩ down (wholeOf F) c)
+    (sk : Stayers (F .chart) (λ c. getD config c 0) (F .charts) (keepAt (F .chart) (λ c. getD config c 0) (F .charts) lows m) g y) where
   lw : Lows (F .chart) (λ c. getD config c 0) (F .charts) (kap F) (wholeOf F) inp lows
   lw = lows-are (F .chart) (F .state) (λ c. getD config c 0) (F .charts) (kap F) (F .master) (wholeOf F) inp m s base lows (stands F w r r11 chart-there node-there (F .nodes - 1) (omega arith)) ro bs ra
 
   ca : Candidates (F .chart) (λ c. getD config c 0) (F .charts) (wholeOf F) (keeps F (λ c. getD config c 0) inp) m s
   ca = candidates (F .chart) (F .state) (λ c. getD config c 0) (F .charts) (kap F) (F .master) (wholeOf F) inp m s lows ro lw ch
 
+  sy : Stayers (F .chart) (λ c. getD config c 0) (F .charts) (keeps F (λ c. getD config c 0) inp) g y
+  sy = stayers-last (F .chart) (F .state) (λ c. getD config c 0) (F .charts) (kap F) (F .master) (wholeOf F) inp m s lows ro lw sk
+
   abbrev searched : Found
-  searched = over (hunts m s (F .charts) zero (beginning lows)) nothing
+  searched = over (huntsBoth m s g y (F .charts) zero (beginning lows)) nothing
 
   pub step-found : answerOf (F .charts) searched ≡ stepIn F config inp
   unfolding stepIn
-  step-found = found-is F some-node w r r11 chart-there node-there (λ c. getD config c 0) inp si sa m s lows ro ca lw
+  step-found = found-is F some-node w r r11 chart-there node-there (λ c. getD config c 0) inp si sa m s g y lows few ro ca sy lw
 
   pub step-places : searched .places ≡ placesIn F config inp
   unfolding placesIn
-  step-places = places-is F some-node w r r11 chart-there node-there (λ c. getD config c 0) inp si sa m s lows ro ca lw
-
-  -- a chart is stuck: nothing is found
-  pub none-found : stuck s (F .charts) ≡ true → searched ≡ nothing
-  unfolding over
-  none-found h = ap (λ os. over os nothing) (hunts-stuck m s (F .charts) (beginning lows) (ro .few) h)
+  step-places = places-is F some-node w r r11 chart-there node-there (λ c. getD config c 0) inp si sa m s g y lows few ro ca sy lw

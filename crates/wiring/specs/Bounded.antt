@@ -21,8 +21,8 @@ module _ (E : ℕ → Chart) (state : ℕ → ℕ) (cfg : ℕ → ℕ) (N : ℕ)
     (M : ℕ → Move) (si : Small inp) (sa : (e : ℕ) → Small (actionOf (M e))) (own : (c : ℕ) → Within (inFaceChart (E c)) (M c)) (lo hi : ℕ → Set) where
   -- a permitted choice passes the test of each chart between bounds on all actions
   pub bounded : permitted E state cfg M t inp ≡ true → ((e : ℕ) → e < N → Inside (lo e) (actionOf (M e))) → ((e : ℕ) → e < N → Inside (actionOf (M e)) (hi e))
-      → (c : ℕ) → c < N → test (M c) (offered N lo inp (down t c) (back E t c)) (offered N hi inp (down t c) (back E t c)) ≡ true
+      → (c : ℕ) → c < N → test (E c) (cfg c) (M c) (offered N lo inp (down t c) (back E t c)) (offered N hi inp (down t c) (back E t c)) ≡ true
   unfolding ruled offer
-  bounded p l h c b = fits-test (awake enc sc state cfg M c) (offered N (λ e. actionOf (M e)) inp (down t c) (back E t c)) (cfg c) (M c) _ _
+  bounded p l h c b = fits-test (E c) (awake enc sc state cfg M c) (offered N (λ e. actionOf (M e)) inp (down t c) (back E t c)) (cfg c) (M c) _ _
       (offered-in N lo (λ e. actionOf (M e)) inp (down t c) (back E t c) l) (offered-in N (λ e. actionOf (M e)) hi inp (down t c) (back E t c) h)
       (every-elim N (ruled E state cfg N enc sc t inp M) (sym (permitted-wired E state cfg N enc sc t inp M s si sa own) ∙ p) c b)

@@ -1,16 +1,16 @@
 -- A beginning that fails the test has no permitted choice.
 use mathlib.Core.Path.{_≡_, refl, sym, _∙_, ap, ap₂}
 use mathlib.Core.Bool.{Bool, true, false, _&&_, false≢true}
-use mathlib.Core.Option.{Option, none, some}
+use mathlib.Core.Option.{Option}
 use mathlib.Core.List.{[], _∷_}
 use Prim.Native.Nat.{ℕ, zero, suc, _+_, _≤_, _<_}
 use native.Mathlib.Omega.{arith}
 use native.Mathlib.Nat.{zero-add}
-use borrow.Author.Tests.{eqb-true, eq-eqb}
-use Rattle.signals.specs.Mask.{_∪_, _∩_, _∖_, within, apart, Within}
-use Rattle.signals.specs.Decide.{sets, A, B, C, D, E as Eₑ, F as Fₑ, ∅ₑ, _∪ₑ_, _∩ₑ_, _≐_, _⊑_, _⊥ₑ_}
-use Rattle.meaning.specs.Meaning.{Set, ∅, same, Chart, Tree, Move, pick, actionOf, permitted, moves, search}
-use Rattle.meaning.specs.Laws.Bools.{every-elim, and-l, and-r, and-i, not-true}
+use Rattle.signals.specs.Mask.{_∪_, _∩_, Within}
+use Rattle.signals.specs.Decide.{sets, A, B, C, D, E as Eₑ, F as Fₑ, ∅ₑ, _∪ₑ_, _∩ₑ_, _≐_, _⊑_}
+use Rattle.meaning.specs.Meaning.{Set, ∅, same, Chart, Tree, Move, noMove, takes, stay, pick, actionOf, met?, untriggered, permitted, moves, search}
+use Rattle.meaning.specs.Laws.Bools.{every-elim, and-l, and-r, not-true}
+use Rattle.meaning.specs.Laws.Guards.{met-wider, quiet-wider}
 use Rattle.meaning.specs.Laws.Choices.{Below, search-empty}
 use Rattle.wiring.specs.Uncut.{own-moves}
 use Rattle.wiring.specs.Wire.{down, back, join, offered, fits, Small}
@@ -22,10 +22,12 @@ unfoldable pub ahead : ℕ → ℕ → (ℕ → Set) → Set
 ahead zero k f = ∅
 ahead (suc n) k f = f k ∪ ahead n (suc k) f
 
--- what the charts from k on may still put in, at their present states (n of them)
-unfoldable pub test : Move → Set → Set → Bool
-test none low high = true
-test (some t) low high = within (t .needed) high && apart (t .barred) low
+-- The test of a move between bounds on what the chart is offered: a transition's needed signals may still all come, and no barred one is there; a
+-- chart that stays is not triggered yet for sure: no transition from its state s has all needed signals there and can have none barred.
+unfoldable pub test : Chart → ℕ → Move → Set → Set → Bool
+test K s noMove low high = true
+test K s (takes t) low high = met? t high low
+test K s stay low high = untriggered (K .transitions) s low high
 
 split : (n k : ℕ) (f : ℕ → Set) → join (n + k) f ≡ join k f ∪ ahead n k f
 unfolding join ahead
@@ -45,32 +47,29 @@ join-in zero f g b h = sets [] [] (∅ₑ ⊑ ∅ₑ) tt
 join-in (suc k) f g b h = sets (join k (λ e. f e ∩ b e) ∷ join k (λ e. g e ∩ b e) ∷ f k ∷ g k ∷ b k ∷ []) (A ⊑ B ∷ C ⊑ D ∷ []) (A ∪ₑ C ∩ₑ Eₑ ⊑ B ∪ₑ D ∩ₑ Eₑ) tt
     (join-in k f g b (λ e l. h e (omega arith))) (h k (omega arith))
 
-sub-in : (g o p : Set) → Within o p → within g o ≡ true → within g p ≡ true
-sub-in g o p h e = eq-eqb (g ∖ p) 0 (sets (g ∷ o ∷ p ∷ []) (A ⊑ B ∷ B ⊑ C ∷ []) (A ⊑ C) tt (eqb-true (g ∖ o) 0 e) h)
-
-dis-in : (g o p : Set) → Within p o → apart g o ≡ true → apart g p ≡ true
-dis-in g o p h e = eq-eqb (g ∩ p) 0 (sets (g ∷ o ∷ p ∷ []) (A ⊥ₑ B ∷ C ⊑ B ∷ []) (A ⊥ₑ C) tt (eqb-true (g ∩ o) 0 e) h)
-
 -- a rule that holds passes the test between bounds
-pub fits-test : (a : Bool) (o : Set) (s : ℕ) (m : Move) (low high : Set) → Within low o → Within o high → fits a o s m ≡ true → test m low high ≡ true
+pub fits-test : (K : Chart) (a : Bool) (o : Set) (s : ℕ) (m : Move) (low high : Set) → Within low o → Within o high → fits K a o s m ≡ true → test K s m low high ≡ true
 unfolding fits test
-fits-test false o s none low high p q e = refl
-fits-test false o s (some t) low high p q e = absurd (false≢true e)
-fits-test true o s none low high p q e = refl
-fits-test true o s (some t) low high p q e = let h = and-r (same (t .from) s) _ e in
-    and-i (sub-in (t .needed) o high q (and-l _ _ h)) (dis-in (t .barred) o low p (and-r (within (t .needed) o) _ h))
+fits-test K false o s noMove low high p q e = refl
+fits-test K false o s (takes t) low high p q e = absurd (false≢true e)
+fits-test K false o s stay low high p q e = absurd (false≢true e)
+fits-test K true o s noMove low high p q e = refl
+fits-test K true o s (takes t) low high p q e = met-wider t o high o low q p (and-r (same (t .from) s) _ e)
+fits-test K true o s stay low high p q e = quiet-wider (K .transitions) s o low o high p q (and-r (K .stays) _ e)
 
 -- a rule is its activity, its state and the exact test
-pub fits-open : (a : Bool) (o : Set) (s : ℕ) (m : Move) → fits a o s m ≡ (open? a s m && test m o o)
+pub fits-open : (K : Chart) (a : Bool) (o : Set) (s : ℕ) (m : Move) → fits K a o s m ≡ (open? (K .stays) a s m && test K s m o o)
 unfolding fits open? test
-fits-open false o s none = refl
-fits-open false o s (some t) = refl
-fits-open true o s none = refl
-fits-open true o s (some t) = refl
+fits-open K false o s noMove = refl
+fits-open K false o s (takes t) = refl
+fits-open K false o s stay = refl
+fits-open K true o s noMove = refl
+fits-open K true o s (takes t) = refl
+fits-open K true o s stay = refl
 
 -- may has the action of every transition from the state
 abbrev pub May : (ℕ → Chart) → (ℕ → ℕ) → (ℕ → Set) → Type 0
-May E cfg may = (c v : ℕ) → (a : Bool) → open? a (cfg c) (pick (E c .transitions) v) ≡ true → Within (actionOf (pick (E c .transitions) v)) (may c)
+May E cfg may = (c v : ℕ) → (a : Bool) → open? (E c .stays) a (cfg c) (pick (E c) v) ≡ true → Within (actionOf (pick (E c) v)) (may c)
 
 -- no permitted choice puts out more
 abbrev pub Bounds : (ℕ → Chart) → (ℕ → ℕ) → (ℕ → ℕ) → ℕ → Tree → Set → (ℕ → Set) → Type 0
@@ -87,9 +86,9 @@ module _ (E : ℕ → Chart) (state : ℕ → ℕ) (cfg : ℕ → ℕ) (N : ℕ)
   permitted-ruled : (c : ℕ) → c < N → ruled E state cfg N enc sc t inp (moves E ch) c ≡ true
   permitted-ruled c l = every-elim N (ruled E state cfg N enc sc t inp (moves E ch)) (sym (permitted-wired E state cfg N enc sc t inp (moves E ch) s si (sa ch) (own-moves E ch)) ∙ p) c l
 
-  pub permitted-open : (c : ℕ) → c < N → open? (awake enc sc state cfg (moves E ch) c) (cfg c) (moves E ch c) ≡ true
+  pub permitted-open : (c : ℕ) → c < N → open? (E c .stays) (awake enc sc state cfg (moves E ch) c) (cfg c) (moves E ch c) ≡ true
   unfolding ruled
-  permitted-open c l = and-l _ _ (sym (fits-open (awake enc sc state cfg (moves E ch) c) (offer E state cfg N enc sc t inp (moves E ch) N c) (cfg c) (moves E ch c)) ∙ permitted-ruled c l)
+  permitted-open c l = and-l _ _ (sym (fits-open (E c) (awake enc sc state cfg (moves E ch) c) (offer E state cfg N enc sc t inp (moves E ch) N c) (cfg c) (moves E ch c)) ∙ permitted-ruled c l)
 
 module _ (E : ℕ → Chart) (state : ℕ → ℕ) (cfg : ℕ → ℕ) (N : ℕ) (enc : ℕ → Option ℕ) (sc : ℕ → ℕ) (t : Tree) (inp : Set) (may : ℕ → Set) where
   -- what is sure before any chart is settled
@@ -104,12 +103,12 @@ module _ (E : ℕ → Chart) (state : ℕ → ℕ) (cfg : ℕ → ℕ) (N : ℕ)
   high ch n k c = low ch k c ∪ ahead n k (λ e. may e ∩ back E t c e)
 
   unfoldable pub passes : (ℕ → ℕ) → ℕ → ℕ → ℕ → Bool
-  passes ch n k c = test (moves E ch c) (low ch k c) (high ch n k c)
+  passes ch n k c = test (E c) (cfg c) (moves E ch c) (low ch k c) (high ch n k c)
 
   module _ (s : Stands N enc sc t) (m : Bounds E state cfg N t inp may) (si : Small inp) (sa : (ch : ℕ → ℕ) (e : ℕ) → Small (actionOf (moves E ch e))) where
     -- every chart keeps activity and state
     abbrev Open : (ℕ → ℕ) → Type 0
-    Open ch = (e : ℕ) → e < N → open? (awake enc sc state cfg (moves E ch) e) (cfg e) (moves E ch e) ≡ true
+    Open ch = (e : ℕ) → e < N → open? (E e .stays) (awake enc sc state cfg (moves E ch) e) (cfg e) (moves E ch e) ≡ true
 
     sures-in : (ch : ℕ → ℕ) (c : ℕ) → Open ch → Within (sures c) (join N (λ e. actionOf (moves E ch e) ∩ back E t c e))
     unfolding sures
@@ -136,23 +135,23 @@ module _ (E : ℕ → Chart) (state : ℕ → ℕ) (cfg : ℕ → ℕ) (N : ℕ)
     -- a permitted choice passes every test on the way
     pub passed : (ch : ℕ → ℕ) (n k c : ℕ) → n + k ≡ N → c < N → permitted E state cfg (moves E ch) t inp ≡ true → passes ch n k c ≡ true
     unfolding passes ruled
-    passed ch n k c e l p = fits-test (awake enc sc state cfg (moves E ch) c) (offer E state cfg N enc sc t inp (moves E ch) N c) (cfg c) (moves E ch c) (low ch k c) (high ch n k c)
+    passed ch n k c e l p = fits-test (E c) (awake enc sc state cfg (moves E ch) c) (offer E state cfg N enc sc t inp (moves E ch) N c) (cfg c) (moves E ch c) (low ch k c) (high ch n k c)
         (low-in ch n k c e (permitted-open E state cfg N enc sc t inp s si sa ch p)) (high-in ch n k c e (λ d r. m ch p d r)) (permitted-ruled E state cfg N enc sc t inp s si sa ch p c l)
 
     -- low, high and the test look at settled charts alone
     pub passes-below : (ch ch₂ : ℕ → ℕ) (n k c : ℕ) → Below k ch ch₂ → c < k → passes ch₂ n k c ≡ passes ch n k c
     unfolding passes low high offer offered moves
-    passes-below ch ch₂ n k c b l = rw (b c l, join-cong k (λ e. actionOf (moves E ch₂ e) ∩ back E t c e) (λ e. actionOf (moves E ch e) ∩ back E t c e) (λ e r. ap (λ v. actionOf (pick (E e .transitions) v) ∩ back E t c e) (b e r)))
+    passes-below ch ch₂ n k c b l = rw (b c l, join-cong k (λ e. actionOf (moves E ch₂ e) ∩ back E t c e) (λ e. actionOf (moves E ch e) ∩ back E t c e) (λ e r. ap (λ v. actionOf (pick (E e) v) ∩ back E t c e) (b e r)))
 
     pub dropped : (ch : ℕ → ℕ) (n k c : ℕ) → n + k ≡ N → c < k → passes ch n k c ≡ false → (ch₂ : ℕ → ℕ) → Below k ch ch₂ → permitted E state cfg (moves E ch₂) t inp ≡ false
     dropped ch n k c e l f ch₂ b = not-true (λ p. false≢true (sym f ∙ sym (passes-below ch ch₂ n k c b l) ∙ passed ch₂ n k c e (omega arith) p))
 
     -- when none is left the test is the exact one: every chart puts out what was sure
     pub passes-last : (ch : ℕ → ℕ) (c : ℕ) → Open ch
-        → ruled E state cfg N enc sc t inp (moves E ch) c ≡ (open? (awake enc sc state cfg (moves E ch) c) (cfg c) (moves E ch c) && passes ch zero N c)
+        → ruled E state cfg N enc sc t inp (moves E ch) c ≡ (open? (E c .stays) (awake enc sc state cfg (moves E ch) c) (cfg c) (moves E ch c) && passes ch zero N c)
     unfolding passes high ruled ahead
-    passes-last ch c o = fits-open (awake enc sc state cfg (moves E ch) c) all (cfg c) (moves E ch c)
-        ∙ ap₂ (λ x y. open? (awake enc sc state cfg (moves E ch) c) (cfg c) (moves E ch c) && test (moves E ch c) x y) (sym exact) (sym exact ∙ sets (low ch N c ∷ []) [] (A ≐ A ∪ₑ ∅ₑ) tt)
+    passes-last ch c o = fits-open (E c) (awake enc sc state cfg (moves E ch) c) all (cfg c) (moves E ch c)
+        ∙ ap₂ (λ x y. open? (E c .stays) (awake enc sc state cfg (moves E ch) c) (cfg c) (moves E ch c) && test (E c) (cfg c) (moves E ch c) x y) (sym exact) (sym exact ∙ sets (low ch N c ∷ []) [] (A ≐ A ∪ₑ ∅ₑ) tt)
       where
         all : Set
         all = offer E state cfg N enc sc t inp (moves E ch) N c

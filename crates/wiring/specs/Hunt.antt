@@ -6,10 +6,9 @@ use mathlib.Core.List.{List, [], _∷_}
 use mathlib.Core.Logic.{_≢_}
 use Prim.Native.Nat.{ℕ, zero, suc, _+_, _<_}
 use native.Mathlib.Omega.{arith}
-use lib.ListN.{length}
 use Rattle.signals.specs.Mask.{_∪_, Within}
 use Rattle.signals.specs.Decide.{sets, A, B, C, ∅ₑ, _∪ₑ_, _≐_, _⊑_}
-use Rattle.meaning.specs.Meaning.{Set, ∅, same, Chart, Tree, Move, nth, pick, actionOf, permitted, upd, moves, upto, Outcome, outcomeOf, outcome, search, meets}
+use Rattle.meaning.specs.Meaning.{Set, ∅, same, Chart, Tree, Move, noMove, stay, nth, behind, pick, lastPlace, actionOf, permitted, upd, moves, upto, Outcome, outcomeOf, outcome, search, meets}
 use Rattle.meaning.specs.Laws.Bools.{same-refl, same→≡, every, every-intro, every-elim, and-i, not-true}
 use Rattle.meaning.specs.Laws.Choices.{upto-cong, upd-at, upd-off, Below, search-empty}
 use Rattle.layout.specs.declared.record.Transition.{Transition}
@@ -52,7 +51,7 @@ module _ (enc : ℕ → Option ℕ) (sc state cfg : ℕ → ℕ) (N : ℕ) (lowe
 module _ (E : ℕ → Chart) (state : ℕ → ℕ) (cfg : ℕ → ℕ) (N : ℕ) (enc : ℕ → Option ℕ) (sc : ℕ → ℕ) (t : Tree) (inp : Set) (may : ℕ → Set) (keep : ℕ → ℕ → Bool) where
   -- chart c's move keeps activity and state
   unfoldable pub opens : (ℕ → ℕ) → ℕ → Bool
-  opens ch c = open? (awake enc sc state cfg (moves E ch) c) (cfg c) (moves E ch c)
+  opens ch c = open? (E c .stays) (awake enc sc state cfg (moves E ch) c) (cfg c) (moves E ch c)
 
   -- chart k is settled now, n are left
   unfoldable pub fine : (ℕ → ℕ) → ℕ → ℕ → Bool
@@ -60,13 +59,13 @@ module _ (E : ℕ → Chart) (state : ℕ → ℕ) (cfg : ℕ → ℕ) (N : ℕ)
 
   unfoldable pub hunt : ℕ → ℕ → (ℕ → ℕ) → List Outcome
   hunt zero k ch = outcomeOf E cfg t N ch ∷ []
-  hunt (suc n) k ch = upto (length (E k .transitions)) (λ v. cond (keep k v && fine (upd ch k v) n k) (hunt n (suc k) (upd ch k v)) [])
+  hunt (suc n) k ch = upto (lastPlace (E k)) (λ v. cond (keep k v && fine (upd ch k v) n k) (hunt n (suc k) (upd ch k v)) [])
 
   module _ (s : Stands N enc sc t) (m : Bounds E state cfg N t inp may) (si : Small inp) (sa : (ch : ℕ → ℕ) (e : ℕ) → Small (actionOf (moves E ch e)))
       (kept : (ch : ℕ → ℕ) → permitted E state cfg (moves E ch) t inp ≡ true → (c : ℕ) → c < N → keep c (ch c) ≡ true) where
     opens-below : (ch ch₂ : ℕ → ℕ) (c : ℕ) → c < N → Below (suc c) ch ch₂ → opens ch₂ c ≡ opens ch c
     unfolding opens moves
-    opens-below ch ch₂ c l b = ap₂ (λ a v. open? a (cfg c) (pick (E c .transitions) v)) (awake-below enc sc state cfg N (s .lower) (moves E ch) (moves E ch₂) c l (λ d q. ap (pick (E d .transitions)) (b d (omega arith)))) (b c (omega arith))
+    opens-below ch ch₂ c l b = ap₂ (λ a v. open? (E c .stays) a (cfg c) (pick (E c) v)) (awake-below enc sc state cfg N (s .lower) (moves E ch) (moves E ch₂) c l (λ d q. ap (pick (E d)) (b d (omega arith)))) (b c (omega arith))
 
     -- a move against activity or state leads nowhere
     skip-open : (n k : ℕ) (ch : ℕ → ℕ) → k < N → opens ch k ≡ false → search E state cfg t inp N n (suc k) ch ≡ []
@@ -88,7 +87,7 @@ module _ (E : ℕ → Chart) (state : ℕ → ℕ) (cfg : ℕ → ℕ) (N : ℕ)
     pub hunted : (n k : ℕ) (ch : ℕ → ℕ) → n + k ≡ N → Good ch n k → hunt n k ch ≡ search E state cfg t inp N n k ch
     unfolding hunt search outcome fine
     hunted zero k ch e g = let q : k ≡ N = omega arith in rw (good-all ch (subst (λ z. Good ch zero z) q g))
-    hunted (suc n) k ch e g = upto-cong (length (E k .transitions)) _ _ (λ v l. first v (keep k v) refl (go v (opens (upd ch k v) k) refl (every (suc k) (passes E state cfg N enc sc t inp may (upd ch k v) n (suc k))) refl
+    hunted (suc n) k ch e g = upto-cong (lastPlace (E k)) _ _ (λ v l. first v (keep k v) refl (go v (opens (upd ch k v) k) refl (every (suc k) (passes E state cfg N enc sc t inp may (upd ch k v) n (suc k))) refl
         (λ g′. hunted n (suc k) (upd ch k v) (omega arith) g′)))
       where
         first : (v : ℕ) (x : Bool) → keep k v ≡ x → cond (fine (upd ch k v) n k) (hunt n (suc k) (upd ch k v)) [] ≡ search E state cfg t inp N n (suc k) (upd ch k v)
@@ -125,14 +124,21 @@ unfoldable pub mayOf : List Transition → ℕ → Set
 mayOf [] q = ∅
 mayOf (t ∷ ts) q = mayOf ts q ∪ cond (same (t .from) q) (t .action) ∅
 
-may-nth : (ts : List Transition) (q k : ℕ) (a : Bool) → open? a q (nth ts k) ≡ true → Within (actionOf (nth ts k)) (mayOf ts q)
+may-nth : (b : Bool) (m : Move) (ts : List Transition) (q k : ℕ) (a : Bool) → actionOf m ≡ ∅ → open? b a q (nth m ts k) ≡ true
+    → Within (actionOf (nth m ts k)) (mayOf ts q)
 unfolding mayOf nth actionOf open?
-may-nth [] q k a h = sets [] [] (∅ₑ ⊑ ∅ₑ) tt
-may-nth (t ∷ ts) q zero true h = sets (t .action ∷ mayOf ts q ∷ cond (same (t .from) q) (t .action) ∅ ∷ []) (C ≐ A ∷ []) (A ⊑ B ∪ₑ C) tt (ap (λ b. cond b (t .action) ∅) h)
-may-nth (t ∷ ts) q zero false h = absurd (false≢true h)
-may-nth (t ∷ ts) q (suc k) a h = sets (actionOf (nth ts k) ∷ mayOf ts q ∷ cond (same (t .from) q) (t .action) ∅ ∷ []) (A ⊑ B ∷ []) (A ⊑ B ∪ₑ C) tt (may-nth ts q k a h)
+may-nth b m [] q k a e h = sets (actionOf m ∷ []) (A ≐ ∅ₑ ∷ []) (A ⊑ ∅ₑ) tt e
+may-nth b m (t ∷ ts) q zero true e h = sets (t .action ∷ mayOf ts q ∷ cond (same (t .from) q) (t .action) ∅ ∷ []) (C ≐ A ∷ []) (A ⊑ B ∪ₑ C) tt (ap (λ b. cond b (t .action) ∅) h)
+may-nth b m (t ∷ ts) q zero false e h = absurd (false≢true h)
+may-nth b m (t ∷ ts) q (suc k) a e h = sets (actionOf (nth m ts k) ∷ mayOf ts q ∷ cond (same (t .from) q) (t .action) ∅ ∷ []) (A ⊑ B ∷ []) (A ⊑ B ∪ₑ C) tt (may-nth b m ts q k a e h)
+
+-- what comes behind the transitions puts out nothing
+pub behind-empty : (b : Bool) → actionOf (cond b stay noMove) ≡ ∅
+unfolding actionOf
+behind-empty true = refl
+behind-empty false = refl
 
 pub may-of : (E : ℕ → Chart) (cfg : ℕ → ℕ) → May E cfg (λ c. mayOf (E c .transitions) (cfg c))
 unfolding pick actionOf
 may-of E cfg c zero a h = sets (mayOf (E c .transitions) (cfg c) ∷ []) [] (∅ₑ ⊑ A) tt
-may-of E cfg c (suc k) a h = may-nth (E c .transitions) (cfg c) k a h
+may-of E cfg c (suc k) a h = may-nth (E c .stays) (behind (E c)) (E c .transitions) (cfg c) k a (behind-empty (E c .stays)) h

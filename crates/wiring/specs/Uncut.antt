@@ -1,25 +1,24 @@
 -- The step without the cuts to interfaces: they change nothing, for a chart looks at its guard signals alone.
 -- Assumes of each move only that it is one of its chart's transitions (or that its guard signals are in the chart's interface).
 use mathlib.Core.Path.{_≡_, refl, sym, _∙_, ap, ap₂}
-use mathlib.Core.Bool.{Bool, true, false, _&&_}
-use mathlib.Core.Option.{none, some}
+use mathlib.Core.Bool.{Bool, true, false, _&&_, cond}
 use mathlib.Core.List.{List, [], _∷_}
 use Prim.Native.Nat.{ℕ, zero, suc}
 use Rattle.signals.specs.Mask.{_∪_, _∩_, _∖_}
-use Rattle.signals.specs.Decide.{sets, A, B, C, D, E as Eₑ, _∪ₑ_, _∩ₑ_, _∖ₑ_, _≐_, _⊑_}
-use Rattle.meaning.specs.Meaning.{Set, same, Chart, Tree, Slaves, leaf, comp, hide, dec, nil, snoc, Move, nth, pick, moves, guards, actionOf, inFaceChart, inFace, inFaces, out, outs, okChart, meets, ok, oks, permitted}
+use Rattle.signals.specs.Decide.{sets, A, B, C, D, _∪ₑ_, _∩ₑ_, _∖ₑ_, _≐_, _⊑_}
+use Rattle.meaning.specs.Meaning.{Set, same, Chart, Tree, Slaves, leaf, comp, hide, dec, nil, snoc, Move, noMove, takes, stay, nth, behind, pick, moves, guards, actionOf, inFaceChart, inFace, inFaces, out, outs, okChart, meets, ok, oks, permitted}
 use Rattle.layout.specs.declared.record.Transition.{Transition}
-use lib.Dec.{eqb}
+use Rattle.meaning.specs.Laws.Guards.{met-cut, quiet-cut}
 
 -- `ok` with every cut left out
 module _ (E : ℕ → Chart) (state : ℕ → ℕ) (cfg : ℕ → ℕ) (M : ℕ → Move) where
   unfoldable mutual
     pub okU : Tree → Bool → Set → Bool
-    okU (leaf c) a o = okChart (E c .feedback) a o (cfg c) (M c)
+    okU (leaf c) a o = okChart (E c) a o (cfg c) (M c)
     okU (comp l r x) a o = okU l a (o ∪ ((out M l ∪ out M r) ∩ x)) && okU r a (o ∪ ((out M l ∪ out M r) ∩ x))
     okU (hide l x y) a o = okU l a (o ∖ x)
     okU (dec c ss) a o =
-        okChart (E c .feedback) a (o ∪ ((actionOf (M c) ∪ outs M ss) ∩ E c .feedback)) (cfg c) (M c)
+        okChart (E c) a (o ∪ ((actionOf (M c) ∪ outs M ss) ∩ E c .feedback)) (cfg c) (M c)
         && oksU ss (λ q. a && meets (cfg c) (M c) q) (o ∪ ((actionOf (M c) ∪ outs M ss) ∩ E c .feedback))
 
     pub oksU : Slaves → (ℕ → Bool) → Set → Bool
@@ -28,8 +27,9 @@ module _ (E : ℕ → Chart) (state : ℕ → ℕ) (cfg : ℕ → ℕ) (M : ℕ 
 
 -- the guard signals of a move are in the set
 abbrev pub Within : Set → Move → Type 0
-Within I none = Unit {0}
-Within I (some t) = (t .needed ∪ t .barred) ∖ I ≡ 0
+Within I noMove = Unit {0}
+Within I (takes t) = (t .needed ∪ t .barred) ∖ I ≡ 0
+Within I stay = Unit {0}
 
 -- ── identities of sets ──
 cut-left : (o w l r : Set) → (o ∩ (l ∪ r) ∪ w) ∩ l ≡ (o ∪ w) ∩ l
@@ -48,14 +48,21 @@ cut-snd : (z l r : Set) → (z ∩ (l ∪ r)) ∩ r ≡ z ∩ r
 cut-snd z l r = sets (z ∷ l ∷ r ∷ []) [] ((A ∩ₑ (B ∪ₑ C)) ∩ₑ C ≐ A ∩ₑ C) tt
 
 -- ── the rule of a chart ──
-okC-cut : (F : Set) (a : Bool) (o : Set) (s : ℕ) (m : Move) (I : Set) → Within I m → okChart F a (o ∩ I) s m ≡ okChart F a o s m
+-- all guards of a chart are in its interface
+guards-in : (C : Chart) → guards (C .transitions) ∖ inFaceChart C ≡ 0
+unfolding inFaceChart
+guards-in C = sets (guards (C .transitions) ∷ C .extra ∷ []) [] (A ⊑ A ∪ₑ B) tt
+
+okC-cut : (K : Chart) (a : Bool) (o : Set) (s : ℕ) (m : Move) → Within (inFaceChart K) m → okChart K a (o ∩ inFaceChart K) s m ≡ okChart K a o s m
 unfolding okChart
-okC-cut F false o s none I w = refl
-okC-cut F false o s (some t) I w = refl
-okC-cut F true o s none I w = refl
-okC-cut F true o s (some t) I w = ap₂ (λ p q. same (t .from) s && (eqb p 0 && eqb q 0))
-    (sets (t .needed ∷ t .barred ∷ o ∷ (t .action ∩ F) ∷ I ∷ []) (A ∪ₑ B ⊑ Eₑ ∷ []) (A ∖ₑ (C ∩ₑ Eₑ ∪ₑ D) ≐ A ∖ₑ (C ∪ₑ D)) tt w)
-    (sets (t .needed ∷ t .barred ∷ o ∷ (t .action ∩ F) ∷ I ∷ []) (A ∪ₑ B ⊑ Eₑ ∷ []) (B ∩ₑ (C ∩ₑ Eₑ ∪ₑ D) ≐ B ∩ₑ (C ∪ₑ D)) tt w)
+okC-cut K false o s noMove w = refl
+okC-cut K false o s (takes t) w = refl
+okC-cut K false o s stay w = refl
+okC-cut K true o s noMove w = refl
+okC-cut K true o s (takes t) w = ap (λ p. same (t .from) s && p) (met-cut t (inFaceChart K) _ _ w
+    (sets (o ∷ (t .action ∩ K .feedback) ∷ inFaceChart K ∷ []) [] ((A ∩ₑ C ∪ₑ B) ∩ₑ C ≐ (A ∪ₑ B) ∩ₑ C) tt))
+okC-cut K true o s stay w = ap (λ p. K .stays && p)
+    (quiet-cut (K .transitions) s (inFaceChart K) (o ∩ inFaceChart K) o (guards-in K) (sets (o ∷ inFaceChart K ∷ []) [] (A ∩ₑ B ∩ₑ B ≐ A ∩ₑ B) tt))
 
 module _ (E : ℕ → Chart) (state : ℕ → ℕ) (cfg : ℕ → ℕ) (M : ℕ → Move) (own : (c : ℕ) → Within (inFaceChart (E c)) (M c)) where
   -- what is offered counts only up to the interface
@@ -70,15 +77,15 @@ module _ (E : ℕ → Chart) (state : ℕ → ℕ) (cfg : ℕ → ℕ) (M : ℕ 
   vias ss f o p h k e = sym h ∙ ap (oksU E state cfg M ss f) e ∙ k
 
   viac : (c : ℕ) (a : Bool) (o p : Set) → o ∩ inFaceChart (E c) ≡ p ∩ inFaceChart (E c)
-      → okChart (E c .feedback) a o (cfg c) (M c) ≡ okChart (E c .feedback) a p (cfg c) (M c)
-  viac c a o p e = sym (okC-cut (E c .feedback) a o (cfg c) (M c) (inFaceChart (E c)) (own c)) ∙ ap (λ z. okChart (E c .feedback) a z (cfg c) (M c)) e
-      ∙ okC-cut (E c .feedback) a p (cfg c) (M c) (inFaceChart (E c)) (own c)
+      → okChart (E c) a o (cfg c) (M c) ≡ okChart (E c) a p (cfg c) (M c)
+  viac c a o p e = sym (okC-cut (E c) a o (cfg c) (M c) (own c)) ∙ ap (λ z. okChart (E c) a z (cfg c) (M c)) e
+      ∙ okC-cut (E c) a p (cfg c) (M c) (own c)
 
   mutual
     unfolding okU inFace
 
     cut : (t : Tree) (a : Bool) (o : Set) → okU E state cfg M t a (o ∩ inFace E t) ≡ okU E state cfg M t a o
-    cut (leaf c) a o = okC-cut (E c .feedback) a o (cfg c) (M c) (inFaceChart (E c)) (own c)
+    cut (leaf c) a o = okC-cut (E c) a o (cfg c) (M c) (own c)
     cut (comp l r x) a o = ap₂ _&&_
         (via l a (o ∩ (inFace E l ∪ inFace E r) ∪ w) (o ∪ w) (cut l a (o ∩ (inFace E l ∪ inFace E r) ∪ w)) (cut l a (o ∪ w))
         (cut-left o w (inFace E l) (inFace E r)))
@@ -117,7 +124,7 @@ module _ (E : ℕ → Chart) (state : ℕ → ℕ) (cfg : ℕ → ℕ) (M : ℕ 
         z : Set
         z = o ∪ ((out M l ∪ out M r) ∩ x)
     no-cut (hide l x y) a o = no-cut l a (o ∖ x)
-    no-cut (dec c ss) a o = ap₂ _&&_ (okC-cut (E c .feedback) a z (cfg c) (M c) (inFaceChart (E c)) (own c))
+    no-cut (dec c ss) a o = ap₂ _&&_ (okC-cut (E c) a z (cfg c) (M c) (own c))
         (no-cuts ss (λ q. a && meets (cfg c) (M c) q) z)
       where
         z : Set
@@ -132,16 +139,20 @@ module _ (E : ℕ → Chart) (state : ℕ → ℕ) (cfg : ℕ → ℕ) (M : ℕ 
   permitted-uncut t i = no-cut t true (i ∩ inFace E t) ∙ cut t true i
 
 -- a choice's moves are such
-nth-within : (ts : List Transition) (I : Set) → guards ts ∖ I ≡ 0 → (k : ℕ) → Within I (nth ts k)
+nth-within : (m : Move) (ts : List Transition) (I : Set) → Within I m → guards ts ∖ I ≡ 0 → (k : ℕ) → Within I (nth m ts k)
 unfolding nth guards
-nth-within [] I h k = tt
-nth-within (t ∷ ts) I h zero = sets (t .needed ∷ t .barred ∷ guards ts ∷ I ∷ []) (A ∪ₑ B ∪ₑ C ⊑ D ∷ []) (A ∪ₑ B ⊑ D) tt h
-nth-within (t ∷ ts) I h (suc k) = nth-within ts I (sets (t .needed ∷ t .barred ∷ guards ts ∷ I ∷ []) (A ∪ₑ B ∪ₑ C ⊑ D ∷ []) (C ⊑ D) tt h) k
+nth-within m [] I w h k = w
+nth-within m (t ∷ ts) I w h zero = sets (t .needed ∷ t .barred ∷ guards ts ∷ I ∷ []) (A ∪ₑ B ∪ₑ C ⊑ D ∷ []) (A ∪ₑ B ⊑ D) tt h
+nth-within m (t ∷ ts) I w h (suc k) = nth-within m ts I w (sets (t .needed ∷ t .barred ∷ guards ts ∷ I ∷ []) (A ∪ₑ B ∪ₑ C ⊑ D ∷ []) (C ⊑ D) tt h) k
+
+behind-within : (b : Bool) (I : Set) → Within I (cond b stay noMove)
+behind-within true I = tt
+behind-within false I = tt
 
 pub own-moves : (E : ℕ → Chart) (ch : ℕ → ℕ) (c : ℕ) → Within (inFaceChart (E c)) (moves E ch c)
-unfolding moves inFaceChart pick
+unfolding moves pick
 own-moves E ch c = go (ch c)
   where
-    go : (v : ℕ) → Within (inFaceChart (E c)) (pick (E c .transitions) v)
+    go : (v : ℕ) → Within (inFaceChart (E c)) (pick (E c) v)
     go zero = tt
-    go (suc k) = nth-within (E c .transitions) (inFaceChart (E c)) (sets (guards (E c .transitions) ∷ E c .extra ∷ []) [] (A ⊑ A ∪ₑ B) tt) k
+    go (suc k) = nth-within (behind (E c)) (E c .transitions) (inFaceChart (E c)) (behind-within (E c .stays) (inFaceChart (E c))) (guards-in (E c)) k

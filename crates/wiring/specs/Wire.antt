@@ -7,9 +7,9 @@ use native.Mathlib.Omega.{arith}
 use mathlib.Core.Logic.{_≢_}
 use mathlib.Core.List.{[], _∷_}
 use Prim.Native.Nat.{_^_, _-_}
-use Rattle.signals.specs.Mask.{_∪_, _∩_, _∖_, within, apart}
+use Rattle.signals.specs.Mask.{_∪_, _∩_, _∖_}
 use Rattle.signals.specs.Decide.{sets, A, B, C, D, E as Eₑ, F as Fₑ, G as Gₑ, ∅ₑ, _∪ₑ_, _∩ₑ_, _∖ₑ_, _≐_}
-use Rattle.meaning.specs.Meaning.{Set, ∅, same, Chart, Tree, Slaves, leaf, comp, hide, dec, nil, snoc, Move, actionOf, out, outs, okChart, meets}
+use Rattle.meaning.specs.Meaning.{Set, ∅, same, Chart, Tree, Slaves, leaf, comp, hide, dec, nil, snoc, Move, noMove, takes, stay, actionOf, met?, untriggered, out, outs, okChart, meets}
 use Rattle.meaning.specs.Count.Laws.{or-left, or-right}
 use Rattle.meaning.specs.Laws.Bools.{and-second, or-l, or-r, same-refl, same→≡, same→≢, same-≢}
 use Rattle.meaning.specs.File.{Has, HasS}
@@ -75,11 +75,13 @@ unfoldable pub offered : ℕ → (ℕ → Set) → Set → Set → (ℕ → Set)
 offered N act z a b = z ∩ a ∪ join N (λ e. act e ∩ b e)
 
 -- the rule of a chart, its feedback in what it is offered
-unfoldable pub fits : Bool → Set → ℕ → Move → Bool
-fits false o s none = true
-fits false o s (some t) = false
-fits true o s none = false
-fits true o s (some t) = same (t .from) s && (within (t .needed) o && apart (t .barred) o)
+unfoldable pub fits : Chart → Bool → Set → ℕ → Move → Bool
+fits K false o s noMove = true
+fits K false o s (takes t) = false
+fits K false o s stay = false
+fits K true o s noMove = false
+fits K true o s (takes t) = same (t .from) s && met? t o o
+fits K true o s stay = K .stays && untriggered (K .transitions) s o o
 
 -- for every chart of the tree
 unfoldable mutual
@@ -266,12 +268,15 @@ module _ (N : ℕ) (M : ℕ → Move) (small : (e : ℕ) → Small (actionOf (M 
     outs-wired (snoc ss i t) h = ap₂ _∪_ (outs-wired ss (h .0)) (out-wired t (h .1)) ∙ sym (join-or N acts (ups ss) (up t))
 
 -- ── what a part's chart is offered ──
-okC-fits : (F : Set) (a : Bool) (o : Set) (s : ℕ) (m : Move) → okChart F a o s m ≡ fits a (o ∪ actionOf m ∩ F) s m
+okC-fits : (K : Chart) (a : Bool) (o : Set) (s : ℕ) (m : Move) → okChart K a o s m ≡ fits K a (o ∪ actionOf m ∩ K .feedback) s m
 unfolding okChart fits actionOf
-okC-fits F false o s none = refl
-okC-fits F false o s (some t) = refl
-okC-fits F true o s none = refl
-okC-fits F true o s (some t) = refl
+okC-fits K false o s noMove = refl
+okC-fits K false o s (takes t) = refl
+okC-fits K false o s stay = refl
+okC-fits K true o s noMove = refl
+okC-fits K true o s (takes t) = refl
+okC-fits K true o s stay =
+    ap (λ z. K .stays && untriggered (K .transitions) s z z) (sets (o ∷ K .feedback ∷ []) [] (A ≐ A ∪ₑ ∅ₑ ∩ₑ B) tt)
 
 or-∅ : (a b : Set) → b ≡ ∅ → a ∪ b ≡ a
 or-∅ a b = sets (a ∷ b ∷ []) (B ≐ ∅ₑ ∷ []) (A ∪ₑ B ≐ A) tt
@@ -314,17 +319,17 @@ module _ (E : ℕ → Chart) (state : ℕ → ℕ) (cfg : ℕ → ℕ) (M : ℕ 
     (awake : (c : ℕ) → c < N → act c ≡ awakeBy sc state cfg M act (enc c)) (small : (e : ℕ) → Small (actionOf (M e))) where
   -- chart c's rule, offered by its row
   abbrev pub ruleAt : Set → (ℕ → Set) → (ℕ → ℕ → Set) → ℕ → Bool
-  ruleAt z a b c = fits (act c) (offered N (λ e. actionOf (M e)) z (a c) (b c)) (cfg c) (M c)
+  ruleAt z a b c = fits (E c) (act c) (offered N (λ e. actionOf (M e)) z (a c) (b c)) (cfg c) (M c)
 
-  ap-fits : (c : ℕ) (o p : Set) → o ≡ p → fits (act c) o (cfg c) (M c) ≡ fits (act c) p (cfg c) (M c)
-  ap-fits c o p e = ap (λ s. fits (act c) s (cfg c) (M c)) e
+  ap-fits : (c : ℕ) (o p : Set) → o ≡ p → fits (E c) (act c) o (cfg c) (M c) ≡ fits (E c) (act c) p (cfg c) (M c)
+  ap-fits c o p e = ap (λ s. fits (E c) (act c) s (cfg c) (M c)) e
 
   mutual
     unfolding okU each Has back down out up
 
     pub wired : (t : Tree) (κ : Option ℕ) (a : Bool) (z : Set) → Small z → Held N t → Enc enc sc t κ → a ≡ awakeBy sc state cfg M act κ
         → okU E state cfg M t a z ≡ each t (ruleAt z (down t) (back E t))
-    wired (leaf d) κ a z sm h k e = okC-fits (E d .feedback) a z (cfg d) (M d) ∙ ap₂ (λ b o. fits b o (cfg d) (M d))
+    wired (leaf d) κ a z sm h k e = okC-fits (E d) a z (cfg d) (M d) ∙ ap₂ (λ b o. fits (E d) b o (cfg d) (M d))
         (e ∙ ap (awakeBy sc state cfg M act) (sym k) ∙ sym (awake d h)) (sym (leaf-part N (λ e. actionOf (M e)) d z (E d .feedback) sm (small d) h))
     wired (comp l r x) κ a z sm h k e = ap₂ _&&_
         (wired l κ a z′ sm′ (h .0) (k .0) e
@@ -353,7 +358,7 @@ module _ (E : ℕ → Chart) (state : ℕ → ℕ) (cfg : ℕ → ℕ) (M : ℕ 
         ∙ sym (each-cong l (ruleAt z (down (hide l x y)) (back E (hide l x y))) (ruleAt (z ∖ x) (down l) (back E l)) (λ c m. ap-fits c _ _
         (filtered N (λ e. actionOf (M e)) z (down l c) x (back E l c))))
     wired (dec d ss) κ a z sm h k e = ap₂ _&&_
-        (okC-fits (E d .feedback) a z′ (cfg d) (M d) ∙ ap₂ (λ b o. fits b o (cfg d) (M d)) am
+        (okC-fits (E d) a z′ (cfg d) (M d) ∙ ap₂ (λ b o. fits (E d) b o (cfg d) (M d)) am
         (inside ∙ sym (fed d ∙ alone N (λ e. actionOf (M e)) d z′ (downs ss d) (backs E ss d) sm′ (downs-off ss d (h .2)) (backs-off E ss d (h .2)))))
         (wireds ss d (λ q. a && meets (cfg d) (M d) q) z′ sm′ (h .1) (k .1) (λ q. ap (λ b. b && meets (cfg d) (M d) q) am)
         ∙ sym (eachs-cong ss (ruleAt z (down (dec d ss)) (back E (dec d ss))) (ruleAt z′ (downs ss) (backs E ss)) (λ c m. ap-fits c _ _

@@ -88,7 +88,7 @@ module _ (E : ℕ → Chart) (state : ℕ → ℕ) (cfg : ℕ → ℕ) (N : ℕ)
 
   -- chart c's rule holds under its row
   unfoldable pub ruled : (ℕ → Move) → ℕ → Bool
-  ruled M c = fits (awake enc sc state cfg M c) (offer M N c) (cfg c) (M c)
+  ruled M c = fits (E c) (awake enc sc state cfg M c) (offer M N c) (cfg c) (M c)
 
   pub permitted-wired : (M : ℕ → Move) → Stands N enc sc t → Small inp → ((e : ℕ) → Small (actionOf (M e)))
       → ((c : ℕ) → Within (inFaceChart (E c)) (M c)) → permitted E state cfg M t inp ≡ every N (ruled M)

@@ -2,7 +2,7 @@
 //! purpose allows.
 
 use crate::limits::*;
-use crate::model::{Chart, Model, Node, Slave, Transition};
+use crate::model::{Chart, Edition, Model, Node, Slave, Transition};
 use crate::set::Set;
 
 /// A transition, sets by their signals.
@@ -55,6 +55,7 @@ pub fn hidden(part: u8, filtered: &[u32], hidden: &[u32]) -> Node {
 /// One chart that is the whole.
 pub fn alone(chart: Chart) -> Model {
     Model {
+        edition: Edition::First,
         charts: vec![chart],
         slaves: vec![],
         nodes: vec![leaf(0)],
@@ -64,6 +65,7 @@ pub fn alone(chart: Chart) -> Model {
 /// Two charts composed.
 pub fn beside(first: Chart, second: Chart, feedback: &[u32]) -> Model {
     Model {
+        edition: Edition::First,
         charts: vec![first, second],
         slaves: vec![],
         nodes: vec![leaf(0), leaf(1), composed(0, 1, feedback)],
@@ -73,6 +75,7 @@ pub fn beside(first: Chart, second: Chart, feedback: &[u32]) -> Model {
 /// A master, chart 0, and one slave, chart 1, in one of its states.
 pub fn decomposed(master: Chart, state: u8, inner: Chart) -> Model {
     Model {
+        edition: Edition::First,
         charts: vec![master, inner],
         slaves: vec![slave(0, state, 0)],
         nodes: vec![leaf(1), leaf(0)],
@@ -196,6 +199,7 @@ pub fn nested() -> Model {
         chart(2, &[], moves)
     };
     Model {
+        edition: Edition::First,
         charts: vec![mover(0), mover(1), mover(2)],
         slaves: vec![slave(0, 1, 1), slave(1, 1, 0)],
         nodes: vec![leaf(2), leaf(1), leaf(0)],
@@ -229,6 +233,7 @@ pub fn row_of_charts(charts: Vec<Chart>) -> Model {
         nodes.push(composed(so_far, number, &[]));
     }
     Model {
+        edition: Edition::First,
         charts,
         slaves: vec![],
         nodes,
@@ -244,6 +249,7 @@ pub fn master_of(slaves: u8) -> Model {
     let mut nodes: Vec<Node> = (1..=slaves).map(leaf).collect();
     nodes.push(leaf(0));
     Model {
+        edition: Edition::First,
         charts,
         slaves: (0..slaves).map(|state| slave(0, state, state)).collect(),
         nodes,

@@ -6,7 +6,7 @@ use super::Case;
 use crate::command::Command;
 use crate::file::Records;
 use crate::limits::*;
-use crate::model::{Model, Node};
+use crate::model::{Edition, Model, Node};
 use crate::set::Set;
 
 /// A change to the records of a file.
@@ -97,12 +97,13 @@ fn length() -> Vec<Case> {
     ]
 }
 
-/// 2: "edition not 1".
+/// 2: an edition other than 1 and 2.
 fn edition() -> Vec<Case> {
     let with = |value| changed(&whole_case(), |r| r.trailer.edition = value);
     vec![
         case("edition-0", with(0), refusal::EDITION),
-        case("edition-2", with(2), refusal::EDITION),
+        case("edition-2", with(2), refusal::SUCCESS),
+        case("edition-3", with(3), refusal::EDITION),
         case("edition-129", with(129), refusal::EDITION),
         case("edition-255", with(255), refusal::EDITION),
     ]
@@ -417,6 +418,7 @@ fn transitions() -> Vec<Case> {
 /// A master of two slaves, charts 1 and 2, in states 0 and 1; chart 3 with 16 states beside it.
 fn two_slaves() -> Model {
     Model {
+        edition: Edition::First,
         charts: vec![
             chart(2, &[], vec![go(0, 1, &[], &[], &[])]),
             ticking(1),
@@ -592,6 +594,7 @@ fn unused_fields() -> Vec<Case> {
 /// A model of charts that do nothing, with these slaves and nodes; every chart has 4 states.
 fn skeleton(charts: u8, slaves: &[(u8, u8, u8)], nodes: Vec<Node>) -> Vec<u8> {
     Model {
+        edition: Edition::First,
         charts: vec![chart(4, &[], vec![]); usize::from(charts)],
         slaves: slaves.iter().map(|&(c, s, n)| slave(c, s, n)).collect(),
         nodes,
@@ -930,10 +933,11 @@ fn fronts() -> Vec<Case> {
         case("front-every-byte", behind(&rising, file()), good),
         case("front-another-chart", behind(&d().file(), file()), good),
         case("front-longest", behind(&vec![0x5a; longest], file()), good),
+        // each byte of the trailer one place further: edition 2, and no chart
         case(
             "front-and-one-byte-behind",
             [file(), vec![0]].concat(),
-            refusal::EDITION,
+            refusal::COUNTS,
         ),
         case(
             "front-bad-chart",
@@ -969,9 +973,15 @@ const FAULTS: [(u8, Change); 10] = [
 
 /// A file for each refusal from 1 to 11, with that one fault.
 pub fn one_fault() -> Vec<(u8, Vec<u8>)> {
+    one_fault_under(Edition::First)
+}
+
+/// The same of files of an edition; but for 1 and 2, which are of none.
+pub fn one_fault_under(edition: Edition) -> Vec<(u8, Vec<u8>)> {
+    let right = d_hidden().under(edition);
     let mut files = vec![(refusal::TOO_SHORT, vec![1; 11])];
     for (number, fault) in FAULTS {
-        files.push((number, changed(&d_hidden(), fault)));
+        files.push((number, changed(&right, fault)));
     }
     files
 }

@@ -9,6 +9,7 @@ pub mod plain;
 pub mod rewrite;
 pub mod rows;
 pub mod run;
+pub mod second;
 pub mod step;
 
 use crate::command::Command;

@@ -6,7 +6,7 @@ use super::file::one_fault;
 use super::Case;
 use crate::command::Command;
 use crate::limits::{refusal, STATE_TRANSITIONS};
-use crate::model::{Model, Transition};
+use crate::model::{Edition, Model, Transition};
 use crate::set::Set;
 
 /// All named cases of the question.
@@ -251,6 +251,7 @@ fn fed_back() -> Vec<Known> {
         no(
             "plain-fed-back-by-another-composition",
             Model {
+                edition: Edition::First,
                 charts: vec![apart(), other(&[]), other(&[])],
                 slaves: vec![],
                 nodes: vec![

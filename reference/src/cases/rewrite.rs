@@ -6,7 +6,7 @@ use super::file::one_fault;
 use super::Case;
 use crate::command::Command;
 use crate::limits::*;
-use crate::model::{Chart, Model};
+use crate::model::{Chart, Edition, Model};
 use crate::set::Set;
 
 /// All named cases of the rewriting.
@@ -79,6 +79,7 @@ fn two_masters() -> Model {
         chart(3, &[signal + 1], moves)
     };
     Model {
+        edition: Edition::First,
         charts: (0..6).map(mover).collect(),
         slaves: vec![slave(0, 2, 2), slave(1, 0, 4), slave(1, 2, 5)],
         nodes: vec![
@@ -406,6 +407,7 @@ fn orders() -> Vec<Case> {
     let eight_out = || with_slave(evenly(1, 8));
     // both 41, in the last chart, and 42, in the chart before it
     let both = || Model {
+        edition: Edition::First,
         charts: vec![
             chart(2, &[], vec![go(0, 1, &[], &[], &[])]),
             evenly(16, 4),

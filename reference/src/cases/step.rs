@@ -7,7 +7,7 @@ use super::rows::{gives, row as meaning, RowAnswer};
 use super::{configuration_rooms, Case};
 use crate::command::Command;
 use crate::limits::*;
-use crate::model::{Chart, Model};
+use crate::model::{Chart, Edition, Model};
 use crate::set::Set;
 
 /// All named cases of a step but the thirteen rows.
@@ -252,8 +252,9 @@ fn three() -> Vec<Chart> {
 }
 
 /// Those three composed, the first two inside, with feedback inside and outside.
-fn three_composed(inside: &[u32], outside: &[u32]) -> Model {
+pub(super) fn three_composed(inside: &[u32], outside: &[u32]) -> Model {
     Model {
+        edition: Edition::First,
         charts: three(),
         slaves: vec![],
         nodes: vec![
@@ -442,13 +443,14 @@ fn hiding() -> Vec<RowAnswer> {
 
 /// A master that goes 0, 1, 2 whatever is offered, with slaves in states 0 and 1: chart 1 puts out
 /// 7, chart 2 needs 7 and puts out 8.
-fn two_slaves(feedback: &[u32]) -> Model {
+pub(super) fn two_slaves(feedback: &[u32]) -> Model {
     let moves = vec![
         go(0, 1, &[], &[], &[]),
         go(1, 2, &[], &[], &[]),
         go(2, 2, &[], &[], &[]),
     ];
     Model {
+        edition: Edition::First,
         charts: vec![
             chart(3, feedback, moves),
             chart(
@@ -463,18 +465,24 @@ fn two_slaves(feedback: &[u32]) -> Model {
     }
 }
 
-/// "A slave is active exactly if the master is active and its state before or after the step is the
-/// slave's state", and "the master's feedback serves all as in composition".
-fn slaves() -> Vec<RowAnswer> {
-    let master = |moves| chart(2, &[7], moves);
-    let hears = |y: &[u32]| Model {
+/// A master that enters its state 1 on 7, which only the slave there puts out, with these signals
+/// hidden.
+pub(super) fn hears(y: &[u32]) -> Model {
+    Model {
+        edition: Edition::First,
         charts: vec![
-            master(vec![go(0, 1, &[7], &[], &[])]),
+            chart(2, &[7], vec![go(0, 1, &[7], &[], &[])]),
             chart(2, &[], vec![go(0, 1, &[], &[], &[7])]),
         ],
         slaves: vec![slave(0, 1, 1)],
         nodes: vec![leaf(1), hidden(0, &[], y), leaf(0)],
-    };
+    }
+}
+
+/// "A slave is active exactly if the master is active and its state before or after the step is the
+/// slave's state", and "the master's feedback serves all as in composition".
+fn slaves() -> Vec<RowAnswer> {
+    let master = |moves| chart(2, &[7], moves);
     let stuck = chart(1, &[], vec![]);
     let deaf = Model {
         slaves: vec![slave(0, 1, 1)],
@@ -616,7 +624,7 @@ fn inner_slaves() -> Vec<RowAnswer> {
 }
 
 /// Eight charts where each needs what the one `step` further puts out, all fed back.
-fn ring(step: u32) -> Model {
+pub(super) fn ring(step: u32) -> Model {
     let count = CHARTS as u32;
     let all: Vec<u32> = (0..count).collect();
     let one = |n: u32| chart(2, &[], vec![go(0, 1, &[(n + step) % count], &[], &[n])]);

@@ -1,10 +1,10 @@
 //! A call made in the proved engine: by its own functions, and through its binding for Rust.
 
 use crate::command::{Command, Numbers, Op};
-use crate::limits::{CHARTS, NO_PLACE};
+use crate::limits::CHARTS;
 use crate::step::Places;
 use mestecur::raw::*;
-use mestecur::{Refusal, Set, Step};
+use mestecur::{Place, Refusal, Set, Step};
 
 /// What a number behind a pointer is before a call.
 const BEFORE: u64 = 0x5A5A_5A5A_5A5A_5A5A;
@@ -92,5 +92,5 @@ pub fn binding(command: &Command, lent: &mut [u8]) -> (u8, Numbers) {
 
 /// The places of a step that the binding gives, as 02 has them.
 pub fn places(step: &Step) -> Places {
-    step.places.map(|place| place.unwrap_or(NO_PLACE))
+    step.places.map(Place::number)
 }

@@ -1,5 +1,5 @@
-//! Demand 3 over the proved engine: random files with slaves are rewritten by it and here, and then it
-//! answers for the old file and for the new one, from every configuration.
+//! Demand 3 over the proved engine: random files with slaves, of edition 1, are rewritten by it and
+//! here, and then it answers for the old file and for the new one, from every configuration.
 
 use super::engine::places;
 use crate::agreement::Agreement;
@@ -12,7 +12,7 @@ use crate::model::Model;
 use crate::set::Set;
 use crate::step::{Places, NO_PLACES};
 use crate::walk::{configurations, has_several, hides_inside, inputs, is_nested, with_slaves};
-use mestecur::{Refusal, Step};
+use mestecur::{Place, Refusal, Step};
 use std::fmt::{self, Debug, Display, Formatter};
 
 /// The most configurations of a file.
@@ -82,7 +82,7 @@ impl Compared {
             Ok(step) => {
                 self.given += 1;
                 self.doubtful += usize::from(!step.mark);
-                self.idle += usize::from(step.places[..charts].contains(&None));
+                self.idle += usize::from(step.places[..charts].contains(&Place::None));
             }
             Err(_) => self.refused += 1,
         }

@@ -54,6 +54,13 @@ pub fn file(charts: &[Chart], slaves: &[[u8; 4]], nodes: &[Vec<u8>]) -> Vec<u8> 
     bytes
 }
 
+/// The same file under edition 2.
+pub fn edition_2(mut file: Vec<u8>) -> Vec<u8> {
+    let edition = file.len() - 5;
+    file[edition] = 2;
+    file
+}
+
 /// One chart that is the whole.
 pub fn alone(only: Chart) -> Vec<u8> {
     file(&[only], &[], &[node(0, 0, 0, &[], &[])])

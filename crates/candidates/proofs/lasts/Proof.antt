@@ -1,16 +1,15 @@
 -- `lasts` meets its contract. Assumes nothing.
-use mathlib.Core.Path.{ap₂}
+use mathlib.Core.Path.{ap₂, sym, _∙_}
 use mathlib.Core.Bool.{_&&_}
 use borrow.Author.Needs.{needs}
-use Rattle.wiring.specs.Dropped.{test}
-use Rattle.meaning.specs.Meaning.{actionOf}
+use Rattle.meaning.specs.Laws.Guards.{met-is}
 use Rattle.tables.specs.Fill.{lastsBy}
 use Rattle.candidates.proofs.lasts.Statement.{statement}
 use Rattle.candidates.proofs.lasts.Tie as tie
 
 returns : tie.Need-returns
-unfolding lastsBy test actionOf
-returns c = ap₂ _&&_ (c .before .within .ensures) (c .apart .ensures)
+unfolding lastsBy
+returns c = ap₂ _&&_ (c .before .within .ensures) (c .apart .ensures) ∙ sym (met-is _ _ _)
 
 pub lasts-spec : {M : Type 1} → statement M
 lasts-spec = tie.close (tie.spec (λ c κs. search needs) (λ c κs. search needs) returns)

@@ -31,16 +31,16 @@ puts-of-requires c κs =
 
 loop-again : tie.Need-loop-again Inv-loop μ-loop
 loop-again c =
-    let s = c .before .before .before .before .before .before .before .before .before .before .before .before .before .before in
-    let l = c .before .before .before .before .before .before .before .before .before .loop in
-    let h = c .before .before .before .before .before .before .head-at .ensures in
-    let p = c .before .before .before .puts-of in
+    let s = c .before .before .before .before .before .before .before .before .before .before .before .before .before .before .before in
+    let l = c .before .before .before .before .before .before .before .before .before .before .loop in
+    let h = c .before .before .before .before .before .before .before .head-at .ensures in
+    let p = c .before .before .before .before .puts-of in
     let few = s .pre .0 .sized .charts in (
       omega arith,
       start-next (s .args .n) (s .args .body .now) (l .c) (l .start) h (l .inv .1),
       length-set (l .may) (l .c) (p .result .may) ∙ l .inv .2,
       search needs,
-      sided-next (s .args .n) (s .args .body .now) (s .args .config .now) (s .args .base) (s .args .masks .now) (s .args .small .now) (l .c) (l .may) (l .low) _ (l .start) _ _ (l .inv .4) (let k = l .inv .2 in omega arith) (l .inv .1) h (p .ensures) (c .before .raise .ensures),
+      sided-next (s .args .n) (s .args .body .now) (s .args .config .now) (s .args .base) (s .args .masks .now) (s .args .small .now) (l .c) (l .may) (l .low) _ (l .start) _ _ _ (l .inv .4) (let k = l .inv .2 in omega arith) (l .inv .1) h (p .ensures) (c .before .before .before .surely .ensures) (c .before .raise .ensures),
     )
 
 returns : tie.Need-returns Inv-loop μ-loop
@@ -63,14 +63,15 @@ sides-of-spec =
     puts-of-requires
     (λ c. search needs)
     (λ c. omega (arith, c .before .before .before .before .before .before .loop .inv .2, c .before .before .before .before .before .before .before .before .before .before .before .pre .0 .sized .charts))
+    (λ c κs. search needs)
     (λ c. search needs)
-    (λ c κs. (c .before .before .before .before .before .before .before .before .before .before .before .before .pre .1, search needs, omega (arith, c .before .before .before .before .before .if1 .taken, c .before .before .before .before .before .before .before .before .before .before .before .before .pre .0 .sized .charts)))
-    (λ c. let s = c .before .before .before .before .before .before .before .before .before .before .before .before .before .before in let l = c .before .before .before .before .before .before .before .before .before .loop in omega (
+    (λ c κs. (c .before .before .before .before .before .before .before .before .before .before .before .before .before .pre .1, search needs, omega (arith, c .before .before .before .before .before .before .if1 .taken, c .before .before .before .before .before .before .before .before .before .before .before .before .before .pre .0 .sized .charts)))
+    (λ c. let s = c .before .before .before .before .before .before .before .before .before .before .before .before .before .before .before in let l = c .before .before .before .before .before .before .before .before .before .before .loop in omega (
       arith,
       s .pre .0 .sized .transitions,
-      in-all (s .args .n) (s .args .body .now) (l .c) (l .start) (c .before .before .before .before .before .before .head-at .ensures) (l .inv .1) (s .pre .0 .summed) (c .before .before .before .before .before .before .before .if1 .taken),
+      in-all (s .args .n) (s .args .body .now) (l .c) (l .start) (c .before .before .before .before .before .before .before .head-at .ensures) (l .inv .1) (s .pre .0 .summed) (c .before .before .before .before .before .before .before .before .if1 .taken),
     ))
-    (λ c. omega (arith, c .before .before .before .before .before .before .before .before .before .before .before .before .before .before .pre .0 .sized .charts))
+    (λ c. omega (arith, c .before .before .before .before .before .before .before .before .before .before .before .before .before .before .before .pre .0 .sized .charts))
     (λ c. search needs)
     loop-again
     returns)

@@ -1,10 +1,9 @@
 -- Laws for choosing candidates. In order: where a transition stands (from-byte), what a chart's transitions put out (puts-none, puts-more, puts-done),
 -- what the other charts might (join-more, others-done), one transition (left-other to left-put), a filling by one transition more (left-none to
--- left-room), one chart more (mays-next to chart-tabled), the present states (stated-none, stated-next), all of it (chooses), and that actions have no signal
+-- left-room), a chart's list (length-from, nth-from), one chart more (mays-next to chart-tabled), the present states (stated-none, stated-next), all of it (chooses), and that actions have no signal
 -- from 64 on (actions-small).
 use mathlib.Core.Path.{_≡_, refl, sym, _∙_, ap, ap₂, subst}
 use mathlib.Core.Bool.{Bool, true, false, cond, false≢true}
-use mathlib.Core.Option.{some}
 use mathlib.Core.List.{List, [], _∷_}
 use mathlib.Core.Logic.{_≢_}
 use Prim.Native.Nat.{ℕ, zero, suc, _+_, _*_, _-_, _^_, _≤_, _<_}
@@ -26,13 +25,14 @@ use Rattle.layout.specs.declared.record.Transition.{Transition}
 use Rattle.layout.specs.declared.record.Head.{Head}
 use Rattle.meaning.specs.Count.{tally, one}
 use Rattle.meaning.specs.Check.{leaving}
-use Rattle.meaning.specs.Meaning.{Set, same, nth, pick, actionOf, moves}
+use Rattle.meaning.specs.Numbers.{stayEdition}
+use Rattle.meaning.specs.Meaning.{Set, same, Move, noMove, takes, stay, nth, pick, actionOf, moves}
 use Rattle.meaning.specs.File.{chartOf, fileAt}
 use Rattle.meaning.specs.Laws.Bools.{same-refl, same→≡, same-≢}
 use Rattle.wiring.specs.Wire.{join, Small, full}
 use Rattle.wiring.specs.Dropped.{join-cong}
-use Rattle.wiring.specs.Sure.{sureOf, sure-small}
-use Rattle.wiring.specs.Hunt.{mayOf}
+use Rattle.wiring.specs.Sure.{sureOf, sureIn, sure-small}
+use Rattle.wiring.specs.Hunt.{mayOf, behind-empty}
 use Rattle.search.specs.Table.{backAt, Row}
 use Rattle.tables.specs.Fill.{Filling, considered, listing, lastsBy, isAgain, putMasks, putSmall, put, pickFilling, othersAt, sureAt, Raised, Until, AheadFrom}
 use Rattle.tables.specs.Fill.Laws.{length-masks, length-small, leave-room, count-few, until-next, chosen, raised-none, raised-next, raised-same}
@@ -127,7 +127,7 @@ module _ (a : Around) (w : ℕ) (t : Transition) (m s : List ℕ) (k x : ℕ) (e
   ways : Bool → Bool → Bool → Filling
   ways u y z = pickFilling u (pickFilling y (pickFilling z (filling m s k) (put (a .chart) w t (filling m s k))) (filling m s k)) (filling m s k)
 
-  by-ways : (u y z : Bool) → same (t .from) (a .state) ≡ u → lastsBy (a .low) (a .own) (a .others) (some t) ≡ y → isAgain m s (a .chart) k t ≡ z → ways u y z ≡ consideredBy a w t (filling m s k)
+  by-ways : (u y z : Bool) → same (t .from) (a .state) ≡ u → lastsBy (a .low) (a .own) (a .others) t ≡ y → isAgain m s (a .chart) k t ≡ z → ways u y z ≡ consideredBy a w t (filling m s k)
   unfolding ways considered
   by-ways u y z p q r = sym (λ i. ways (p i) (q i) (r i))
 
@@ -135,17 +135,17 @@ module _ (a : Around) (w : ℕ) (t : Transition) (m s : List ℕ) (k x : ℕ) (e
   unfolding ways
   left-other h = subst (λ g. Left g m s k) (by-ways false _ _ (rw (← ex) (same-≢ x (a .state) h)) refl refl) (record { masks = refl; small = refl; count = refl })
 
-  module _ (h : x ≡ a .state) (r : Transition) (er : r ≡ t) (y : Bool) (ey : y ≡ lastsBy (a .low) (a .own) (a .others) (some r)) where
+  module _ (h : x ≡ a .state) (r : Transition) (er : r ≡ t) (y : Bool) (ey : y ≡ lastsBy (a .low) (a .own) (a .others) r) where
     from-here : same (t .from) (a .state) ≡ true
     from-here = rw (← ex, h) (same-refl (a .state))
 
     pub left-fails : y ≡ false → Left (consideredBy a w t (filling m s k)) m s k
     unfolding ways
-    left-fails f = subst (λ g. Left g m s k) (by-ways true false _ from-here (subst (λ q. lastsBy (a .low) (a .own) (a .others) (some q) ≡ false) er (sym ey ∙ f)) refl) (record { masks = refl; small = refl; count = refl })
+    left-fails f = subst (λ g. Left g m s k) (by-ways true false _ from-here (subst (λ q. lastsBy (a .low) (a .own) (a .others) q ≡ false) er (sym ey ∙ f)) refl) (record { masks = refl; small = refl; count = refl })
 
     module _ (f : y ≡ true) (z : Bool) (ez : z ≡ isAgain m s (a .chart) k r) where
       way : (b : Bool) → z ≡ b → ways true true b ≡ consideredBy a w t (filling m s k)
-      way b g = by-ways true true b from-here (subst (λ q. lastsBy (a .low) (a .own) (a .others) (some q) ≡ true) er (sym ey ∙ f)) (subst (λ q. isAgain m s (a .chart) k q ≡ b) er (sym ez ∙ g))
+      way b g = by-ways true true b from-here (subst (λ q. lastsBy (a .low) (a .own) (a .others) q ≡ true) er (sym ey ∙ f)) (subst (λ q. isAgain m s (a .chart) k q ≡ b) er (sym ez ∙ g))
 
       pub left-again : z ≡ true → Left (consideredBy a w t (filling m s k)) m s k
       unfolding ways
@@ -185,16 +185,16 @@ module _ (a : Around) (g : ℕ → Transition) (f : Filling) where
 
 -- ── the charts' transitions ──
 
-length-from : (f : ℕ → Transition) (k n : ℕ) → length (fromOn f k n) ≡ n
+pub length-from : (f : ℕ → Transition) (k n : ℕ) → length (fromOn f k n) ≡ n
 unfolding fromOn
 length-from f k zero = refl
 length-from f k (suc n) = ap suc (length-from f (suc k) n)
 
-nth-from : (f : ℕ → Transition) (k n u : ℕ) → u < n → nth (fromOn f k n) u ≡ some (f (k + u))
+pub nth-from : (f : ℕ → Transition) (k n u : ℕ) → u < n → nth noMove (fromOn f k n) u ≡ takes (f (k + u))
 unfolding fromOn nth
 nth-from f k zero u l = absurd (omega arith)
-nth-from f k (suc n) zero l = ap (λ z. some (f z)) (let h : k ≡ k + 0 = omega arith in h)
-nth-from f k (suc n) (suc u) l = nth-from f (suc k) n u (omega arith) ∙ ap (λ z. some (f z)) (let h : suc k + u ≡ k + suc u = omega arith in h)
+nth-from f k (suc n) zero l = ap (λ z. takes (f z)) (let h : k ≡ k + 0 = omega arith in h)
+nth-from f k (suc n) (suc u) l = nth-from f (suc k) n u (omega arith) ∙ ap (λ z. takes (f z)) (let h : suc k + u ≡ k + suc u = omega arith in h)
 
 module _ (n : Shape) (b config : List ℕ) where
   pub mays-next : (c : ℕ) (may : List ℕ) (v start : ℕ) (head : Head) → Mays n b config c may → c < length may → start ≡ startOf n b c → head ≡ headAt n b c
@@ -208,18 +208,19 @@ module _ (n : Shape) (b config : List ℕ) where
 
   module _ (base m s : List ℕ) where
     pub sided-none : (may : List ℕ) → Sided n b config base m s 0 may base
-    sided-none may = record { mays = λ c l. absurd (omega arith); raised = raised-none (transitionsOf n b) (λ c. getD config c 0) base m s }
+    sided-none may = record { mays = λ c l. absurd (omega arith); raised = raised-none (chartOf n b) (λ c. getD config c 0) base m s }
 
     -- chart c puts in what its transitions do
-    pub sided-next : (c : ℕ) (may lows lows′ : List ℕ) (start : ℕ) (head : Head) (v : Puts) → Sided n b config base m s c may lows → c < length may → start ≡ startOf n b c → head ≡ headAt n b c
+    pub sided-next : (c : ℕ) (may lows lows′ : List ℕ) (start : ℕ) (head : Head) (v : Puts) (u : Set) → Sided n b config base m s c may lows → c < length may → start ≡ startOf n b c → head ≡ headAt n b c
         → (v .may ≡ mayOf (fromOn (transitionAt n b) start (head .transitions)) (getD config c 0)) × (v .sure ≡ sureOf (fromOn (transitionAt n b) start (head .transitions)) (getD config c 0))
-        → Row lows′ (λ d. getD lows d 0 ∪ sureAt s c (v .sure) ∩ backAt m d c) → Sided n b config base m s (c + 1) (set may c (v .may)) lows′
-    unfolding transitionsOf
-    sided-next c may lows lows′ start head v h l es eh ev f = rw (add-one c) (
+        → u ≡ sureIn (same (n .edition) stayEdition) (v .sure)
+        → Row lows′ (λ d. getD lows d 0 ∪ sureAt s c u ∩ backAt m d c) → Sided n b config base m s (c + 1) (set may c (v .may)) lows′
+    unfolding transitionsOf chartOf
+    sided-next c may lows lows′ start head v u h l es eh ev eu f = rw (add-one c) (
         record {
           mays = rw (add-one c) at (mays-next c may (v .may) start head (h .mays) l es eh (ev .0));
-          raised = raised-next (transitionsOf n b) (λ d. getD config d 0) base c m s lows lows′ (h .raised)
-              (λ d r. f d r ∙ ap (λ z. getD lows d 0 ∪ sureAt s c z ∩ backAt m d c) (ev .1 ∙ ap₂ (λ x y. sureOf (fromOn (transitionAt n b) x (y .transitions)) (getD config c 0)) es eh));
+          raised = raised-next (chartOf n b) (λ d. getD config d 0) base c m s lows lows′ (h .raised)
+              (λ d r. f d r ∙ ap (λ z. getD lows d 0 ∪ sureAt s c z ∩ backAt m d c) (eu ∙ ap (sureIn (same (n .edition) stayEdition)) (ev .1 ∙ ap₂ (λ x y. sureOf (fromOn (transitionAt n b) x (y .transitions)) (getD config c 0)) es eh)));
         })
 
   module _ (r : Ready n b config) (c start : ℕ) (head : Head) (l : c < n .charts) (es : start ≡ startOf n b c) (eh : head ≡ headAt n b c) where
@@ -231,12 +232,12 @@ module _ (n : Shape) (b config : List ℕ) where
   pub chart-next : Ready n b config → (lows may : List ℕ) → Mays n b config (n .charts) may → (m s : List ℕ) (c start : ℕ) (head : Head) (own others : Set) (m′ s′ : List ℕ) (k : ℕ)
       → Tabled (n .charts) m s → c < n .charts → start ≡ startOf n b c → head ≡ headAt n b c → own ≡ backAt m c c → others ≡ othersAt m (n .charts) (λ e. getD may e 0) c
       → Left (listing c (getD config c 0) (getD lows c 0) own others (fromStart n b start) (head .transitions) (filling m s 0)) m′ s′ k → NextChart n b config lows c m s m′ (set s′ (64 + c) k)
-  unfolding transitionsOf leaving othersAt
+  unfolding transitionsOf chartOf leaving othersAt
   chart-next r lows may my m s c start head own others m′ s′ k tb l es eh eo et h m₀ s₀ un =
       subst (λ z. UntilChart n b config lows m₀ s₀ z m′ (set s′ (64 + c) k)) (sym (add-one c))
-      (rw (h .masks, h .small, h .count, es, eh) (subst (λ z. Until (transitionsOf n b) (λ d. getD config d 0) (n .charts) lows m₀ s₀ (suc c) (made z .masks) (set (made z .small) (64 + c) (made z .count)))
+      (rw (h .masks, h .small, h .count, es, eh) (subst (λ z. Until (chartOf n b) (λ d. getD config d 0) (n .charts) lows m₀ s₀ (suc c) (made z .masks) (set (made z .small) (64 + c) (made z .count)))
       (length-from (transitionAt n b) (startOf n b c) (headAt n b c .transitions))
-      (until-next (transitionsOf n b) (λ d. getD config d 0) (n .charts) lows m₀ s₀ (r .sized .charts) c l m s (getD lows c 0) own others (fromStart n b (startOf n b c)) (tb .masks) un
+      (until-next (chartOf n b) (λ d. getD config d 0) (n .charts) lows m₀ s₀ (r .sized .charts) c l m s (getD lows c 0) own others (fromStart n b (startOf n b c)) (tb .masks) un
       (λ u q. nth-from (transitionAt n b) (startOf n b c) (headAt n b c .transitions) u (subst (λ z. u < z) (length-from (transitionAt n b) (startOf n b c) (headAt n b c .transitions)) q))
       (subst (λ z. tally z (λ u. one (same (fromStart n b (startOf n b c) u .from) (getD config c 0))) ≤ 8) (sym (length-from (transitionAt n b) (startOf n b c) (headAt n b c .transitions))) (r .room c l))
       refl eo (et ∙ join-cong (n .charts) _ _ (λ e q. ap (λ z. cond (same e c) 0 z ∩ backAt m c e) (my e q))))))
@@ -275,12 +276,12 @@ stated-next config c s₀ s h l =
 -- ── all of it ──
 
 pub chooses : (n : Shape) (b config base lows m₀ s₀ s₁ m s m′ : List ℕ) → Ready n b config → Tabled (n .charts) m₀ s₀ → Stated config (n .charts) s₀ s₁
-    → Raised (transitionsOf n b) (λ c. getD config c 0) (n .charts) m₀ s₁ base lows → UntilChart n b config lows m₀ s₁ (n .charts) m s → AheadFrom (n .charts) s 0 m m′
+    → Raised (chartOf n b) (λ c. getD config c 0) (n .charts) m₀ s₁ base lows → UntilChart n b config lows m₀ s₁ (n .charts) m s → AheadFrom (n .charts) s 0 m m′
     → Chooses n b config base lows m₀ s₀ m′ s
 chooses n b config base lows m₀ s₀ s₁ m s m′ r tb st ra un ah = let few = r .sized .charts in
     record {
-      chosen = chosen (transitionsOf n b) (λ c. getD config c 0) (n .charts) lows m₀ s₁ few m m′ s un ah (st .states);
-      raised = raised-same (transitionsOf n b) (λ c. getD config c 0) base (n .charts) m₀ s₁ m′ s lows few (λ i p q. ah .below i q ∙ un .wires i (omega arith)) (λ i p q. un .rest i (omega arith) (omega arith)) ra;
+      chosen = chosen (chartOf n b) (λ c. getD config c 0) (n .charts) lows m₀ s₁ few m m′ s un ah (st .states);
+      raised = raised-same (chartOf n b) (λ c. getD config c 0) base (n .charts) m₀ s₁ m′ s lows few (λ i p q. ah .below i q ∙ un .wires i (omega arith)) (λ i p q. un .rest i (omega arith) (omega arith)) ra;
       wires = λ i p q. ah .below i q ∙ un .wires i (omega arith);
       ups = λ i p. ah .below i (omega arith) ∙ un .wires i (omega arith);
       masters = λ i p q. un .rest i (omega arith) (omega arith) ∙ st .below i q;
@@ -303,17 +304,20 @@ action-small : (n : Shape) (b : List ℕ) → ((i : ℕ) → getD b i 0 < 256) �
 unfolding transitionAt transitionOf
 action-small n b h t = small-below _ (le-small 8 (drop 20 (drop (transitionsFrom n + 28 * t) b)) (λ i. rw (getD-drop 20 (drop (transitionsFrom n + 28 * t) b) i 0, getD-drop (transitionsFrom n + 28 * t) b (20 + i) 0) (h _)))
 
-nth-small : (f : ℕ → Transition) → ((t : ℕ) → Small (f t .action)) → (k n u : ℕ) → Small (actionOf (nth (fromOn f k n) u))
+nth-small : (d : Move) → Small (actionOf d) → (f : ℕ → Transition) → ((t : ℕ) → Small (f t .action)) → (k n u : ℕ) → Small (actionOf (nth d (fromOn f k n) u))
 unfolding fromOn nth actionOf
-nth-small f g k zero u = sets (full ∷ []) [] (∅ₑ ∩ₑ A ≐ ∅ₑ) tt
-nth-small f g k (suc n) zero = g k
-nth-small f g k (suc n) (suc u) = nth-small f g (suc k) n u
+nth-small d e f g k zero u = e
+nth-small d e f g k (suc n) zero = g k
+nth-small d e f g k (suc n) (suc u) = nth-small d e f g (suc k) n u
 
 -- no action has a signal from 64 on
 pub actions-small : (n : Shape) (b : List ℕ) → ((i : ℕ) → getD b i 0 < 256) → (ch : ℕ → ℕ) (e : ℕ) → Small (actionOf (moves (fileAt n b .chart) ch e))
 unfolding moves fileAt chartOf transitionsOf
 actions-small n b h ch e = go (ch e)
   where
-    go : (v : ℕ) → Small (actionOf (pick (fromOn (transitionAt n b) (startOf n b e) (headAt n b e .transitions)) v))
+    none : (x : Bool) → Small (actionOf (cond x stay noMove))
+    none x = rw (behind-empty x) (sets (full ∷ []) [] (∅ₑ ∩ₑ A ≐ ∅ₑ) tt)
+
+    go : (v : ℕ) → Small (actionOf (pick (chartOf n b e) v))
     go zero = unfold pick actionOf in sets (full ∷ []) [] (∅ₑ ∩ₑ A ≐ ∅ₑ) tt
-    go (suc u) = unfold pick in nth-small (transitionAt n b) (action-small n b h) (startOf n b e) (headAt n b e .transitions) u
+    go (suc u) = unfold pick in nth-small (cond (same (n .edition) stayEdition) stay noMove) (none (same (n .edition) stayEdition)) (transitionAt n b) (action-small n b h) (startOf n b e) (headAt n b e .transitions) u

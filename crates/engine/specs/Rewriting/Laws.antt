@@ -1,8 +1,9 @@
--- Laws of the rewriting behind 1 to 11, in this order: a file that is refused, and one that passed; a refusal of 40 to 45; what 41 to 44 give; the
+-- Laws of the rewriting behind 1 to 11, in this order: a file that is refused, one whose charts may stay, and one that passed; a refusal of 40 to 45; what 41 to 44 give; the
 -- result's size; what the call answers.
 use mathlib.Core.Path.{_≡_, refl, sym, ap, _∙_}
 use mathlib.Core.Bool.{true, false}
 use mathlib.Core.List.{List, [], _∷_, _++_, append-assoc}
+use mathlib.Core.Logic.{_≢_}
 use Prim.Native.Nat.{ℕ, _+_, _≤_, _<_}
 use native.Mathlib.Omega.{arith}
 use borrow.Author.Tests.{ne-eqb, lt-ltb, le-ltb, ltb-false}
@@ -13,13 +14,14 @@ use Rattle.layout.specs.Record.{trailerBytes}
 use Rattle.layout.specs.Record.Laws.{length-trailer}
 use Rattle.layout.specs.declared.record.Trailer.{Trailer}
 use Rattle.layout.specs.declared.body.Shape.{Shape}
-use Rattle.meaning.specs.Numbers.{theEdition, mostNodes, noFreeSignal, shortOut}
+use Rattle.meaning.specs.Numbers.{firstEdition, stayEdition, mostNodes, noFreeSignal, shortOut, mayStay}
 use Rattle.meaning.specs.Meaning.{same}
-use Rattle.meaning.specs.File.{File, fileOf}
+use Rattle.meaning.specs.Laws.Bools.{same-refl, same-≢}
+use Rattle.meaning.specs.File.{File, trailer, fileOf}
 use Rattle.meaning.specs.Check.{Test, firstOf, fileTests, refusalOf}
 use Rattle.meaning.specs.Check.Laws.{firstOf-here, firstOf-next, firstOf-[], firstOf-++, firstOf-before, Passes, firstOf-passes, call-refused, call-passed}
 use Rattle.meaning.specs.Calls.{laidOver}
-use Rattle.meaning.specs.Rewriting.{free, start, rewrite, noFree?, transitionsIn, rewriteTests, shapeIn, bodyBytes, encode, rewriteBytes, rewriteRefusal, rewriteLength, rewriteOut}
+use Rattle.meaning.specs.Rewriting.{free, start, rewrite, noFree?, transitionsIn, rewriteTests, shapeIn, bodyBytes, encode, rewriteBytes, stayTest, rewriteRefusal, rewriteLength, rewriteOut}
 use Rattle.meaning.specs.Rewriting.Laws.{list-most}
 use Rattle.agreement.specs.Encoded.{length-body}
 use Rattle.rewrite.specs.Known.{Fits}
@@ -30,17 +32,21 @@ use Rattle.engine.specs.Rewriting.{limitTests, rewriteAfter, lengthAfter
 
 module _ (f : List ℕ) where
   behind : (room : ℕ) → rewriteRefusal f room ≡ firstOf
-      (fileTests f ++ (rewriteTests (fileOf f) ++ (record { number = shortOut; applies = ltb room (length (rewriteBytes f)) } ∷ [])))
+      (fileTests f ++ (stayTest f ∷ rewriteTests (fileOf f) ++ (record { number = shortOut; applies = ltb room (length (rewriteBytes f)) } ∷ [])))
   unfolding rewriteRefusal
-  behind room = ap firstOf (append-assoc (fileTests f) (rewriteTests (fileOf f)) _)
+  behind room = ap firstOf (append-assoc (fileTests f) (stayTest f ∷ rewriteTests (fileOf f)) _)
 
   pub file-refused : (refusalOf f ≡ 0 → ⊥) → (room : ℕ) → rewriteRefusal f room ≡ refusalOf f
   file-refused h room = behind room ∙ call-refused f _ h
 
-  module _ (h : refusalOf f ≡ 0) where
+  -- 46
+  pub stay-refused : refusalOf f ≡ 0 → trailer f .edition ≡ stayEdition → (room : ℕ) → rewriteRefusal f room ≡ mayStay
+  stay-refused h two room = behind room ∙ call-passed f _ h ∙ firstOf-here (stayTest f) _ (rw two (same-refl stayEdition))
+
+  module _ (h : refusalOf f ≡ 0) (one : trailer f .edition ≢ stayEdition) where
     pub refusal-is : (room : ℕ) → rewriteRefusal f room ≡ rewriteAfter (fileOf f) room
     unfolding rewriteAfter rewriteBytes
-    refusal-is room = behind room ∙ call-passed f _ h
+    refusal-is room = behind room ∙ call-passed f _ h ∙ firstOf-next (stayTest f) _ (same-≢ (trailer f .edition) stayEdition one)
 
     pub length-is : (room : ℕ) → rewriteLength f room ≡ lengthAfter (fileOf f) room
     unfolding rewriteLength lengthAfter rewriteBytes
@@ -105,7 +111,7 @@ length-all F = length-append (bodyBytes F) (trailerBytes end) ∙ omega (arith, 
           charts = F .charts;
           slaves = F .slaves;
           nodes = F .nodes;
-          edition = theEdition;
+          edition = firstEdition;
           transitions = transitionsIn F;
         }
 

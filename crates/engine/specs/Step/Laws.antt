@@ -11,35 +11,33 @@ use lib.ListN.{length, getD, take}
 use Rattle.signals.specs.Mask.{_∩_}
 use Rattle.signals.specs.All.{cut-all}
 use Rattle.layout.specs.Le.{AllBytes}
-use Rattle.layout.specs.Body.{headAt, startOf}
+use Rattle.layout.specs.Body.{headAt, startOf, transitionAt, transitionsOf}
 use Rattle.layout.specs.declared.body.Shape.{Shape}
-use Rattle.meaning.specs.Numbers.{shortBuffer, noStep, mostFromState}
+use Rattle.meaning.specs.Numbers.{stayPlace, shortBuffer, noStep, mostFromState}
 use Rattle.meaning.specs.Count.{anyUpTo}
 use Rattle.meaning.specs.Count.Laws.{or-right, any-never}
 use Rattle.meaning.specs.Meaning.{Set, same, Answer, refused, given}
 use Rattle.meaning.specs.File.{File, trailer, shapeOf, bodyOf, chartOf, fileAt, fileOf, wholeOf}
 use Rattle.meaning.specs.Check.{Test, firstOf, fileTests, refusalOf, notBelow, ends?, leaving, transitions?}
-use Rattle.meaning.specs.Check.Laws.{below, alike, call-refused, call-passed, passed, Passes, firstOf-passes, firstOf-++, firstOf-before, firstOf-here, firstOf-next, firstOf-[]}
+use Rattle.meaning.specs.Check.Laws.{below, alike, charted, call-refused, call-passed, passed, Passes, firstOf-passes, firstOf-++, firstOf-before, firstOf-here, firstOf-next, firstOf-[]}
 use Rattle.meaning.specs.Check.Nodes.{sound}
 use Rattle.meaning.specs.Calls.{configTests, stepRefusal, stepIn, stepOf, allPlaces, placesIn, placesOf, nextIn}
 use Rattle.meaning.specs.Calls.Laws.{behind-refused as places-refused}
 use Rattle.meaning.specs.Laws.Names.{kap}
 use Rattle.wiring.specs.Wire.{Small, full, down}
 use Rattle.search.specs.Table.{Row}
-use Rattle.search.specs.Trail.{beginning}
-use Rattle.search.specs.Hunt.{hunts, over, nothing}
 use Rattle.search.specs.declared.Found.{Found}
 use Rattle.tables.specs.Filled.{Rows, answerOf, trimmed}
-use Rattle.tables.specs.Fill.{stuck}
-use Rattle.tables.specs.Step.{step-found, step-places, none-found}
+use Rattle.tables.specs.Step.{step-found, step-places}
 use Rattle.checks.specs.Known.{Sized}
 use Rattle.nesting.specs.Known.{Wirable}
 use Rattle.nesting.specs.Nearest.{masterBy, stateBy}
 use Rattle.plan.specs.Wired.{Wired}
 use Rattle.candidates.specs.Candidates.{Ready, Chooses}
-use Rattle.candidates.specs.Candidates.Laws.{actions-small}
+use Rattle.candidates.specs.Candidates.Laws.{length-from, actions-small}
+use Rattle.staying.specs.Staying.{Stays}
 use Rattle.engine.specs.declared.step.Stepped.{Stepped}
-use Rattle.engine.specs.Step.{steppedOf, configTestsIn, refusalAfter, stepAfter, placesAfter, Checked, Prepared, Finds}
+use Rattle.engine.specs.Step.{steppedOf, configTestsIn, refusalAfter, stepAfter, placesAfter, Checked, Prepared, searchedOf, Finds}
 
 -- ── behind 1 to 11 ──
 
@@ -115,6 +113,7 @@ checked f n b h en eb sz sm =
     record {
       sized = sz;
       summed = sm;
+      charts = rw (en, eb) (p .charts);
       transitions = rw (en, eb) (p .transitions);
       sound = rw (en, eb) (sound (fileOf f) (p .slaves) (p .nodes) (p .naming) (p .inside));
     }
@@ -181,7 +180,7 @@ module _ (n : Shape) (b a m s m′ s′ config base lows : List ℕ) (sz : Sized
 
   -- ── what the search answers ──
 
-  module _ (all : AllBytes b) (k : Checked n b) (inp : Set) (fits : inp < 2 ^ 64) (lw : Row base (λ c. inp ∩ getD a c 0)) where
+  module _ (all : AllBytes b) (k : Checked n b) (inp : Set) (fits : inp < 2 ^ 64) (lw : Row base (λ c. inp ∩ getD a c 0)) (g y : List ℕ) (sy : Stays n b config lows m′ g y) where
     base-is : (c : ℕ) → c < F .charts → getD base c 0 ≡ inp ∩ down (wholeOf F) c
     unfolding fileAt
     base-is c l = lw c (omega (arith, sz .charts)) ∙ ap (λ z. inp ∩ z) (p .wired .down-is c (omega (arith, sz .charts)))
@@ -190,21 +189,19 @@ module _ (n : Shape) (b a m s m′ s′ config base lows : List ℕ) (sz : Sized
     unfolding full
     small-input = cut-all 64 inp fits
 
-    pub found-here : Finds n b config inp (over (hunts m′ s′ (n .charts) 0 (beginning lows)) nothing)
+    -- a chart has at most 64 transitions, so 254 is no transition's place
+    few : (c : ℕ) → c < F .charts → length (F .chart c .transitions) ≤ stayPlace
+    unfolding fileAt chartOf transitionsOf
+    few c l = let h = length-from (transitionAt n b) (startOf n b c) (headAt n b c .transitions) in let q = charted n b (k .charts) c l .transitions in omega arith
+
+    pub found-here : Finds n b config inp (searchedOf (n .charts) lows m′ s′ g y)
     unfolding fileAt chartOf
     found-here =
         let t = k .sound in
         record {
-          answers = step-found F (sz .some-node) (t .ordered) (t .rule10) (t .rule11) (t .chart-there) (t .node-there) config inp small-input (actions-small n b all) m′ s′ base lows rows (ch .chosen) (ch .raised) base-is;
-          places = step-places F (sz .some-node) (t .ordered) (t .rule10) (t .rule11) (t .chart-there) (t .node-there) config inp small-input (actions-small n b all) m′ s′ base lows rows (ch .chosen) (ch .raised) base-is;
+          answers = step-found F (sz .some-node) (t .ordered) (t .rule10) (t .rule11) (t .chart-there) (t .node-there) config inp small-input (actions-small n b all) m′ s′ g y base lows few rows (ch .chosen) (ch .raised) base-is (sy .stayers);
+          places = step-places F (sz .some-node) (t .ordered) (t .rule10) (t .rule11) (t .chart-there) (t .node-there) config inp small-input (actions-small n b all) m′ s′ g y base lows few rows (ch .chosen) (ch .raised) base-is (sy .stayers);
         }
-
-    -- no search is needed
-    pub found-stuck : stuck s′ (n .charts) ≡ true → Finds n b config inp nothing
-    unfolding fileAt chartOf
-    found-stuck h =
-        let t = k .sound in
-        rw (← none-found F (sz .some-node) (t .ordered) (t .rule10) (t .rule11) (t .chart-there) (t .node-there) config inp small-input (actions-small n b all) m′ s′ base lows rows (ch .chosen) (ch .raised) base-is h) found-here
 
 -- ── what was found ──
 

@@ -13,13 +13,13 @@ use lib.ListN.{length}
 use Rattle.layout.specs.Body.{headAt, startOf}
 use Rattle.layout.specs.declared.body.Shape.{Shape}
 use Rattle.layout.specs.declared.record.Trailer.{Trailer}
-use Rattle.meaning.specs.Numbers.{theEdition, mostCharts, mostSlaves, mostNodes, mostTransitions, mostStates, mostInChart, mostFromState}
+use Rattle.meaning.specs.Numbers.{mostCharts, mostSlaves, mostNodes, mostTransitions, mostStates, mostInChart, mostFromState}
 use Rattle.meaning.specs.Count.{anyUpTo, tally, one}
 use Rattle.meaning.specs.Count.Laws.{or-left, or-right, or-three, or-four, any-never, any-all, any-cong, tally-mono}
 use Rattle.meaning.specs.Meaning.{same}
 use Rattle.meaning.specs.Laws.Bools.{same→≡}
 use Rattle.meaning.specs.File.{endOf, trailer, bodyOf, shapeOf, fileOf}
-use Rattle.meaning.specs.Check.{Test, firstOf, differ, notBelow, counts?, distance?, nonzero, zeros?, chart?, charts?, inChart, ends?, leaving, transitions?, slaves?, nodes?, naming?, inside?, fileTests, refusalOf}
+use Rattle.meaning.specs.Check.{Test, firstOf, differ, notBelow, edition?, counts?, distance?, nonzero, zeros?, chart?, charts?, inChart, ends?, leaving, transitions?, slaves?, nodes?, naming?, inside?, fileTests, refusalOf}
 
 -- ── Bool ──
 
@@ -108,7 +108,7 @@ firstOf-before (t ∷ ts) us h =
 -- what a file that is not refused meets
 pub record Passed (f : List ℕ) : Type 0 where
   pub long : 12 ≤ length f
-  pub edition : differ (trailer f .edition) theEdition ≡ false
+  pub edition : edition? (trailer f) ≡ false
   pub counts : counts? (trailer f) ≡ false
   pub distance : distance? f ≡ false
   pub zeros : (nonzero f (endOf f + 10) 2 || zeros? (shapeOf (trailer f)) (bodyOf f)) ≡ false

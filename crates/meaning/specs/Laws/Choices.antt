@@ -3,13 +3,14 @@
 use mathlib.Core.Path.{_≡_, refl, sym, _∙_, ap, ap₂}
 use mathlib.Core.Bool.{true, false, false≢true}
 use mathlib.Core.List.{List, [], _∷_, _++_, append-nil}
-use Prim.Native.Nat.{ℕ, zero, suc, _+_, _≤_, _<_}
+use Prim.Native.Nat.{ℕ, zero, suc, _+_, _-_, _≤_, _<_}
 use native.Mathlib.Nat.{add-zero}
 use native.Mathlib.Numerals.{add-one}
 use native.Mathlib.Omega.{arith}
 use lib.ListN.{length, getD, drop, drop-of-length-le}
 use lib.Seq.{drop-cons}
-use Rattle.meaning.specs.Meaning.{Set, same, Chart, Tree, Move, after, permitted, upd, moves, nexts, placeOf, placesFrom, upto, outcome, search, eqList}
+use Rattle.layout.specs.declared.record.Transition.{Transition}
+use Rattle.meaning.specs.Meaning.{Set, same, Chart, Tree, Move, nth, behind, pick, lastPlace, after, permitted, upd, moves, nexts, placeOf, placesFrom, upto, outcome, search, eqList}
 use Rattle.meaning.specs.Laws.Bools.{and-l, and-r, same-refl, same→≡, same-≢}
 
 -- ── upto ──
@@ -51,8 +52,8 @@ module _ (E : ℕ → Chart) (state : ℕ → ℕ) (cfg : ℕ → ℕ) (t : Tree
       → search E state cfg t inp N n c ch ≡ []
   unfolding search outcome
   search-empty zero c ch h = rw (h ch (λ i l. refl))
-  search-empty (suc n) c ch h = upto-cong (length (E c .transitions)) _ (λ v. []) (λ v l. search-empty n (suc c) (upd ch c v)
-      (λ ch₂ b. h ch₂ (λ i l. b i (omega arith) ∙ upd-off ch c v i l))) ∙ upto-first (length (E c .transitions)) (λ v. []) (λ k l. refl)
+  search-empty (suc n) c ch h = upto-cong (lastPlace (E c)) _ (λ v. []) (λ v l. search-empty n (suc c) (upd ch c v)
+      (λ ch₂ b. h ch₂ (λ i l. b i (omega arith) ∙ upd-off ch c v i l))) ∙ upto-first (lastPlace (E c)) (λ v. []) (λ k l. refl)
 
 -- ── nexts ──
 
@@ -96,27 +97,46 @@ pub eqList-end : (a b : List ℕ) (i : ℕ) → length a ≤ i → length b ≤ 
 unfolding eqList
 eqList-end a b i p q = rw (drop-of-length-le a p, drop-of-length-le b q)
 
+-- ── placeOf ──
+
+nth-place : (m : Move) (ts : List Transition) (k v : ℕ) → k < length ts → placeOf (nth m ts k) v ≡ v - 1
+unfolding nth placeOf
+nth-place m [] k v l = absurd (omega arith)
+nth-place m (t ∷ ts) zero v l = refl
+nth-place m (t ∷ ts) (suc k) v l = nth-place m ts k v (omega arith)
+
+-- a transition's place is its place in the chart's list, in both editions
+pub place-own : (C : Chart) (k : ℕ) → k < length (C .transitions) → placeOf (pick C (suc k)) (suc k) ≡ k
+unfolding pick
+place-own C k l = nth-place (behind C) (C .transitions) k (suc k) l ∙ omega arith
+
 -- ── placesFrom ──
 
-pub length-places : (ch : ℕ → ℕ) (c n : ℕ) → length (placesFrom ch c n) ≡ n
-unfolding placesFrom
-length-places ch c zero = refl
-length-places ch c (suc n) = ap suc (length-places ch (suc c) n)
+module _ (E : ℕ → Chart) where
+  -- of chart c at place v
+  abbrev placeAt : ℕ → ℕ → ℕ
+  placeAt c v = placeOf (pick (E c) v) v
 
-pub places-cong : (ch ch₂ : ℕ → ℕ) (c n : ℕ) → ((i : ℕ) → c ≤ i → i < c + n → ch₂ i ≡ ch i) → placesFrom ch₂ c n ≡ placesFrom ch c n
-unfolding placesFrom
-places-cong ch ch₂ c zero h = refl
-places-cong ch ch₂ c (suc n) h =
-    ap₂ _∷_ (ap placeOf (h c (omega arith) (omega arith))) (places-cong ch ch₂ (suc c) n (λ i l m. h i (omega arith) (omega arith)))
+  pub length-places : (ch : ℕ → ℕ) (c n : ℕ) → length (placesFrom E ch c n) ≡ n
+  unfolding placesFrom
+  length-places ch c zero = refl
+  length-places ch c (suc n) = ap suc (length-places ch (suc c) n)
 
-places-more : (ch : ℕ → ℕ) (c n : ℕ) → placesFrom ch c (suc n) ≡ placesFrom ch c n ++ (placeOf (ch (c + n)) ∷ [])
-unfolding placesFrom
-places-more ch c zero = ap (λ z. placeOf (ch z) ∷ []) (sym (add-zero c))
-places-more ch c (suc n) = ap (λ l. placeOf (ch c) ∷ l)
-    (places-more ch (suc c) n ∙ ap (λ z. placesFrom ch (suc c) n ++ (placeOf (ch z) ∷ [])) (let e : suc c + n ≡ c + suc n = omega arith in e))
+  pub places-cong : (ch ch₂ : ℕ → ℕ) (c n : ℕ) → ((i : ℕ) → c ≤ i → i < c + n → ch₂ i ≡ ch i) → placesFrom E ch₂ c n ≡ placesFrom E ch c n
+  unfolding placesFrom
+  places-cong ch ch₂ c zero h = refl
+  places-cong ch ch₂ c (suc n) h =
+      ap₂ _∷_ (ap (placeAt c) (h c (omega arith) (omega arith))) (places-cong ch ch₂ (suc c) n (λ i l m. h i (omega arith) (omega arith)))
 
--- one chart more is settled
-pub places-upd : (ch : ℕ → ℕ) (k v : ℕ) → placesFrom (upd ch k v) zero (suc k) ≡ placesFrom ch zero k ++ (placeOf v ∷ [])
-places-upd ch k v = places-more (upd ch k v) zero k
-    ∙ ap₂ (λ l x. l ++ (placeOf x ∷ [])) (places-cong ch (upd ch k v) zero k (λ i l m. upd-off ch k v i (omega arith)))
-    (ap (upd ch k v) (let e : zero + k ≡ k = omega arith in e) ∙ upd-at ch k v)
+  places-more : (ch : ℕ → ℕ) (c n : ℕ) → placesFrom E ch c (suc n) ≡ placesFrom E ch c n ++ (placeAt (c + n) (ch (c + n)) ∷ [])
+  unfolding placesFrom
+  places-more ch c zero = ap (λ z. placeAt z (ch z) ∷ []) (sym (add-zero c))
+  places-more ch c (suc n) = ap (λ l. placeAt c (ch c) ∷ l)
+      (places-more ch (suc c) n
+      ∙ ap (λ z. placesFrom E ch (suc c) n ++ (placeAt z (ch z) ∷ [])) (let e : suc c + n ≡ c + suc n = omega arith in e))
+
+  -- one chart more is settled
+  pub places-upd : (ch : ℕ → ℕ) (k v : ℕ) → placesFrom E (upd ch k v) zero (suc k) ≡ placesFrom E ch zero k ++ (placeOf (pick (E k) v) v ∷ [])
+  places-upd ch k v = places-more (upd ch k v) zero k
+      ∙ ap₂ (λ l x. l ++ (x ∷ [])) (places-cong ch (upd ch k v) zero k (λ i l m. upd-off ch k v i (omega arith)))
+      (ap (λ z. placeAt z (upd ch k v z)) (let e : zero + k ≡ k = omega arith in e) ∙ ap (placeAt k) (upd-at ch k v))

@@ -3,7 +3,6 @@
 -- inactive part takes none (`inactive`); a signal outside the interface changes nothing (`outside`); the next configuration is valid (`valid-next`).
 use mathlib.Core.Path.{_≡_, refl, sym, _∙_, ap, subst, fun-ext}
 use mathlib.Core.Bool.{Bool, true, false, _&&_, cond, true≢false, false≢true}
-use mathlib.Core.Option.{none, some}
 use mathlib.Core.Logic.{_⊎_, inl, inr}
 use mathlib.Core.List.{List, [], _∷_, _++_, List·Memᴰ, List·Memᴰ·head, List·Memᴰ·tail, List·Memᴰ·cases-cons, List·Memᴰ·not-nil, List·Memᴰ·append-cases, Memᴰ·append-left, Memᴰ·append-right}
 use Prim.Native.Nat.{ℕ, zero, suc, _+_, _≤_, _<_}
@@ -14,7 +13,7 @@ use native.Mathlib.Nat.{zero-add}
 use Rattle.layout.specs.declared.record.Transition.{Transition}
 use Rattle.signals.specs.Mask.{_∩_, _∖_}
 use Rattle.meaning.specs.Numbers.{noStep}
-use Rattle.meaning.specs.Meaning.{Set, same, Chart, Tree, Slaves, leaf, comp, hide, dec, nil, snoc, Move, nth, pick, after, out, okChart, ok, oks, permitted, inFace, upd, moves, nexts, placesFrom, Outcome, outcomeOf, firstPlaces, upto, outcome, search, outcomes, Answer, refused, given, eqList, agree, answer}
+use Rattle.meaning.specs.Meaning.{Set, same, Chart, Tree, Slaves, leaf, comp, hide, dec, nil, snoc, Move, noMove, takes, stay, nth, pick, behind, lastPlace, after, out, okChart, ok, oks, permitted, inFace, upd, moves, nexts, placesFrom, Outcome, outcomeOf, firstPlaces, upto, outcome, search, outcomes, Answer, refused, given, eqList, agree, answer}
 use Rattle.meaning.specs.File.{Has, HasS}
 use Rattle.meaning.specs.Laws.Bools.{or-elim, same-refl, same→≡, and-l, and-r}
 use Rattle.meaning.specs.Laws.Choices.{upd-at, upd-other, upd-off, Below, length-nexts, getD-nexts, eqList→≡, eqList-refl}
@@ -82,9 +81,9 @@ module _ {A : Type 0} where
 -- ── choices ──
 
 module _ (E : ℕ → Chart) (state : ℕ → ℕ) (cfg : ℕ → ℕ) (t : Tree) (inp : Set) (N : ℕ) where
-  -- places of N charts: none, or one of the chart's transitions
+  -- places of N charts: none, one of the chart's transitions, or, in edition 2, staying
   pub record Choice (ch : ℕ → ℕ) : Type 0 where
-    pub places : (c : ℕ) → c < N → ch c ≤ length (E c .transitions)
+    pub places : (c : ℕ) → c < N → ch c ≤ lastPlace (E c)
     pub others : (c : ℕ) → N ≤ c → ch c ≡ 0
 
   -- a choice is permitted; what it puts out; where it leads; both
@@ -98,7 +97,7 @@ module _ (E : ℕ → Chart) (state : ℕ → ℕ) (cfg : ℕ → ℕ) (t : Tree
   nextBy ch = nexts cfg (moves E ch) zero N
 
   abbrev pub placesBy : (ℕ → ℕ) → List ℕ
-  placesBy ch = placesFrom ch zero N
+  placesBy ch = placesFrom E ch zero N
 
   abbrev by : (ℕ → ℕ) → Outcome
   by ch = record { output = outputBy ch; next = nextBy ch; places = placesBy ch }
@@ -111,12 +110,12 @@ module _ (E : ℕ → Chart) (state : ℕ → ℕ) (cfg : ℕ → ℕ) (t : Tree
 
   -- ch settles the charts below k alone
   abbrev Begun : ℕ → (ℕ → ℕ) → Type 0
-  Begun k ch = ((c : ℕ) → c < k → ch c ≤ length (E c .transitions)) × ((c : ℕ) → k ≤ c → ch c ≡ 0)
+  Begun k ch = ((c : ℕ) → c < k → ch c ≤ lastPlace (E c)) × ((c : ℕ) → k ≤ c → ch c ≡ 0)
 
-  begun-more : (k v : ℕ) (ch : ℕ → ℕ) → Begun k ch → v ≤ length (E k .transitions) → Begun (suc k) (upd ch k v)
+  begun-more : (k v : ℕ) (ch : ℕ → ℕ) → Begun k ch → v ≤ lastPlace (E k) → Begun (suc k) (upd ch k v)
   begun-more k v ch b l = (λ c m. go c m (decLt c k), λ c m. upd-other ch k v c (λ e. omega arith) ∙ b .1 c (omega arith))
     where
-      go : (c : ℕ) → c < suc k → Dec (c < k) → upd ch k v c ≤ length (E c .transitions)
+      go : (c : ℕ) → c < suc k → Dec (c < k) → upd ch k v c ≤ lastPlace (E c)
       go c m (yes d) = rw (upd-off ch k v c d) (b .0 c d)
       go c m (no d) = let e : c ≡ k = omega arith in rw (e, upd-at) l
 
@@ -148,7 +147,7 @@ module _ (E : ℕ → Chart) (state : ℕ → ℕ) (cfg : ℕ → ℕ) (t : Tree
   has zero k ch ch₂ e b q g p =
       subst (λ z. List·Memᴰ (by ch₂) (outcome E state cfg t inp N z)) (settled k ch ch₂ (omega arith) b q g) (rw p (List·Memᴰ·head refl))
   has (suc n) k ch ch₂ e b q g p =
-      upto-in (length (E k .transitions)) (ch₂ k) (λ v. search E state cfg t inp N n (suc k) (upd ch k v)) (by ch₂) (q .places k (omega arith))
+      upto-in (lastPlace (E k)) (ch₂ k) (λ v. search E state cfg t inp N n (suc k) (upd ch k v)) (by ch₂) (q .places k (omega arith))
       (has n (suc k) (upd ch k (ch₂ k)) ch₂ (omega arith) (begun-more k (ch₂ k) ch b (q .places k (omega arith))) q (goes-on-more k ch ch₂ g) p)
 
   -- ── each outcome in the list is that of a permitted choice ──
@@ -173,7 +172,7 @@ module _ (E : ℕ → Chart) (state : ℕ → ℕ) (cfg : ℕ → ℕ) (t : Tree
   unfolding search outcome outcomeOf In-one
   only zero k ch x e b h = one-outcome k ch x (permitted E state cfg (moves E ch) t inp) refl (omega arith) b h
   only (suc n) k ch x e b h =
-      let u = upto-out (length (E k .transitions)) (λ v. search E state cfg t inp N n (suc k) (upd ch k v)) x h in
+      let u = upto-out (lastPlace (E k)) (λ v. search E state cfg t inp N n (suc k) (upd ch k v)) x h in
       let r = only n (suc k) (upd ch k (u .0)) x (omega arith) (begun-more k (u .0) ch b (u .1)) (u .2) in
       record { choice = r .choice; chosen = r .chosen; goes-on = goes-on-less k (u .0) ch (r .choice) (r .goes-on); permits = r .permits; is = r .is }
 
@@ -194,13 +193,13 @@ module _ (E : ℕ → Chart) (state : ℕ → ℕ) (cfg : ℕ → ℕ) (t : Tree
             (let z : ch₂ (w .at) ≡ r .choice (w .at) = ap (λ f. f (w .at)) (s ∙ sym s₂) in let l = w .lower in omega arith);
       }
   first-of (suc n) k ch x xs e b h =
-      let u = upto-head (length (E k .transitions)) (λ v. search E state cfg t inp N n (suc k) (upd ch k v)) x xs h in
+      let u = upto-head (lastPlace (E k)) (λ v. search E state cfg t inp N n (suc k) (upd ch k v)) x xs h in
       let b₂ = begun-more k (u .place) ch b (u .most) in
       let r = first-of n (suc k) (upd ch k (u .place)) x (u .rest) (omega arith) b₂ (u .begins) in
       earlier u r (λ ch₂ q p g l. absurd (List·Memᴰ·not-nil (subst (λ z. List·Memᴰ (by ch₂) z) (u .before (ch₂ k) l)
       (has n (suc k) (upd ch k (ch₂ k)) ch₂ (omega arith) (begun-more k (ch₂ k) ch b (q .places k (omega arith))) q (goes-on-more k ch ch₂ g) p))))
     where
-      earlier : (u : Heads (length (E k .transitions)) (λ v. search E state cfg t inp N n (suc k) (upd ch k v)) x)
+      earlier : (u : Heads (lastPlace (E k)) (λ v. search E state cfg t inp N n (suc k) (upd ch k v)) x)
           → First (suc k) (upd ch k (u .place)) x
           → ((ch₂ : ℕ → ℕ) → Choice ch₂ → Permitted ch₂ → Below k ch ch₂ → ch₂ k < u .place → ⊥) → First k ch x
       earlier u r not-lower = record { from = f; first = λ ch₂ q p g w. go ch₂ q p g w (decLt (ch₂ k) (u .place)) (decLt (u .place) (ch₂ k)) }
@@ -375,24 +374,25 @@ module _ (E : ℕ → Chart) (state : ℕ → ℕ) (cfg : ℕ → ℕ) (t : Tree
 
 -- ── a part that is inactive takes none, so that its charts stay in their states and put out nothing ──
 module _ (E : ℕ → Chart) (state : ℕ → ℕ) (cfg : ℕ → ℕ) (M : ℕ → Move) where
-  chart-inactive : (F o : Set) (s : ℕ) (m : Move) → okChart F false o s m ≡ true → m ≡ none
+  chart-inactive : (C : Chart) (o : Set) (s : ℕ) (m : Move) → okChart C false o s m ≡ true → m ≡ noMove
   unfolding okChart
-  chart-inactive F o s none h = refl
-  chart-inactive F o s (some u) h = absurd (false≢true h)
+  chart-inactive C o s noMove h = refl
+  chart-inactive C o s (takes u) h = absurd (false≢true h)
+  chart-inactive C o s stay h = absurd (false≢true h)
 
   mutual
     unfolding ok Has
 
-    pub inactive : (t : Tree) (o : Set) → ok E state cfg M t false o ≡ true → (c : ℕ) → Has t c ≡ true → M c ≡ none
-    inactive (leaf d) o h c k = ap M (same→≡ c d k) ∙ chart-inactive (E d .feedback) o (cfg d) (M d) h
+    pub inactive : (t : Tree) (o : Set) → ok E state cfg M t false o ≡ true → (c : ℕ) → Has t c ≡ true → M c ≡ noMove
+    inactive (leaf d) o h c k = ap M (same→≡ c d k) ∙ chart-inactive (E d) o (cfg d) (M d) h
     inactive (comp l r x) o h c k =
         or-elim (Has l c) (Has r c) _ (λ e. inactive l _ (and-l _ _ h) c e) (λ e. inactive r _ (and-r (ok E state cfg M l false _) _ h) c e) k
     inactive (hide l x y) o h c k = inactive l (o ∖ x) h c k
     inactive (dec d ss) o h c k =
-        or-elim (same c d) (HasS ss c) _ (λ e. ap M (same→≡ c d e) ∙ chart-inactive (E d .feedback) _ (cfg d) (M d) (and-l _ _ h))
-        (λ e. inactive-slaves ss _ (and-r (okChart (E d .feedback) false _ (cfg d) (M d)) _ h) c e) k
+        or-elim (same c d) (HasS ss c) _ (λ e. ap M (same→≡ c d e) ∙ chart-inactive (E d) _ (cfg d) (M d) (and-l _ _ h))
+        (λ e. inactive-slaves ss _ (and-r (okChart (E d) false _ (cfg d) (M d)) _ h) c e) k
 
-    pub inactive-slaves : (ss : Slaves) (z : Set) → oks E state cfg M ss (λ q. false) z ≡ true → (c : ℕ) → HasS ss c ≡ true → M c ≡ none
+    pub inactive-slaves : (ss : Slaves) (z : Set) → oks E state cfg M ss (λ q. false) z ≡ true → (c : ℕ) → HasS ss c ≡ true → M c ≡ noMove
     inactive-slaves nil z h c k = absurd (false≢true k)
     inactive-slaves (snoc ss i t) z h c k =
         or-elim (Has t c) (HasS ss c) _ (λ e. inactive t _ (and-r (oks E state cfg M ss (λ q. false) z) _ h) c e)
@@ -403,26 +403,32 @@ module _ (E : ℕ → Chart) (state : ℕ → ℕ) (cfg : ℕ → ℕ) (t : Tree
   outside-search : (n c : ℕ) (ch : ℕ → ℕ) → search E state cfg t i N n c ch ≡ search E state cfg t j N n c ch
   unfolding search outcome permitted
   outside-search zero c ch = rw alike
-  outside-search (suc n) c ch = ap (upto (length (E c .transitions))) (fun-ext (λ v. outside-search n (suc c) (upd ch c v)))
+  outside-search (suc n) c ch = ap (upto (lastPlace (E c))) (fun-ext (λ v. outside-search n (suc c) (upd ch c v)))
 
   pub outside : answer (outcomes E state cfg t i N) ≡ answer (outcomes E state cfg t j N)
   unfolding outcomes
   outside = ap answer (outside-search N zero (λ c. zero))
 
 -- ── the next configuration is valid again ──
-nth-in : (ts : List Transition) (k s w : ℕ) → ((u : Transition) → List·Memᴰ u ts → u .to < w) → s < w → after s (nth ts k) < w
+nth-in : (m : Move) (ts : List Transition) (k s w : ℕ) → ((u : Transition) → List·Memᴰ u ts → u .to < w) → after s m < w → after s (nth m ts k) < w
 unfolding nth after
-nth-in [] k s w h l = l
-nth-in (u ∷ ts) zero s w h l = h u (List·Memᴰ·head refl)
-nth-in (u ∷ ts) (suc k) s w h l = nth-in ts k s w (λ v m. h v (List·Memᴰ·tail m)) l
+nth-in m [] k s w h l = l
+nth-in m (u ∷ ts) zero s w h l = h u (List·Memᴰ·head refl)
+nth-in m (u ∷ ts) (suc k) s w h l = nth-in m ts k s w (λ v i. h v (List·Memᴰ·tail i)) l
+
+-- what comes behind the transitions keeps the state
+behind-in : (b : Bool) (s w : ℕ) → s < w → after s (cond b stay noMove) < w
+unfolding after
+behind-in true s w l = l
+behind-in false s w l = l
 
 module _ (E : ℕ → Chart) (state : ℕ → ℕ) (cfg : ℕ → ℕ) (t : Tree) (inp : Set) (N : ℕ)
     (leads : (c : ℕ) → c < N → (u : Transition) → List·Memᴰ u (E c .transitions) → u .to < E c .states)
     (valid : (c : ℕ) → c < N → cfg c < E c .states) where
-  after-in : (c v : ℕ) → c < N → after (cfg c) (pick (E c .transitions) v) < E c .states
+  after-in : (c v : ℕ) → c < N → after (cfg c) (pick (E c) v) < E c .states
   unfolding pick after
   after-in c zero l = valid c l
-  after-in c (suc k) l = nth-in (E c .transitions) k (cfg c) (E c .states) (leads c l) (valid c l)
+  after-in c (suc k) l = nth-in (behind (E c)) (E c .transitions) k (cfg c) (E c .states) (leads c l) (behind-in (E c .stays) (cfg c) (E c .states) (valid c l))
 
   pub valid-next : (o : Set) (n : List ℕ) (m : Bool) → answer (outcomes E state cfg t inp N) ≡ given o n m
       → (length n ≡ N) × ((c : ℕ) → c < N → getD n c 0 < E c .states)

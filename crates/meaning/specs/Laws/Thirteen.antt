@@ -1,4 +1,5 @@
--- The thirteen rows of document 01, "Charts to hold it against": seventeen answers over the bytes of chart files, as one table and one claim.
+-- The thirteen rows of document 01, "Charts to hold it against": seventeen answers over the bytes of chart files, as one table and one claim
+-- (`thirteen`). Then the same charts in edition 2 (document 02, No. 7), and the places of a step in which a chart stays.
 use mathlib.Core.Path.{_≡_, refl}
 use mathlib.Core.Bool.{Bool, true, false}
 use mathlib.Core.List.{List, [], _∷_, _++_}
@@ -13,10 +14,10 @@ use Rattle.layout.specs.declared.record.Node.{Node}
 use Rattle.layout.specs.declared.record.Slave.{Slave}
 use Rattle.layout.specs.declared.record.Transition.{Transition}
 use Rattle.meaning.specs.Count.{anyUpTo, tally}
-use Rattle.meaning.specs.Meaning.{Set, same, Answer, refused, given, nth, pick, actionOf, after, guards, inFaceChart, inFace, inFaces, out, outs, okChart, meets, ok, oks, permitted, upd, moves, nexts, placeOf, placesFrom, upto, outcomeOf, outcome, search, outcomes, eqList, agree, answer}
+use Rattle.meaning.specs.Meaning.{Set, same, Answer, refused, given, nth, pick, lastPlace, actionOf, after, lowestFrom, guard, met?, untriggered, guards, inFaceChart, inFace, inFaces, out, outs, okChart, meets, ok, oks, permitted, upd, moves, nexts, placeOf, placesFrom, upto, outcomeOf, outcome, search, outcomes, eqList, agree, answer, firstPlaces}
 use Rattle.meaning.specs.File.{gather, build, treeOf, Has, HasS, trailer, bodyOf, shapeOf, chartOf, fileAt, fileOf}
-use Rattle.meaning.specs.Check.{firstOf, counts?, distance?, nonzero, zeros?, chart?, charts?, ends?, leaving, transitions?, rising, slave?, slaves?, nodeOfKind?, nodes?, names, named, held, naming?, inside?, fileTests, refusalOf}
-use Rattle.meaning.specs.Calls.{configTests, stepRefusal, stepIn, stepOf}
+use Rattle.meaning.specs.Check.{firstOf, edition?, counts?, distance?, nonzero, zeros?, chart?, charts?, ends?, leaving, transitions?, rising, slave?, slaves?, nodeOfKind?, nodes?, names, named, held, naming?, inside?, fileTests, refusalOf}
+use Rattle.meaning.specs.Calls.{configTests, stepRefusal, stepIn, stepOf, placesIn, placesOf}
 
 -- ── how the rows are written down ──
 
@@ -53,10 +54,10 @@ unfolding joined drawnLines head
 body ds ss ns =
     joined (λ d. headBytes (head d)) ds ++ joined transitionBytes (drawnLines ds) ++ joined slaveBytes ss ++ joined nodeBytes ns
 
--- a chart file with no front
-file : List Drawn → List Slave → List Node → List ℕ
+-- a chart file of an edition, with no front
+file : ℕ → List Drawn → List Slave → List Node → List ℕ
 unfolding body drawnLines
-file ds ss ns =
+file e ds ss ns =
     body ds ss ns
     ++ trailerBytes
     (record {
@@ -64,7 +65,7 @@ file ds ss ns =
       charts = length ds;
       slaves = length ss;
       nodes = length ns;
-      edition = 1;
+      edition = e;
       transitions = length (drawnLines ds);
     })
 
@@ -80,52 +81,52 @@ unfolding set
 hidden a x y = record { kind = 2; a = a; b = 0; x = set x; y = set y }
 
 -- one chart alone
-alone : List Transition → List ℕ → List ℕ
+alone : ℕ → List Transition → List ℕ → List ℕ
 unfolding file held₀
-alone ts f = file (record { lines = ts; feedback = f } ∷ []) [] (held₀ 0 ∷ [])
+alone e ts f = file e (record { lines = ts; feedback = f } ∷ []) [] (held₀ 0 ∷ [])
 
 -- two charts side by side, F the feedback between them, and the nodes above
-beside : Transition → Transition → List ℕ → List Node → List ℕ
+beside : ℕ → Transition → Transition → List ℕ → List Node → List ℕ
 unfolding file held₀ composed
-beside s t f above =
-    file (record { lines = s ∷ []; feedback = [] } ∷ record { lines = t ∷ []; feedback = [] } ∷ []) []
+beside e s t f above =
+    file e (record { lines = s ∷ []; feedback = [] } ∷ record { lines = t ∷ []; feedback = [] } ∷ []) []
     (held₀ 0 ∷ held₀ 1 ∷ composed 0 1 f ∷ above)
 
--- ── the charts ──
+-- ── the charts, in an edition ──
 
-L1 : List ℕ
+L1 : ℕ → List ℕ
 unfolding alone transition
-L1 = alone (transition 0 1 (0 ∷ []) [] (0 ∷ []) ∷ []) (0 ∷ [])
+L1 e = alone e (transition 0 1 (0 ∷ []) [] (0 ∷ []) ∷ []) (0 ∷ [])
 
-L2 : List ℕ
+L2 : ℕ → List ℕ
 unfolding alone transition
-L2 = alone (transition 0 1 [] (0 ∷ []) (0 ∷ []) ∷ []) (0 ∷ [])
+L2 e = alone e (transition 0 1 [] (0 ∷ []) (0 ∷ []) ∷ []) (0 ∷ [])
 
-L3 : List ℕ
+L3 : ℕ → List ℕ
 unfolding alone transition
-L3 = alone (transition 0 1 (0 ∷ []) [] (0 ∷ []) ∷ []) []
+L3 e = alone e (transition 0 1 (0 ∷ []) [] (0 ∷ []) ∷ []) []
 
 -- P1, P2 and P3: the feedback between, and the nodes above
-P : List ℕ → List Node → List ℕ
+P : ℕ → List ℕ → List Node → List ℕ
 unfolding beside transition
-P = beside (transition 0 1 (0 ∷ []) [] (1 ∷ [])) (transition 0 1 (1 ∷ []) [] (2 ∷ []))
+P e = beside e (transition 0 1 (0 ∷ []) [] (1 ∷ [])) (transition 0 1 (1 ∷ []) [] (2 ∷ []))
 
-P4 : List ℕ
+P4 : ℕ → List ℕ
 unfolding beside transition
-P4 = beside (transition 0 1 (1 ∷ []) [] (0 ∷ [])) (transition 0 1 (0 ∷ []) [] (1 ∷ [])) (0 ∷ 1 ∷ []) []
+P4 e = beside e (transition 0 1 (1 ∷ []) [] (0 ∷ [])) (transition 0 1 (0 ∷ []) [] (1 ∷ [])) (0 ∷ 1 ∷ []) []
 
-N1 : List ℕ
+N1 : ℕ → List ℕ
 unfolding alone transition
-N1 = alone (transition 0 0 [] [] (1 ∷ []) ∷ transition 0 1 [] [] (2 ∷ []) ∷ []) []
+N1 e = alone e (transition 0 0 [] [] (1 ∷ []) ∷ transition 0 1 [] [] (2 ∷ []) ∷ []) []
 
-N2 : List ℕ
+N2 : ℕ → List ℕ
 unfolding alone transition
-N2 = alone (transition 0 1 [] [] (1 ∷ []) ∷ transition 0 1 [] [] (1 ∷ []) ∷ []) []
+N2 e = alone e (transition 0 1 [] [] (1 ∷ []) ∷ transition 0 1 [] [] (1 ∷ []) ∷ []) []
 
-D : List ℕ
+D : ℕ → List ℕ
 unfolding file transition held₀
-D =
-    file
+D e =
+    file e
     (record {
       lines = transition 0 1 (0 ∷ []) [] (1 ∷ []) ∷ transition 0 0 [] (0 ∷ []) [] ∷ transition 1 0 (3 ∷ []) [] [] ∷ [];
       feedback = 1 ∷ [];
@@ -146,26 +147,26 @@ gives : List ℕ → List ℕ → Bool → Answer
 unfolding set
 gives next o m = given (set o) next m
 
-pub answers : List Answer
+pub answers : ℕ → List Answer
 unfolding step L1 L2 L3 P P4 N1 N2 D hidden
-answers =
-    step L1 (0 ∷ []) []
-    ∷ step L2 (0 ∷ []) []
-    ∷ step L2 (0 ∷ []) (0 ∷ [])
-    ∷ step L3 (0 ∷ []) []
-    ∷ step (P (1 ∷ []) []) (0 ∷ 0 ∷ []) (0 ∷ [])
-    ∷ step (P [] []) (0 ∷ 0 ∷ []) (0 ∷ [])
-    ∷ step (P (1 ∷ []) (hidden 2 (1 ∷ []) (1 ∷ []) ∷ [])) (0 ∷ 0 ∷ []) (0 ∷ [])
-    ∷ step (P (1 ∷ []) (hidden 2 (1 ∷ []) (1 ∷ []) ∷ [])) (0 ∷ 0 ∷ []) (1 ∷ [])
-    ∷ step P4 (0 ∷ 0 ∷ []) []
-    ∷ step N1 (0 ∷ []) []
-    ∷ step N2 (0 ∷ []) []
-    ∷ step D (0 ∷ 0 ∷ []) (0 ∷ [])
-    ∷ step D (0 ∷ 0 ∷ []) (0 ∷ 9 ∷ [])
-    ∷ step D (0 ∷ 0 ∷ []) []
-    ∷ step D (1 ∷ 1 ∷ []) (3 ∷ [])
-    ∷ step D (0 ∷ 1 ∷ []) (0 ∷ [])
-    ∷ step D (0 ∷ 1 ∷ []) (0 ∷ 3 ∷ [])
+answers e =
+    step (L1 e) (0 ∷ []) []
+    ∷ step (L2 e) (0 ∷ []) []
+    ∷ step (L2 e) (0 ∷ []) (0 ∷ [])
+    ∷ step (L3 e) (0 ∷ []) []
+    ∷ step (P e (1 ∷ []) []) (0 ∷ 0 ∷ []) (0 ∷ [])
+    ∷ step (P e [] []) (0 ∷ 0 ∷ []) (0 ∷ [])
+    ∷ step (P e (1 ∷ []) (hidden 2 (1 ∷ []) (1 ∷ []) ∷ [])) (0 ∷ 0 ∷ []) (0 ∷ [])
+    ∷ step (P e (1 ∷ []) (hidden 2 (1 ∷ []) (1 ∷ []) ∷ [])) (0 ∷ 0 ∷ []) (1 ∷ [])
+    ∷ step (P4 e) (0 ∷ 0 ∷ []) []
+    ∷ step (N1 e) (0 ∷ []) []
+    ∷ step (N2 e) (0 ∷ []) []
+    ∷ step (D e) (0 ∷ 0 ∷ []) (0 ∷ [])
+    ∷ step (D e) (0 ∷ 0 ∷ []) (0 ∷ 9 ∷ [])
+    ∷ step (D e) (0 ∷ 0 ∷ []) []
+    ∷ step (D e) (1 ∷ 1 ∷ []) (3 ∷ [])
+    ∷ step (D e) (0 ∷ 1 ∷ []) (0 ∷ [])
+    ∷ step (D e) (0 ∷ 1 ∷ []) (0 ∷ 3 ∷ [])
     ∷ []
 
 pub table : List Answer
@@ -190,6 +191,42 @@ table =
     ∷ gives (1 ∷ 1 ∷ []) (1 ∷ 4 ∷ []) true
     ∷ []
 
-pub thirteen : answers ≡ table
-unfolding answers table single le bytes trailerOf headOf transitionOf slaveOf nodeOf trailerBytes headBytes transitionBytes slaveBytes nodeBytes headAt transitionAt slaveAt nodeAt startOf from transitionsOf anyUpTo tally same nth pick actionOf after guards inFaceChart inFace inFaces out outs okChart meets ok oks permitted upd moves nexts placeOf placesFrom upto outcomeOf outcome search outcomes eqList agree answer gather build treeOf Has HasS trailer bodyOf shapeOf chartOf fileAt fileOf firstOf counts? distance? nonzero zeros? chart? charts? ends? leaving transitions? rising slave? slaves? nodeOfKind? nodes? names named held naming? inside? fileTests refusalOf configTests stepRefusal stepIn stepOf
+pub thirteen : answers 1 ≡ table
+unfolding answers table single le bytes trailerOf headOf transitionOf slaveOf nodeOf trailerBytes headBytes transitionBytes slaveBytes nodeBytes headAt transitionAt slaveAt nodeAt startOf from transitionsOf anyUpTo tally same nth pick lastPlace actionOf after lowestFrom guard met? untriggered guards inFaceChart inFace inFaces out outs okChart meets ok oks permitted upd moves nexts placeOf placesFrom upto outcomeOf outcome search outcomes eqList agree answer gather build treeOf Has HasS trailer bodyOf shapeOf chartOf fileAt fileOf firstOf edition? counts? distance? nonzero zeros? chart? charts? ends? leaving transitions? rising slave? slaves? nodeOfKind? nodes? names named held naming? inside? fileTests refusalOf configTests stepRefusal stepIn stepOf
 thirteen = refl
+
+-- the same charts in edition 2, where an untriggered part may stay
+pub table₂ : List Answer
+unfolding gives
+table₂ =
+    gives (1 ∷ []) (0 ∷ []) false  -- L1: it could stay, too
+    ∷ refused 23  -- L2: "stays refused on an empty input"
+    ∷ gives (0 ∷ []) [] true
+    ∷ gives (0 ∷ []) [] true  -- L3
+    ∷ gives (1 ∷ 1 ∷ []) (1 ∷ 2 ∷ []) true  -- P1
+    ∷ gives (1 ∷ 0 ∷ []) (1 ∷ []) true  -- P2: the second chart stays
+    ∷ gives (1 ∷ 1 ∷ []) (2 ∷ []) true  -- P3
+    ∷ gives (0 ∷ 0 ∷ []) [] true
+    ∷ gives (1 ∷ 1 ∷ []) (0 ∷ 1 ∷ []) false  -- P4: both could stay, too
+    ∷ gives (0 ∷ []) (1 ∷ []) false  -- N1
+    ∷ gives (1 ∷ []) (1 ∷ []) true  -- N2
+    ∷ gives (1 ∷ 1 ∷ []) (1 ∷ 2 ∷ []) true  -- D1
+    ∷ gives (1 ∷ 1 ∷ []) (1 ∷ 2 ∷ []) true
+    ∷ gives (0 ∷ 0 ∷ []) [] true  -- D2
+    ∷ gives (0 ∷ 1 ∷ []) (4 ∷ []) true  -- D3
+    ∷ gives (1 ∷ 1 ∷ []) (1 ∷ []) true  -- D4: the slave stays
+    ∷ gives (1 ∷ 1 ∷ []) (1 ∷ 4 ∷ []) true
+    ∷ []
+
+pub second : answers 2 ≡ table₂
+unfolding answers table₂ single le bytes trailerOf headOf transitionOf slaveOf nodeOf trailerBytes headBytes transitionBytes slaveBytes nodeBytes headAt transitionAt slaveAt nodeAt startOf from transitionsOf anyUpTo tally same nth pick lastPlace actionOf after lowestFrom guard met? untriggered guards inFaceChart inFace inFaces out outs okChart meets ok oks permitted upd moves nexts placeOf placesFrom upto outcomeOf outcome search outcomes eqList agree answer gather build treeOf Has HasS trailer bodyOf shapeOf chartOf fileAt fileOf firstOf edition? counts? distance? nonzero zeros? chart? charts? ends? leaving transitions? rising slave? slaves? nodeOfKind? nodes? names named held naming? inside? fileTests refusalOf configTests stepRefusal stepIn stepOf
+second = refl
+
+-- P2 in edition 2: the first chart takes its transition 0, the second stays
+pub places₂ : List ℕ
+unfolding P set
+places₂ = placesOf (P 2 [] []) (0 ∷ 0 ∷ []) (set (0 ∷ [])) 2
+
+pub stayed : places₂ ≡ 0 ∷ 254 ∷ 255 ∷ 255 ∷ 255 ∷ 255 ∷ 255 ∷ 255 ∷ []
+unfolding places₂ single le bytes trailerOf headOf transitionOf slaveOf nodeOf trailerBytes headBytes transitionBytes slaveBytes nodeBytes headAt transitionAt slaveAt nodeAt startOf from transitionsOf anyUpTo tally same nth pick lastPlace actionOf after lowestFrom guard met? untriggered guards inFaceChart inFace inFaces out outs okChart meets ok oks permitted upd moves nexts placeOf placesFrom upto outcomeOf outcome search outcomes eqList agree answer gather build treeOf Has HasS trailer bodyOf shapeOf chartOf fileAt fileOf firstOf edition? counts? distance? nonzero zeros? chart? charts? ends? leaving transitions? rising slave? slaves? nodeOfKind? nodes? names named held naming? inside? fileTests refusalOf configTests stepRefusal firstPlaces placesIn placesOf
+stayed = refl

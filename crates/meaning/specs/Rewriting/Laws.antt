@@ -20,7 +20,7 @@ use Rattle.meaning.specs.Meaning.{Set, ∅}
 use Rattle.meaning.specs.File.{File, trailer, shapeOf, fileAt, fileOf}
 use Rattle.meaning.specs.Check.{Test, firstOf, fileTests, refusalOf}
 use Rattle.meaning.specs.Check.Laws.{eq-or-not, firstOf-cong, firstOf-covered, passed, call-refused, call-passed, counted}
-use Rattle.meaning.specs.Rewriting.{unionUpTo, rewrite, transitionsIn, noFree?, fromState?, inChart?, rewriteTests, rewriteBytes, rewriteRefusal}
+use Rattle.meaning.specs.Rewriting.{unionUpTo, rewrite, transitionsIn, noFree?, fromState?, inChart?, rewriteTests, rewriteBytes, stayTest, rewriteRefusal}
 
 -- ── unionUpTo ──
 
@@ -86,15 +86,16 @@ module _ (number : ℕ) where
 
   -- for every file, refused by 1 to 11 or not
   pub refusal-same : (f : List ℕ) (room : ℕ)
-      → firstOf (fileTests f ++ (testsWithSum (fileOf f) ++ (record { number = shortOut; applies = ltb room (length (rewriteBytes f)) } ∷ [])))
+      → firstOf (fileTests f ++ (stayTest f ∷ testsWithSum (fileOf f) ++ (record { number = shortOut; applies = ltb room (length (rewriteBytes f)) } ∷ [])))
       ≡ rewriteRefusal f room
   unfolding rewriteRefusal
   refusal-same f room =
       ⊎-elim
-      (λ (e : refusalOf f ≡ 0). call-passed f _ e ∙ sum-untested (fileOf f) (charts-most f e) roomTest ∙ sym (call-passed f _ e))
+      (λ (e : refusalOf f ≡ 0).
+      call-passed f _ e ∙ firstOf-cong (stayTest f) _ _ (sum-untested (fileOf f) (charts-most f e) roomTest) ∙ sym (call-passed f _ e))
       (λ (e : refusalOf f ≡ 0 → ⊥). call-refused f _ e ∙ sym (call-refused f _ e))
       (eq-or-not (refusalOf f) 0)
-      ∙ ap firstOf (sym (append-assoc (fileTests f) (rewriteTests (fileOf f)) roomTest))
+      ∙ ap firstOf (sym (append-assoc (fileTests f) (stayTest f ∷ rewriteTests (fileOf f)) roomTest))
     where
       roomTest : List Test
       roomTest = record { number = shortOut; applies = ltb room (length (rewriteBytes f)) } ∷ []

@@ -17,7 +17,7 @@ use Rattle.layout.specs.Body.{from}
 use Rattle.layout.specs.declared.body.Shape.{Shape}
 use Rattle.layout.specs.declared.record.Transition.{Transition}
 use Rattle.layout.specs.declared.record.Node.{Node}
-use Rattle.meaning.specs.Numbers.{theEdition, mostCharts}
+use Rattle.meaning.specs.Numbers.{firstEdition, mostCharts}
 use Rattle.meaning.specs.Count.{one}
 use Rattle.meaning.specs.Meaning.{Set, same, Chart}
 use Rattle.meaning.specs.File.{File}
@@ -233,7 +233,7 @@ module _ (F : File) where
   pub encode-is : encode (rewrite F)
       ≡ inTurn (F .charts) (λ c. headBytes (headFor (rewrittenChart F c)))
       ++ (inTurn (F .charts) (λ c. transitionsBytes (rewrittenChart F c .transitions))
-      ++ (inTurn (F .nodes) (λ j. nodesBytes (madeFor F j)) ++ trailerBytes (trailerWith (shapeIn (rewrite F)) theEdition)))
+      ++ (inTurn (F .nodes) (λ j. nodesBytes (madeFor F j)) ++ trailerBytes (trailerWith (shapeIn (rewrite F)) firstEdition)))
   unfolding encode bodyBytes inTurn shapeIn trailerWith
   encode-is =
       append-assoc ((hs ++ ts) ++ []) ns t
@@ -251,7 +251,7 @@ module _ (F : File) where
       ns = inTurn (start F (F .nodes)) (λ p. nodeBytes (newNode F p))
 
       t : List ℕ
-      t = trailerBytes (trailerWith (shapeIn (rewrite F)) theEdition)
+      t = trailerBytes (trailerWith (shapeIn (rewrite F)) firstEdition)
 
   -- a shape within the limits
   pub shape-small : Fits F → F .charts ≤ mostCharts → (m : Shape) → m ≡ shapeIn (rewrite F) → Small m

@@ -1,9 +1,9 @@
 -- `search::hunt` meets its contract. It ends since `left` falls at each call; its loop has been through the candidates below v, and may stop
 -- where two permitted choices disagree, since nothing more can change. What it writes stands behind the beginning that it was given, or is what was
 -- found.
-use mathlib.Core.Path.{_≡_, refl, sym, ap, ap₂, subst₂, _∙_}
+use mathlib.Core.Path.{_≡_, refl, sym, ap, ap₂, subst, subst₂, fun-ext, _∙_}
 use mathlib.Core.Bool.{Bool, true, false, _&&_, not, cond, and-false}
-use mathlib.Core.List.{List, []}
+use mathlib.Core.List.{List, [], _++_}
 use mathlib.Core.Logic.{⊎-elim}
 use Prim.Native.Nat.{ℕ, zero, suc, _+_, _-_, _<_, _≤_}
 use native.Mathlib.Numerals.{add-one, sub-one}
@@ -15,75 +15,102 @@ use borrow.Fn.PlainCycle.{Measures, is, falls, and}
 use lib.Dec.{eqb}
 use Rattle.signals.specs.Mask.{_∪_, _∩_, apart}
 use Rattle.meaning.specs.Meaning.{Outcome}
-use Rattle.meaning.specs.Laws.Bools.{and-l, and-r}
+use Rattle.meaning.specs.Laws.Bools.{and-l, and-r, same-refl, same-≢}
 use Rattle.search.specs.declared.Found.{Found}
 use Rattle.search.specs.declared.Guard.{Guard}
-use lib.ListN.{length}
+use lib.ListN.{length, getD}
 use Rattle.search.specs.Table.{masksFor, actionAt, upAt, countAt}
 use Rattle.search.specs.Trail.{Trail, trailIn, Keeps}
 use Rattle.search.specs.Trail.Laws.{keeps-refl, keeps-trans, keeps-fewer, keeps-room, trail-kept}
-use Rattle.search.specs.Hunt.{each, wakes, taken, rested, fineAt, hunts, outcomeIn, settleOf, over, foundIn, Held, Takes, Hunted}
-use Rattle.search.specs.Hunt.Laws.{Stopped, each-none, over-each, over-each-stopped}
+use Rattle.search.specs.Hunt.{each, wakes, taken, rested, fineAt, outcomeIn, settleOf, over, foundIn, Held, Takes}
+use Rattle.search.specs.Stays.{staysAt, stayed, calmAll, quietAt, huntsBoth, huntsCalm, Hunted}
+use Rattle.search.specs.Stays.Laws.{fine-same}
+use Rattle.search.specs.Hunt.Laws.{Stopped, over-append, over-stopped, each-none, over-each, over-each-stopped}
 use Rattle.search.specs.Asks.{asksOf}
 use Rattle.search.specs.Asks.Laws.{ownAt, asked-never, asked-some, asks-kept, fine-taken, fine-rested}
 use Rattle.search.proofs.hunt.Reads as hunt
 use Rattle.search.proofs.hunt.Kinds as hunt-kinds
 use Rattle.search.proofs.+hunt.Lts-hunt as lts
+use Rattle.search.proofs.all_calm.Reads as all-calm-reads
 use Rattle.search.proofs.asks.Reads as asks-reads
 use Rattle.search.proofs.disagree.Reads as disagree-reads
 use Rattle.search.proofs.fits.Reads as fits-reads
 use Rattle.search.proofs.rest.Reads as rest-reads
 use Rattle.search.proofs.settle.Reads as settle-reads
 use Rattle.search.proofs.shown_by.Reads as shown-by-reads
+use Rattle.search.proofs.stay.Reads as stay-reads
 use Rattle.search.proofs.take.Reads as take-reads
 use Rattle.search.proofs.wakes.Reads as wakes-reads
 use Rattle.signals.proofs.apart.Reads as apart-reads
 use Rattle.search.proofs.+hunt.{statement}
 use Rattle.search.proofs.+hunt.Tie.{close}
 
--- ── one step of `hunts`, as the code counts ──
+-- ── one step of `huntsCalm`, as the code counts ──
 
 -- what chart k's beginning u gives
-abbrev below : List ℕ → List ℕ → ℕ → ℕ → Trail → List Outcome
-below m s left k u = cond (fineAt m s u k) (hunts m s (left - 1) (k + 1) u) []
+abbrev below : List ℕ → List ℕ → List ℕ → List ℕ → ℕ → ℕ → Trail → List Outcome
+below m s gs y left k u = cond (fineAt m s u k) (huntsCalm m s gs y (left - 1) (k + 1) u) []
 
 -- what chart k's candidate v gives
-abbrev block : List ℕ → List ℕ → ℕ → ℕ → Trail → ℕ → List Outcome
-block m s left k t v = below m s left k (taken m s t k v)
+abbrev block : List ℕ → List ℕ → List ℕ → List ℕ → ℕ → ℕ → Trail → ℕ → List Outcome
+block m s gs y left k t v = below m s gs y left k (taken m s t k v)
+
+-- what chart k's staying gives
+abbrev last : List ℕ → List ℕ → List ℕ → List ℕ → ℕ → ℕ → Trail → List Outcome
+last m s gs y left k t = cond (staysAt gs y k) (below m s gs y left k (stayed m s t k)) []
 
 -- no chart is left
-ends : (m s w b : List ℕ) (charts left o : ℕ) (f : Found) → left ≡ 0 →
+ends-at : (m s gs y w b : List ℕ) (charts left o k : ℕ) (f : Found) → k ≡ charts → left ≡ 0 → calmAll m s gs y (trailIn w b k o) k ≡ true →
+    over (huntsCalm m s gs y left k (trailIn w b k o)) f ≡ settleOf (outcomeIn b charts o) f
+unfolding huntsCalm
+ends-at m s gs y w b charts left o k f p q h =
+    ap₂ (λ (z : Bool) (l : ℕ). over (cond z (huntsBoth m s gs y l k (trailIn w b k o)) []) f) h q ∙ (unfold huntsBoth over trailIn in rw p)
+
+ends : (m s gs y w b : List ℕ) (charts left o : ℕ) (f : Found) → left ≡ 0 → calmAll m s gs y (trailIn w b (charts - left) o) (charts - left) ≡ true →
     settleOf (outcomeIn b charts o) f
-    ≡ over (hunts m s left (charts - left) (trailIn w b (charts - left) o)) f
-unfolding hunts over trailIn
-ends m s w b charts left o f e = let z : charts - left ≡ charts = omega arith in rw (z, e)
+    ≡ over (huntsCalm m s gs y left (charts - left) (trailIn w b (charts - left) o)) f
+ends m s gs y w b charts left o f e h = sym (ends-at m s gs y w b charts left o (charts - left) f (omega arith) e h)
 
-hunts-step : (m s : List ℕ) (left k : ℕ) (t : Trail) → (left ≡ 0 → ⊥) →
-    hunts m s left k t ≡ cond (wakes m s t k) (each (countAt s k) (block m s left k t)) (below m s left k (rested m s t k))
-unfolding hunts
-hunts-step m s zero k t h = absurd (h refl)
-hunts-step m s (suc l) k t h =
-    ap₂ (λ (n j : ℕ). cond (wakes m s t k)
-    (each (countAt s k) (λ v. cond (fineAt m s (taken m s t k v) k) (hunts m s n j (taken m s t k v)) []))
-    (cond (fineAt m s (rested m s t k) k) (hunts m s n j (rested m s t k)) []))
-    (sym (sub-one (suc l))) (sym (add-one k))
+cond-both : (a b : Bool) (x : List Outcome) → cond (a && b) x [] ≡ cond a (cond b x []) []
+cond-both true b x = refl
+cond-both false b x = refl
 
-module _ (m s : List ℕ) (charts left : ℕ) (some : left ≡ 0 → ⊥) (within : left ≤ charts) (f : Found) where
+-- a beginning that is tested on the way is tested when it is gone on from
+below-is : (m s gs y : List ℕ) (l k : ℕ) (u : Trail) →
+    cond (fineAt m s u k && quietAt m s gs y u k) (huntsBoth m s gs y l (suc k) u) [] ≡ below m s gs y (suc l) k u
+unfolding quietAt huntsCalm
+below-is m s gs y l k u = cond-both (fineAt m s u k) (calmAll m s gs y u (suc k)) (huntsBoth m s gs y l (suc k) u)
+    ∙ ap₂ (λ (n j : ℕ). cond (fineAt m s u k) (cond (calmAll m s gs y u j) (huntsBoth m s gs y n j u) []) []) (sym (sub-one (suc l))) (sym (add-one k))
+
+hunts-step : (m s gs y : List ℕ) (left k : ℕ) (t : Trail) → (left ≡ 0 → ⊥) → calmAll m s gs y t k ≡ true →
+    huntsCalm m s gs y left k t
+    ≡ cond (wakes m s t k) (each (countAt s k) (block m s gs y left k t) ++ last m s gs y left k t) (below m s gs y left k (rested m s t k))
+unfolding huntsCalm huntsBoth
+hunts-step m s gs y zero k t h q = absurd (h refl)
+hunts-step m s gs y (suc l) k t h q =
+    ap (λ (z : Bool). cond z (huntsBoth m s gs y (suc l) k t) []) q
+    ∙ ap₂ (λ (xs ys : List Outcome). cond (wakes m s t k) xs ys)
+    (ap₂ _++_ (ap (each (countAt s k)) (fun-ext (λ v. below-is m s gs y l k (taken m s t k v))))
+    (ap (λ (z : List Outcome). cond (staysAt gs y k) z []) (below-is m s gs y l k (stayed m s t k))))
+    (below-is m s gs y l k (rested m s t k))
+
+module _ (m s gs y : List ℕ) (charts left : ℕ) (some : left ≡ 0 → ⊥) (within : left ≤ charts) (f : Found) where
   abbrev k : ℕ
   k = charts - left
 
-  awake : (t : Trail) → wakes m s t k ≡ true → over (hunts m s left k t) f ≡ over (each (countAt s k) (block m s left k t)) f
-  awake t w = rw (hunts-step m s left k t some, w)
+  awake : (t : Trail) → calmAll m s gs y t k ≡ true → wakes m s t k ≡ true
+      → over (huntsCalm m s gs y left k t) f ≡ over (last m s gs y left k t) (over (each (countAt s k) (block m s gs y left k t)) f)
+  awake t q w = rw (hunts-step m s gs y left k t some q, w) (over-append (each (countAt s k) (block m s gs y left k t)) (last m s gs y left k t) f)
 
-  asleep : (t : Trail) → wakes m s t k ≡ false → over (below m s left k (rested m s t k)) f ≡ over (hunts m s left k t) f
-  asleep t w = rw (hunts-step m s left k t some, w)
+  asleep : (t : Trail) → calmAll m s gs y t k ≡ true → wakes m s t k ≡ false → over (below m s gs y left k (rested m s t k)) f ≡ over (huntsCalm m s gs y left k t) f
+  asleep t q w = rw (hunts-step m s gs y left k t some q, w)
 
   -- a beginning that can still be met, where it stands, and one that cannot
   goes-on : (w b : List ℕ) (o : ℕ) (u : Trail) → trailIn w b (k + 1) o ≡ u → fineAt m s u k ≡ true →
-      over (hunts m s (left - 1) (charts - (left - 1)) (trailIn w b (charts - (left - 1)) o)) f ≡ over (below m s left k u) f
+      over (huntsCalm m s gs y (left - 1) (charts - (left - 1)) (trailIn w b (charts - (left - 1)) o)) f ≡ over (below m s gs y left k u) f
   goes-on w b o u e h = let z : charts - (left - 1) ≡ k + 1 = omega arith in rw (z, e, h)
 
-  drops : (u : Trail) → fineAt m s u k ≡ false → f ≡ over (below m s left k u) f
+  drops : (u : Trail) → fineAt m s u k ≡ false → f ≡ over (below m s gs y left k u) f
   unfolding over
   drops u h = rw h
 
@@ -93,24 +120,31 @@ module _ (m s : List ℕ) (charts left : ℕ) (some : left ≡ 0 → ⊥) (withi
     here = ap (λ (u : Trail). taken m s u k v) (trail-kept kept o)
 
     goes : (w₁ b₁ f₁ g₁ w₂ b₂ f₂ g₂ : List ℕ) (o₁ : ℕ) → foundIn f₁ g₁ ≡ f → true ≡ fineAt m s (taken m s (trailIn w b k o) k v) k →
-        Takes m s k v w b w₁ b₁ → o₁ ≡ o ∪ actionAt m k v ∩ upAt m k → Hunted m s charts (left - 1) o₁ w₁ b₁ f₁ g₁ w₂ b₂ f₂ g₂ →
-        Keeps k w₀ b₀ w₂ b₂ × (foundIn f₂ g₂ ≡ over (block m s left k (trailIn w₀ b₀ k o) v) f)
+        Takes m s k v w b w₁ b₁ → o₁ ≡ o ∪ actionAt m k v ∩ upAt m k → Hunted m s gs y charts (left - 1) o₁ w₁ b₁ f₁ g₁ w₂ b₂ f₂ g₂ →
+        Keeps k w₀ b₀ w₂ b₂ × (foundIn f₂ g₂ ≡ over (block m s gs y left k (trailIn w₀ b₀ k o) v) f)
     goes w₁ b₁ f₁ g₁ w₂ b₂ f₂ g₂ o₁ q fine t e h =
         let z : charts - (left - 1) ≡ k + 1 = omega arith in (
           keeps-trans kept (keeps-trans (t .kept) (keeps-fewer (charts - (left - 1)) z (h .kept))),
-          h .found ∙ ap (over (hunts m s (left - 1) (charts - (left - 1)) (trailIn w₁ b₁ (charts - (left - 1)) o₁))) q
+          h .found ∙ ap (over (huntsCalm m s gs y (left - 1) (charts - (left - 1)) (trailIn w₁ b₁ (charts - (left - 1)) o₁))) q
               ∙ goes-on w₁ b₁ o₁ (taken m s (trailIn w₀ b₀ k o) k v) (ap (trailIn w₁ b₁ (k + 1)) e ∙ t .grown o ∙ here)
               (ap (λ (u : Trail). fineAt m s u k) (sym here) ∙ sym fine),
         )
 
-    leaves : false ≡ fineAt m s (taken m s (trailIn w b k o) k v) k → f ≡ over (block m s left k (trailIn w₀ b₀ k o) v) f
+    leaves : false ≡ fineAt m s (taken m s (trailIn w b k o) k v) k → f ≡ over (block m s gs y left k (trailIn w₀ b₀ k o) v) f
     leaves fine = drops (taken m s (trailIn w₀ b₀ k o) k v) (ap (λ (u : Trail). fineAt m s u k) (sym here) ∙ sym fine)
 
   -- what the settled charts ask contradicts itself
   module _ (few : charts ≤ 8) (w b : List ℕ) (o : ℕ) (g : Guard) (is : g ≡ asksOf m w k) where
-    never : apart (g .needed) (g .barred) ≡ false → f ≡ over (hunts m s left k (trailIn w b k o)) f
+    -- what an inactive chart's beginning is tested by, and one's that stays
+    rest-fine : (z : Bool) → eqb (g .needed) 0 ≡ z → fineAt m s (rested m s (trailIn w b k o) k) k ≡ z
+    rest-fine z h = fine-rested m s w b k o (omega arith) ∙ ap (λ (a : Guard). eqb (a .needed) 0) (sym is) ∙ h
+
+    stay-fine : (z : Bool) → eqb (g .needed) 0 ≡ z → fineAt m s (stayed m s (trailIn w b k o) k) k ≡ z
+    stay-fine z h = fine-same m s (trailIn w b k o) k ∙ rest-fine z h
+
+    never : calmAll m s gs y (trailIn w b k o) k ≡ true → apart (g .needed) (g .barred) ≡ false → f ≡ over (huntsCalm m s gs y left k (trailIn w b k o)) f
     unfolding over
-    never h = rw (hunts-step m s left k t some, each-none (countAt s k) (block m s left k t) (λ v l. none v), no-rest) (either (wakes m s t k))
+    never q h = rw (hunts-step m s gs y left k t some q, each-none (countAt s k) (block m s gs y left k t) (λ v l. none v), no-rest, no-stay (staysAt gs y k)) (either (wakes m s t k))
       where
         t : Trail
         t = trailIn w b k o
@@ -121,19 +155,34 @@ module _ (m s : List ℕ) (charts left : ℕ) (some : left ≡ 0 → ⊥) (withi
         h′ : apart (asksOf m w k .needed) (asksOf m w k .barred) ≡ false
         h′ = ap (λ (a : Guard). apart (a .needed) (a .barred)) (sym is) ∙ h
 
-        none : (v : ℕ) → block m s left k t v ≡ []
+        none : (v : ℕ) → block m s gs y left k t v ≡ []
         none v = rw (fine-taken m s w b k o few′ v, asked-never _ _ (actionAt m k v) h′, and-false (ownAt m w k v))
 
-        no-rest : below m s left k (rested m s t k) ≡ []
+        no-rest : below m s gs y left k (rested m s t k) ≡ []
         no-rest = rw (fine-rested m s w b k o few′, asked-some _ _ h′)
+
+        no-stay : (a : Bool) → cond a (below m s gs y left k (stayed m s t k)) [] ≡ []
+        no-stay true = rw (fine-same m s t k, fine-rested m s w b k o few′, asked-some _ _ h′)
+        no-stay false = refl
 
         either : (a : Bool) → f ≡ over (cond a [] []) f
         either true = refl
         either false = refl
 
-    -- what an inactive chart's beginning is tested by
-    rest-fine : (z : Bool) → eqb (g .needed) 0 ≡ z → fineAt m s (rested m s (trailIn w b k o) k) k ≡ z
-    rest-fine z h = fine-rested m s w b k o (omega arith) ∙ ap (λ (a : Guard). eqb (a .needed) 0) (sym is) ∙ h
+-- staying is not open, or is
+module _ (m s gs y : List ℕ) (left k : ℕ) (t : Trail) (f : Found) where
+  shut-last : getD y k 0 ≡ 0 → over (last m s gs y left k t) f ≡ f
+  unfolding staysAt over
+  shut-last h = rw (h, same-refl 0)
+
+  open-last : (getD y k 0 ≡ 0 → ⊥) → over (last m s gs y left k t) f ≡ over (below m s gs y left k (stayed m s t k)) f
+  unfolding staysAt
+  open-last h = rw (same-≢ (getD y k 0) 0 h)
+
+-- a settled chart that stays is surely triggered
+not-calm : (m s gs y : List ℕ) (left k : ℕ) (t : Trail) (f : Found) → calmAll m s gs y t k ≡ false → f ≡ over (huntsCalm m s gs y left k t) f
+unfolding huntsCalm over
+not-calm m s gs y left k t f h = rw h
 
 -- two that disagree were found, as the code tests it
 stopped : (f : Found) → (f .has && not (f .agree)) ≡ true → Stopped f
@@ -141,23 +190,25 @@ stopped f h = record { has = and-l (f .has) (not (f .agree)) h; agree = not-true
 
 -- ── the proof ──
 
-abbrev μ-hunt : Measures 6 hunt-kinds.ps ℕ
-μ-hunt κs a = a .1 .1 .1 .1 .1 .1 .1 .0
+abbrev μ-hunt : Measures 8 hunt-kinds.ps ℕ
+μ-hunt κs a = a .1 .1 .1 .1 .1 .1 .1 .1 .1 .0
 
 abbrev Inv-loop : lts.InvT-loop
-Inv-loop masks small trail₀ moves₀ best₀ shown₀ charts left output k asked n v₀ trail moves best shown v =
+Inv-loop masks small guards stays trail₀ moves₀ best₀ shown₀ charts left output k asked n v₀ trail moves best shown v =
     (v ≤ n) × Keeps k trail₀ moves₀ trail moves
-    × (foundIn best shown ≡ over (each v (block masks small left k (trailIn trail₀ moves₀ k output))) (foundIn best₀ shown₀)) × Held best shown
+    × (foundIn best shown ≡ over (each v (block masks small guards stays left k (trailIn trail₀ moves₀ k output))) (foundIn best₀ shown₀)) × Held best shown
 
 abbrev μ-loop : lts.MeasureT-loop
-μ-loop masks small trail₀ moves₀ best₀ shown₀ charts left output k asked n v₀ trail moves best shown v = n - v
+μ-loop masks small guards stays trail₀ moves₀ best₀ shown₀ charts left output k asked n v₀ trail moves best shown v = n - v
 
 -- what the function is given at the measure t, and what its callees ask and give
-abbrev at : ℕ → In 6 hunt-kinds.ps
-at t = and 6 hunt-kinds.ps (is 6 hunt-kinds.ps μ-hunt t) hunt.Pre
+abbrev at : ℕ → In 8 hunt-kinds.ps
+at t = and 8 hunt-kinds.ps (is 8 hunt-kinds.ps μ-hunt t) hunt.Pre
 
 abbrev callees : ℕ → lts.Claims
 callees t = (
+  all-calm-reads.Asked,
+  all-calm-reads.Learnt,
   settle-reads.Asked,
   settle-reads.Learnt,
   asks-reads.Asked,
@@ -168,7 +219,7 @@ callees t = (
   wakes-reads.Learnt,
   rest-reads.Asked,
   rest-reads.Learnt,
-  and 6 hunt-kinds.ps (falls 6 hunt-kinds.ps _<_ μ-hunt t) hunt.Pre,
+  and 8 hunt-kinds.ps (falls 8 hunt-kinds.ps _<_ μ-hunt t) hunt.Pre,
   hunt.Post,
   fits-reads.Asked,
   fits-reads.Learnt,
@@ -178,51 +229,79 @@ callees t = (
   shown-by-reads.Learnt,
   disagree-reads.Asked,
   disagree-reads.Learnt,
+  stay-reads.Asked,
+  stay-reads.Learnt,
 )
 
 module _ (t : ℕ) where
   settle-requires : lts.Need-settle-requires (callees t) (at t) hunt.Post Inv-loop μ-loop
-  settle-requires c κs = let b = c .before .before .before .before .before .before in (b .pre .1 .2, b .pre .1 .3)
+  settle-requires c κs = let b = c .before .before .before .before .before .before .before .before .before .before .before .before in (b .pre .1 .2, b .pre .1 .3)
 
-  returns : lts.Need-returns (callees t) (at t) hunt.Post Inv-loop μ-loop
-  returns c =
+  returns-2 : lts.Need-returns-2 (callees t) (at t) hunt.Post Inv-loop μ-loop
+  returns-2 c =
       let t1 = c .before .before .before .before in
-      let b = t1 .before .before .before in
+      let b = t1 .before .before .before .before .before .before .before .before .before in
       let a = b .args in
       let m = a .masks .now in
       let s = a .small .now in
+      let gs = a .guards .now in
+      let y = a .stays .now in
       record {
         found =
             c .settle .ensures .1
-            ∙ ends m s (a .trail .now) (a .moves .now) (a .charts) (a .left) (a .output) (foundIn (a .best .now) (a .shown .now)) (t1 .if1 .taken);
+            ∙ ends m s gs y (a .trail .now) (a .moves .now) (a .charts) (a .left) (a .output) (foundIn (a .best .now) (a .shown .now)) (t1 .if2 .taken)
+            (sym (t1 .before .before .all-calm .ensures s (a .output)) ∙ not-false _ (t1 .before .if1 .left));
         held = c .settle .ensures .0;
         kept = keeps-refl _ _ _;
       }
 
   -- the function's entry, from where what is asked was tested, and that some chart is left
   abbrev entry : lts.After-apart (callees t) (at t) hunt.Post Inv-loop μ-loop → lts.Start (callees t) (at t) hunt.Post Inv-loop μ-loop
-  entry c = c .before .before .before .before .before .before
+  entry c = c .before .before .before .before .before .before .before .before .before .before .before .before
 
   abbrev some-left : (c : lts.After-apart (callees t) (at t) hunt.Post Inv-loop μ-loop) → entry c .args .left ≡ 0 → ⊥
-  some-left c = c .before .before .before .if1 .left
+  some-left c = c .before .before .before .if2 .left
+
+  calmed : (c : lts.After-apart (callees t) (at t) hunt.Post Inv-loop μ-loop) →
+      let a = entry c .args in
+      calmAll (a .masks .now) (a .small .now) (a .guards .now) (a .stays .now) (trailIn (a .trail .now) (a .moves .now) (a .charts - a .left) (a .output)) (a .charts - a .left) ≡ true
+  calmed c = sym (c .before .before .before .before .before .all-calm .ensures (entry c .args .small .now) (entry c .args .output)) ∙ not-false _ (c .before .before .before .before .if1 .left)
+
+  all-calm-requires : lts.Need-all-calm-requires (callees t) (at t) hunt.Post Inv-loop μ-loop
+  all-calm-requires c κs =
+      let b = c .before .before .before .before .before .before in
+      (omega (arith, b .pre .1 .0 .masks), b .pre .1 .5, omega (arith, b .pre .1 .3))
+
+  returns : lts.Need-returns (callees t) (at t) hunt.Post Inv-loop μ-loop
+  returns c =
+      let b = c .before .before .before .before .before .before .before .before in
+      let a = b .args in
+      record {
+        found = not-calm (a .masks .now) (a .small .now) (a .guards .now) (a .stays .now) (a .left) (a .charts - a .left) (trailIn (a .trail .now) (a .moves .now) (a .charts - a .left) (a .output))
+            (foundIn (a .best .now) (a .shown .now)) (sym (c .before .all-calm .ensures (a .small .now) (a .output)) ∙ not-true _ (c .if1 .taken));
+        kept = keeps-refl _ _ _;
+        held = b .pre .1 .2;
+      }
 
   asks-requires : lts.Need-asks-requires (callees t) (at t) hunt.Post Inv-loop μ-loop
   asks-requires c κs =
-      let b = c .before .before .before .before in
-      let some = c .before .if1 .left in
+      let b = c .before .before .before .before .before .before .before .before .before .before in
+      let some = c .before .if2 .left in
       (omega (arith, b .pre .1 .0 .masks), omega (arith, b .pre .1 .3, b .pre .1 .4))
 
-  returns-2 : lts.Need-returns-2 (callees t) (at t) hunt.Post Inv-loop μ-loop
-  returns-2 c =
+  returns-3 : lts.Need-returns-3 (callees t) (at t) hunt.Post Inv-loop μ-loop
+  returns-3 c =
       let b = entry (c .before) in
       let a = b .args in
       let m = a .masks .now in
       let s = a .small .now in
+      let gs = a .guards .now in
+      let y = a .stays .now in
       record {
         found =
-            never m s (a .charts) (a .left) (some-left (c .before)) (b .pre .1 .4) (foundIn (a .best .now) (a .shown .now)) (b .pre .1 .3) (a .trail .now) (a .moves .now)
-            (a .output) (c .before .before .asks .result) (c .before .before .asks .ensures)
-            (sym (c .before .apart .ensures) ∙ not-true _ (c .if2 .taken));
+            never m s gs y (a .charts) (a .left) (some-left (c .before)) (b .pre .1 .4) (foundIn (a .best .now) (a .shown .now)) (b .pre .1 .3) (a .trail .now) (a .moves .now)
+            (a .output) (c .before .before .asks .result) (c .before .before .asks .ensures) (calmed (c .before))
+            (sym (c .before .apart .ensures) ∙ not-true _ (c .if3 .taken));
         kept = keeps-refl _ _ _;
         held = b .pre .1 .2;
       }
@@ -233,22 +312,24 @@ module _ (t : ℕ) where
       let some = some-left (c .before .before) in
       (b .pre .1 .0 .small, omega (arith, b .pre .1 .3, b .pre .1 .4))
 
-  returns-3 : lts.Need-returns-3 (callees t) (at t) hunt.Post Inv-loop μ-loop
-  returns-3 c =
+  returns-4 : lts.Need-returns-4 (callees t) (at t) hunt.Post Inv-loop μ-loop
+  returns-4 c =
       let w = c .before .before .before in
       let p = w .before .before .before in
       let b = entry p in
       let a = b .args in
       let m = a .masks .now in
       let s = a .small .now in
+      let gs = a .guards .now in
+      let y = a .stays .now in
       record {
         found =
-            drops m s (a .charts) (a .left) (some-left p) (b .pre .1 .4) (foundIn (a .best .now) (a .shown .now)) _
-            (rest-fine m s (a .charts) (a .left) (some-left p) (b .pre .1 .4) (foundIn (a .best .now) (a .shown .now)) (b .pre .1 .3) (a .trail .now) (a .moves .now)
-            (a .output) (p .before .asks .result) (p .before .asks .ensures) false (ne-eqb _ _ (c .if4 .taken)))
-            ∙ asleep m s (a .charts) (a .left) (some-left p) (b .pre .1 .4) (foundIn (a .best .now) (a .shown .now))
-            (trailIn (a .trail .now) (a .moves .now) (a .charts - a .left) (a .output))
-            (sym (w .wakes .ensures m (a .trail .now) (a .output)) ∙ not-true _ (c .before .before .if3 .taken));
+            drops m s gs y (a .charts) (a .left) (some-left p) (b .pre .1 .4) (foundIn (a .best .now) (a .shown .now)) _
+            (rest-fine m s gs y (a .charts) (a .left) (some-left p) (b .pre .1 .4) (foundIn (a .best .now) (a .shown .now)) (b .pre .1 .3) (a .trail .now) (a .moves .now)
+            (a .output) (p .before .asks .result) (p .before .asks .ensures) false (ne-eqb _ _ (c .if5 .taken)))
+            ∙ asleep m s gs y (a .charts) (a .left) (some-left p) (b .pre .1 .4) (foundIn (a .best .now) (a .shown .now))
+            (trailIn (a .trail .now) (a .moves .now) (a .charts - a .left) (a .output)) (calmed p)
+            (sym (w .wakes .ensures m (a .trail .now) (a .output)) ∙ not-true _ (c .before .before .if4 .taken));
         kept = keeps-refl _ _ _;
         held = b .pre .1 .2;
       }
@@ -266,10 +347,10 @@ module _ (t : ℕ) where
       let p = r .before .before .before .before .before .before .before .before .before in
       let b = entry p in
       let some = some-left p in
-      (omega (arith, b .pre .0), (b .pre .1 .0, keeps-room (r .rest .ensures .kept) (b .pre .1 .1), b .pre .1 .2, b .pre .1 .3, omega (arith, b .pre .1 .4)))
+      (omega (arith, b .pre .0), (b .pre .1 .0, keeps-room (r .rest .ensures .kept) (b .pre .1 .1), b .pre .1 .2, b .pre .1 .3, omega (arith, b .pre .1 .4), b .pre .1 .5))
 
-  returns-4 : lts.Need-returns-4 (callees t) (at t) hunt.Post Inv-loop μ-loop
-  returns-4 c =
+  returns-5 : lts.Need-returns-5 (callees t) (at t) hunt.Post Inv-loop μ-loop
+  returns-5 c =
       let r = c .before .before .before .before .before in
       let w = r .before .before .before .before .before .before in
       let p = w .before .before .before in
@@ -277,18 +358,20 @@ module _ (t : ℕ) where
       let a = b .args in
       let m = a .masks .now in
       let s = a .small .now in
+      let gs = a .guards .now in
+      let y = a .stays .now in
       let some = some-left p in
       let z : a .charts - (a .left - 1) ≡ a .charts - a .left + 1 = omega (arith, b .pre .1 .4) in
       record {
         found =
             c .hunt .ensures .found
-            ∙ goes-on m s (a .charts) (a .left) some (b .pre .1 .4) (foundIn (a .best .now) (a .shown .now)) _ _ (a .output) _
+            ∙ goes-on m s gs y (a .charts) (a .left) some (b .pre .1 .4) (foundIn (a .best .now) (a .shown .now)) _ _ (a .output) _
             (r .rest .ensures .grown m (a .output))
-            (rest-fine m s (a .charts) (a .left) some (b .pre .1 .4) (foundIn (a .best .now) (a .shown .now)) (b .pre .1 .3) (a .trail .now) (a .moves .now)
-            (a .output) (p .before .asks .result) (p .before .asks .ensures) true (eq-eqb _ _ (r .before .before .before .if4 .left)))
-            ∙ asleep m s (a .charts) (a .left) some (b .pre .1 .4) (foundIn (a .best .now) (a .shown .now))
-            (trailIn (a .trail .now) (a .moves .now) (a .charts - a .left) (a .output))
-            (sym (w .wakes .ensures m (a .trail .now) (a .output)) ∙ not-true _ (r .before .before .before .before .before .if3 .taken));
+            (rest-fine m s gs y (a .charts) (a .left) some (b .pre .1 .4) (foundIn (a .best .now) (a .shown .now)) (b .pre .1 .3) (a .trail .now) (a .moves .now)
+            (a .output) (p .before .asks .result) (p .before .asks .ensures) true (eq-eqb _ _ (r .before .before .before .if5 .left)))
+            ∙ asleep m s gs y (a .charts) (a .left) some (b .pre .1 .4) (foundIn (a .best .now) (a .shown .now))
+            (trailIn (a .trail .now) (a .moves .now) (a .charts - a .left) (a .output)) (calmed p)
+            (sym (w .wakes .ensures m (a .trail .now) (a .output)) ∙ not-true _ (r .before .before .before .before .before .if4 .taken));
         kept = keeps-trans (r .rest .ensures .kept) (keeps-fewer (a .charts - (a .left - 1)) z (c .hunt .ensures .kept));
         held = c .hunt .ensures .held;
       }
@@ -324,20 +407,24 @@ module _ (t : ℕ) where
       let some = some-left (tested c) in
       b .pre .1 .0 .counts (b .args .charts - b .args .left) (omega (arith, b .pre .1 .4))
 
-  -- what the charts left give is what all candidates of chart k give
+  -- what the charts left give is what all candidates of chart k give, and then its staying
   whole : (c : lts.At-loop (callees t) (at t) hunt.Post Inv-loop μ-loop) →
       let a = entry (tested c) .args in
-      let u = trailIn (a .trail .now) (a .moves .now) (a .charts - a .left) (a .output) in
-      over (hunts (a .masks .now) (a .small .now) (a .left) (a .charts - a .left) u) (foundIn (a .best .now) (a .shown .now))
-      ≡ over (each (countAt (a .small .now) (a .charts - a .left)) (block (a .masks .now) (a .small .now) (a .left) (a .charts - a .left) u)) (foundIn (a .best .now) (a .shown .now))
+      let k = a .charts - a .left in
+      let u = trailIn (a .trail .now) (a .moves .now) k (a .output) in
+      over (huntsCalm (a .masks .now) (a .small .now) (a .guards .now) (a .stays .now) (a .left) k u) (foundIn (a .best .now) (a .shown .now))
+      ≡ over (last (a .masks .now) (a .small .now) (a .guards .now) (a .stays .now) (a .left) k u)
+      (over (each (countAt (a .small .now) k) (block (a .masks .now) (a .small .now) (a .guards .now) (a .stays .now) (a .left) k u)) (foundIn (a .best .now) (a .shown .now)))
   whole c =
       let b = entry (tested c) in
       let a = b .args in
       let m = a .masks .now in
       let s = a .small .now in
-      awake m s (a .charts) (a .left) (some-left (tested c)) (b .pre .1 .4) (foundIn (a .best .now) (a .shown .now))
-      (trailIn (a .trail .now) (a .moves .now) (a .charts - a .left) (a .output))
-      (sym (c .before .before .before .wakes .ensures m (a .trail .now) (a .output)) ∙ not-false _ (c .before .before .if3 .left))
+      let gs = a .guards .now in
+      let y = a .stays .now in
+      awake m s gs y (a .charts) (a .left) (some-left (tested c)) (b .pre .1 .4) (foundIn (a .best .now) (a .shown .now))
+      (trailIn (a .trail .now) (a .moves .now) (a .charts - a .left) (a .output)) (calmed (tested c))
+      (sym (c .before .before .before .wakes .ensures m (a .trail .now) (a .output)) ∙ not-false _ (c .before .before .if4 .left))
 
   fits-requires : lts.Need-fits-requires (callees t) (at t) hunt.Post Inv-loop μ-loop
   fits-requires c κs =
@@ -367,7 +454,7 @@ module _ (t : ℕ) where
       let b = entry (tested l) in
       let some = some-left (tested l) in (
         omega (arith, b .pre .0),
-        (b .pre .1 .0, keeps-room (r .take .ensures .kept) (keeps-room (l .loop .inv .1) (b .pre .1 .1)), l .loop .inv .3, b .pre .1 .3, omega (arith, b .pre .1 .4)),
+        (b .pre .1 .0, keeps-room (r .take .ensures .kept) (keeps-room (l .loop .inv .1) (b .pre .1 .1)), l .loop .inv .3, b .pre .1 .3, omega (arith, b .pre .1 .4), b .pre .1 .5),
       )
 
   sub-left : lts.Need-sub-hunt-2 (callees t) (at t) hunt.Post Inv-loop μ-loop
@@ -376,8 +463,8 @@ module _ (t : ℕ) where
   add-v : lts.Need-add-v (callees t) (at t) hunt.Post Inv-loop μ-loop
   add-v c = omega (arith, counted (c .before .before .before .before))
 
-  returns-5 : lts.Need-returns-5 (callees t) (at t) hunt.Post Inv-loop μ-loop
-  returns-5 c =
+  returns-6 : lts.Need-returns-6 (callees t) (at t) hunt.Post Inv-loop μ-loop
+  returns-6 c =
       let h = c .before .before .before in
       let g = h .before .before .before .before .before in
       let r = g .before in
@@ -386,18 +473,24 @@ module _ (t : ℕ) where
       let a = b .args in
       let m = a .masks .now in
       let s = a .small .now in
+      let gs = a .guards .now in
+      let y = a .stays .now in
       let k = a .charts - a .left in
-      let all = block m s (a .left) k (trailIn (a .trail .now) (a .moves .now) k (a .output)) in
-      let one = goes m s (a .charts) (a .left) (some-left (tested l)) (b .pre .1 .4) (foundIn (l .loop .best) (l .loop .shown)) (a .trail .now) (a .moves .now)
+      let all = block m s gs y (a .left) k (trailIn (a .trail .now) (a .moves .now) k (a .output)) in
+      let one = goes m s gs y (a .charts) (a .left) (some-left (tested l)) (b .pre .1 .4) (foundIn (l .loop .best) (l .loop .shown)) (a .trail .now) (a .moves .now)
       (l .loop .trail) (l .loop .moves) (l .loop .v) (a .output) (l .loop .inv .1) _ _ _ _ _ _ _ _ _ refl
-      (sym (r .before .before .before .if5 .taken) ∙ r .before .before .before .before .fits2 .ensures s (l .loop .moves) (a .output))
+      (sym (r .before .before .before .if6 .taken) ∙ r .before .before .before .before .fits2 .ensures s (l .loop .moves) (a .output))
       (r .take .ensures) (g .shown-by .ensures) (h .hunt2 .ensures) in
-      let r′ = foundIn (h .hunt2 .last .1 .1 .1 .1 .0) (h .hunt2 .last .1 .1 .1 .1 .1 .0) in
+      let r′ = foundIn (h .hunt2 .last .1 .1 .1 .1 .1 .1 .0) (h .hunt2 .last .1 .1 .1 .1 .1 .1 .1 .0) in
       let e : r′ ≡ over (each (l .loop .v + 1) all) (foundIn (a .best .now) (a .shown .now)) = rw (over-each, ← l .loop .inv .2) (one .1) in
-      let end : Stopped r′ = stopped r′ (sym (c .before .disagree .ensures (h .hunt2 .last .1 .1 .1 .1 .1 .0)) ∙ c .if6 .taken) in
+      let end : Stopped r′ = stopped r′ (sym (c .before .disagree .ensures (h .hunt2 .last .1 .1 .1 .1 .1 .1 .1 .0)) ∙ c .if7 .taken) in
       record {
         found = e ∙ sym (over-each-stopped all (foundIn (a .best .now) (a .shown .now)) (countAt s k) (l .loop .v + 1)
-            (omega (arith, r .before .before .before .before .before .before .loop-test .taken)) (rw e at end)) ∙ sym (whole l);
+            (omega (arith, r .before .before .before .before .before .before .loop-test .taken)) (rw e at end))
+            ∙ sym (over-stopped (last m s gs y (a .left) k (trailIn (a .trail .now) (a .moves .now) k (a .output))) _
+            (subst Stopped (e ∙ sym (over-each-stopped all (foundIn (a .best .now) (a .shown .now)) (countAt s k) (l .loop .v + 1)
+            (omega (arith, r .before .before .before .before .before .before .loop-test .taken)) (rw e at end))) end))
+            ∙ sym (whole l);
         kept = one .0;
         held = h .hunt2 .ensures .held;
       }
@@ -409,16 +502,18 @@ module _ (t : ℕ) where
       let a = b .args in
       let m = a .masks .now in
       let s = a .small .now in
+      let gs = a .guards .now in
+      let y = a .stays .now in
       let k = a .charts - a .left in
       let some = some-left (tested l) in
       let fits = c .before .fits2 .ensures s (l .loop .moves) (a .output) in
       let f = foundIn (l .loop .best) (l .loop .shown) in
-      let e : Keeps k (a .trail .now) (a .moves .now) (c .if5 .trail) (c .if5 .moves)
-      × (foundIn (c .if5 .best) (c .if5 .shown) ≡ over (block m s (a .left) k (trailIn (a .trail .now) (a .moves .now) k (a .output)) (l .loop .v)) f)
-      × Held (c .if5 .best) (c .if5 .shown) =
+      let e : Keeps k (a .trail .now) (a .moves .now) (c .if6 .trail) (c .if6 .moves)
+      × (foundIn (c .if6 .best) (c .if6 .shown) ≡ over (block m s gs y (a .left) k (trailIn (a .trail .now) (a .moves .now) k (a .output)) (l .loop .v)) f)
+      × Held (c .if6 .best) (c .if6 .shown) =
       ⊎-elim
       (λ w.
-      let one = goes m s (a .charts) (a .left) some (b .pre .1 .4) f (a .trail .now) (a .moves .now)
+      let one = goes m s gs y (a .charts) (a .left) some (b .pre .1 .4) f (a .trail .now) (a .moves .now)
       (l .loop .trail) (l .loop .moves) (l .loop .v) (a .output) (l .loop .inv .1) _ _ _ _ _ _ _ _ _ refl (sym (w .0 .taken) ∙ fits)
       (w .3 .ensures) (w .4 .ensures) (w .9 .ensures) in (
         subst₂ (λ (x y : List ℕ). Keeps k (a .trail .now) (a .moves .now) x y) (sym (w .13)) (sym (w .14)) (one .0),
@@ -427,24 +522,122 @@ module _ (t : ℕ) where
       ))
       (λ w. (
         subst₂ (λ (x y : List ℕ). Keeps k (a .trail .now) (a .moves .now) x y) (sym (w .1)) (sym (w .2)) (l .loop .inv .1),
-        ap₂ foundIn (w .3) (w .4) ∙ leaves m s (a .charts) (a .left) some (b .pre .1 .4) f (a .trail .now) (a .moves .now)
+        ap₂ foundIn (w .3) (w .4) ∙ leaves m s gs y (a .charts) (a .left) some (b .pre .1 .4) f (a .trail .now) (a .moves .now)
             (l .loop .trail) (l .loop .moves) (l .loop .v) (a .output) (l .loop .inv .1) (sym (w .0 .left) ∙ fits),
         subst₂ Held (sym (w .3)) (sym (w .4)) (l .loop .inv .3),
       ))
-      (c .if5 .came) in
+      (c .if6 .came) in
       (omega arith, e .0, rw (over-each, ← l .loop .inv .2) (e .1), e .2)
 
-  returns-6 : lts.Need-returns-6 (callees t) (at t) hunt.Post Inv-loop μ-loop
-  returns-6 c =
+  stays-read : lts.Need-shared-slice-read-if8 (callees t) (at t) hunt.Post Inv-loop μ-loop
+  stays-read c = let l = c .before .before in let b = entry (tested l) in omega (arith, few l, b .pre .1 .5 .small)
+
+  sub-left-3 : lts.Need-sub-hunt-3 (callees t) (at t) hunt.Post Inv-loop μ-loop
+  sub-left-3 c = let some = some-left (tested (c .before .before .before .before .before .before .before .before .before .before .before .before)) in omega arith
+
+  -- all candidates were tried: what was found so far
+  tried : (c : lts.After-loop (callees t) (at t) hunt.Post Inv-loop μ-loop) →
+      let l = c .before in
+      let a = entry (tested l) .args in
+      let k = a .charts - a .left in
+      foundIn (l .loop .best) (l .loop .shown)
+      ≡ over (each (countAt (a .small .now) k) (block (a .masks .now) (a .small .now) (a .guards .now) (a .stays .now) (a .left) k (trailIn (a .trail .now) (a .moves .now) k (a .output)))) (foundIn (a .best .now) (a .shown .now))
+  tried c =
       let l = c .before in
       let a = entry (tested l) .args in
       let e : l .loop .v ≡ countAt (a .small .now) (a .charts - a .left) = omega arith in
-      record { found = rw (whole l, ← e) (l .loop .inv .2); kept = l .loop .inv .1; held = l .loop .inv .3 }
+      rw (← e) (l .loop .inv .2)
+
+  returns-7 : lts.Need-returns-7 (callees t) (at t) hunt.Post Inv-loop μ-loop
+  returns-7 c =
+      let l = c .before .before .before in
+      let b = entry (tested l) in
+      let a = b .args in
+      let m = a .masks .now in
+      let s = a .small .now in
+      let gs = a .guards .now in
+      let y = a .stays .now in
+      let k = a .charts - a .left in
+      let u = trailIn (a .trail .now) (a .moves .now) k (a .output) in
+      record {
+        found = sym (shut-last m s gs y (a .left) k u (foundIn (l .loop .best) (l .loop .shown)) (c .if8 .taken)) ∙ ap (over (last m s gs y (a .left) k u)) (tried (c .before .before)) ∙ sym (whole l);
+        kept = l .loop .inv .1;
+        held = l .loop .inv .3;
+      }
+
+  returns-8 : lts.Need-returns-8 (callees t) (at t) hunt.Post Inv-loop μ-loop
+  returns-8 c =
+      let l = c .before .before .before .before .before in
+      let b = entry (tested l) in
+      let a = b .args in
+      let m = a .masks .now in
+      let s = a .small .now in
+      let gs = a .guards .now in
+      let y = a .stays .now in
+      let k = a .charts - a .left in
+      let u = trailIn (a .trail .now) (a .moves .now) k (a .output) in
+      let f = foundIn (l .loop .best) (l .loop .shown) in
+      record {
+        found =
+            drops m s gs y (a .charts) (a .left) (some-left (tested l)) (b .pre .1 .4) f (stayed m s u k)
+            (stay-fine m s gs y (a .charts) (a .left) (some-left (tested l)) (b .pre .1 .4) f (b .pre .1 .3) (a .trail .now) (a .moves .now)
+            (a .output) (tested l .before .asks .result) (tested l .before .asks .ensures) false (ne-eqb _ _ (c .if9 .taken)))
+            ∙ sym (open-last m s gs y (a .left) k u f (c .before .before .if8 .left)) ∙ ap (over (last m s gs y (a .left) k u)) (tried (c .before .before .before .before)) ∙ sym (whole l);
+        kept = l .loop .inv .1;
+        held = l .loop .inv .3;
+      }
+
+  stay-requires : lts.Need-stay-requires (callees t) (at t) hunt.Post Inv-loop μ-loop
+  stay-requires c κs =
+      let l = c .before .before .before .before .before .before .before in
+      let b = entry (tested l) in
+      (omega (arith, b .pre .1 .0 .masks), b .pre .1 .0 .small, keeps-room (l .loop .inv .1) (b .pre .1 .1), few l)
+
+  hunt-requires-3 : lts.Need-hunt-requires-3 (callees t) (at t) hunt.Post Inv-loop μ-loop
+  hunt-requires-3 c κs =
+      let r = c .before .before .before .before in
+      let l = c .before .before .before .before .before .before .before .before .before .before .before .before in
+      let b = entry (tested l) in
+      let some = some-left (tested l) in (
+        omega (arith, b .pre .0),
+        (b .pre .1 .0, keeps-room (r .stay .ensures .kept) (keeps-room (l .loop .inv .1) (b .pre .1 .1)), l .loop .inv .3, b .pre .1 .3, omega (arith, b .pre .1 .4), b .pre .1 .5),
+      )
+
+  returns-9 : lts.Need-returns-9 (callees t) (at t) hunt.Post Inv-loop μ-loop
+  returns-9 c =
+      let r = c .before .before .before .before .before in
+      let e9 = r .before .before .before in
+      let e8 = e9 .before .before in
+      let l = c .before .before .before .before .before .before .before .before .before .before .before .before .before in
+      let b = entry (tested l) in
+      let a = b .args in
+      let m = a .masks .now in
+      let s = a .small .now in
+      let gs = a .guards .now in
+      let y = a .stays .now in
+      let k = a .charts - a .left in
+      let u = trailIn (a .trail .now) (a .moves .now) k (a .output) in
+      let f = foundIn (l .loop .best) (l .loop .shown) in
+      let some = some-left (tested l) in
+      let z : a .charts - (a .left - 1) ≡ k + 1 = omega (arith, b .pre .1 .4) in
+      record {
+        found =
+            c .hunt3 .ensures .found
+            ∙ goes-on m s gs y (a .charts) (a .left) some (b .pre .1 .4) f _ _ (a .output) (stayed m s u k)
+            (r .stay .ensures .grown m (a .output) ∙ ap (λ (x : Trail). stayed m s x k) (trail-kept (l .loop .inv .1) (a .output)))
+            (stay-fine m s gs y (a .charts) (a .left) some (b .pre .1 .4) f (b .pre .1 .3) (a .trail .now) (a .moves .now)
+            (a .output) (tested l .before .asks .result) (tested l .before .asks .ensures) true (eq-eqb _ _ (e9 .if9 .left)))
+            ∙ sym (open-last m s gs y (a .left) k u f (e8 .if8 .left)) ∙ ap (over (last m s gs y (a .left) k u)) (tried (e8 .before .before)) ∙ sym (whole l);
+        kept = keeps-trans (l .loop .inv .1) (keeps-trans (r .stay .ensures .kept) (keeps-fewer (a .charts - (a .left - 1)) z (c .hunt3 .ensures .kept)));
+        held = c .hunt3 .ensures .held;
+      }
 
 pub +hunt-spec : {M : Type 1} → statement M
 +hunt-spec =
     close μ-hunt
-    (λ t. lts.spec (callees t) (at t) hunt.Post Inv-loop μ-loop (settle-requires t) (returns t) (λ c. omega arith)
-    (asks-requires t) (λ c κs. search needs) (returns-2 t) (wakes-requires t) (returns-3 t) (rest-requires t) (λ c. omega arith) (hunt-requires t)
-    (returns-4 t) (λ c. omega arith) (λ c. omega arith) (cast-n t) (loop-holds t) (fits-requires t) (take-requires t) (shown-by-requires t)
-    (sub-left t) (hunt-requires-2 t) (λ c κs. search needs) (returns-5 t) (add-v t) (λ c. omega arith) (loop-again t) (returns-6 t))
+    (λ t. lts.spec (callees t) (at t) hunt.Post Inv-loop μ-loop (λ c. omega (arith, c .before .before .before .before .pre .1 .4)) (all-calm-requires t) (returns t)
+    (settle-requires t) (returns-2 t)
+    (asks-requires t) (λ c κs. search needs) (returns-3 t) (wakes-requires t) (returns-4 t) (rest-requires t) (λ c. omega arith) (hunt-requires t)
+    (returns-5 t) (λ c. omega arith) (λ c. omega arith) (cast-n t) (loop-holds t) (fits-requires t) (take-requires t) (shown-by-requires t)
+    (sub-left t) (hunt-requires-2 t) (λ c κs. search needs) (returns-6 t) (add-v t) (λ c. omega arith) (loop-again t)
+    (stays-read t) (returns-7 t) (returns-8 t) (stay-requires t) (sub-left-3 t) (hunt-requires-3 t) (returns-9 t))

@@ -12,14 +12,17 @@ use Rattle.meaning.specs.Calls.Laws.{made-cong}
 use Rattle.search.specs.declared.Found.{Found}
 use Rattle.search.specs.Trail.{beginning, placeIn, columnIn, trailIn}
 use Rattle.search.specs.Trail.Laws.{filled-behind, begun}
-use Rattle.search.specs.Hunt.{hunts, over, nothing, foundIn, Held, BytesPut}
+use Rattle.search.specs.Hunt.{over, nothing, foundIn, Held, BytesPut}
+use Rattle.search.specs.Stays.{calmAt, huntsBoth, huntsCalm}
+use Rattle.search.specs.Stays.Laws.{every-none}
 use Rattle.search.proofs.search.Statement.{statement}
 use Rattle.search.proofs.search.Tie as tie
 
--- a search that begins with all charts
-all : (m s w b low : List ℕ) (charts : ℕ) (f : Found) → trailIn w b 0 0 ≡ beginning low → f ≡ nothing →
-    over (hunts m s charts (charts - charts) (trailIn w b (charts - charts) 0)) f ≡ over (hunts m s charts 0 (beginning low)) nothing
-all m s w b low charts f e q = let z : charts - charts ≡ 0 = omega arith in rw (z, e, q)
+-- a search that begins with all charts: none is settled, so none is triggered
+all : (m s gs y w b low : List ℕ) (charts : ℕ) (f : Found) → trailIn w b 0 0 ≡ beginning low → f ≡ nothing →
+    over (huntsCalm m s gs y charts (charts - charts) (trailIn w b (charts - charts) 0)) f ≡ over (huntsBoth m s gs y charts 0 (beginning low)) nothing
+unfolding huntsCalm
+all m s gs y w b low charts f e q = let z : charts - charts ≡ 0 = omega arith in rw (z, e, q, every-none (calmAt m s gs y (beginning low) 0))
 
 -- nothing was found: zeros, but for the places, of no chart
 module _ (b f : List ℕ) (h : BytesPut 8 (columnIn b 0 2 noPlace) (replicate 18 0) f) where
@@ -43,18 +46,18 @@ hunt-requires : tie.Need-hunt-requires
 hunt-requires c κs =
     let b = c .before .before .before .before in
     let r = b .before .before .before in
-    let s = r .before .before .before .before in
-    (s .pre .0, record { masks = r .put-row .ensures .kept .long; small = refl }, begun-held (replicate 24 0) _ (b .put-column .ensures), s .pre .1, omega arith)
+    let s = r .before .before .before .before .before .before in
+    (s .pre .0, record { masks = r .put-row .ensures .kept .long; small = refl }, begun-held (replicate 24 0) _ (b .put-column .ensures), s .pre .1, omega arith, s .pre .2)
 
 returns : tie.Need-returns
 returns c =
     let h = c .before .before .before in
     let b = h .before .before .before .before .before in
     let r = b .before .before .before in
-    let s = r .before .before .before .before in
+    let s = r .before .before .before .before .before .before in
     let n = offered s in
     c .found-in .ensures ∙ h .hunt .ensures .found
-    ∙ all (s .args .masks .now) (s .args .small .now) _ _ (s .args .low) (s .args .charts) _ (begun _ _ (s .args .low) n (r .put-row .ensures .row))
+    ∙ all (s .args .masks .now) (s .args .small .now) (s .args .guards .now) (s .args .stays .now) _ _ (s .args .low) (s .args .charts) _ (begun _ _ (s .args .low) n (r .put-row .ensures .row))
     (begun-nothing (replicate 24 0) _ (b .put-column .ensures))
 
 pub search-spec : {M : Type 1} → statement M

@@ -21,7 +21,7 @@ use Rattle.search.specs.Table.{neededAt, barredAt, actionAt, backAt, ahe
 use Rattle.search.specs.Trail.{lowIn, neededIn, barredIn, trailIn, Keeps}
 use Rattle.meaning.specs.Calls.Laws.{getD-made}
 use Rattle.search.specs.Trail.Laws.{getD-before, getD-last}
-use Rattle.search.specs.Hunt.{taken, rested, passesAt, fineAt}
+use Rattle.search.specs.Hunt.{taken, idled, rested, passesAt, fineAt}
 use Rattle.search.specs.Asks.{wants, bans, wantsIn, bansIn, asksOf}
 
 -- ── a test, and what it says ──
@@ -181,7 +181,7 @@ module _ (m s w b : List ℕ) (k o : ℕ) (few : k < 8) where
 
   -- it is inactive: nothing is to be in its action
   pub fine-rested : fineAt m s (rested m s (trailIn w b k o) k) k ≡ eqb (asksOf m w k .needed) 0
-  unfolding fineAt every passesAt rested trailIn asksOf
+  unfolding fineAt every passesAt idled trailIn asksOf
   fine-rested =
       ap₂ _&&_
       (may-eq {l = getD (made 8 (lowIn w k)) k 0} {h = aheadAt m (suc k) k} (getD-last k (neededIn w) 0) (getD-last k (barredIn w) 0) refl refl

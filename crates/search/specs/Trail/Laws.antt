@@ -1,5 +1,5 @@
 -- Laws of a beginning of a choice where it stands. In order: lists that are made entry by entry (`made`); what stays (`Keeps`); one chart more
--- (`take-in`, `rest-in`); no chart yet.
+-- (`take-in`, `idle-in`); no chart yet.
 use mathlib.Core.Path.{_≡_, refl, sym, ap, ap₂, _∙_}
 use mathlib.Core.List.{List, [], _∷_, _++_, append-assoc}
 use mathlib.Core.Logic.{_≢_}
@@ -11,12 +11,13 @@ use lib.ListN.{length, getD, set, replicate, length-set, length-append, length-r
 use lib.Seq.{getD-append-seam, getD-append-add, getD-set-same, getD-set-other, lt-length-set, set-at, ext-getD}
 use Rattle.signals.specs.Mask.{_∪_, _∩_}
 use Rattle.signals.specs.Decide.{sets, A, B, ∅ₑ, _∪ₑ_, _∩ₑ_, _≐_}
-use Rattle.meaning.specs.Numbers.{noPlace}
+use Rattle.meaning.specs.Numbers.{noPlace, stayPlace}
 use Rattle.meaning.specs.Calls.{made}
 use Rattle.meaning.specs.Calls.Laws.{length-made, getD-made, made-cong}
 use Rattle.search.specs.Table.{neededAt, barredAt, actionAt, backAt, upAt, toAt, stateAt, placeAt}
 use Rattle.search.specs.Trail.{Trail, beginning, lowIn, neededIn, barredIn, nextIn, awakeIn, placeIn, columnIn, trailIn, Room, Same, Keeps, Lowers}
-use Rattle.search.specs.Hunt.{taken, rested}
+use Rattle.search.specs.Hunt.{taken, idled}
+use Rattle.search.specs.Stays.{stayed}
 
 -- ── made ──
 
@@ -141,11 +142,11 @@ module _ {k : ℕ} {w b w′ b′ : List ℕ} (h : Keeps k w b w′ b′) where
       (made-cong 8 (lowIn w′ (k + 1)) (λ c. getD (made 8 (lowIn w k)) c 0 ∪ actionAt m k v ∩ backAt m c k)
       (λ c p. l c p ∙ ap (λ (x : ℕ). x ∪ actionAt m k v ∩ backAt m c k) (sym (getD-made 8 (lowIn w k) c p)))) e₁ e₂ e₃ e₄ e₅
 
-  rested-in : (m s : List ℕ) (o : ℕ) → ((c : ℕ) → c < 8 → lowIn w′ (k + 1) c ≡ lowIn w k c) →
-      neededIn w′ k ≡ 0 → barredIn w′ k ≡ 0 → nextIn b′ k ≡ stateAt s k → awakeIn b′ k ≡ 0 → placeIn b′ k ≡ noPlace →
-      trailIn w′ b′ (k + 1) o ≡ rested m s (trailIn w b k o) k
-  unfolding trailIn rested
-  rested-in m s o l e₁ e₂ e₃ e₄ e₅ = grown o (made-cong 8 (lowIn w′ (k + 1)) (lowIn w k) l) e₁ e₂ e₃ e₄ e₅
+  idled-in : (m s : List ℕ) (z t o : ℕ) → ((c : ℕ) → c < 8 → lowIn w′ (k + 1) c ≡ lowIn w k c) →
+      neededIn w′ k ≡ 0 → barredIn w′ k ≡ 0 → nextIn b′ k ≡ stateAt s k → awakeIn b′ k ≡ z → placeIn b′ k ≡ t →
+      trailIn w′ b′ (k + 1) o ≡ idled m s z t (trailIn w b k o) k
+  unfolding trailIn idled
+  idled-in m s z t o l e₁ e₂ e₃ e₄ e₅ = grown o (made-cong 8 (lowIn w′ (k + 1)) (lowIn w k) l) e₁ e₂ e₃ e₄ e₅
 
 -- two numbers are written
 module _ (l : List ℕ) (i j x y : ℕ) (apart : j ≢ i) where
@@ -218,16 +219,16 @@ module _ (m s w b w′ : List ℕ) (k v : ℕ) (room : Room w b) (few : k < 8)
       (wakes m w b w′ k (neededAt m k v) (barredAt m k v) (toAt s k v) 1 (placeAt s k v) (actionAt m k v) room few h)
       (takes m w b w′ k (neededAt m k v) (barredAt m k v) (toAt s k v) 1 (placeAt s k v) (actionAt m k v) room few h)
 
--- chart k is inactive
-module _ (m s w b w′ : List ℕ) (k : ℕ) (room : Room w b) (few : k < 8) (h : Lowers m 0 k (set (set w (10 * k + 8) 0) (10 * k + 9) 0) w′) where
-  pub rest-in : (n : List ℕ) (o : ℕ) →
-      trailIn w′ (set (set (set b (3 * k) (stateAt s k)) (3 * k + 1) 0) (3 * k + 2) noPlace) (k + 1) o ≡ rested n s (trailIn w b k o) k
-  rest-in n o =
-      rested-in (written-keeps m w b w′ k 0 0 (stateAt s k) 0 noPlace 0 room few h) n s o
-      (λ c l. rows m w b w′ k 0 0 (stateAt s k) 0 noPlace 0 room few h c l ∙ sets (lowIn w k c ∷ backAt m c k ∷ []) [] (A ∪ₑ ∅ₑ ∩ₑ B ≐ A) tt)
-      (needs m w b w′ k 0 0 (stateAt s k) 0 noPlace 0 room few h) (bars m w b w′ k 0 0 (stateAt s k) 0 noPlace 0 room few h)
-      (goes m w b w′ k 0 0 (stateAt s k) 0 noPlace 0 room few h) (wakes m w b w′ k 0 0 (stateAt s k) 0 noPlace 0 room few h)
-      (takes m w b w′ k 0 0 (stateAt s k) 0 noPlace 0 room few h)
+-- chart k takes no transition: z is 1 if it is active, and t stands for its place
+module _ (m s w b w′ : List ℕ) (k z t : ℕ) (room : Room w b) (few : k < 8) (h : Lowers m 0 k (set (set w (10 * k + 8) 0) (10 * k + 9) 0) w′) where
+  pub idle-in : (n : List ℕ) (o : ℕ) →
+      trailIn w′ (set (set (set b (3 * k) (stateAt s k)) (3 * k + 1) z) (3 * k + 2) t) (k + 1) o ≡ idled n s z t (trailIn w b k o) k
+  idle-in n o =
+      idled-in (written-keeps m w b w′ k 0 0 (stateAt s k) z t 0 room few h) n s z t o
+      (λ c l. rows m w b w′ k 0 0 (stateAt s k) z t 0 room few h c l ∙ sets (lowIn w k c ∷ backAt m c k ∷ []) [] (A ∪ₑ ∅ₑ ∩ₑ B ≐ A) tt)
+      (needs m w b w′ k 0 0 (stateAt s k) z t 0 room few h) (bars m w b w′ k 0 0 (stateAt s k) z t 0 room few h)
+      (goes m w b w′ k 0 0 (stateAt s k) z t 0 room few h) (wakes m w b w′ k 0 0 (stateAt s k) z t 0 room few h)
+      (takes m w b w′ k 0 0 (stateAt s k) z t 0 room few h)
 
 -- ── no chart yet ──
 

@@ -4,7 +4,7 @@
 use mathlib.Core.Path.{_≡_, refl, sym, _∙_, ap, ap₂, subst, fun-ext}
 use mathlib.Core.Bool.{Bool, true, false, _&&_, _||_, not, cond, false≢true}
 use mathlib.Core.Option.{Option, none, some}
-use mathlib.Core.List.{List, [], _∷_}
+use mathlib.Core.List.{List, [], _∷_, _++_}
 use mathlib.Core.Logic.{_≢_}
 use Prim.Native.Nat.{ℕ, zero, suc, _+_, _*_, _-_, _≤_, _<_}
 use native.Mathlib.Omega.{arith}
@@ -19,20 +19,23 @@ use Rattle.signals.specs.Decide.{sets, A, B, C, D, E as Eₑ, F as Fₑ, ∅ₑ
 use Rattle.layout.specs.declared.record.Transition.{Transition}
 use Rattle.meaning.specs.Count.{anyUpTo, tally, one}
 use Rattle.meaning.specs.Count.Laws.{tally-plus, tally-mono}
-use Rattle.meaning.specs.Meaning.{Set, same, Chart, Tree, nth, pick, actionOf, Outcome}
+use Rattle.meaning.specs.Meaning.{Set, same, Chart, Tree, noMove, takes, nth, behind, pick, lastPlace, actionOf, untriggered, Outcome}
 use Rattle.meaning.specs.Laws.Bools.{same-refl, same→≡, same-≢, and-l, and-r}
+use Rattle.meaning.specs.Laws.Editions.{stay-last}
 use Rattle.wiring.specs.Wire.{join, down, back, offered}
 use Rattle.wiring.specs.Wired.{Stands}
 use Rattle.wiring.specs.Dropped.{ahead, test, join-cong}
 use Rattle.wiring.specs.Hunt.{mayOf}
 use Rattle.wiring.specs.Filter.{lasts}
-use Rattle.wiring.specs.Sure.{sureOf, surely, outside}
+use Rattle.wiring.specs.Sure.{sureOf, sureIn, surely, outside}
 use Rattle.search.specs.Table.{masksFor, neededAt, barredAt, actionAt, backAt, aheadAt, toAt, countAt, masterAt, stateAt, placeAt}
 use Rattle.search.specs.Trail.{Trail}
-use Rattle.search.specs.Hunt.{each, wakes, taken, rested, fineAt, hunts}
+use Rattle.search.specs.Hunt.{each, wakes, taken, rested, fineAt}
+use Rattle.search.specs.Stays.{staysAt, stayed, quietAt, huntsBoth}
 use Rattle.search.specs.Hunt.Laws.{each-none}
-use Rattle.tables.specs.Filled.{Is, Listed, start, other, fails, again, fresh, mayAt, Rows, Candidates, Lows}
-use Rattle.tables.specs.Fill.{lastsBy, othersAt, sureAt, Raised, Filling, isAt, isAgain, putMasks, putSmall, put, pickFilling, considered, listing, keepAt, Until, Chosen, AheadRow, aheadBy, AheadFrom, stuck}
+use Rattle.tables.specs.Filled.{Is, Listed, start, other, fails, again, fresh, mayAt, Rows, Candidates, Stayers, Lows}
+use Rattle.tables.specs.Whole.{nth-takes}
+use Rattle.tables.specs.Fill.{keptBy, lastsBy, othersAt, sureAt, Raised, Filling, isAt, isAgain, putMasks, putSmall, put, pickFilling, considered, listing, keepAt, Until, Chosen, AheadRow, aheadBy, AheadFrom, stuck}
 
 -- ── candidates that stay ──
 
@@ -149,22 +152,22 @@ module _ (c q : ℕ) (low own others : Set) where
   step p t f = considered c q low own others p t f
 
   -- whatever holds of a filling and of one with a candidate more holds after a transition was considered
-  by-cases : (P : Filling → Type 0) (p : ℕ) (t : Transition) (f : Filling) → (same (t .from) q ≡ false → P f) → (same (t .from) q ≡ true → lastsBy low own others (some t) ≡ false → P f)
-      → (isAgain (f .masks) (f .small) c (f .count) t ≡ true → P f) → (same (t .from) q ≡ true → lastsBy low own others (some t) ≡ true → P (put c p t f)) → P (step p t f)
+  by-cases : (P : Filling → Type 0) (p : ℕ) (t : Transition) (f : Filling) → (same (t .from) q ≡ false → P f) → (same (t .from) q ≡ true → lastsBy low own others t ≡ false → P f)
+      → (isAgain (f .masks) (f .small) c (f .count) t ≡ true → P f) → (same (t .from) q ≡ true → lastsBy low own others t ≡ true → P (put c p t f)) → P (step p t f)
   unfolding considered
   by-cases P p t f a b d e = go₁ (same (t .from) q) refl
     where
-      go₃ : same (t .from) q ≡ true → lastsBy low own others (some t) ≡ true → (x : Bool) → isAgain (f .masks) (f .small) c (f .count) t ≡ x → P (pickFilling x f (put c p t f))
+      go₃ : same (t .from) q ≡ true → lastsBy low own others t ≡ true → (x : Bool) → isAgain (f .masks) (f .small) c (f .count) t ≡ x → P (pickFilling x f (put c p t f))
       go₃ h k true g = d g
       go₃ h k false g = e h k
 
-      go₂ : same (t .from) q ≡ true → (x : Bool) → lastsBy low own others (some t) ≡ x → P (pickFilling x (pickFilling (isAgain (f .masks) (f .small) c (f .count) t) f (put c p t f)) f)
+      go₂ : same (t .from) q ≡ true → (x : Bool) → lastsBy low own others t ≡ x → P (pickFilling x (pickFilling (isAgain (f .masks) (f .small) c (f .count) t) f (put c p t f)) f)
       go₂ h true k = go₃ h k (isAgain (f .masks) (f .small) c (f .count) t) refl
       go₂ h false k = b h k
 
       go₁ : (x : Bool) → same (t .from) q ≡ x
-          → P (pickFilling x (pickFilling (lastsBy low own others (some t)) (pickFilling (isAgain (f .masks) (f .small) c (f .count) t) f (put c p t f)) f) f)
-      go₁ true h = go₂ h (lastsBy low own others (some t)) refl
+          → P (pickFilling x (pickFilling (lastsBy low own others t) (pickFilling (isAgain (f .masks) (f .small) c (f .count) t) f (put c p t f)) f) f)
+      go₁ true h = go₂ h (lastsBy low own others t) refl
       go₁ false h = a h
 
   pub length-masks : (g : ℕ → Transition) (p : ℕ) (f : Filling) → length (listing c q low own others g p f .masks) ≡ length (f .masks)
@@ -206,7 +209,7 @@ module _ (c q : ℕ) (low own others : Set) where
       pub wires : (i : ℕ) → i < 144 → getD (f .masks) i 0 ≡ getD (f₀ .masks) i 0
       pub rest : (i : ℕ) → 64 ≤ i → i < 96 → getD (f .small) i 0 ≡ getD (f₀ .small) i 0
 
-    lists-next : (p : ℕ) (t : Transition) (f : Filling) → nth ts p ≡ some t → keep (suc p) ≡ lastsBy low own others (some t) → masksFor (c + 1) ≤ length (f .masks) → length (f .small) ≡ 160
+    lists-next : (p : ℕ) (t : Transition) (f : Filling) → nth noMove ts p ≡ takes t → keep (suc p) ≡ lastsBy low own others t → masksFor (c + 1) ≤ length (f .masks) → length (f .small) ≡ 160
         → (t .from ≡ q → f .count < 8) → Lists p f → Lists (suc p) (step p t f)
     lists-next p t f e k lm ls room l = by-cases (λ h. Lists (suc p) h) p t f
         (λ a. same-but (other (l .listed) t e (λ w. false≢true (sym a ∙ rw w (same-refl q)))))
@@ -231,7 +234,7 @@ module _ (c q : ℕ) (low own others : Set) where
               rest = λ i r r₂. put-small-off (f .small) c (f .count) p t i (λ x. omega arith) (λ x. omega arith) ∙ l .rest i r r₂;
             }
 
-    pub listing-lists : (g : ℕ → Transition) (k p : ℕ) → p ≤ k → leave g k ≤ 8 → ((u : ℕ) → u < k → nth ts u ≡ some (g u)) → ((u : ℕ) → u < k → keep (suc u) ≡ lastsBy low own others (some (g u)))
+    pub listing-lists : (g : ℕ → Transition) (k p : ℕ) → p ≤ k → leave g k ≤ 8 → ((u : ℕ) → u < k → nth noMove ts u ≡ takes (g u)) → ((u : ℕ) → u < k → keep (suc u) ≡ lastsBy low own others (g u))
         → masksFor (c + 1) ≤ length (f₀ .masks) → length (f₀ .small) ≡ 160 → f₀ .count ≡ 0 → Lists p (listing c q low own others g p f₀)
     unfolding listing
     listing-lists g k zero l few at kp lm ls z = record { listed = rw z start; stays = λ d u ld lu n. stays-refl (f₀ .masks) (f₀ .small) d u; wires = λ i r. refl; rest = λ i r r₂. refl }
@@ -240,41 +243,41 @@ module _ (c q : ℕ) (low own others : Set) where
 
 -- ── one chart more ──
 
-module _ (ts : ℕ → List Transition) (cfg : ℕ → ℕ) (N : ℕ) (lows m₀ s₀ : List ℕ) (few : N ≤ 8) where
+module _ (E : ℕ → Chart) (cfg : ℕ → ℕ) (N : ℕ) (lows m₀ s₀ : List ℕ) (few : N ≤ 8) where
   -- the wiring of chart c is the same in tables that agree on it
   others-same : (m m₁ : List ℕ) (may : ℕ → Set) (c : ℕ) → c < N → ((i : ℕ) → 8 ≤ i → i < 72 → getD m i 0 ≡ getD m₁ i 0) → othersAt m N may c ≡ othersAt m₁ N may c
   unfolding othersAt
   others-same m m₁ may c l h = join-cong N _ _ (λ e r. ap (λ z. cond (same e c) 0 (may e) ∩ z) (h (8 + (8 * e + c)) (omega arith) (omega arith)))
 
-  keep-same : (m m₁ : List ℕ) (c v : ℕ) → c < N → ((i : ℕ) → 8 ≤ i → i < 72 → getD m i 0 ≡ getD m₁ i 0) → keepAt ts cfg N lows m c v ≡ keepAt ts cfg N lows m₁ c v
+  keep-same : (m m₁ : List ℕ) (c v : ℕ) → c < N → ((i : ℕ) → 8 ≤ i → i < 72 → getD m i 0 ≡ getD m₁ i 0) → keepAt E cfg N lows m c v ≡ keepAt E cfg N lows m₁ c v
   unfolding keepAt
-  keep-same m m₁ c v l h = ap₂ (λ a b. lastsBy (getD lows c 0) a b (pick (ts c) v)) (h (8 + (8 * c + c)) (omega arith) (omega arith)) (others-same m m₁ _ c l h)
+  keep-same m m₁ c v l h = ap₂ (λ a b. keptBy (getD lows c 0) a b (E c) (cfg c) (pick (E c) v)) (h (8 + (8 * c + c)) (omega arith) (omega arith)) (others-same m m₁ _ c l h)
 
-  keep-by : (m : List ℕ) (c : ℕ) (low own others : Set) (u : ℕ) (t : Transition) → low ≡ getD lows c 0 → own ≡ backAt m c c → others ≡ othersAt m N (λ e. mayOf (ts e) (cfg e)) c
-      → nth (ts c) u ≡ some t → keepAt ts cfg N lows m c (suc u) ≡ lastsBy low own others (some t)
-  unfolding keepAt pick
-  keep-by m c low own others u t el eo es e = rw (el, eo, es, e)
+  keep-by : (m : List ℕ) (c : ℕ) (low own others : Set) (u : ℕ) (t : Transition) → low ≡ getD lows c 0 → own ≡ backAt m c c → others ≡ othersAt m N (λ e. mayOf (E e .transitions) (cfg e)) c
+      → nth noMove (E c .transitions) u ≡ takes t → keepAt E cfg N lows m c (suc u) ≡ lastsBy low own others t
+  unfolding keepAt keptBy lastsBy pick test actionOf
+  keep-by m c low own others u t el eo es e = rw (el, eo, es, nth-takes (behind (E c)) (E c .transitions) u t e)
 
-  pub until-none : length s₀ ≡ 160 → Until ts cfg N lows m₀ s₀ 0 m₀ s₀
+  pub until-none : length s₀ ≡ 160 → Until E cfg N lows m₀ s₀ 0 m₀ s₀
   until-none ls = record { listed = λ c l. absurd (omega arith); counts = λ c l. absurd (omega arith); wires = λ i l. refl; rest = λ i l b. refl; masks = refl; small = ls }
 
   module _ (k : ℕ) (lk : k < N) (m s : List ℕ) (low own others : Set) (g : ℕ → Transition) where
     abbrev done : Filling
-    done = listing k (cfg k) low own others g (length (ts k)) (record { masks = m; small = s; count = 0 })
+    done = listing k (cfg k) low own others g (length (E k .transitions)) (record { masks = m; small = s; count = 0 })
 
     abbrev counted : List ℕ
     counted = set (done .small) (64 + k) (done .count)
 
     -- chart k gets its candidates
-    pub until-next : masksFor N ≤ length m → Until ts cfg N lows m₀ s₀ k m s → ((u : ℕ) → u < length (ts k) → nth (ts k) u ≡ some (g u)) → tally (length (ts k)) (λ u. one (same (g u .from) (cfg k))) ≤ 8
-        → low ≡ getD lows k 0 → own ≡ backAt m k k → others ≡ othersAt m N (λ e. mayOf (ts e) (cfg e)) k → Until ts cfg N lows m₀ s₀ (suc k) (done .masks) counted
+    pub until-next : masksFor N ≤ length m → Until E cfg N lows m₀ s₀ k m s → ((u : ℕ) → u < length (E k .transitions) → nth noMove (E k .transitions) u ≡ takes (g u)) → tally (length (E k .transitions)) (λ u. one (same (g u .from) (cfg k))) ≤ 8
+        → low ≡ getD lows k 0 → own ≡ backAt m k k → others ≡ othersAt m N (λ e. mayOf (E e .transitions) (cfg e)) k → Until E cfg N lows m₀ s₀ (suc k) (done .masks) counted
     until-next lm un at room el eo es =
         record {
           listed = λ c l. go c l (same c k) refl;
           counts = λ c l. go′ c l (same c k) refl;
           wires = λ i l. li .wires i l ∙ un .wires i l;
           rest = λ i l b. getD-set-other (done .small) (64 + k) i (done .count) 0 (λ e. omega arith) ∙ li .rest i (omega arith) b ∙ un .rest i (omega arith) b;
-          masks = length-masks k (cfg k) low own others g (length (ts k)) f₀ ∙ un .masks;
+          masks = length-masks k (cfg k) low own others g (length (E k .transitions)) f₀ ∙ un .masks;
           small = length-set (done .small) (64 + k) (done .count) ∙ ls;
         }
       where
@@ -282,16 +285,16 @@ module _ (ts : ℕ → List Transition) (cfg : ℕ → ℕ) (N : ℕ) (lows m₀
         f₀ = record { masks = m; small = s; count = 0 }
 
         ls : length (done .small) ≡ 160
-        ls = length-small k (cfg k) low own others g (length (ts k)) f₀ ∙ un .small
+        ls = length-small k (cfg k) low own others g (length (E k .transitions)) f₀ ∙ un .small
 
-        kept : (u : ℕ) → u < length (ts k) → keepAt ts cfg N lows m₀ k (suc u) ≡ lastsBy low own others (some (g u))
+        kept : (u : ℕ) → u < length (E k .transitions) → keepAt E cfg N lows m₀ k (suc u) ≡ lastsBy low own others (g u)
         kept u l = keep-same m₀ m k (suc u) lk (λ i _ r. sym (un .wires i (omega arith))) ∙ keep-by m k low own others u (g u) el eo es (at u l)
 
-        li : Lists k (cfg k) low own others (let h = few in omega arith) (ts k) (keepAt ts cfg N lows m₀ k) f₀ (length (ts k)) done
-        li = listing-lists k (cfg k) low own others (let h = few in omega arith) (ts k) (keepAt ts cfg N lows m₀ k) f₀ g (length (ts k)) (length (ts k)) (omega arith) room at kept (omega arith) (un .small) refl
+        li : Lists k (cfg k) low own others (let h = few in omega arith) (E k .transitions) (keepAt E cfg N lows m₀ k) f₀ (length (E k .transitions)) done
+        li = listing-lists k (cfg k) low own others (let h = few in omega arith) (E k .transitions) (keepAt E cfg N lows m₀ k) f₀ g (length (E k .transitions)) (length (E k .transitions)) (omega arith) room at kept (omega arith) (un .small) refl
 
         full : done .count ≤ 8
-        full = let h = count-leave k (cfg k) low own others g (length (ts k)) f₀ in omega arith
+        full = let h = count-leave k (cfg k) low own others g (length (E k .transitions)) f₀ in omega arith
 
         to-stays : (c v : ℕ) → c < 8 → v < 8 → Stays (done .masks) (done .small) (done .masks) counted c v
         to-stays c v l r = record { needed = refl; barred = refl; action = refl; to = getD-set-other (done .small) (64 + k) (8 * c + v) (done .count) 0 (λ e. omega arith); place = getD-set-other (done .small) (64 + k) (96 + (8 * c + v)) (done .count) 0 (λ e. let h = few in omega arith) }
@@ -305,11 +308,11 @@ module _ (ts : ℕ → List Transition) (cfg : ℕ → ℕ) (N : ℕ) (lows m₀
         apart? : (c : ℕ) → same c k ≡ false → c ≢ k
         apart? c e w = false≢true (sym e ∙ rw w (same-refl k))
 
-        go : (c : ℕ) → c < suc k → (b : Bool) → same c k ≡ b → Listed (done .masks) counted c (ts c) (cfg c) (keepAt ts cfg N lows m₀ c) (length (ts c)) (countAt counted c)
-        go c l true e = rw (same→≡ c k e, count-at) (listed-stays (done .masks) (done .small) (done .masks) counted k (ts k) (cfg k) (keepAt ts cfg N lows m₀ k) (li .listed)
+        go : (c : ℕ) → c < suc k → (b : Bool) → same c k ≡ b → Listed (done .masks) counted c (E c .transitions) (cfg c) (keepAt E cfg N lows m₀ c) (length (E c .transitions)) (countAt counted c)
+        go c l true e = rw (same→≡ c k e, count-at) (listed-stays (done .masks) (done .small) (done .masks) counted k (E k .transitions) (cfg k) (keepAt E cfg N lows m₀ k) (li .listed)
             (λ v r. to-stays k v (omega arith) (let h = full in omega arith)))
         go c l false e = let n = apart? c e in let h = un .counts c (omega arith) in rw (count-off c l n)
-            (listed-stays m s (done .masks) counted c (ts c) (cfg c) (keepAt ts cfg N lows m₀ c) (un .listed c (omega arith))
+            (listed-stays m s (done .masks) counted c (E c .transitions) (cfg c) (keepAt E cfg N lows m₀ c) (un .listed c (omega arith))
             (λ v r. stays-trans m s (done .masks) (done .small) (done .masks) counted c v (li .stays c v (omega arith) (omega arith) n) (to-stays c v (omega arith) (omega arith))))
 
         go′ : (c : ℕ) → c < suc k → (b : Bool) → same c k ≡ b → countAt counted c ≤ 8
@@ -384,13 +387,13 @@ ahead-cong (suc n) k f g h = ap₂ _∪_ (h k (omega arith)) (ahead-cong n (suc 
 listed-kept : (m s : List ℕ) (c : ℕ) (ts : List Transition) (q : ℕ) (keep keep′ : ℕ → Bool) → ((v : ℕ) → keep v ≡ keep′ v) → {p n : ℕ} → Listed m s c ts q keep p n → Listed m s c ts q keep′ p n
 listed-kept m s c ts q keep keep′ h {p} {n} l = subst (λ f. Listed m s c ts q f p n) (fun-ext h) l
 
-module _ (ts : ℕ → List Transition) (cfg : ℕ → ℕ) (N : ℕ) (lows m₀ s₀ : List ℕ) (few : N ≤ 8) where
-  pub chosen : (m m′ s : List ℕ) → Until ts cfg N lows m₀ s₀ N m s → AheadFrom N s 0 m m′ → ((c : ℕ) → c < N → stateAt s₀ c ≡ cfg c) → Chosen ts cfg N lows m′ s
+module _ (E : ℕ → Chart) (cfg : ℕ → ℕ) (N : ℕ) (lows m₀ s₀ : List ℕ) (few : N ≤ 8) where
+  pub chosen : (m m′ s : List ℕ) → Until E cfg N lows m₀ s₀ N m s → AheadFrom N s 0 m m′ → ((c : ℕ) → c < N → stateAt s₀ c ≡ cfg c) → Chosen E cfg N lows m′ s
   chosen m m′ s un a st =
       record {
-        listed = λ c l. listed-kept m′ s c (ts c) (cfg c) (keepAt ts cfg N lows m₀ c) (keepAt ts cfg N lows m′ c)
-            (λ v. keep-same ts cfg N lows m₀ s₀ few m₀ m′ c v l (λ i p q. sym (a .below i q ∙ un .wires i (omega arith))))
-            (listed-stays m s m′ s c (ts c) (cfg c) (keepAt ts cfg N lows m₀ c) (un .listed c l) (λ v r. let h = un .counts c l in
+        listed = λ c l. listed-kept m′ s c (E c .transitions) (cfg c) (keepAt E cfg N lows m₀ c) (keepAt E cfg N lows m′ c)
+            (λ v. keep-same E cfg N lows m₀ s₀ few m₀ m′ c v l (λ i p q. sym (a .below i q ∙ un .wires i (omega arith))))
+            (listed-stays m s m′ s c (E c .transitions) (cfg c) (keepAt E cfg N lows m₀ c) (un .listed c l) (λ v r. let h = un .counts c l in
             record { needed = a .above (144 + (24 * c + v)) (omega arith); barred = a .above (152 + (24 * c + v)) (omega arith); action = a .above (160 + (24 * c + v)) (omega arith); to = refl; place = refl }));
         counts = un .counts;
         ahead-at = λ k c p q. a .rows k c (omega arith) p q ∙ ahead-cong (N - k) k _ _ (λ e x. ap₂ _∩_ (sym (may-same N few s m m′ e (omega arith) (un .counts e (omega arith)) (a .above)))
@@ -454,64 +457,77 @@ module _ (E : ℕ → Chart) (state : ℕ → ℕ) (cfg : ℕ → ℕ) (N : ℕ)
       (join-both N (λ e. cond (same e c) a (f e)) (surely enc E cfg) (back E t c) ∙ ap (λ z. z ∪ join N (λ e. surely enc E cfg e ∩ back E t c e))
       (join-cong N _ _ (λ e r. ap (λ z. cond (same e c) a (f e) ∩ z) (sym (ro .back-at c e l r))) ∙ join-apart N c a f (backAt m c) l))
 
-  keep-lasts : (c v : ℕ) → c < N → keepAt (λ e. E e .transitions) cfg N lows m c v ≡ lasts E state cfg N enc t inp may₀ c v
-  unfolding keepAt lastsBy lasts othersAt
-  keep-lasts c v l = ap₂ (test (pick (E c .transitions) v))
-      (sym (offered-apart c (actionOf (pick (E c .transitions) v)) (λ e. 0) l
-      ∙ sets ((getD lows c 0 ∪ actionOf (pick (E c .transitions) v) ∩ backAt m c c) ∷ join N (λ e. cond (same e c) 0 0 ∩ backAt m c e) ∷ []) (B ≐ ∅ₑ ∷ []) (A ∪ₑ B ≐ A) tt (join-off N c (backAt m c))))
-      (sym (offered-apart c (actionOf (pick (E c .transitions) v)) may₀ l))
+  keep-lasts : (c v : ℕ) → c < N → keepAt E cfg N lows m c v ≡ lasts E state cfg N enc t inp may₀ c v
+  unfolding keepAt keptBy lasts othersAt
+  keep-lasts c v l = ap₂ (test (E c) (cfg c) (pick (E c) v))
+      (sym (offered-apart c (actionOf (pick (E c) v)) (λ e. 0) l
+      ∙ sets ((getD lows c 0 ∪ actionOf (pick (E c) v) ∩ backAt m c c) ∷ join N (λ e. cond (same e c) 0 0 ∩ backAt m c e) ∷ []) (B ≐ ∅ₑ ∷ []) (A ∪ₑ B ≐ A) tt (join-off N c (backAt m c))))
+      (sym (offered-apart c (actionOf (pick (E c) v)) may₀ l))
 
-  pub candidates : Chosen (λ e. E e .transitions) cfg N lows m s → Candidates E cfg N t (lasts E state cfg N enc t inp may₀) m s
+  pub candidates : Chosen E cfg N lows m s → Candidates E cfg N t (lasts E state cfg N enc t inp may₀) m s
   candidates ch =
       record {
-        listed = λ c l. listed-kept m s c (E c .transitions) (cfg c) (keepAt (λ e. E e .transitions) cfg N lows m c) (lasts E state cfg N enc t inp may₀ c) (λ v. keep-lasts c v l) (ch .listed c l);
+        listed = λ c l. listed-kept m s c (E c .transitions) (cfg c) (keepAt E cfg N lows m c) (lasts E state cfg N enc t inp may₀ c) (λ v. keep-lasts c v l) (ch .listed c l);
         ahead-at = λ k c p q. ch .ahead-at k c p q ∙ ahead-cong (N - k) k _ _ (λ e x. ap (λ z. mayAt m s e ∩ z) (ro .back-at c e q (omega arith)));
       }
 
+  -- charts that may stay, likewise
+  pub stayers-last : {g y : List ℕ} → Stayers E cfg N (keepAt E cfg N lows m) g y → Stayers E cfg N (lasts E state cfg N enc t inp may₀) g y
+  stayers-last sy =
+      record { open-at = λ c l. sy .open-at c l ∙ ap (λ b. E c .stays && b) (keep-lasts c (lastPlace (E c)) l); calm-at = sy .calm-at }
+
+-- staying is kept unless a trigger surely holds
+pub keep-stay : (E : ℕ → Chart) (cfg : ℕ → ℕ) (N : ℕ) (lows m : List ℕ) (c : ℕ) → E c .stays ≡ true
+    → keepAt E cfg N lows m c (lastPlace (E c)) ≡ untriggered (E c .transitions) (cfg c) (getD lows c 0) (getD lows c 0 ∪ othersAt m N (λ e. mayOf (E e .transitions) (cfg e)) c)
+unfolding keepAt keptBy test actionOf
+keep-stay E cfg N lows m c two = let h : getD lows c 0 ∪ 0 ∩ backAt m c c ≡ getD lows c 0 = sets (getD lows c 0 ∷ backAt m c c ∷ []) [] (A ∪ₑ (∅ₑ ∩ₑ B) ≐ A) tt in
+    ap (λ M. keptBy (getD lows c 0) (backAt m c c) (othersAt m N (λ e. mayOf (E e .transitions) (cfg e)) c) (E c) (cfg c) M) (stay-last (E c) two)
+    ∙ ap (λ z. untriggered (E c .transitions) (cfg c) z (z ∪ othersAt m N (λ e. mayOf (E e .transitions) (cfg e)) c)) h
+
 -- ── what is surely offered ──
 
-module _ (ts : ℕ → List Transition) (cfg : ℕ → ℕ) (base : List ℕ) where
-  pub raised-none : (m s : List ℕ) → Raised ts cfg 0 m s base base
+module _ (E : ℕ → Chart) (cfg : ℕ → ℕ) (base : List ℕ) where
+  pub raised-none : (m s : List ℕ) → Raised E cfg 0 m s base base
   unfolding join
   raised-none m s c l = sets (getD base c 0 ∷ []) [] (A ≐ A ∪ₑ ∅ₑ) tt
 
-  pub raised-next : (k : ℕ) (m s lows lows′ : List ℕ) → Raised ts cfg k m s base lows → ((c : ℕ) → c < 8 → getD lows′ c 0 ≡ getD lows c 0 ∪ sureAt s k (sureOf (ts k) (cfg k)) ∩ backAt m c k)
-      → Raised ts cfg (suc k) m s base lows′
+  pub raised-next : (k : ℕ) (m s lows lows′ : List ℕ) → Raised E cfg k m s base lows → ((c : ℕ) → c < 8 → getD lows′ c 0 ≡ getD lows c 0 ∪ sureAt s k (sureIn (E k .stays) (sureOf (E k .transitions) (cfg k))) ∩ backAt m c k)
+      → Raised E cfg (suc k) m s base lows′
   unfolding join
-  raised-next k m s lows lows′ h f c l = f c l ∙ sets (getD lows c 0 ∷ getD base c 0 ∷ join k (λ e. sureAt s e (sureOf (ts e) (cfg e)) ∩ backAt m c e) ∷ (sureAt s k (sureOf (ts k) (cfg k)) ∩ backAt m c k) ∷ [])
+  raised-next k m s lows lows′ h f c l = f c l ∙ sets (getD lows c 0 ∷ getD base c 0 ∷ join k (λ e. sureAt s e (sureIn (E e .stays) (sureOf (E e .transitions) (cfg e))) ∩ backAt m c e) ∷ (sureAt s k (sureIn (E k .stays) (sureOf (E k .transitions) (cfg k))) ∩ backAt m c k) ∷ [])
       (A ≐ B ∪ₑ C ∷ []) (A ∪ₑ D ≐ B ∪ₑ (C ∪ₑ D)) tt (h c l)
 
   -- by tables with the same wiring and the same masters
   pub raised-same : (k : ℕ) (m s m′ s′ lows : List ℕ) → k ≤ 8 → ((i : ℕ) → 8 ≤ i → i < 72 → getD m′ i 0 ≡ getD m i 0) → ((i : ℕ) → 72 ≤ i → i < 88 → getD s′ i 0 ≡ getD s i 0)
-      → Raised ts cfg k m s base lows → Raised ts cfg k m′ s′ base lows
+      → Raised E cfg k m s base lows → Raised E cfg k m′ s′ base lows
   unfolding sureAt
   raised-same k m s m′ s′ lows few f g h c l = h c l ∙ ap (λ z. getD base c 0 ∪ z) (join-cong k _ _ (λ e r.
-      ap₂ (λ x y. cond (ltb x 8) 0 (sureOf (ts e) (cfg e)) ∩ y) (sym (g (72 + e) (omega arith) (omega arith))) (sym (f (8 + (8 * e + c)) (omega arith) (omega arith)))))
+      ap₂ (λ x y. cond (ltb x 8) 0 (sureIn (E e .stays) (sureOf (E e .transitions) (cfg e))) ∩ y) (sym (g (72 + e) (omega arith) (omega arith))) (sym (f (8 + (8 * e + c)) (omega arith) (omega arith)))))
 
 module _ (E : ℕ → Chart) (state : ℕ → ℕ) (cfg : ℕ → ℕ) (N : ℕ) (enc : ℕ → Option ℕ) (sc : ℕ → ℕ) (t : Tree) (inp : Set) (m s base lows : List ℕ)
     (st : Stands N enc sc t) (ro : Rows E state cfg N enc sc t m s) where
-  sure-is : (e : ℕ) → e < N → sureAt s e (sureOf (E e .transitions) (cfg e)) ≡ surely enc E cfg e
+  sure-is : (e : ℕ) → e < N → sureAt s e (sureIn (E e .stays) (sureOf (E e .transitions) (cfg e))) ≡ surely enc E cfg e
   unfolding sureAt surely
   sure-is e l = go (enc e) refl
     where
-      go : (κ : Option ℕ) → enc e ≡ κ → cond (ltb (masterAt s e) 8) 0 (sureOf (E e .transitions) (cfg e)) ≡ outside κ (sureOf (E e .transitions) (cfg e))
+      go : (κ : Option ℕ) → enc e ≡ κ → cond (ltb (masterAt s e) 8) 0 (sureIn (E e .stays) (sureOf (E e .transitions) (cfg e))) ≡ outside κ (sureIn (E e .stays) (sureOf (E e .transitions) (cfg e)))
       go none x = rw (le-ltb (masterAt s e) 8 (ro .outside e l x))
       go (some i) x = rw (lt-ltb (masterAt s e) 8 (let a = ro .few in let b = st .lower e i l x in let d = ro .inside e i l x .0 in omega arith))
 
-  pub lows-are : ((c : ℕ) → c < N → getD base c 0 ≡ inp ∩ down t c) → Raised (λ e. E e .transitions) cfg N m s base lows → Lows E cfg N enc t inp lows
+  pub lows-are : ((c : ℕ) → c < N → getD base c 0 ≡ inp ∩ down t c) → Raised E cfg N m s base lows → Lows E cfg N enc t inp lows
   lows-are f h c l = h c (let a = ro .few in omega arith) ∙ ap₂ _∪_ (f c l) (join-cong N _ _ (λ e r. ap₂ _∩_ (sure-is e r) (ro .back-at c e l r)))
 
 -- ── no search is needed ──
 
-module _ (m s : List ℕ) (c : ℕ) (z : countAt s c ≡ 0) (o : c ≤ masterAt s c) where
-  -- a chart that is surely active and has no candidate: nothing is found
-  hunts-none : (n k : ℕ) (t : Trail) → k ≤ c → c < n + k → hunts m s n k t ≡ []
-  unfolding hunts each wakes
+module _ (m s g y : List ℕ) (c : ℕ) (z : countAt s c ≡ 0) (o : c ≤ masterAt s c) (n₀ : staysAt g y c ≡ false) where
+  -- a chart that is surely active, has no candidate and cannot stay: nothing is found
+  hunts-none : (n k : ℕ) (t : Trail) → k ≤ c → c < n + k → huntsBoth m s g y n k t ≡ []
+  unfolding huntsBoth each wakes
   hunts-none zero k t p q = absurd (omega arith)
   hunts-none (suc n) k t p q = go (same k c) refl (hunts-none n (suc k))
     where
       block : Trail → List Outcome
-      block t′ = cond (fineAt m s t′ k) (hunts m s n (suc k) t′) []
+      block t′ = cond (fineAt m s t′ k && quietAt m s g y t′ k) (huntsBoth m s g y n (suc k) t′) []
 
       both : (b : Bool) (x : List Outcome) → x ≡ [] → cond b x [] ≡ []
       both true x e = e
@@ -521,15 +537,17 @@ module _ (m s : List ℕ) (c : ℕ) (z : countAt s c ≡ 0) (o : c ≤ masterAt 
       either true x y e f = e
       either false x y e f = f
 
-      go : (b : Bool) → same k c ≡ b → ((t′ : Trail) → suc k ≤ c → c < n + suc k → hunts m s n (suc k) t′ ≡ [])
-          → cond (wakes m s t k) (each (countAt s k) (λ v. block (taken m s t k v))) (block (rested m s t k)) ≡ []
-      go true e ih = rw (same→≡ k c e, le-ltb (masterAt s c) c o, z)
+      go : (b : Bool) → same k c ≡ b → ((t′ : Trail) → suc k ≤ c → c < n + suc k → huntsBoth m s g y n (suc k) t′ ≡ [])
+          → cond (wakes m s t k) (each (countAt s k) (λ v. block (taken m s t k v)) ++ cond (staysAt g y k) (block (stayed m s t k)) []) (block (rested m s t k)) ≡ []
+      go true e ih = rw (same→≡ k c e, le-ltb (masterAt s c) c o, z, n₀)
       go false e ih = let w : k ≢ c = λ x. false≢true (sym e ∙ rw x (same-refl c)) in
-          let end : (t′ : Trail) → block t′ ≡ [] = λ t′. both (fineAt m s t′ k) (hunts m s n (suc k) t′) (ih t′ (omega arith) (omega arith)) in
-          either (wakes m s t k) _ _ (each-none (countAt s k) _ (λ v l. end (taken m s t k v))) (end (rested m s t k))
+          let end : (t′ : Trail) → block t′ ≡ [] = λ t′. both (fineAt m s t′ k && quietAt m s g y t′ k) (huntsBoth m s g y n (suc k) t′) (ih t′ (omega arith) (omega arith)) in
+          either (wakes m s t k) _ _ (ap₂ _++_ (each-none (countAt s k) _ (λ v l. end (taken m s t k v))) (both (staysAt g y k) (block (stayed m s t k)) (end (stayed m s t k)))) (end (rested m s t k))
 
-pub hunts-stuck : (m s : List ℕ) (N : ℕ) (t : Trail) → N ≤ 8 → stuck s N ≡ true → hunts m s N 0 t ≡ []
+pub hunts-stuck : (m s g y : List ℕ) (N : ℕ) (t : Trail) → N ≤ 8 → stuck s g y N ≡ true → huntsBoth m s g y N 0 t ≡ []
 unfolding stuck
-hunts-stuck m s N t few h = let u = any-one N (λ c. same (countAt s c) 0 && not (ltb (masterAt s c) 8)) h in let l = u .1 in
-    let o = ltb-false (masterAt s (u .0)) 8 (tests-not-true (ltb (masterAt s (u .0)) 8) (and-r (same (countAt s (u .0)) 0) _ (u .2))) in
-    hunts-none m s (u .0) (same→≡ (countAt s (u .0)) 0 (and-l _ _ (u .2))) (omega arith) N 0 t (omega arith) (omega arith)
+hunts-stuck m s g y N t few h = let u = any-one N (λ c. same (countAt s c) 0 && (not (ltb (masterAt s c) 8) && not (staysAt g y c))) h in let l = u .1 in
+    let r = and-r (same (countAt s (u .0)) 0) _ (u .2) in
+    let o = ltb-false (masterAt s (u .0)) 8 (tests-not-true (ltb (masterAt s (u .0)) 8) (and-l _ _ r)) in
+    hunts-none m s g y (u .0) (same→≡ (countAt s (u .0)) 0 (and-l _ _ (u .2))) (omega arith)
+    (tests-not-true (staysAt g y (u .0)) (and-r (not (ltb (masterAt s (u .0)) 8)) _ r)) N 0 t (omega arith) (omega arith)

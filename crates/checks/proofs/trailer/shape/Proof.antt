@@ -20,10 +20,12 @@ cast-t4 c = search needs
 cast-t5 : tie.Need-cast-t5
 cast-t5 c = search needs
 
--- src/trailer.rt:13:1
+cast-t6 : tie.Need-cast-t6
+cast-t6 c = search needs
+
 returns : tie.Need-returns
 unfolding shapeOf
 returns c = refl
 
 pub shape-spec : {M : Type 1} → statement M
-shape-spec = tie.close (tie.spec cast-t2 cast-t3 cast-t4 cast-t5 returns)
+shape-spec = tie.close (tie.spec cast-t2 cast-t3 cast-t4 cast-t5 cast-t6 returns)

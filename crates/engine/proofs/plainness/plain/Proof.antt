@@ -1,12 +1,13 @@
--- `plainness::plain` meets its contract: the file's refusal with no, or what its body says. Assumes nothing.
+-- `plainness::plain` meets its contract: the file's refusal with no, no for another edition than the first, or what its body says.
 use mathlib.Core.Path.{_≡_, sym, ap, _∙_}
 use mathlib.Core.Bool.{Bool, false}
 use mathlib.Core.List.{List}
 use Prim.Native.Nat.{ℕ}
 use native.Mathlib.Omega.{arith}
 use borrow.Author.Needs.{needs}
-use borrow.Author.Tests.{ne-eqb}
+use borrow.Author.Tests.{ne-eqb, eq-eqb}
 use Rattle.layout.specs.declared.body.Shape.{Shape}
+use Rattle.meaning.specs.Numbers.{firstEdition}
 use Rattle.meaning.specs.Meaning.{same}
 use Rattle.meaning.specs.File.{trailer, shapeOf, bodyOf, fileAt, fileOf}
 use Rattle.meaning.specs.Check.{refusalOf}
@@ -24,27 +25,41 @@ module _ (f : List ℕ) where
   unfolding plainOf same
   refused r h e = rw (← e, ne-eqb r 0 h)
 
-  given : refusalOf f ≡ 0 → (n : Shape) → n ≡ shapeOf (trailer f) → (b : List ℕ) → b ≡ bodyOf f
-      → _≡_ {A = Plainness} (record { refusal = 0; plain = plainIn (fileAt n b) }) answer
-  unfolding plainOf same fileOf
-  given h n en b eb = rw (h, en, eb)
+  module _ (h : refusalOf f ≡ 0) (n : Shape) (en : n ≡ shapeOf (trailer f)) where
+    edition-is : n .edition ≡ trailer f .edition
+    unfolding shapeOf
+    edition-is = ap (λ (s : Shape). s .edition) en
+
+    second : (n .edition ≡ firstEdition → ⊥) → _≡_ {A = Plainness} (record { refusal = 0; plain = false }) answer
+    unfolding plainOf same
+    second d = rw (h, ne-eqb (trailer f .edition) firstEdition (λ e. d (edition-is ∙ e)))
+
+    given : n .edition ≡ firstEdition → (b : List ℕ) → b ≡ bodyOf f → _≡_ {A = Plainness} (record { refusal = 0; plain = plainIn (fileAt n b) }) answer
+    unfolding plainOf same fileOf
+    given d b eb = rw (h, eq-eqb (trailer f .edition) firstEdition (sym edition-is ∙ d), en, eb)
 
 -- the body of a file that is not refused
 stands : (c : tie.Else1) → Stands (c .before .before .before .args .file .now) (c .before .opened .result)
 stands c = c .before .opened .ensures .stands (c .if1 .left)
 
+accepted : (c : tie.Else1) → refusalOf (c .before .before .before .args .file .now) ≡ 0
+accepted c = sym (c .before .opened .ensures .refusal) ∙ c .if1 .left
+
 returns : tie.Need-returns
 returns c = refused _ _ (c .if1 .taken) (c .before .opened .ensures .refusal)
 
 is-plain-requires : tie.Need-is-plain-requires
-is-plain-requires c κs = let w = stands (c .before .before) in (rw (w .body) (w .sized), rw (w .body) (w .summed))
+is-plain-requires c κs = let w = stands (c .before .before .before .before) in (rw (w .body) (w .sized), rw (w .body) (w .summed))
 
 returns-2 : tie.Need-returns-2
-returns-2 c =
-    let e = c .before .before .before in
+returns-2 c = let e = c .before .before .before in second _ (accepted e) _ (stands e .shape) (c .if2 .taken)
+
+returns-3 : tie.Need-returns-3
+returns-3 c =
+    let e = c .before .before .before .before .before in
     let w = stands e in
     ap {B = Plainness} (λ (p : Bool). record { refusal = 0; plain = p }) (c .is-plain .ensures)
-    ∙ given _ (sym (e .before .opened .ensures .refusal) ∙ e .if1 .left) _ (w .shape) _ (w .body)
+    ∙ given _ (accepted e) _ (w .shape) (c .before .before .if2 .left) _ (w .body)
 
 pub plain-spec : {M : Type 1} → statement M
 plain-spec =
@@ -52,8 +67,10 @@ plain-spec =
     (tie.spec
     (λ c κs. search needs)
     returns
-    (λ c. stands (c .before) .order)
-    (λ c. stands (c .before) .order)
-    (λ c. let e = stands (c .before) .end in omega arith)
+    (λ c. search needs)
+    returns-2
+    (λ c. stands (c .before .before .before) .order)
+    (λ c. stands (c .before .before .before) .order)
+    (λ c. let e = stands (c .before .before .before) .end in omega arith)
     is-plain-requires
-    returns-2)
+    returns-3)

@@ -1,6 +1,7 @@
--- `rewriting::rewriting` meets its contract: the file's refusal, or the rewriting of its body. Assumes nothing.
-use mathlib.Core.Path.{_≡_, refl, sym, _∙_}
+-- `rewriting::rewriting` meets its contract: the file's refusal, 46 where charts may stay, or the rewriting of its body.
+use mathlib.Core.Path.{_≡_, refl, sym, ap, _∙_}
 use mathlib.Core.List.{List}
+use mathlib.Core.Logic.{_≢_}
 use Prim.Native.Nat.{ℕ}
 use native.Mathlib.Omega.{arith}
 use borrow.Author.Needs.{needs}
@@ -8,7 +9,10 @@ use borrow.Author.Tests.{ne-eqb}
 use lib.ListN.{length}
 use Rattle.layout.specs.Le.{AllBytes}
 use Rattle.layout.specs.declared.body.Shape.{Shape}
+use Rattle.meaning.specs.Numbers.{stayEdition, mayStay}
 use Rattle.meaning.specs.Meaning.{same}
+use Rattle.meaning.specs.Laws.Bools.{same-≢}
+use Rattle.meaning.specs.Laws.Editions.{edition-left}
 use Rattle.meaning.specs.File.{trailer, shapeOf, bodyOf, fileAt, fileOf}
 use Rattle.meaning.specs.Check.{refusalOf}
 use Rattle.meaning.specs.Check.Laws.{passed}
@@ -20,7 +24,7 @@ use Rattle.checks.specs.Known.{Sized, Summed}
 use Rattle.rewrite.specs.Known.{Checked, Upward}
 use Rattle.engine.specs.Step.Laws.{checked, file-is}
 use Rattle.engine.specs.Rewriting.{rewriteAfter, lengthAfter, outAfter}
-use Rattle.engine.specs.Rewriting.Laws.{file-refused, refusal-is, length-is, out-is}
+use Rattle.engine.specs.Rewriting.Laws.{file-refused, stay-refused, refusal-is, length-is, out-is}
 use Rattle.engine.specs.declared.rewriting.Rewritten.{Rewritten}
 use Rattle.engine.proofs.rewriting.rewriting.Statement.{statement}
 use Rattle.engine.proofs.rewriting.rewriting.Tie as tie
@@ -34,19 +38,32 @@ by-file : (f out : List ℕ) (r : ℕ) (s : Rewritten) → r ≡ refusalOf f →
 unfolding rewriteLength rewriteOut same
 by-file f out r s e h q = rw (file-refused f (λ z. h (e ∙ z)) (length out), ← e, ne-eqb r 0 h) (q, refl)
 
+edition-is : (f : List ℕ) (n : Shape) → n ≡ shapeOf (trailer f) → trailer f .edition ≡ n .edition
+unfolding shapeOf
+edition-is f n en = sym (ap (λ (s : Shape). s .edition) en)
+
+-- so does one whose charts may stay
+by-edition : (f out : List ℕ) (s : Rewritten) → refusalOf f ≡ 0 → trailer f .edition ≡ stayEdition → s ≡ record { refusal = mayStay; length = 0 }
+    → (s ≡ answerOf f (length out)) × (out ≡ rewriteOut f out)
+unfolding rewriteLength rewriteOut same
+by-edition f out s h two q = rw (stay-refused f h two (length out)) (q, refl)
+
 -- the body that the file is opened to
-module _ (f : List ℕ) (h : refusalOf f ≡ 0) (n : Shape) (en : n ≡ shapeOf (trailer f)) (b : List ℕ) (eb : b ≡ bodyOf f) where
+module _ (f : List ℕ) (h : refusalOf f ≡ 0) (n : Shape) (en : n ≡ shapeOf (trailer f)) (one : n .edition ≢ stayEdition) (b : List ℕ) (eb : b ≡ bodyOf f) where
+  not-two : trailer f .edition ≢ stayEdition
+  not-two e = one (sym (edition-is f n en) ∙ e)
+
   by-body : (out out′ : List ℕ) (r : Rewritten)
       → (r ≡ record { refusal = rewriteAfter (fileAt n b) (length out); length = lengthAfter (fileAt n b) (length out) })
       × (out′ ≡ outAfter (fileAt n b) out)
       → (r ≡ answerOf f (length out)) × (out′ ≡ rewriteOut f out)
-  by-body out out′ r q = rw (refusal-is f h (length out), length-is f h (length out), out-is f h out, file-is f n b en eb) q
+  by-body out out′ r q = rw (refusal-is f h not-two (length out), length-is f h not-two (length out), out-is f h not-two out, file-is f n b en eb) q
 
   body-checked : Sized n b → Summed n b → Checked n b
   body-checked sz sm = let k = checked f n b h en eb sz sm in record { sized = sz; summed = sm; sound = k .sound }
 
   upward : AllBytes f → Upward (fileAt n b)
-  upward ab = rw (← file-is f n b en eb) (nearest-is (fileOf f) (ready f (passed f h) ab))
+  upward ab = rw (← file-is f n b en eb) (nearest-is (fileOf f) (ready f (passed f h) ab (edition-left f (passed f h .edition) (same-≢ (trailer f .edition) stayEdition not-two))))
 
 -- a file that is not refused, and its body
 accepted : (c : tie.Else1) → refusalOf (c .before .before .before .before .args .file .now) ≡ 0
@@ -61,18 +78,24 @@ returns c = by-file _ (c .before .before .before .before .before .args .out .now
 
 of-body-requires : tie.Need-of-body-requires
 of-body-requires c κs =
-    let e = c .before .before .before in
+    let d = c .before .before in
+    let e = d .before .before .before in
     let w = stands e in (
-      body-checked _ (accepted e) _ (w .shape) _ (w .body) (rw (w .body) (w .sized)) (rw (w .body) (w .summed)),
-      upward _ (accepted e) _ (w .shape) _ (w .body) (λ i. c .before .before .before .before .before .before .shared-slice-known .given i .fits),
+      body-checked _ (accepted e) _ (w .shape) (d .if2 .left) _ (w .body) (rw (w .body) (w .sized)) (rw (w .body) (w .summed)),
+      upward _ (accepted e) _ (w .shape) (d .if2 .left) _ (w .body) (λ i. e .before .before .before .shared-slice-known .given i .fits),
     )
 
 returns-2 : tie.Need-returns-2
 returns-2 c =
-    let e = c .before .before .before .before .before .before in
+    let e = c .before .before .before .before in
+    by-edition _ (e .before .before .before .before .args .out .now) _ (accepted e) (edition-is _ _ (stands e .shape) ∙ c .before .if2 .taken) (c .refused2 .ensures)
+
+returns-3 : tie.Need-returns-3
+returns-3 c =
+    let d = c .before .before .before .before .before in
+    let e = d .before .before .before in
     let w = stands e in
-    by-body _ (accepted e) _ (w .shape) _ (w .body)
-    (c .before .before .before .before .before .before .before .before .before .before .args .out .now) _ _ (c .before .before .of-body .ensures)
+    by-body _ (accepted e) _ (w .shape) (d .if2 .left) _ (w .body) (e .before .before .before .before .args .out .now) _ _ (c .before .before .of-body .ensures)
 
 pub rewriting-spec : {M : Type 1} → statement M
 rewriting-spec =
@@ -81,9 +104,12 @@ rewriting-spec =
     (λ c κs. search needs)
     (λ c κs. search needs)
     returns
-    (λ c. stands (c .before) .order)
-    (λ c. stands (c .before) .order)
-    (λ c. let e = stands (c .before) .end in omega arith)
+    (λ c. search needs)
+    (λ c κs. search needs)
+    returns-2
+    (λ c. stands (c .before .before .before) .order)
+    (λ c. stands (c .before .before .before) .order)
+    (λ c. let e = stands (c .before .before .before) .end in omega arith)
     of-body-requires
     (λ c. search needs)
-    returns-2)
+    returns-3)

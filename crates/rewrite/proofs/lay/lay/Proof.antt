@@ -9,7 +9,7 @@ use lib.Seq.{sets, length-sets}
 use Rattle.layout.specs.Record.{headBytes, trailerBytes}
 use Rattle.layout.specs.Record.Laws.{length-trailer}
 use Rattle.layout.specs.declared.body.Shape.{Shape}
-use Rattle.meaning.specs.Numbers.{theEdition}
+use Rattle.meaning.specs.Numbers.{firstEdition}
 use Rattle.meaning.specs.Calls.{laidOver}
 use Rattle.meaning.specs.File.{File, fileAt}
 use Rattle.meaning.specs.Rewriting.{rewrittenChart, madeFor, rewrite, inTurn, headFor, transitionsBytes, shapeIn, encode}
@@ -36,7 +36,7 @@ abbrev end : Shape → ℕ → List ℕ
 end m edition = trailerBytes (trailerWith m edition)
 
 -- m is the rewritten file's shape
-module _ (n : Shape) (b : List ℕ) (m : Shape) (edition : ℕ) (em : m ≡ shapeIn (rewrite (fileAt n b))) (ee : edition ≡ theEdition) where
+module _ (n : Shape) (b : List ℕ) (m : Shape) (edition : ℕ) (em : m ≡ shapeIn (rewrite (fileAt n b))) (ee : edition ≡ firstEdition) where
   abbrev F : File
   F = fileAt n b
 

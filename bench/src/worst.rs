@@ -1,0 +1,41 @@
+//! The search for the file whose step takes longest. What is compared is how many beginnings of a choice
+//! the search looks at, by hand: the same on every machine.
+
+use crate::family::{drawn_staying, Subject};
+use crate::hand;
+use std::fmt::{self, Display, Formatter};
+
+/// The file of a seed that has the most beginnings among so many.
+pub struct Worst {
+    pub seed: u64,
+    pub out: usize,
+    pub files: u64,
+    pub beginnings: usize,
+}
+
+impl Display for Worst {
+    fn fmt(&self, out: &mut Formatter) -> fmt::Result {
+        write!(
+            out,
+            "edition 2, 8 charts, {} from a state: the worst of {} files is that of seed {}, {} beginnings",
+            self.out, self.files, self.seed, self.beginnings
+        )
+    }
+}
+
+/// The worst of so many random files of edition 2 with so many transitions from each state.
+pub fn worst(out: usize, files: u64) -> Worst {
+    let all = (0..files).map(|seed| (beginnings(&drawn_staying(seed, out)), seed));
+    let (beginnings, seed) = all.max().unwrap_or((0, 0));
+    Worst {
+        seed,
+        out,
+        files,
+        beginnings,
+    }
+}
+
+/// How many beginnings the search of a file's step looks at.
+pub fn beginnings(subject: &Subject) -> usize {
+    hand::beginnings(&subject.file, &subject.config, subject.input).expect("a file in order")
+}

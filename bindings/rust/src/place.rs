@@ -1,0 +1,40 @@
+//! What each chart did in a step.
+
+/// What a chart did in a step.
+#[derive(Clone, Copy, PartialEq, Eq, Hash, Debug)]
+pub enum Place {
+    /// It took no transition: it was inactive, or there is no chart of this number.
+    None,
+    /// It took the transition at this place of its own list, from 0 on.
+    Transition(u8),
+    /// It was active and stayed: no transition from its state was triggered. Edition 2 alone.
+    Stayed,
+}
+
+/// What each chart did, by its number; none for numbers that no chart has.
+pub type Places = [Place; 8];
+
+impl Place {
+    /// What the engine has for no transition.
+    pub(crate) const NO_PLACE: u8 = 255;
+    /// What the engine has for staying.
+    const STAYED: u8 = 254;
+
+    /// The place of a byte in the engine's answer.
+    pub fn of(number: u8) -> Place {
+        match number {
+            Place::NO_PLACE => Place::None,
+            Place::STAYED => Place::Stayed,
+            place => Place::Transition(place),
+        }
+    }
+
+    /// Its byte in the engine's answer.
+    pub fn number(self) -> u8 {
+        match self {
+            Place::None => Place::NO_PLACE,
+            Place::Transition(place) => place,
+            Place::Stayed => Place::STAYED,
+        }
+    }
+}

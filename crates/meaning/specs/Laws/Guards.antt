@@ -1,0 +1,129 @@
+-- Laws of the test of a guard, in both editions. In this order: what the lowest signal of a set is (`lowest-in`, `lowest-first`); a guard is met exactly
+-- if all needed signals and no barred one are there (`guard-is`, `met-is`); a guard that is met is met between wider bounds (`met-wider`), and looks at its own signals alone (`met-cut`); the same of a chart that nothing
+-- triggers (`quiet-wider`, `quiet-cut`), and that this is what it says (`quiet-out`, `quiet-in`).
+use mathlib.Core.Path.{_≡_, refl, sym, _∙_, ap, ap₂}
+use mathlib.Core.Bool.{Bool, true, false, _&&_, not, cond, true≢false, false≢true}
+use mathlib.Core.List.{List, [], _∷_, List·Memᴰ, List·Memᴰ·head, List·Memᴰ·tail, List·Memᴰ·cases-cons, List·Memᴰ·not-nil}
+use mathlib.Core.Logic.{_⊎_, inl, inr}
+use Prim.Native.Nat.{ℕ, zero, suc, _+_, _≤_, _<_}
+use native.Mathlib.Omega.{arith}
+use native.Mathlib.Decide.{decLt}
+use borrow.Author.Tests.{eqb-true, eq-eqb}
+use lib.Dec.{eqb}
+use Rattle.signals.specs.Mask.{_∪_, _∩_, _∖_, bit, within, apart, Within}
+use Rattle.signals.specs.Decide.{sets, A, B, C, D, E as Eₑ, _∪ₑ_, _∩ₑ_, _∖ₑ_, _≐_, _⊑_, _⊥ₑ_}
+use Rattle.layout.specs.declared.record.Transition.{Transition}
+use Rattle.meaning.specs.Meaning.{Set, same, lowestFrom, guards, met, absent, present, guard, isMet, met?, untriggered}
+use Rattle.meaning.specs.Laws.Bools.{and-l, and-r, and-i, bool-eq, not-true, same-refl}
+
+-- ── the lowest signal of a set ──
+
+-- of k signals from n on: it is in the set, if one is; none below it is
+pub lowest-in : (k n m : ℕ) (s : Set) → n ≤ m → m < n + k → bit s m ≡ true → bit s (lowestFrom k n s) ≡ true
+unfolding lowestFrom
+lowest-in zero n m s l r h = absurd (omega arith)
+lowest-in (suc k) n m s l r h = go (bit s n) refl (λ p q. lowest-in k (suc n) m s p q h)
+  where
+    go : (b : Bool) → bit s n ≡ b → (suc n ≤ m → m < suc n + k → bit s (lowestFrom k (suc n) s) ≡ true) → bit s (cond b n (lowestFrom k (suc n) s)) ≡ true
+    go true e ih = e
+    go false e ih = later (decLt n m) ih
+      where
+        later : Dec (n < m) → (suc n ≤ m → m < suc n + k → bit s (lowestFrom k (suc n) s) ≡ true) → bit s (lowestFrom k (suc n) s) ≡ true
+        later (yes d) ih = ih (omega arith) (omega arith)
+        later (no d) ih = let z : m ≡ n = omega arith in absurd (true≢false (sym h ∙ ap (bit s) z ∙ e))
+
+pub lowest-first : (k n j : ℕ) (s : Set) → n ≤ j → j < lowestFrom k n s → bit s j ≡ false
+unfolding lowestFrom
+lowest-first zero n j s l r = absurd (omega arith)
+lowest-first (suc k) n j s l r = go (bit s n) refl r (λ p q. lowest-first k (suc n) j s p q)
+  where
+    go : (b : Bool) → bit s n ≡ b → j < cond b n (lowestFrom k (suc n) s) → (suc n ≤ j → j < lowestFrom k (suc n) s → bit s j ≡ false) → bit s j ≡ false
+    go true e r ih = absurd (omega arith)
+    go false e r ih = later (decLt n j) ih
+      where
+        later : Dec (n < j) → (suc n ≤ j → j < lowestFrom k (suc n) s → bit s j ≡ false) → bit s j ≡ false
+        later (yes d) ih = ih (omega arith) r
+        later (no d) ih = let z : j ≡ n = omega arith in ap (bit s) z ∙ e
+
+-- ── a transition's guard ──
+
+pub guard-is : (needed barred i j : Set) → isMet (guard needed barred i j) ≡ (within needed i && apart barred j)
+unfolding guard
+guard-is needed barred i j = go (within needed i) (apart barred j) _ _
+  where
+    go : (a b : Bool) (x y : ℕ) → isMet (cond a (cond b met (present x)) (absent y)) ≡ (a && b)
+    go true true x y = refl
+    go true false x y = refl
+    go false b x y = refl
+
+pub met-is : (t : Transition) (i j : Set) → met? t i j ≡ (within (t .needed) i && apart (t .barred) j)
+unfolding met?
+met-is t i j = guard-is (t .needed) (t .barred) i j
+
+sub-in : (g o p : Set) → Within o p → within g o ≡ true → within g p ≡ true
+sub-in g o p h e = eq-eqb (g ∖ p) 0 (sets (g ∷ o ∷ p ∷ []) (A ⊑ B ∷ B ⊑ C ∷ []) (A ⊑ C) tt (eqb-true (g ∖ o) 0 e) h)
+
+dis-in : (g o p : Set) → Within p o → apart g o ≡ true → apart g p ≡ true
+dis-in g o p h e = eq-eqb (g ∩ p) 0 (sets (g ∷ o ∷ p ∷ []) (A ⊥ₑ B ∷ C ⊑ B ∷ []) (A ⊥ₑ C) tt (eqb-true (g ∩ o) 0 e) h)
+
+-- more may be there of what is needed, and less of what is barred
+pub met-wider : (t : Transition) (i i′ j j′ : Set) → Within i i′ → Within j′ j → met? t i j ≡ true → met? t i′ j′ ≡ true
+met-wider t i i′ j j′ p q e =
+    let h = sym (met-is t i j) ∙ e in
+    met-is t i′ j′ ∙ and-i (sub-in (t .needed) i i′ p (and-l _ _ h)) (dis-in (t .barred) j j′ q (and-r (within (t .needed) i) _ h))
+
+-- two sets that are alike as far as the guard's signals go
+pub met-cut : (t : Transition) (I i k : Set) → (t .needed ∪ t .barred) ∖ I ≡ 0 → i ∩ I ≡ k ∩ I → met? t i i ≡ met? t k k
+met-cut t I i k w e =
+    met-is t i i
+    ∙ ap₂ (λ p q. eqb p 0 && eqb q 0)
+    (sets (t .needed ∷ t .barred ∷ i ∷ k ∷ I ∷ []) (A ∪ₑ B ⊑ Eₑ ∷ C ∩ₑ Eₑ ≐ D ∩ₑ Eₑ ∷ []) (A ∖ₑ C ≐ A ∖ₑ D) tt w e)
+    (sets (t .needed ∷ t .barred ∷ i ∷ k ∷ I ∷ []) (A ∪ₑ B ⊑ Eₑ ∷ C ∩ₑ Eₑ ≐ D ∩ₑ Eₑ ∷ []) (B ∩ₑ C ≐ B ∩ₑ D) tt w e)
+    ∙ sym (met-is t k k)
+
+-- ── a chart that nothing triggers ──
+
+not-false : (b : Bool) → not b ≡ true → b ≡ false
+not-false true h = absurd (false≢true h)
+not-false false h = refl
+
+-- less may be there of what is needed, and more of what is barred
+pub quiet-wider : (ts : List Transition) (s : ℕ) (i i′ j j′ : Set) → Within i′ i → Within j j′ → untriggered ts s i j ≡ true
+    → untriggered ts s i′ j′ ≡ true
+unfolding untriggered
+quiet-wider [] s i i′ j j′ p q e = refl
+quiet-wider (t ∷ ts) s i i′ j j′ p q e =
+    and-i (ap not (not-true (λ h.
+    true≢false (sym (and-i (and-l (same (t .from) s) (met? t i′ j′) h) (met-wider t i′ i j′ j p q (and-r (same (t .from) s) (met? t i′ j′) h)))
+    ∙ not-false (same (t .from) s && met? t i j) (and-l _ _ e)))))
+    (quiet-wider ts s i i′ j j′ p q (and-r (not (same (t .from) s && met? t i j)) _ e))
+
+pub quiet-cut : (ts : List Transition) (s : ℕ) (I i k : Set) → guards ts ∖ I ≡ 0 → i ∩ I ≡ k ∩ I → untriggered ts s i i ≡ untriggered ts s k k
+unfolding untriggered guards
+quiet-cut [] s I i k w e = refl
+quiet-cut (t ∷ ts) s I i k w e =
+    ap₂ (λ p q. not (same (t .from) s && p) && q)
+    (met-cut t I i k (sets (t .needed ∷ t .barred ∷ guards ts ∷ I ∷ []) (A ∪ₑ B ∪ₑ C ⊑ D ∷ []) (A ∪ₑ B ⊑ D) tt w) e)
+    (quiet-cut ts s I i k (sets (t .needed ∷ t .barred ∷ guards ts ∷ I ∷ []) (A ∪ₑ B ∪ₑ C ⊑ D ∷ []) (C ⊑ D) tt w) e)
+
+-- nothing triggers a chart exactly if no transition from its state has its guard met
+pub quiet-out : (ts : List Transition) (s : ℕ) (i j : Set) → untriggered ts s i j ≡ true → (t : Transition) → List·Memᴰ t ts → t .from ≡ s
+    → met? t i j ≡ false
+unfolding untriggered
+quiet-out [] s i j h t m e = absurd (List·Memᴰ·not-nil m)
+quiet-out (u ∷ ts) s i j h t m e =
+    go (List·Memᴰ·cases-cons m) (quiet-out ts s i j (and-r (not (same (u .from) s && met? u i j)) _ h) t)
+  where
+    go : (t ≡ u) ⊎ List·Memᴰ t ts → (List·Memᴰ t ts → t .from ≡ s → met? t i j ≡ false) → met? t i j ≡ false
+    go (inl q) r =
+        not-true (λ z. true≢false (sym (and-i (ap (λ (v : Transition). same (v .from) s) (sym q) ∙ ap (λ k. same k s) e ∙ same-refl s)
+        (ap (λ v. met? v i j) (sym q) ∙ z)) ∙ not-false _ (and-l _ _ h)))
+    go (inr n) r = r n e
+
+pub quiet-in : (ts : List Transition) (s : ℕ) (i j : Set) → ((t : Transition) → List·Memᴰ t ts → same (t .from) s ≡ true → met? t i j ≡ false)
+    → untriggered ts s i j ≡ true
+unfolding untriggered
+quiet-in [] s i j h = refl
+quiet-in (t ∷ ts) s i j h =
+    and-i (ap not (not-true (λ z. true≢false (sym (and-r (same (t .from) s) _ z) ∙ h t (List·Memᴰ·head refl) (and-l _ _ z)))))
+    (quiet-in ts s i j (λ u m. h u (List·Memᴰ·tail m)))

@@ -1,0 +1,10 @@
+-- `search::stay` meets its contract: what `idle` leaves is what it promises.
+use borrow.Author.Needs.{needs}
+use Rattle.search.proofs.stay.Statement.{statement}
+use Rattle.search.proofs.stay.Tie as tie
+
+returns : tie.Need-returns
+returns c = c .idle .ensures
+
+pub stay-spec : {M : Type 1} → statement M
+stay-spec = tie.close (tie.spec (λ c κs. search needs) returns)

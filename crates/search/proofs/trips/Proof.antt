@@ -1,0 +1,56 @@
+-- `search::trips` meets its contract: none of the triggers below v holds.
+use mathlib.Core.Path.{_≡_, sym, _∙_}
+use mathlib.Core.Bool.{Bool, false}
+use mathlib.Core.List.{List}
+use Prim.Native.Nat.{ℕ, _-_, _≤_}
+use native.Mathlib.Omega.{arith}
+use Rattle.meaning.specs.Meaning.{isMet, guard}
+use Rattle.meaning.specs.Count.{anyUpTo}
+use Rattle.meaning.specs.Count.Laws.{any-none, any-more, any-at, any-done}
+use Rattle.meaning.specs.Laws.Guards.{guard-is}
+use Rattle.search.specs.Stays.{triggerNeeded, triggerBarred, trips}
+use Rattle.search.proofs.trips.Statement.{statement}
+use Rattle.search.proofs.trips.Tie as tie
+
+-- trigger v holds
+abbrev one : List ℕ → ℕ → ℕ → ℕ → ℕ → Bool
+one g d low high v = isMet (guard (triggerNeeded g d v) (triggerBarred g d v) low high)
+
+abbrev Inv-loop : tie.InvT-loop
+Inv-loop guards d n low high v₀ v = (v ≤ n) × (anyUpTo v (one guards d low high) ≡ false)
+
+abbrev μ-loop : tie.MeasureT-loop
+μ-loop guards d n low high v₀ v = n - v
+
+loop-holds : tie.Need-loop-holds Inv-loop μ-loop
+loop-holds c = (omega arith, any-none _)
+
+returns : tie.Need-returns Inv-loop μ-loop
+unfolding trips
+returns c =
+    let l = c .before .before .before .before .before in
+    let a = l .before .before .args in
+    sym (any-at (a .n) (one (a .guards .now) (a .d) (a .low) (a .high)) (l .loop .v) (omega arith)
+    (guard-is _ _ _ _ ∙ sym (c .before .holds .ensures) ∙ c .if1 .taken))
+
+loop-again : tie.Need-loop-again Inv-loop μ-loop
+loop-again c =
+    let l = c .before .before .before .before .before in
+    let a = l .before .before .args in (
+      omega arith,
+      any-more (l .loop .v) (one (a .guards .now) (a .d) (a .low) (a .high)) (l .loop .inv .1) (guard-is _ _ _ _ ∙ sym (c .before .holds .ensures) ∙ c .if1 .left),
+    )
+
+returns-2 : tie.Need-returns-2 Inv-loop μ-loop
+unfolding trips
+returns-2 c =
+    let l = c .before .loop in
+    let a = c .before .before .before .args in
+    any-done (l .v) (a .n) (one (a .guards .now) (a .d) (a .low) (a .high)) (omega arith) (omega arith) (l .inv .1)
+
+pub trips-spec : {M : Type 1} → statement M
+trips-spec =
+    tie.close
+    (tie.spec Inv-loop μ-loop loop-holds (λ c. omega arith) (λ c. omega arith) (λ c. omega arith) (λ c. omega arith) (λ c. omega arith)
+    (λ c. omega arith) (λ c. omega arith) (λ c. omega arith) (λ c. omega arith) (λ c κs. omega arith) returns (λ c. omega arith) (λ c. omega arith)
+    loop-again returns-2)

@@ -1,0 +1,211 @@
+-- Laws of noting triggers. In order: a trigger that is put down (put-needed, put-barred, put-other), what stands beside it (beside-none, beside-put),
+-- one transition more (noting-none, noting-next, noting-room, noting-few), what a search is told of a chart (tells-shut, tells-open), of all charts
+-- (telling-none, telling-next), and that this is as the search asks for (stays-told, stays-none).
+use mathlib.Core.Path.{_≡_, refl, sym, _∙_, ap, subst}
+use mathlib.Core.Bool.{Bool, true, false, _&&_, not, cond, false≢true}
+use mathlib.Core.List.{List}
+use mathlib.Core.Logic.{_≢_}
+use Prim.Native.Nat.{ℕ, suc, _+_, _*_, _≤_, _<_}
+use native.Mathlib.Omega.{arith}
+use native.Mathlib.Numerals.{add-one}
+use native.Mathlib.Decide.{decLt}
+use lib.ListN.{length, getD, set, replicate, length-set, length-replicate, getD-replicate}
+use lib.Seq.{getD-set-same, getD-set-other}
+use Rattle.signals.specs.Mask.{_∪_, _∩_}
+use Rattle.layout.specs.Body.{headAt, startOf, transitionAt, transitionsOf}
+use Rattle.layout.specs.Body.{from as fromOn}
+use Rattle.layout.specs.declared.body.Shape.{Shape}
+use Rattle.layout.specs.declared.record.Transition.{Transition}
+use Rattle.layout.specs.declared.record.Head.{Head}
+use Rattle.meaning.specs.Numbers.{stayEdition}
+use Rattle.meaning.specs.Count.{tally, one}
+use Rattle.meaning.specs.Count.Laws.{tally-none, tally-more, tally-plus, tally-mono}
+use Rattle.meaning.specs.Meaning.{Set, same, Chart, lastPlace, untriggered}
+use Rattle.meaning.specs.File.{chartOf}
+use Rattle.meaning.specs.Laws.Bools.{same-refl, same→≡, same-≢}
+use Rattle.wiring.specs.Dropped.{join-cong}
+use Rattle.wiring.specs.Hunt.{mayOf}
+use Rattle.search.specs.Table.{backAt}
+use Rattle.search.specs.Stays.{triggerNeeded, triggerBarred, trips, Guards}
+use Rattle.tables.specs.Fill.{othersAt, keepAt}
+use Rattle.tables.specs.Fill.Laws.{keep-stay}
+use Rattle.tables.specs.Triggers.{Noted, begun, passed, noted, SameTriggers, noted-kept, noted-trips, Told, shut, listed, told-kept, stayers}
+use Rattle.candidates.specs.Candidates.{Mays}
+use Rattle.candidates.specs.Candidates.Laws.{length-from, nth-from}
+use Rattle.staying.specs.Staying.{putTrigger, Notes, Beside, Noting, Tells, quiet, Telling, Stays}
+
+-- ── a trigger that is put down ──
+
+module _ (g : List ℕ) (c k : ℕ) (t : Transition) (l : c < 8) (r : k < 8) (z : 16 * (c + 1) ≤ length g) where
+  put-needed : triggerNeeded (putTrigger g c k t) c k ≡ t .needed
+  unfolding putTrigger
+  put-needed = getD-set-other (set g (16 * c + k) (t .needed)) (16 * c + (8 + k)) (16 * c + k) (t .barred) 0 (λ e. omega arith)
+      ∙ getD-set-same g (16 * c + k) (t .needed) 0 (omega arith)
+
+  put-barred : triggerBarred (putTrigger g c k t) c k ≡ t .barred
+  unfolding putTrigger
+  put-barred = getD-set-same (set g (16 * c + k) (t .needed)) (16 * c + (8 + k)) (t .barred) 0 (rw (length-set g (16 * c + k) (t .needed)) (omega arith))
+
+  -- at any other place
+  put-other : (i : ℕ) → i ≢ 16 * c + k → i ≢ 16 * c + (8 + k) → getD (putTrigger g c k t) i 0 ≡ getD g i 0
+  unfolding putTrigger
+  put-other i p q = getD-set-other (set g (16 * c + k) (t .needed)) (16 * c + (8 + k)) i (t .barred) 0 q ∙ getD-set-other g (16 * c + k) i (t .needed) 0 p
+
+  put-earlier : SameTriggers g (putTrigger g c k t) c k
+  put-earlier v h = (put-other (16 * c + v) (λ e. omega arith) (λ e. omega arith), put-other (16 * c + (8 + v)) (λ e. omega arith) (λ e. omega arith))
+
+  put-size : length (putTrigger g c k t) ≡ length g
+  unfolding putTrigger
+  put-size = length-set (set g (16 * c + k) (t .needed)) (16 * c + (8 + k)) (t .barred) ∙ length-set g (16 * c + k) (t .needed)
+
+  beside-put : (g₀ : List ℕ) → Beside c g₀ g → Beside c g₀ (putTrigger g c k t)
+  beside-put g₀ b =
+      record {
+        others = λ d m n v h. let o = b .others d m n v h in
+            (put-other (16 * d + v) (λ e. n (omega arith)) (λ e. n (omega arith)) ∙ o .0, put-other (16 * d + (8 + v)) (λ e. n (omega arith)) (λ e. n (omega arith)) ∙ o .1);
+        size = put-size ∙ b .size;
+      }
+
+beside-none : (c : ℕ) (g : List ℕ) → Beside c g g
+beside-none c g = record { others = λ d m n v h. (refl, refl); size = refl }
+
+-- ── a chart's transitions ──
+
+module _ (f : ℕ → Transition) (start count q c : ℕ) (g₀ : List ℕ) where
+  pub noting-none : Noting f start count q c 0 g₀ g₀ 0
+  noting-none = record { noted = begun; counts = sym (tally-none _); beside = beside-none c g₀ }
+
+  abbrev fromState : ℕ → ℕ
+  fromState u = one (same (f (start + u) .from) q)
+
+  module _ (few : tally count fromState ≤ 8) (p : ℕ) (g : List ℕ) (k : ℕ) (h : Noting f start count q c p g₀ g k) where
+    pub noting-few : p ≤ count → k ≤ 8
+    noting-few l = let a = tally-mono p count fromState l in let b = h .counts in omega arith
+
+    pub noting-room : p < count → f (start + p) .from ≡ q → k < 8
+    noting-room l e = let a = tally-plus count fromState p l in let b = h .counts in let x : same (f (start + p) .from) q ≡ true = rw e (same-refl q) in let d : fromState p ≡ 1 = ap one x in omega arith
+
+    pub noting-next : p < count → c < 8 → 16 * (c + 1) ≤ length g₀ → (g′ : List ℕ) (k′ : ℕ) → Notes (f (start + p)) q c k g g′ k′ → Noting f start count q c (p + 1) g₀ g′ k′
+    noting-next l m z g′ k′ o = go (same (f (start + p) .from) q) refl
+      where
+        t : Transition
+        t = f (start + p)
+
+        counted : {x : Bool} → same (t .from) q ≡ x → k + one x ≡ tally (p + 1) fromState
+        counted e = let a = tally-more p fromState in let b = h .counts in let d = ap one e in omega arith
+
+        go : (x : Bool) → same (t .from) q ≡ x → Noting f start count q c (p + 1) g₀ g′ k′
+        go true e = let r = noting-room l (same→≡ (t .from) q e) in let z′ : 16 * (c + 1) ≤ length g = rw (h .beside .size) z in
+            rw (o .table ∙ ap (λ x. cond x (putTrigger g c k t) g) e, o .count ∙ ap (λ x. k + one x) e) (record {
+              noted = rw (add-one p, add-one k) (noted (noted-kept g (putTrigger g c k t) c (fromOn f start count) q (put-earlier g c k t m r z′) (h .noted)) t (nth-from f start count p l)
+                  (same→≡ (t .from) q e) (put-needed g c k t m r z′) (put-barred g c k t m r z′));
+              counts = counted e;
+              beside = beside-put g c k t m r z′ g₀ (h .beside);
+            })
+        go false e = rw (o .table ∙ ap (λ x. cond x (putTrigger g c k t) g) e, o .count ∙ ap (λ x. k + one x) e) (record {
+          noted = rw (add-one p) (subst (λ j. Noted g c (fromOn f start count) q (suc p) j) (let w : k ≡ k + 0 = omega arith in w)
+              (passed (h .noted) t (nth-from f start count p l) (λ w. false≢true (sym e ∙ rw w (same-refl q)))));
+          counts = counted e;
+          beside = h .beside;
+        })
+
+  -- ── what a search is told of the chart ──
+
+  module _ (g : List ℕ) (k : ℕ) (h : Noting f start count q c count g₀ g k) (few : k ≤ 8) (low high : Set) where
+    abbrev ts : List Transition
+    ts = fromOn f start count
+
+    all : Noted g c ts q (length ts) k
+    all = subst (λ j. Noted g c ts q j k) (sym (length-from f start count)) (h .noted)
+
+    pub tells-shut : trips g c k low high ≡ true → Tells ts q c low high g₀ g 0
+    tells-shut e = record { told = shut (noted-trips g c ts q low high k all ∙ ap not e) refl; few = omega arith; beside = h .beside }
+
+    pub tells-open : trips g c k low high ≡ false → Tells ts q c low high g₀ g (k + 1)
+    tells-open e = record { told = listed (noted-trips g c ts q low high k all ∙ ap not e) k (add-one k) all; few = omega arith; beside = h .beside }
+
+-- ── all charts ──
+
+module _ (n : Shape) (b config lows may m : List ℕ) where
+  pub telling-none : (g : List ℕ) → 16 * n .charts ≤ length g → Telling n b config lows may m 0 g (set (replicate 9 0) 8 1)
+  telling-none g z = record { told = λ c l. absurd (omega arith); few = λ c l. let z = none c l in omega arith; rest = λ c k l. none c l; size = z; small = refl; some-may = refl }
+    where
+      none : (c : ℕ) → c < 8 → getD {A = ℕ} (set (replicate 9 0) 8 1) c 0 ≡ 0
+      none c l = getD-set-other (replicate 9 0) 8 c 1 0 (λ e. omega arith) ∙ getD-replicate {A = ℕ} 9 c 0 0 (omega arith)
+
+  pub telling-next : (c : ℕ) (g y g′ : List ℕ) (start k : ℕ) (head : Head) (others : Set) → Telling n b config lows may m c g y → c < 8 → start ≡ startOf n b c → head ≡ headAt n b c
+      → others ≡ othersAt m (n .charts) (λ e. getD may e 0) c
+      → Tells (fromOn (transitionAt n b) start (head .transitions)) (getD config c 0) c (getD lows c 0) (getD lows c 0 ∪ others) g g′ k
+      → Telling n b config lows may m (c + 1) g′ (set y c k)
+  unfolding transitionsOf
+  telling-next c g y g′ start k head others h l es eh eo t =
+      record {
+        told = λ d r. go d r (same d c) refl;
+        few = λ d r. less d r (same d c) refl;
+        rest = λ d p r. getD-set-other y c d k 0 (λ e. omega arith) ∙ h .rest d (omega arith) r;
+        size = rw (t .beside .size) (h .size);
+        small = length-set y c k ∙ h .small;
+        some-may = getD-set-other y c 8 k 0 (λ e. omega arith) ∙ h .some-may;
+      }
+    where
+      apart? : (d : ℕ) → same d c ≡ false → d ≢ c
+      apart? d e w = false≢true (sym e ∙ rw w (same-refl c))
+
+      at : getD (set y c k) c 0 ≡ k
+      at = getD-set-same y c k 0 (let z = h .small in omega arith)
+
+      off : (d : ℕ) → same d c ≡ false → getD (set y c k) d 0 ≡ getD y d 0
+      off d e = getD-set-other y c d k 0 (apart? d e)
+
+      go : (d : ℕ) → d < c + 1 → (x : Bool) → same d c ≡ x → Told g′ d (fromOn (transitionAt n b) (startOf n b d) (headAt n b d .transitions)) (getD config d 0) (quiet n b config lows may m d) (getD (set y c k) d 0)
+      go d r true e = rw (same→≡ d c e, at, ← eo, ← es, ← eh) (t .told)
+      go d r false e = let w = apart? d e in rw (off d e)
+          (told-kept g g′ d _ (getD config d 0) _ (getD y d 0) (h .few d (omega arith)) (t .beside .others d (omega arith) w) (h .told d (omega arith)))
+
+      less : (d : ℕ) → d < 8 → (x : Bool) → same d c ≡ x → getD (set y c k) d 0 ≤ 9
+      less d r true e = rw (same→≡ d c e, at) (t .few)
+      less d r false e = rw (off d e) (h .few d r)
+
+  -- ── as the search asks for ──
+
+  abbrev E : ℕ → Chart
+  E = chartOf n b
+
+  abbrev cfg : ℕ → ℕ
+  cfg c = getD config c 0
+
+  pub stays-told : (g y : List ℕ) → n .edition ≡ stayEdition → Mays n b config (n .charts) may → Telling n b config lows may m (n .charts) g y → Stays n b config lows m g y
+  unfolding chartOf othersAt
+  stays-told g y two my h =
+      record {
+        stayers = stayers E cfg (n .charts) (keepAt E cfg (n .charts) lows m) g y (λ c l. subst (λ x. Told g c (E c .transitions) (cfg c) x (getD y c 0)) (sym (kept c)) (h .told c l));
+        guards = record { masks = room; small = h .small; counts = h .few; none-may = λ e. absurd (let z = h .some-may in omega arith) };
+      }
+    where
+      room : (c : ℕ) → c < 8 → getD y c 0 ≢ 0 → 16 * (c + 1) ≤ length g
+      room c l w = go (decLt c (n .charts))
+        where
+          go : Dec (c < n .charts) → 16 * (c + 1) ≤ length g
+          go (yes p) = let z = h .size in omega arith
+          go (no p) = absurd (w (h .rest c (omega arith) l))
+
+      stays : (c : ℕ) → E c .stays ≡ true
+      stays c = rw two (same-refl stayEdition)
+
+      kept : (c : ℕ) → (E c .stays && keepAt E cfg (n .charts) lows m c (lastPlace (E c))) ≡ quiet n b config lows may m c
+      kept c = ap (λ x. x && keepAt E cfg (n .charts) lows m c (lastPlace (E c))) (stays c) ∙ keep-stay E cfg (n .charts) lows m c (stays c)
+          ∙ ap (λ z. untriggered (E c .transitions) (cfg c) (getD lows c 0) (getD lows c 0 ∪ z))
+          (join-cong (n .charts) _ _ (λ e l. ap (λ z. cond (same e c) 0 z ∩ backAt m c e) (sym (my e l))))
+
+  -- no chart may stay
+  pub stays-none : (g : List ℕ) → n .charts ≤ 8 → n .edition ≢ stayEdition → Stays n b config lows m g (replicate 9 0)
+  unfolding chartOf
+  stays-none g few one =
+      record {
+        stayers = stayers E cfg (n .charts) (keepAt E cfg (n .charts) lows m) g (replicate 9 0)
+            (λ c l. shut (ap (λ x. x && keepAt E cfg (n .charts) lows m c (lastPlace (E c))) (same-≢ (n .edition) stayEdition one)) (none c (omega arith)));
+        guards = record { masks = λ c l w. absurd (w (none c l)); small = length-replicate {A = ℕ} 9 0; counts = λ c l. let z = none c l in omega arith; none-may = λ e. none };
+      }
+    where
+      none : (c : ℕ) → c < 8 → getD {A = ℕ} (replicate 9 0) c 0 ≡ 0
+      none c l = getD-replicate 9 c 0 0 (omega arith)

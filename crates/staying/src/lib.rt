@@ -1,0 +1,133 @@
+// The charts that may stay, in a file of the edition that lets them: what triggers each, for a search to look up. Triggers are all transitions from a
+// chart's present state, those too that are no candidates.
+ghost use mathlib.Core.Path.{_≡_};
+ghost use Prim.Native.Nat.{_+_, _*_, _≤_, _<_};
+ghost use lib.ListN.{length, getD};
+ghost use Rattle.signals.specs.Mask.{_∪_};
+ghost use Rattle.layout.specs.Body.{Holds, transitionAt, startOf};
+ghost use Rattle.layout.specs.Body.{from as fromOn};
+ghost use Rattle.meaning.specs.Count.{tally, one};
+ghost use Rattle.meaning.specs.Meaning.{same};
+ghost use Rattle.meaning.specs.Numbers.{stayEdition};
+ghost use Rattle.search.specs.Table.{masksFor};
+ghost use Rattle.candidates.specs.Candidates.{Ready, Mays};
+ghost use Rattle.staying.specs.Staying.{Notes, Noting, Tells, Telling, Stays};
+use layout::body::Shape;
+
+// One transition more: a trigger of chart c, if it is from the chart's state. How many there are then.
+fn note(
+    n: Shape,
+    body: &[u8],
+    t: usize,
+    state: u8,
+    guards: &mut [u64],
+    c: usize,
+    have: usize,
+) -> usize
+    requires { ⌜ Holds n (now body) × (t < n .transitions) × (16 * (c + 1) ≤ length (now guards)) × (c < 8)
+        × (have ≤ 8) × (transitionAt n (now body) t .from ≡ state → have < 8) ⌝ }
+    ensures { λ r. ⌜ Notes (transitionAt n (now (body .entry)) t) state c have (now (guards .entry)) (now (guards .exit)) r ⌝ }
+{
+    if candidates::from_at(n, body, t) != state {
+        return have;
+    }
+    let r = layout::body::transition_at(n, body, t);
+    guards[search::TRIGGERS * c + have] = r.needed;
+    guards[search::TRIGGERS * c + (search::TRIGGER_BARS + have)] = r.barred;
+    have + 1
+}
+
+// The triggers of chart c, from its `count` transitions from `start` on; how many there are.
+fn note_chart(
+    n: Shape,
+    body: &[u8],
+    start: usize,
+    count: usize,
+    state: u8,
+    guards: &mut [u64],
+    c: usize,
+) -> usize
+    requires { ⌜ Holds n (now body) × (start + count ≤ n .transitions) × (16 * (c + 1) ≤ length (now guards)) × (c < 8)
+        × (tally count (λ u. one (same (transitionAt n (now body) (start + u) .from) state)) ≤ 8) ⌝ }
+    ensures { λ r. ⌜ Noting (transitionAt n (now (body .entry))) start count state c count (now (guards .entry)) (now (guards .exit)) r × (r ≤ 8) ⌝ }
+{
+    let mut have: usize = 0;
+    let mut p: usize = 0;
+    while p < count {
+        have = note(n, body, start + p, state, guards, c, have);
+        p += 1;
+    }
+    have
+}
+
+// What a search is told of chart c: 0 if it is surely triggered, so cannot stay; else how many triggers it has, and 1.
+fn tell(
+    n: Shape,
+    body: &[u8],
+    start: usize,
+    count: usize,
+    state: u8,
+    guards: &mut [u64],
+    c: usize,
+    low: u64,
+    high: u64,
+) -> u8
+    requires { ⌜ Holds n (now body) × (start + count ≤ n .transitions) × (16 * (c + 1) ≤ length (now guards)) × (c < 8)
+        × (tally count (λ u. one (same (transitionAt n (now body) (start + u) .from) state)) ≤ 8) ⌝ }
+    ensures { λ r. ⌜ Tells (fromOn (transitionAt n (now (body .entry))) start count) state c low high (now (guards .entry)) (now (guards .exit)) r ⌝ }
+{
+    let have = note_chart(n, body, start, count, state, guards, c);
+    if search::trips(guards, c, have, low, high) {
+        return 0;
+    }
+    (have + 1) as u8
+}
+
+// The same of every chart, where `low` has what each is surely offered and `may` what each might put out.
+fn tell_all(
+    n: Shape,
+    body: &[u8],
+    config: &[u8],
+    low: [u64; 8],
+    may: [u64; 8],
+    masks: &[u64],
+    guards: &mut [u64],
+) -> [u8; 9]
+    requires { ⌜ Ready n (now body) (now config) × (masksFor 0 ≤ length (now masks)) × (16 * n .charts ≤ length (now guards)) ⌝ }
+    ensures { λ r. ⌜ Telling n (now (body .entry)) (now (config .entry)) low may (now (masks .entry)) (n .charts) (now (guards .exit)) r ⌝ }
+{
+    let mut stays = [0u8; search::STAYS];
+    stays[search::SOME_STAY] = 1;
+    let mut start: usize = 0;
+    let mut c: usize = 0;
+    while c < n.charts {
+        let head = layout::body::head_at(n, body, c);
+        let count = head.transitions as usize;
+        let others = candidates::others(masks, n.charts, may, c);
+        let high = low[c] | others;
+        stays[c] = tell(n, body, start, count, config[c], guards, c, low[c], high);
+        start += count;
+        c += 1;
+    }
+    stays
+}
+
+// What a search is told of every chart: that none may stay, unless the file's edition lets them. Then `guards` gets the triggers.
+pub fn stays(
+    n: Shape,
+    body: &[u8],
+    config: &[u8],
+    low: [u64; 8],
+    may: [u64; 8],
+    masks: &[u64],
+    guards: &mut [u64],
+) -> [u8; 9]
+    requires { ⌜ Ready n (now body) (now config) × (masksFor 0 ≤ length (now masks)) × Mays n (now body) (now config) (n .charts) may
+        × (n .edition ≡ stayEdition → 16 * n .charts ≤ length (now guards)) ⌝ }
+    ensures { λ r. ⌜ Stays n (now (body .entry)) (now (config .entry)) low (now (masks .entry)) (now (guards .exit)) r ⌝ }
+{
+    if n.edition != checks::limits::STAY_EDITION as usize {
+        return [0u8; search::STAYS];
+    }
+    tell_all(n, body, config, low, may, masks, guards)
+}
