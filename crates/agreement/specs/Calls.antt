@@ -13,14 +13,14 @@ use Rattle.layout.specs.Le.{AllBytes}
 use Rattle.layout.specs.Body.{sizeOf}
 use Rattle.layout.specs.Body.Laws.{headAt-fits, nodeAt-fits}
 use Rattle.meaning.specs.Count.{anyUpTo}
-use Rattle.meaning.specs.Count.Laws.{any-never, any-cong}
+use Rattle.meaning.specs.Count.Laws.{any-cong}
 use Rattle.meaning.specs.Meaning.{Set, ∅, same, refused, given}
 use Rattle.meaning.specs.File.{endOf, trailer, bodyOf, shapeOf, chartOf, fileAt, fileOf}
 use Rattle.meaning.specs.Numbers.{firstEdition, mostNodes, wrongLength, badState, shortBuffer, shortRows}
-use Rattle.meaning.specs.Check.Laws.{below, alike, firstOf-passes, Passed, passed, call-passed, counted, charted}
+use Rattle.meaning.specs.Check.Laws.{firstOf-passes, Passed, passed, call-passed, in-front, counted, charted}
 use Rattle.meaning.specs.Check.{Test, firstOf, differ, notBelow, fileTests, refusalOf}
 use Rattle.meaning.specs.Calls.{made, laidOver, firstRefusal, initials, firstBytes, inputOf, outputOf, configTests, stepRefusal, stepIn, stepOf, allPlaces, placesIn, placesOf, runRefusal, rowsOf, carriedOf, runBytes, runCarried}
-use Rattle.meaning.specs.Calls.Laws.{made-cong}
+use Rattle.meaning.specs.Calls.Laws.{made-cong, call-allowed}
 use Rattle.meaning.specs.Rewriting.{chartWith, rewrittenChart, rewriteTests, rewriteBytes, stayTest, rewriteRefusal, rewrite, rewriteLength, shapeIn}
 use Rattle.meaning.specs.Laws.Bools.{same-refl, same→≡}
 use Rattle.meaning.specs.Laws.Runs.{Valid}
@@ -29,7 +29,7 @@ use Rattle.agreement.specs.Step.{Rewritten, step-is}
 use Rattle.agreement.specs.Taken.{PlacesAgree, taken-agree}
 use Rattle.agreement.specs.Run.{run-is, carried-is}
 use Rattle.agreement.specs.Faces.{input-is, output-is}
-use Rattle.agreement.specs.Passed.{front, in-front, ended, smalls, body-bytes, ready}
+use Rattle.agreement.specs.Passed.{ended, smalls, body-bytes, ready}
 use Rattle.agreement.specs.New.{Regular}
 use Rattle.agreement.specs.Slaveless.{slaveless-same}
 use Rattle.agreement.specs.Written.{encode-again}
@@ -156,15 +156,6 @@ module _ (f : List ℕ) (ab : AllBytes f) (room : ℕ) (ok : rewriteRefusal f ro
       (ap (λ n. anyUpTo n (λ c. notBelow (getD config c 0) (fileOf f′ .chart c .states))) (r .charts)
       ∙ any-cong (fileOf f .charts) _ _ (λ c l. ap (notBelow (getD config c 0)) (states-same c l)))
 
-  valid : (config : List ℕ) (us : List Test) → firstOf (configTests f config ++ us) ≡ 0 → Valid (fileOf f) config
-  unfolding configTests
-  valid config us e =
-      let q = front (configTests f config) us (lit< tt, (lit< tt, tt)) e in
-      record {
-        long = alike _ _ (q .0 .0);
-        states = λ c l. below _ _ (any-never (fileOf f .charts) (λ c. notBelow (getD config c 0) (fileOf f .chart c .states)) (q .0 .1 .0) c l);
-      }
-
   -- a call whose tests are 1 to 11, 20, 21 and one more: its refusal, and what it answers
   module _ (config : List ℕ) (u u′ : Test) (us : u′ ≡ u) where
     abbrev n : ℕ
@@ -180,12 +171,15 @@ module _ (f : List ℕ) (ab : AllBytes f) (room : ℕ) (ok : rewriteRefusal f ro
     tests-same = ap firstOf (append-assoc (fileTests f′) (configTests f′ config) (u′ ∷ [])) ∙ call-passed f′ _ same-check
         ∙ ap₂ (λ ts u. firstOf (ts ++ (u ∷ []))) (config-same config) us ∙ sym tests
 
+    valid : n ≡ 0 → Valid (fileOf f) config
+    valid e = call-allowed f config (u ∷ []) e .1
+
     answer-same : {A : Type 0} (x x′ : A) (other : ℕ → A) → (Valid (fileOf f) config → x′ ≡ x)
         → cond (same n′ 0) x′ (other n′) ≡ cond (same n 0) x (other n)
     answer-same {A} x x′ other xs = ap (λ k. cond (same k 0) x′ (other k)) tests-same ∙ go (same n 0) refl
       where
         go : (b : Bool) → same n 0 ≡ b → cond b x′ (other n) ≡ cond b x (other n)
-        go true e = xs (valid config (u ∷ []) (sym tests ∙ same→≡ n 0 e))
+        go true e = xs (valid (same→≡ n 0 e))
         go false e = refl
 
   -- the step
@@ -214,7 +208,7 @@ module _ (f : List ℕ) (ab : AllBytes f) (room : ℕ) (ok : rewriteRefusal f ro
       go : (b : Bool) → same (n config u u′ us) 0 ≡ b
           → PlacesAgree (fileOf f) (fileOf f′) config (cond b (stepIn (fileOf f) config i) (refused (n config u u′ us)))
           (cond b (placesIn (fileOf f) config i) (allPlaces [])) (cond b (placesIn (fileOf f′) config i) (allPlaces []))
-      go true e = taken-agree (fileOf f) (fileOf f′) (rg .ready) r config (valid config (u ∷ []) (sym (tests config u u′ us) ∙ same→≡ _ 0 e)) i
+      go true e = taken-agree (fileOf f) (fileOf f′) (rg .ready) r config (valid config u u′ us (same→≡ _ 0 e)) i
       go false e = record { long = refl; each = λ c. inl refl; taken = λ z. absurd (false≢true (sym e ∙ ap (λ n. same n 0) z ∙ same-refl 0)) }
 
   -- the run

@@ -1,9 +1,8 @@
--- What a file is that passes 1 to 11, as far as the rewriting assumes it: tests in front of others; transitions between states;
+-- What a file is that passes 1 to 11, as far as the rewriting assumes it: that it passes (`passes`); transitions between states;
 -- sets of 64 signals; all that the theorem on steps assumes (`ready`).
-use mathlib.Core.Path.{_≡_, sym, _∙_, ap, subst}
+use mathlib.Core.Path.{_≡_, sym, subst}
 use mathlib.Core.Bool.{false}
-use mathlib.Core.List.{List, [], _∷_, _++_, append-nil}
-use mathlib.Core.Logic.{⊎-elim}
+use mathlib.Core.List.{List, [], _∷_}
 use Prim.Native.Nat.{ℕ, _+_, _-_, _^_, _<_}
 use native.Mathlib.Omega.{arith}
 use native.Mathlib.Decide.{decLt}
@@ -23,9 +22,9 @@ use Rattle.meaning.specs.Count.{anyUpTo}
 use Rattle.meaning.specs.Count.Laws.{or-left, or-right, any-never}
 use Rattle.meaning.specs.Meaning.{guards, actions}
 use Rattle.meaning.specs.File.{endOf, trailer, bodyOf, shapeOf, chartOf, fileAt, fileOf}
-use Rattle.meaning.specs.Check.{Test, firstOf, notBelow, ends?, transitions?, fileTests, refusalOf}
+use Rattle.meaning.specs.Check.{notBelow, ends?, transitions?, fileTests, refusalOf}
 use Rattle.meaning.specs.Check.Nodes.{sound}
-use Rattle.meaning.specs.Check.Laws.{below, Numbered, Passes, firstOf-[], firstOf-passes, firstOf-++, firstOf-before, Passed, numbered, counted, charted, eq-or-not}
+use Rattle.meaning.specs.Check.Laws.{below, all-pass, Passed, counted, charted}
 use Rattle.meaning.specs.Numbers.{firstEdition}
 use Rattle.meaning.specs.Rewriting.{used}
 use Rattle.meaning.specs.Laws.Editions.{one-stays}
@@ -33,21 +32,6 @@ use Rattle.agreement.specs.Every.{Every, every-from, every-imp}
 use Rattle.agreement.specs.Encoded.{Small}
 use Rattle.agreement.specs.Free.{union-small}
 use Rattle.agreement.specs.Step.{Ready}
-
--- ── tests in front of others ──
-
--- no test of a list applies, and none behind it
-pub front : (ts us : List Test) → Numbered ts → firstOf (ts ++ us) ≡ 0 → Passes ts × (firstOf us ≡ 0)
-front ts us n e = ⊎-elim
-    (λ z. let p = firstOf-passes ts n z in (p, sym (firstOf-++ ts us p) ∙ e))
-    (λ z. absurd (z (sym (firstOf-before ts us z) ∙ e))) (eq-or-not (firstOf ts) 0)
-
-all-pass : (ts : List Test) → Passes ts → firstOf ts ≡ 0
-all-pass ts p = ap firstOf (sym (append-nil ts)) ∙ firstOf-++ ts [] p ∙ firstOf-[]
-
-pub in-front : (f : List ℕ) (us : List Test) → firstOf (fileTests f ++ us) ≡ 0 → (refusalOf f ≡ 0) × (firstOf us ≡ 0)
-unfolding refusalOf
-in-front f us e = let p = front (fileTests f) us (numbered f) e in (all-pass (fileTests f) (p .0), p .1)
 
 -- the converse of `passed`
 pub passes : (f : List ℕ) → Passed f → refusalOf f ≡ 0

@@ -2,32 +2,32 @@
 -- run (`row-sure`). In this order: an answer without doubt (Sure); the tree of a plain file is plain, and so its steps are sure (`step-sure`); the same
 -- of bytes.
 use mathlib.Core.Path.{_≡_, refl, _∙_, ap}
-use mathlib.Core.Bool.{Bool, true, false, _&&_, not, cond, false≢true}
-use mathlib.Core.List.{List, [], _∷_, _++_, append-assoc}
+use mathlib.Core.Bool.{Bool, true, false, _&&_, cond, false≢true}
+use mathlib.Core.List.{List, [], _∷_, _++_}
 use mathlib.Core.Logic.{_⊎_, inl, inr}
 use Prim.Native.Nat.{ℕ, zero, suc, _+_, _-_, _*_, _≤_, _<_}
 use native.Mathlib.Omega.{arith}
-use borrow.Author.Tests.{lt-ltb, le-ltb, not-true}
-use lib.Dec.{ltb}
+use borrow.Author.Tests.{not-true}
 use lib.ListN.{length, getD, take, drop}
 use lib.Seq.{getD-append-add}
 use Rattle.signals.specs.Mask.{_∪_, Within}
 use Rattle.signals.specs.Decide.{sets, A, B, C, _∪ₑ_, _⊑_}
 use Rattle.layout.specs.Le.{bytes}
 use Rattle.layout.specs.Le.Laws.{length-bytes}
-use Rattle.meaning.specs.Numbers.{firstEdition, shortBuffer, noStep}
+use Rattle.meaning.specs.Numbers.{firstEdition, noStep}
 use Rattle.meaning.specs.Count.{one}
-use Rattle.meaning.specs.Count.Laws.{any-never, any-all}
+use Rattle.meaning.specs.Count.Laws.{any-never}
 use Rattle.meaning.specs.Meaning.{Set, ∅, same, Tree, Slaves, nil, snoc, Outcome, Answer, refused, given, agree, answer}
 use Rattle.meaning.specs.File.{File, whole, gather, treeOf, wholeOf, trailer, shapeOf, fileAt, fileOf}
-use Rattle.meaning.specs.Check.{Test, firstOf, fileTests, refusalOf}
-use Rattle.meaning.specs.Check.Laws.{firstOf-next, firstOf-[], firstOf-++, passed, call-passed, counted}
+use Rattle.meaning.specs.Check.{refusalOf}
+use Rattle.meaning.specs.Check.Laws.{passed, counted}
 use Rattle.meaning.specs.Check.Nodes.{Sound, sound}
-use Rattle.meaning.specs.Calls.{configTests, stepRefusal, outcomesIn, stepIn, stepOf, rowOf}
+use Rattle.meaning.specs.Calls.{stepRefusal, outcomesIn, stepIn, stepOf, rowOf}
+use Rattle.meaning.specs.Calls.Laws.{step-open}
 use Rattle.meaning.specs.Rewriting.{unionUpTo}
 use Rattle.meaning.specs.Rewriting.Laws.{union-in}
 use Rattle.meaning.specs.Plain.{fedBack, anyDoubtful, plainIn, plainOf}
-use Rattle.meaning.specs.Laws.Bools.{and-l, and-r, same-refl, same→≡, agrees}
+use Rattle.meaning.specs.Laws.Bools.{and-l, and-r, same-refl, same→≡}
 use Rattle.meaning.specs.Laws.Editions.{one-stays}
 use Rattle.meaning.specs.Laws.Names.{joined}
 use Rattle.meaning.specs.Laws.Trees.{tree₀, tree₁, tree₂, all-there}
@@ -137,17 +137,7 @@ module _ (f : List ℕ) (p : plainOf f ≡ true) where
 
   -- "given a valid configuration and a long enough buffer"
   pub plain-sure : (config : List ℕ) (i : Set) (room : ℕ) → Valid (fileOf f) config → fileOf f .charts ≤ room → Sure (stepOf f config i room)
-  unfolding stepRefusal configTests
-  plain-sure config i room v l = unrefused-sure config i room (ap firstOf (append-assoc (fileTests f) (configTests f config) (long ∷ []))
-      ∙ call-passed f (configTests f config ++ (long ∷ [])) (plain-passes f p .0)
-      ∙ firstOf-++ (configTests f config) (long ∷ []) (
-        agrees (length config) (fileOf f .charts) (v .long),
-        (any-all (fileOf f .charts) _ (λ c m. ap not (lt-ltb (getD config c 0) (fileOf f .chart c .states) (v .states c m))), tt),
-      )
-      ∙ firstOf-next long [] (le-ltb room (fileOf f .charts) l) ∙ firstOf-[])
-    where
-      long : Test
-      long = record { number = shortBuffer; applies = ltb room (fileOf f .charts) }
+  plain-sure config i room v l = unrefused-sure config i room (step-open f config room (plain-passes f p .0) v l)
 
 -- ── the run ──
 

@@ -1,17 +1,26 @@
 -- Laws of what calls answer. In this order: of `made`, its length, an entry of it, equal entries, and one entry more stored over a buffer; that
--- "refused steps carry 255 throughout" (`in-refused`, `of-refused`).
-use mathlib.Core.Path.{_≡_, refl, ap, ap₂, _∙_}
-use mathlib.Core.Bool.{Bool, true, false, cond}
+-- "refused steps carry 255 throughout" (`in-refused`, `of-refused`); what a step and a run that are not refused have (`step-allowed`,
+-- `run-allowed`), and that with it they are not (`step-open`, `run-open`); answers behind tests (`behind-cong`, `behind-is`).
+use mathlib.Core.Path.{_≡_, refl, sym, ap, ap₂, _∙_}
+use mathlib.Core.Bool.{Bool, true, false, not, cond}
 use mathlib.Core.List.{List, [], _∷_, _++_, append-assoc}
-use Prim.Native.Nat.{ℕ, zero, suc, _+_, _<_}
+use Prim.Native.Nat.{ℕ, zero, suc, _+_, _*_, _≤_, _<_}
 use native.Mathlib.Decide.{decLt}
 use native.Mathlib.Numerals.{add-one}
 use native.Mathlib.Omega.{arith}
+use borrow.Author.Tests.{lt-ltb, le-ltb, ltb-false}
+use lib.Dec.{ltb, lit<}
 use lib.ListN.{length, getD, drop, set, length-append, List·getD-append}
 use lib.Seq.{drop-cons, set-at, getD-at}
+use Rattle.meaning.specs.Numbers.{shortBuffer, shortRows}
+use Rattle.meaning.specs.Count.Laws.{any-never, any-all}
 use Rattle.meaning.specs.Meaning.{Set, same, Outcome, refused, answer, firstPlaces}
 use Rattle.meaning.specs.File.{File, fileOf}
-use Rattle.meaning.specs.Calls.{made, outcomesIn, stepRefusal, stepIn, stepOf, allPlaces, placesIn, placesOf}
+use Rattle.meaning.specs.Check.{Test, firstOf, fileTests, refusalOf}
+use Rattle.meaning.specs.Check.Laws.{below, alike, Passes, firstOf-passes, firstOf-++, all-pass, front, call-passed, in-front}
+use Rattle.meaning.specs.Calls.{made, outcomesIn, configTests, stepRefusal, stepIn, stepOf, allPlaces, placesIn, placesOf, runRefusal}
+use Rattle.meaning.specs.Laws.Bools.{agrees, same-refl, same→≡}
+use Rattle.meaning.specs.Laws.Runs.{Valid}
 
 pub length-made : (n : ℕ) (f : ℕ → ℕ) → length (made n f) ≡ n
 unfolding made
@@ -62,3 +71,79 @@ module _ (r : ℕ) where
   pub of-refused : (f config : List ℕ) (i : Set) (room : ℕ) → stepOf f config i room ≡ refused r → placesOf f config i room ≡ allPlaces []
   unfolding stepOf placesOf
   of-refused f config i room e = behind-refused (stepRefusal f config room) (fileOf f) config i e
+
+-- ── what a call that is not refused has ──
+
+module _ (f config : List ℕ) where
+  -- 20 and 21
+  config-passes : Valid (fileOf f) config → Passes (configTests f config)
+  unfolding configTests
+  config-passes v = (
+    agrees (length config) (fileOf f .charts) (v .long),
+    (any-all (fileOf f .charts) _ (λ c m. ap not (lt-ltb (getD config c 0) (fileOf f .chart c .states) (v .states c m))), tt),
+  )
+
+  config-valid : Passes (configTests f config) → Valid (fileOf f) config
+  unfolding configTests
+  config-valid p =
+      record { long = alike _ _ (p .0); states = λ c l. below _ _ (any-never (fileOf f .charts) _ (p .1 .0) c l) }
+
+  -- a call whose tests are 1 to 11, 20, 21 and some more
+  module _ (us : List Test) where
+    tests : firstOf (fileTests f ++ configTests f config ++ us) ≡ firstOf (fileTests f ++ (configTests f config ++ us))
+    tests = ap firstOf (append-assoc (fileTests f) (configTests f config) us)
+
+    pub call-open : refusalOf f ≡ 0 → Valid (fileOf f) config → firstOf (fileTests f ++ configTests f config ++ us) ≡ firstOf us
+    call-open h v = tests ∙ call-passed f _ h ∙ firstOf-++ (configTests f config) us (config-passes v)
+
+    pub call-allowed : firstOf (fileTests f ++ configTests f config ++ us) ≡ 0
+        → (refusalOf f ≡ 0) × Valid (fileOf f) config × (firstOf us ≡ 0)
+    unfolding configTests
+    call-allowed e =
+        let p = in-front f _ (sym tests ∙ e) in
+        let q = front (configTests f config) us (lit< tt, (lit< tt, tt)) (p .1) in
+        (p .0, config-valid (q .0), q .1)
+
+  -- 22, or 27: a buffer has room for so many bytes
+  module _ (number : ℕ) (n : 0 < number) (need room : ℕ) where
+    abbrev short : Test
+    short = record { number = number; applies = ltb room need }
+
+    room-open : need ≤ room → firstOf (short ∷ []) ≡ 0
+    room-open l = all-pass (short ∷ []) (le-ltb room need l, tt)
+
+    room-left : firstOf (short ∷ []) ≡ 0 → need ≤ room
+    room-left e = ltb-false room need (firstOf-passes (short ∷ []) (n, tt) e .0)
+
+  pub step-open : (room : ℕ) → refusalOf f ≡ 0 → Valid (fileOf f) config → fileOf f .charts ≤ room → stepRefusal f config room ≡ 0
+  unfolding stepRefusal
+  step-open room h v l = call-open _ h v ∙ room-open shortBuffer (lit< tt) _ room l
+
+  pub step-allowed : (room : ℕ) → stepRefusal f config room ≡ 0
+      → (refusalOf f ≡ 0) × Valid (fileOf f) config × (fileOf f .charts ≤ room)
+  unfolding stepRefusal
+  step-allowed room e = let q = call-allowed _ e in (q .0, q .1, room-left shortBuffer (lit< tt) _ room (q .2))
+
+  pub run-open : (inputs room : ℕ) → refusalOf f ≡ 0 → Valid (fileOf f) config → inputs * (10 + fileOf f .charts) ≤ room
+      → runRefusal f config inputs room ≡ 0
+  unfolding runRefusal
+  run-open inputs room h v l = call-open _ h v ∙ room-open shortRows (lit< tt) _ room l
+
+  pub run-allowed : (inputs room : ℕ) → runRefusal f config inputs room ≡ 0
+      → (refusalOf f ≡ 0) × Valid (fileOf f) config × (inputs * (10 + fileOf f .charts) ≤ room)
+  unfolding runRefusal
+  run-allowed inputs room e = let q = call-allowed _ e in (q .0, q .1, room-left shortRows (lit< tt) _ room (q .2))
+
+-- ── answers behind tests ──
+
+-- what stands where no test applies is all that may differ
+pub behind-cong : {A : Type 0} (n : ℕ) (x y z : A) → (n ≡ 0 → x ≡ y) → cond (same n 0) x z ≡ cond (same n 0) y z
+behind-cong {A} n x y z h = go (same n 0) refl
+  where
+    go : (b : Bool) → same n 0 ≡ b → cond b x z ≡ cond b y z
+    go true e = h (same→≡ n 0 e)
+    go false e = refl
+
+-- where none does, it is what is answered
+pub behind-is : {A : Type 0} (n : ℕ) (x z : A) → n ≡ 0 → cond (same n 0) x z ≡ x
+behind-is n x z e = ap (λ b. cond b x z) (ap (λ k. same k 0) e ∙ same-refl 0)

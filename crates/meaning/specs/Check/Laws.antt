@@ -1,18 +1,19 @@
 -- Laws of the file check, grouped under what they speak of: a test that is false; the first refusal that applies (`firstOf`); what a file that is
 -- not refused meets (`refusalOf`); what 3 gives (`counts?`); what 6 gives (`charts?`); that over 8 transitions from one state are found as a walk
--- goes (`transitions?`). Those of 8 to 11 are in Check/Nodes.antt.
-use mathlib.Core.Path.{_≡_, refl, sym, _∙_}
+-- goes, and that transitions lead to states of their chart (`transitions?`). Those of 8 to 11 are in Check/Nodes.antt.
+use mathlib.Core.Path.{_≡_, refl, sym, _∙_, ap}
 use mathlib.Core.Bool.{Bool, true, false, _||_}
-use mathlib.Core.List.{List, [], _∷_, _++_}
+use mathlib.Core.List.{List, [], _∷_, _++_, append-nil, List·Memᴰ, List·Memᴰ·cases-cons, List·Memᴰ·not-nil}
 use mathlib.Core.Logic.{_⊎_, inl, inr, ⊎-elim}
 use Prim.Native.Nat.{ℕ, zero, suc, _+_, _≤_, _<_}
 use native.Mathlib.Omega.{arith}
 use borrow.Author.Tests.{le-ltb, ltb-true, ltb-false, eq-eqb, ne-eqb, eqb-true, eqb-false, not-false}
 use lib.Dec.{ltb, eqb, lit<}
 use lib.ListN.{length}
-use Rattle.layout.specs.Body.{headAt, startOf}
+use Rattle.layout.specs.Body.{headAt, transitionAt, startOf, from, transitionsOf}
 use Rattle.layout.specs.declared.body.Shape.{Shape}
 use Rattle.layout.specs.declared.record.Trailer.{Trailer}
+use Rattle.layout.specs.declared.record.Transition.{Transition}
 use Rattle.meaning.specs.Numbers.{mostCharts, mostSlaves, mostNodes, mostTransitions, mostStates, mostInChart, mostFromState}
 use Rattle.meaning.specs.Count.{anyUpTo, tally, one}
 use Rattle.meaning.specs.Count.Laws.{or-left, or-right, or-three, or-four, any-never, any-all, any-cong, tally-mono}
@@ -103,6 +104,20 @@ firstOf-before (t ∷ ts) us h =
     (λ (e : t .applies ≡ false). rw e (firstOf-before ts us (rw e at h)))
     (decided (t .applies))
 
+pub all-pass : (ts : List Test) → Passes ts → firstOf ts ≡ 0
+all-pass ts p = ap firstOf (sym (append-nil ts)) ∙ firstOf-++ ts [] p ∙ firstOf-[]
+
+pub eq-or-not : (a b : ℕ) → (a ≡ b) ⊎ (a ≡ b → ⊥)
+eq-or-not a b = ⊎-elim (λ e. inl (eqb-true a b e)) (λ e. inr (eqb-false a b e)) (decided (eqb a b))
+
+-- no test of a list applies, and none behind it
+pub front : (ts us : List Test) → Numbered ts → firstOf (ts ++ us) ≡ 0 → Passes ts × (firstOf us ≡ 0)
+front ts us n e =
+    ⊎-elim
+    (λ z. let p = firstOf-passes ts n z in (p, sym (firstOf-++ ts us p) ∙ e))
+    (λ z. absurd (z (sym (firstOf-before ts us z) ∙ e)))
+    (eq-or-not (firstOf ts) 0)
+
 -- ── refusalOf ──
 
 -- what a file that is not refused meets
@@ -153,6 +168,10 @@ call-refused f us h = firstOf-before (fileTests f) us h
 
 pub call-passed : (f : List ℕ) (us : List Test) → refusalOf f ≡ 0 → firstOf (fileTests f ++ us) ≡ firstOf us
 call-passed f us h = firstOf-++ (fileTests f) us (file-passes f h)
+
+pub in-front : (f : List ℕ) (us : List Test) → firstOf (fileTests f ++ us) ≡ 0 → (refusalOf f ≡ 0) × (firstOf us ≡ 0)
+unfolding refusalOf
+in-front f us e = let p = front (fileTests f) us (numbered f) e in (all-pass (fileTests f) (p .0), p .1)
 
 -- ── counts? ──
 
@@ -222,9 +241,6 @@ module _ (n : Shape) (b : List ℕ) where
 
 -- ── transitions? ──
 
-pub eq-or-not : (a b : ℕ) → (a ≡ b) ⊎ (a ≡ b → ⊥)
-eq-or-not a b = ⊎-elim (λ e. inl (eqb-true a b e)) (λ e. inr (eqb-false a b e)) (decided (eqb a b))
-
 module _ (n : Shape) (b : List ℕ) (c : ℕ) where
   abbrev fromAt : ℕ → ℕ
   fromAt k = inChart n b c k .from
@@ -293,3 +309,31 @@ module _ (n : Shape) (b : List ℕ) (c : ℕ) where
 pub transitions-walked : (n : Shape) (b : List ℕ) → transitions? n b ≡ anyUpTo (n .charts) (λ c. anyUpTo (headAt n b c .transitions) (badAt n b c))
 unfolding transitions?
 transitions-walked n b = any-cong (n .charts) _ _ (λ c _. sym (walked n b c (headAt n b c .transitions)))
+
+-- what holds of f at each place holds of each element
+from-each : {A : Type 0} (f : ℕ → A) (P : A → Type 0) (k n : ℕ) → ((i : ℕ) → i < n → P (f (k + i)))
+    → (u : A) → List·Memᴰ u (from f k n) → P u
+unfolding from
+from-each f P k zero h u m = absurd (List·Memᴰ·not-nil m)
+from-each f P k (suc n) h u m =
+    ⊎-elim
+    (λ (e : u ≡ f k). rw e (here (h 0 (omega arith))))
+    (λ w. from-each f P (suc k) n (λ i l. next i (h (suc i) (omega arith))) u w)
+    (List·Memᴰ·cases-cons m)
+  where
+    here : P (f (k + 0)) → P (f k)
+    here p = let e : k + 0 ≡ k = omega arith in rw e at p
+
+    next : (i : ℕ) → P (f (k + suc i)) → P (f (suc k + i))
+    next i p = let e : k + suc i ≡ suc k + i = omega arith in rw e at p
+
+-- each transition leads to a state of its chart
+pub to-states : (n : Shape) (b : List ℕ) → transitions? n b ≡ false → (c : ℕ) → c < n .charts
+    → (u : Transition) → List·Memᴰ u (transitionsOf n b c) → u .to < headAt n b c .states
+unfolding transitionsOf transitions? ends?
+to-states n b h c l =
+    from-each (transitionAt n b) (λ u. u .to < headAt n b c .states) (startOf n b c) (headAt n b c .transitions)
+    (λ i m.
+    let q = or-left (anyUpTo (headAt n b c .transitions) (ends? n b c)) _ (any-never (n .charts) _ h c l) in
+    let e = any-never (headAt n b c .transitions) (ends? n b c) q i m in
+    below _ _ (or-right (notBelow (inChart n b c i .from) (headAt n b c .states)) _ e))

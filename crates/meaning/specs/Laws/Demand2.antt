@@ -1,6 +1,7 @@
 -- Demand 2 in words: a step is given exactly if a permitted choice exists (`given-if`, `refused-if`); it is the first in the order
 -- (`given-first`); the mark is yes exactly if all permitted choices agree on output and next configuration (`mark-yes`, `mark-no`). Then: an
--- inactive part takes none (`inactive`); a signal outside the interface changes nothing (`outside`); the next configuration is valid (`valid-next`).
+-- inactive part takes none (`inactive`); a signal outside the interface changes nothing (`outside-outcomes`, `outside`); the next configuration is
+-- valid (`valid-next`). All of it over a tree; of files, runs among them, what is inactive and what is outside is in Files.
 use mathlib.Core.Path.{_≡_, refl, sym, _∙_, ap, subst, fun-ext}
 use mathlib.Core.Bool.{Bool, true, false, _&&_, cond, true≢false, false≢true}
 use mathlib.Core.Logic.{_⊎_, inl, inr}
@@ -405,9 +406,13 @@ module _ (E : ℕ → Chart) (state : ℕ → ℕ) (cfg : ℕ → ℕ) (t : Tree
   outside-search zero c ch = rw alike
   outside-search (suc n) c ch = ap (upto (lastPlace (E c))) (fun-ext (λ v. outside-search n (suc c) (upd ch c v)))
 
-  pub outside : answer (outcomes E state cfg t i N) ≡ answer (outcomes E state cfg t j N)
+  -- all that a step may give is the same, places too
+  pub outside-outcomes : outcomes E state cfg t i N ≡ outcomes E state cfg t j N
   unfolding outcomes
-  outside = ap answer (outside-search N zero (λ c. zero))
+  outside-outcomes = outside-search N zero (λ c. zero)
+
+  pub outside : answer (outcomes E state cfg t i N) ≡ answer (outcomes E state cfg t j N)
+  outside = ap answer outside-outcomes
 
 -- ── the next configuration is valid again ──
 nth-in : (m : Move) (ts : List Transition) (k s w : ℕ) → ((u : Transition) → List·Memᴰ u ts → u .to < w) → after s m < w → after s (nth m ts k) < w
