@@ -4,7 +4,7 @@ use mathlib.Core.Bool.{Bool, false, cond}
 use mathlib.Core.List.{List, [], _∷_, _++_}
 use Prim.Native.Nat.{ℕ, zero, suc, _+_, _-_, _*_}
 use lib.Dec.{ltb}
-use lib.ListN.{length, getD, drop, replicate}
+use lib.ListN.{length, getD, take, drop, replicate}
 use Rattle.signals.specs.Mask.{_∪_}
 use Rattle.layout.specs.Le.{bytes}
 use Rattle.meaning.specs.Numbers.{mostCharts, noPlace, wrongLength, badState, shortBuffer, shortRows}
@@ -137,3 +137,24 @@ runBytes f config carried inputs rows =
 -- "or the empty set where the run itself is refused"
 unfoldable pub runCarried : List ℕ → List ℕ → Set → List Set → ℕ → Set
 runCarried f config carried inputs room = cond (same (runRefusal f config (length inputs) room) 0) (carriedOf (fileOf f) config carried inputs) ∅
+
+-- ── a run read row by row ──
+
+-- row k of the rows that a run left
+abbrev pub rowAt : List ℕ → List ℕ → ℕ → List ℕ
+rowAt f rows k = take (10 + fileOf f .charts) (drop (k * (10 + fileOf f .charts)) rows)
+
+-- the configuration that input k is taken from: the given one, and then what the row before ends with
+abbrev pub configAt : List ℕ → List ℕ → List ℕ → ℕ → List ℕ
+configAt f config rows zero = config
+configAt f config rows (suc k) = drop 10 (rowAt f rows k)
+
+-- what is carried there: what a run of the first k inputs returns
+abbrev pub carriedAt : List ℕ → List ℕ → Set → List Set → ℕ → ℕ → Set
+carriedAt f config carried inputs room k = runCarried f config carried (take k inputs) room
+
+-- the step that is taken there, in a run that leaves its rows in a lent buffer
+unfoldable pub stepAt : List ℕ → List ℕ → Set → List Set → List ℕ → ℕ → Answer
+stepAt f config carried inputs rows k =
+    stepOf f (configAt f config (runBytes f config carried inputs rows) k)
+    (carriedAt f config carried inputs (length rows) k ∪ getD inputs k 0) (fileOf f .charts)

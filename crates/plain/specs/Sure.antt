@@ -5,10 +5,10 @@ use mathlib.Core.Path.{_≡_, refl, _∙_, ap}
 use mathlib.Core.Bool.{Bool, true, false, _&&_, cond, false≢true}
 use mathlib.Core.List.{List, [], _∷_, _++_}
 use mathlib.Core.Logic.{_⊎_, inl, inr}
-use Prim.Native.Nat.{ℕ, zero, suc, _+_, _-_, _*_, _≤_, _<_}
+use Prim.Native.Nat.{ℕ, zero, suc, _+_, _-_, _≤_, _<_}
 use native.Mathlib.Omega.{arith}
 use borrow.Author.Tests.{not-true}
-use lib.ListN.{length, getD, take, drop}
+use lib.ListN.{length, getD}
 use lib.Seq.{getD-append-add}
 use Rattle.signals.specs.Mask.{_∪_, Within}
 use Rattle.signals.specs.Decide.{sets, A, B, C, _∪ₑ_, _⊑_}
@@ -22,7 +22,7 @@ use Rattle.meaning.specs.File.{File, whole, gather, treeOf, wholeOf, trailer, s
 use Rattle.meaning.specs.Check.{refusalOf}
 use Rattle.meaning.specs.Check.Laws.{passed, counted}
 use Rattle.meaning.specs.Check.Nodes.{Sound, sound}
-use Rattle.meaning.specs.Calls.{stepRefusal, outcomesIn, stepIn, stepOf, rowOf}
+use Rattle.meaning.specs.Calls.{stepRefusal, outcomesIn, stepIn, stepOf, runRefusal, rowOf, runBytes, rowAt, configAt, carriedAt, stepAt}
 use Rattle.meaning.specs.Calls.Laws.{step-open}
 use Rattle.meaning.specs.Rewriting.{unionUpTo}
 use Rattle.meaning.specs.Rewriting.Laws.{union-in}
@@ -31,7 +31,8 @@ use Rattle.meaning.specs.Laws.Bools.{and-l, and-r, same-refl, same→≡}
 use Rattle.meaning.specs.Laws.Editions.{one-stays}
 use Rattle.meaning.specs.Laws.Names.{joined}
 use Rattle.meaning.specs.Laws.Trees.{tree₀, tree₁, tree₂, all-there}
-use Rattle.meaning.specs.Laws.Runs.{Valid, Leads, Stand, stepFrom, standAt, rowsFrom, row-at}
+use Rattle.meaning.specs.Laws.Runs.{Valid}
+use Rattle.meaning.specs.Laws.Files.{run-valid, run-row}
 use Rattle.plain.specs.Choices.{PlainChart, PlainTree, PlainSlaves, never-no}
 
 -- an answer without doubt: the mark is yes, or there is no permitted step
@@ -154,8 +155,14 @@ unfolding rowOf
 sure-row (refused r) config h = inr (behind ∅ _ 0, behind ∅ _ 1 ∙ h)
 sure-row (given o n m) config h = inl (behind o _ 0 ∙ ap one h, behind o _ 1)
 
--- that each transition leads to a state of its chart (Leads), 7 tests
-pub row-sure : (f : List ℕ) → plainOf f ≡ true → Leads (fileOf f) → (s : Stand) (inputs : List Set) → Valid (fileOf f) (s .config) → (k : ℕ) → k < length inputs
-    → SureRow (take (10 + fileOf f .charts) (drop (k * (10 + fileOf f .charts)) (rowsFrom (fileOf f) s inputs)))
-row-sure f p w s inputs v k l = let t = standAt (fileOf f) s inputs k in
-    rw (row-at (fileOf f) w s inputs v k l) (sure-row (stepFrom (fileOf f) t (getD inputs k 0)) (t .config) (every-sure f p (t .config) (t .carried ∪ getD inputs k 0)))
+-- in a run that is not refused, whatever is carried into it
+pub row-sure : (f : List ℕ) → plainOf f ≡ true → (config : List ℕ) (carried : Set) (inputs : List Set) (rows : List ℕ)
+    → runRefusal f config (length inputs) (length rows) ≡ 0
+    → (k : ℕ) → k < length inputs → SureRow (rowAt f (runBytes f config carried inputs rows) k)
+unfolding stepAt
+row-sure f p config carried inputs rows h k l =
+    rw (run-row f config carried inputs rows h k l)
+    (sure-row (stepAt f config carried inputs rows k) _
+    (plain-sure f p (configAt f config (runBytes f config carried inputs rows) k)
+    (carriedAt f config carried inputs (length rows) k ∪ getD inputs k 0) (fileOf f .charts)
+    (run-valid f config carried inputs rows h k (omega arith)) (omega arith)))

@@ -1,27 +1,23 @@
 -- Laws of the run, in this order: the call's list behind 1 to 11; 20, 21 and 27; a checked body's transitions lead to states of their charts; a row laid
 -- over a part of a lent buffer; one row more, and the last.
 use mathlib.Core.Path.{_≡_, sym, _∙_}
-use mathlib.Core.List.{List, [], _∷_, _++_, append-assoc, append-nil, List·Memᴰ, List·Memᴰ·cases-cons, List·Memᴰ·not-nil}
-use mathlib.Core.Logic.{_⊎_, ⊎-elim}
-use Prim.Native.Nat.{ℕ, zero, suc, _+_, _*_, _-_, _/_, _≤_, _<_}
+use mathlib.Core.List.{List, [], _∷_, _++_, append-assoc, append-nil}
+use Prim.Native.Nat.{ℕ, _+_, _*_, _-_, _/_, _≤_, _<_}
 use native.Mathlib.Nat.{le-trans, suc-mul, mul-le-mul-right, le-div-iff-mul-le, div-lt-iff-lt-mul}
 use native.Mathlib.Numerals.{add-one}
 use native.Mathlib.Omega.{arith}
-use borrow.Author.Tests.{ne-eqb, lt-ltb, le-ltb, ltb-true, not-false}
+use borrow.Author.Tests.{ne-eqb, lt-ltb, le-ltb}
 use lib.Dec.{ltb}
 use lib.ListN.{length, getD, take, drop, length-append, length-drop, take-append-drop}
 use lib.Seq.{drop-length, take-at, drop-at, length-take-le, drop-drop}
-use Rattle.layout.specs.Body.{headAt, transitionAt, startOf, from, transitionsOf}
 use Rattle.layout.specs.declared.body.Shape.{Shape}
 use Rattle.meaning.specs.Numbers.{shortRows}
-use Rattle.meaning.specs.Count.{anyUpTo}
-use Rattle.meaning.specs.Count.Laws.{or-left, or-right, any-never}
 use Rattle.meaning.specs.Meaning.{Set, ∅, same, Answer}
-use Rattle.meaning.specs.File.{File, chartOf, fileAt, fileOf}
-use Rattle.meaning.specs.Check.{Test, firstOf, refusalOf, notBelow, ends?, transitions?}
+use Rattle.meaning.specs.File.{File, fileAt, fileOf}
+use Rattle.meaning.specs.Check.{Test, firstOf, refusalOf}
 use Rattle.meaning.specs.Check.Laws.{firstOf-++, firstOf-before, firstOf-here, firstOf-next, firstOf-[]}
 use Rattle.meaning.specs.Calls.{laidOver, rowOf, rowsOf, carriedOf, runRefusal, runBytes, runCarried}
-use Rattle.meaning.specs.Laws.Runs.{Leads, Valid, Stand, stepFrom, standAfter, rowsFrom, carriedFrom, rows-next, carried-next}
+use Rattle.meaning.specs.Laws.Runs.{Leads, body-leads, Valid, Stand, stepFrom, standAfter, rowsFrom, carriedFrom, rows-next, carried-next}
 use Rattle.engine.specs.Step.{configTestsIn, Checked}
 use Rattle.engine.specs.Step.Laws.{behind-refused, behind-passed, config-passes, config-long, config-valid}
 use Rattle.engine.specs.Run.{runRefusalAfter, runAfter, carriedRun}
@@ -104,27 +100,8 @@ config-is F config h = record { long = config-long F config h; states = config-v
 
 -- ── transitions lead to states of their chart ──
 
--- what holds of f at each place holds of each element
-from-each : {A : Type 0} (f : ℕ → A) (P : A → Type 0) (k n : ℕ) → ((i : ℕ) → i < n → P (f (k + i))) → (u : A) → List·Memᴰ u (from f k n) → P u
-unfolding from
-from-each f P k zero h u m = absurd (List·Memᴰ·not-nil m)
-from-each f P k (suc n) h u m =
-    ⊎-elim (λ (e : u ≡ f k). rw e (here (h 0 (omega arith)))) (λ w. from-each f P (suc k) n (λ i l. next i (h (suc i) (omega arith))) u w) (List·Memᴰ·cases-cons m)
-  where
-    here : P (f (k + 0)) → P (f k)
-    here p = let e : k + 0 ≡ k = omega arith in rw e at p
-
-    next : (i : ℕ) → P (f (k + suc i)) → P (f (suc k + i))
-    next i p = let e : k + suc i ≡ suc k + i = omega arith in rw e at p
-
 pub leads : (n : Shape) (b : List ℕ) → Checked n b → Leads (fileAt n b)
-unfolding fileAt chartOf transitionsOf transitions? ends?
-leads n b k c l =
-    from-each (transitionAt n b) (λ u. u .to < headAt n b c .states) (startOf n b c) (headAt n b c .transitions)
-    (λ i m.
-    let h = or-left (anyUpTo (headAt n b c .transitions) (ends? n b c)) _ (any-never (n .charts) _ (k .transitions) c l) in
-    let e = any-never (headAt n b c .transitions) (ends? n b c) h i m in
-    ltb-true _ _ (not-false _ (or-right (notBelow (transitionAt n b (startOf n b c + i) .from) (headAt n b c .states)) _ e)))
+leads n b k = body-leads n b (k .transitions)
 
 -- ── a row laid over the bytes from `at` up to e: what stands before e, and after it ──
 

@@ -1,20 +1,28 @@
 -- Demand 2 of files, as the public calls answer them: a signal outside the interface changes nothing, in a step (`step-outside`, `places-outside`) or
--- in a run (`run-outside`, `carried-outside`).
+-- in a run (`run-outside`, `carried-outside`); the next configuration is valid again (`step-valid`); a run has exactly a row for each input
+-- (`run-rows`), each configuration in it is valid (`run-valid`), each row is a step from where the row before it ended (`run-row`), and what is
+-- carried (`run-given` to `run-last`).
 use mathlib.Core.Path.{_≡_, refl, sym, _∙_, ap}
 use mathlib.Core.Bool.{Bool, true, false, cond}
 use mathlib.Core.List.{List, [], _∷_, _++_, map}
-use Prim.Native.Nat.{ℕ}
+use Prim.Native.Nat.{ℕ, zero, suc, _+_, _*_, _≤_, _<_}
+use native.Mathlib.Nat.{suc-mul, mul-le-mul-right}
 use native.Mathlib.Omega.{arith}
-use lib.ListN.{length, getD, length-map}
+use lib.ListN.{length, getD, take, drop, length-append, length-drop, length-map}
+use lib.Seq.{take-append-le, drop-append-le, drop-append-add, drop-at, length-take-le, take-length}
 use Rattle.signals.specs.Mask.{_∪_, _∩_}
 use Rattle.signals.specs.Decide.{sets, A, B, C, D, E, _∪ₑ_, _∩ₑ_, _≐_}
+use Rattle.layout.specs.Le.{bytes}
+use Rattle.layout.specs.Le.Laws.{length-bytes}
+use Rattle.meaning.specs.Count.{one}
 use Rattle.meaning.specs.Meaning.{Set, ∅, same, Answer, refused, given, inFace, answer, firstPlaces}
 use Rattle.meaning.specs.File.{File, wholeOf, fileOf}
 use Rattle.meaning.specs.Check.{refusalOf}
-use Rattle.meaning.specs.Calls.{inputOf, outcomesIn, stepRefusal, stepIn, stepOf, allPlaces, placesIn, placesOf, afterStep, rowOf, carriedAfter, rowsOf, carriedOf, laidOver, runRefusal, runBytes, runCarried}
-use Rattle.meaning.specs.Calls.Laws.{step-allowed, run-allowed, behind-cong, behind-is}
+use Rattle.meaning.specs.Calls.{inputOf, outcomesIn, stepRefusal, stepIn, stepOf, allPlaces, placesIn, placesOf, refusalIn, outputIn, markIn, afterStep, rowOf, rowAt, configAt, carriedAt, stepAt, carriedAfter, rowsOf, carriedOf, laidOver, runRefusal, runBytes, runCarried}
+use Rattle.meaning.specs.Calls.Laws.{step-open, step-allowed, run-open, run-allowed, behind-cong, behind-is}
 use Rattle.meaning.specs.Laws.Bools.{same→≡}
 use Rattle.meaning.specs.Laws.Demand2.{outside-outcomes}
+use Rattle.meaning.specs.Laws.Runs.{Valid, Leads, file-leads, Stand, stepFrom, standAt, rowsFrom, valid-after, rows-all, valid-at, row-at, stand-take, carried-given, carried-refused, carried-last}
 
 -- ── a signal outside the interface changes nothing ──
 
@@ -99,3 +107,146 @@ module _ (f : List ℕ) where
             let h = same→≡ (runRefusal f config (length is) room) 0 e in
             rw (accepted-face (run-allowed f config (length is) room h .0)) (agree room h .1)
         go false e = refl
+
+-- ── the next configuration is valid again ──
+
+-- what a step given has: a file that is accepted, a valid configuration, room, and the answer that the file's records give
+pub step-given : (f config : List ℕ) (i : Set) (room : ℕ) (o : Set) (n : List ℕ) (m : Bool) → stepOf f config i room ≡ given o n m
+    → (refusalOf f ≡ 0) × Valid (fileOf f) config × (stepIn (fileOf f) config i ≡ given o n m)
+unfolding stepOf
+step-given f config i room o n m e = go (same (stepRefusal f config room) 0) refl e
+  where
+    go : (b : Bool) → same (stepRefusal f config room) 0 ≡ b
+        → cond b (stepIn (fileOf f) config i) (refused (stepRefusal f config room)) ≡ given o n m
+        → (refusalOf f ≡ 0) × Valid (fileOf f) config × (stepIn (fileOf f) config i ≡ given o n m)
+    go true q h = let w = step-allowed f config room (same→≡ (stepRefusal f config room) 0 q) in (w .0, w .1, h)
+    go false q h = absurd (let z : _≡_ {A = ℕ} 0 1 = cc in omega arith)
+
+pub step-valid : (f config : List ℕ) (i : Set) (room : ℕ) (o : Set) (n : List ℕ) (m : Bool) → stepOf f config i room ≡ given o n m
+    → Valid (fileOf f) n
+step-valid f config i room o n m e =
+    let w = step-given f config i room o n m e in
+    rw (w .2) at (valid-after (fileOf f) (file-leads f (w .0)) config i (w .1))
+
+-- ── the rows of a run ──
+
+-- a row that starts below the end of all rows ends there
+row-ends : (k n w : ℕ) → k < n → k * w + w ≤ n * w
+row-ends k n w l = rw suc-mul at (mul-le-mul-right w l)
+
+row-tail : (r : Answer) (config : List ℕ) → drop 10 (rowOf r config) ≡ afterStep r config
+unfolding rowOf
+row-tail r config =
+    rw (length-bytes 8 (outputIn r)) at (drop-append-add (bytes 8 (outputIn r)) (one (markIn r) ∷ refusalIn r ∷ afterStep r config) 2)
+
+module _ (f config : List ℕ) (carried : Set) (inputs : List Set) (rows : List ℕ)
+    (h : runRefusal f config (length inputs) (length rows) ≡ 0) where
+  abbrev F : File
+  F = fileOf f
+
+  abbrev w : ℕ
+  w = 10 + F .charts
+
+  start : Stand
+  start = record { config = config; carried = carried }
+
+  -- where the run stands after k inputs
+  abbrev at : ℕ → Stand
+  at k = standAt F start inputs k
+
+  abbrev left : List ℕ
+  left = runBytes f config carried inputs rows
+
+  abbrev carriedThere : ℕ → Set
+  carriedThere k = carriedAt f config carried inputs (length rows) k
+
+  accepted : refusalOf f ≡ 0
+  accepted = run-allowed f config (length inputs) (length rows) h .0
+
+  valid : Valid F config
+  valid = run-allowed f config (length inputs) (length rows) h .1
+
+  room : length inputs * w ≤ length rows
+  room = run-allowed f config (length inputs) (length rows) h .2
+
+  leads : Leads F
+  leads = file-leads f accepted
+
+  left-is : left ≡ laidOver (rowsFrom F start inputs) rows
+  unfolding runBytes start
+  left-is = behind-is (runRefusal f config (length inputs) (length rows)) _ rows h
+
+  all-rows : length (rowsFrom F start inputs) ≡ length inputs * w
+  unfolding start
+  all-rows = rows-all F leads start inputs valid
+
+  -- exactly a row for each input: what stands behind them is as it was
+  pub run-rows : (length left ≡ length rows) × (drop (length inputs * w) left ≡ drop (length inputs * w) rows)
+  run-rows = (
+    rw (left-is, length-append, length-drop, all-rows) (omega (arith, room)),
+    rw left-is (drop-at (rowsFrom F start inputs) _ (length inputs * w) all-rows ∙ ap (λ n. drop n rows) all-rows),
+  )
+
+  row-there : (k : ℕ) → k < length inputs → rowAt f left k ≡ rowOf (stepFrom F (at k) (getD inputs k 0)) (at k .config)
+  unfolding start
+  row-there k l =
+      let e = row-ends k (length inputs) w l in
+      let q = length-drop (k * w) (rowsFrom F start inputs) in
+      let a = all-rows in
+      rw (
+        left-is,
+        drop-append-le (k * w) (rowsFrom F start inputs) _ (omega arith),
+        take-append-le w (drop (k * w) (rowsFrom F start inputs)) _ (omega arith),
+      )
+      (row-at F leads start inputs valid k l)
+
+  config-there : (k : ℕ) → k ≤ length inputs → configAt f config left k ≡ at k .config
+  unfolding standAt start
+  config-there zero l = refl
+  config-there (suc k) l = ap (drop 10) (row-there k l) ∙ row-tail (stepFrom F (at k) (getD inputs k 0)) (at k .config)
+
+  -- it is valid
+  pub run-valid : (k : ℕ) → k ≤ length inputs → Valid F (configAt f config left k)
+  unfolding start
+  run-valid k l = rw (config-there k l) (valid-at F leads start inputs valid k)
+
+  carried-there : (k : ℕ) → k ≤ length inputs → carriedThere k ≡ at k .carried
+  unfolding runCarried start
+  carried-there k l =
+      let e : length (take k inputs) ≡ k = length-take-le k inputs l in
+      let m = mul-le-mul-right w l in
+      let g = room in
+      behind-is (runRefusal f config (length (take k inputs)) (length rows)) _ ∅
+      (rw e (run-open f config k (length rows) accepted valid (omega arith)))
+      ∙ carried-last F leads start (take k inputs) ∙ rw (e, stand-take F leads start inputs k k (omega arith))
+
+  step-there : (k : ℕ) → k ≤ length inputs → stepAt f config carried inputs rows k ≡ stepFrom F (at k) (getD inputs k 0)
+  unfolding stepAt stepOf
+  step-there k l =
+      behind-is (stepRefusal f (configAt f config left k) (F .charts)) _ _
+      (step-open f (configAt f config left k) (F .charts) accepted (run-valid k l) (omega arith))
+      ∙ rw (config-there k l, carried-there k l)
+
+  -- row k is the step from where the row before it ended, under input k joined with what is carried there
+  pub run-row : (k : ℕ) → k < length inputs → rowAt f left k ≡ rowOf (stepAt f config carried inputs rows k) (configAt f config left k)
+  run-row k l = row-there k l ∙ rw (step-there k (omega arith), config-there k (omega arith))
+
+  -- a step given carries nothing on; a refused one, all that it was offered
+  pub run-given : (k : ℕ) → k < length inputs → (o : Set) (n : List ℕ) (m : Bool)
+      → stepAt f config carried inputs rows k ≡ given o n m → carriedThere (suc k) ≡ ∅
+  run-given k l o n m e =
+      carried-there (suc k) l ∙ carried-given F leads start inputs k o n m (sym (step-there k (omega arith)) ∙ e)
+
+  pub run-refused : (k : ℕ) → k < length inputs → (r : ℕ)
+      → stepAt f config carried inputs rows k ≡ refused r → carriedThere (suc k) ≡ carriedThere k ∪ getD inputs k 0
+  run-refused k l r e =
+      carried-there (suc k) l ∙ carried-refused F leads start inputs k r (sym (step-there k (omega arith)) ∙ e)
+      ∙ ap (λ c. c ∪ getD inputs k 0) (sym (carried-there k (omega arith)))
+
+  -- before the first input it is what the run is given, and after the last it is what the run returns
+  pub run-first : carriedThere 0 ≡ carried
+  unfolding standAt start
+  run-first = carried-there 0 (omega arith)
+
+  pub run-last : runCarried f config carried inputs (length rows) ≡ carriedThere (length inputs)
+  run-last = ap (λ is. runCarried f config carried is (length rows)) (sym (take-length inputs))

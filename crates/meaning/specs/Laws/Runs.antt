@@ -1,18 +1,22 @@
--- Laws of the run (document 01, "Run."), in this order: each configuration is valid again (`valid-after`); a row's length; no row is ever missing
--- (`rows-all`); row k is the step from where the k inputs before it lead (`row-at`); what is carried (`carried-given` to `carried-last`).
+-- Laws of the run (document 01, "Run."), in this order: what 7 tests (`body-leads`, `file-leads`); each configuration is valid again
+-- (`valid-after`); a row's length; no row is ever missing (`rows-all`); row k is the step from where the k inputs before it lead (`row-at`); what is
+-- carried (`carried-given` to `carried-last`). Of the bytes that a run leaves, and of the set that it returns, they are in Files.
 use mathlib.Core.Path.{_≡_, refl, ap, _∙_}
-use mathlib.Core.Bool.{Bool}
+use mathlib.Core.Bool.{Bool, false}
 use mathlib.Core.List.{List, [], _∷_, _++_, List·Memᴰ}
 use Prim.Native.Nat.{ℕ, zero, suc, _+_, _*_, _≤_, _<_}
 use native.Mathlib.Nat.{suc-mul}
 use native.Mathlib.Omega.{arith}
 use lib.ListN.{length, getD, take, drop, length-append}
-use lib.Seq.{drop-length, drop-cons, drop-drop, take-at, drop-at}
+use lib.Seq.{drop-length, drop-cons, drop-drop, take-at, drop-at, getD-take}
 use Rattle.signals.specs.Mask.{_∪_}
 use Rattle.layout.specs.Le.Laws.{length-bytes}
+use Rattle.layout.specs.declared.body.Shape.{Shape}
 use Rattle.layout.specs.declared.record.Transition.{Transition}
 use Rattle.meaning.specs.Meaning.{Set, ∅, Answer, refused, given}
-use Rattle.meaning.specs.File.{File, wholeOf}
+use Rattle.meaning.specs.File.{File, wholeOf, trailer, bodyOf, shapeOf, chartOf, fileAt, fileOf}
+use Rattle.meaning.specs.Check.{transitions?, refusalOf}
+use Rattle.meaning.specs.Check.Laws.{passed, to-states}
 use Rattle.meaning.specs.Calls.{stepIn, outputIn, afterStep, carriedAfter, rowOf, rowsOf, carriedOf}
 use Rattle.meaning.specs.Laws.Demand2.{valid-next}
 
@@ -24,6 +28,15 @@ pub record Valid (F : File) (config : List ℕ) : Type 0 where
 -- each transition leads to a state of its chart
 abbrev pub Leads : File → Type 0
 Leads F = (c : ℕ) → c < F .charts → (u : Transition) → List·Memᴰ u (F .chart c .transitions) → u .to < F .chart c .states
+
+-- which 7 tests
+pub body-leads : (n : Shape) (b : List ℕ) → transitions? n b ≡ false → Leads (fileAt n b)
+unfolding fileAt chartOf
+body-leads n b h = to-states n b h
+
+pub file-leads : (f : List ℕ) → refusalOf f ≡ 0 → Leads (fileOf f)
+unfolding fileOf
+file-leads f h = body-leads (shapeOf (trailer f)) (bodyOf f) (passed f h .transitions)
 
 -- where a run stands: the configuration, and what is carried
 pub record Stand : Type 0 where
@@ -124,6 +137,12 @@ module _ (F : File) (leads : Leads F) where
         rw (rows-from k (omega arith), rows-next F t inputs k l)
         (take-at (rowOf (stepFrom F t i) (t .config)) (rowsFrom F (standAfter (stepFrom F t i) t i) (drop (suc k) inputs)) (10 + F .charts)
         (length-next (t .config) (t .carried ∪ i) (valid-at k)))
+
+  -- where it stands after k inputs, the inputs from k on do not matter
+  pub stand-take : (s : Stand) (inputs : List Set) (n k : ℕ) → k ≤ n → standAt F s (take n inputs) k ≡ standAt F s inputs k
+  unfolding standAt
+  stand-take s inputs n zero l = refl
+  stand-take s inputs n (suc k) l = rw (stand-take s inputs n k (omega arith), getD-take n inputs k 0 (omega arith))
 
   -- ── what is carried ──
 
