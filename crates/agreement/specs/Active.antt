@@ -1,86 +1,34 @@
--- Which charts are active, and that it is settled by the masters, which have lower numbers.
+-- Which charts are active is settled by the masters, which have lower numbers (`active-agree`); in a rewritten tree every chart moves (`live`).
 use mathlib.Core.Path.{_≡_, refl}
 use mathlib.Core.Bool.{Bool, true, false, _&&_, _||_, cond, false≢true}
 use Prim.Native.Nat.{ℕ, _<_}
-use Rattle.meaning.specs.Meaning.{Set, same, Chart, Tree, Slaves, leaf, comp, hide, dec, nil, snoc, Move, noMove, takes, stay, actionOf, inFaceChart, inFace, out, outs, okChart, meets, ok, oks}
+use Rattle.meaning.specs.Meaning.{Set, same, Chart, Tree, Slaves, leaf, comp, hide, dec, nil, snoc, Move, noMove, takes, stay, after, inFace, out, okChart, ok}
 use Rattle.signals.specs.Mask.{_∪_, _∩_, _∖_}
 use Rattle.meaning.specs.Laws.Bools.{or-elim, same→≡, and-l, and-r}
 use Rattle.meaning.specs.File.{Has, HasS}
+use Rattle.meaning.specs.Active.{active, actives}
+use Rattle.meaning.specs.Active.Laws.{activeBy}
 use Rattle.meaning.specs.Laws.Above.{Above, AboveS}
 use Rattle.agreement.specs.Tree.{tree, nest, calls}
-
-module _ (state : ℕ → ℕ) (cfg : ℕ → ℕ) (M : ℕ → Move) where
-  unfoldable mutual
-    pub active : Tree → Bool → ℕ → Bool
-    active (leaf d) a c = a
-    active (comp p q x) a c = cond (Has p c) (active p a c) (active q a c)
-    active (hide p x y) a c = active p a c
-    active (dec d ss) a c = cond (same c d) a (actives ss (λ q. a && meets (cfg d) (M d) q) c)
-
-    pub actives : Slaves → (ℕ → Bool) → ℕ → Bool
-    actives nil f c = false
-    actives (snoc ss i t) f c = cond (Has t c) (active t (f (state i)) c) (actives ss f c)
-
--- a move is an active chart's: it takes a transition, or stays
-unfoldable pub some? : Move → Bool
-some? noMove = false
-some? (takes t) = true
-some? stay = true
-
-pub okChart-some : (K : Chart) (a : Bool) (o : Set) (s : ℕ) (m : Move) → okChart K a o s m ≡ true → some? m ≡ a
-unfolding okChart some?
-okChart-some K false o s noMove e = refl
-okChart-some K false o s (takes t) e = absurd (false≢true e)
-okChart-some K false o s stay e = absurd (false≢true e)
-okChart-some K true o s noMove e = absurd (false≢true e)
-okChart-some K true o s (takes t) e = refl
-okChart-some K true o s stay e = refl
-
-either : (b b′ x y z : Bool) → (b ≡ true → x ≡ y) → (b′ ≡ true → x ≡ z) → (b || b′) ≡ true → x ≡ cond b y z
-either true b′ x y z f g h = f refl
-either false b′ x y z f g h = g h
 
 both-ways : (b b′ y y′ z z′ : Bool) → (b ≡ true → y ≡ y′) → (b′ ≡ true → z ≡ z′) → (b || b′) ≡ true → cond b y z ≡ cond b y′ z′
 both-ways true b′ y y′ z z′ f g h = f refl
 both-ways false b′ y y′ z z′ f g h = g h
 
-module _ (E : ℕ → Chart) (state : ℕ → ℕ) (cfg : ℕ → ℕ) (M : ℕ → Move) where
-  mutual
-    unfolding ok Has active
-
-    -- a chart takes a transition, or stays, exactly if it is active
-    pub ok-active : (t : Tree) (a : Bool) (o : Set) (c : ℕ) → Has t c ≡ true → ok E state cfg M t a o ≡ true → some? (M c) ≡ active state cfg M t a c
-    ok-active (leaf d) a o c h k = rw (same→≡ c d h) (okChart-some (E d) a o (cfg d) (M d) k)
-    ok-active (comp p q x) a o c h k = either (Has p c) (Has q c) _ _ _
-        (λ e. ok-active p a ((o ∪ ((out M p ∪ out M q) ∩ x)) ∩ inFace E p) c e (and-l _ _ k))
-        (λ e. ok-active q a ((o ∪ ((out M p ∪ out M q) ∩ x)) ∩ inFace E q) c e
-        (and-r (ok E state cfg M p a ((o ∪ ((out M p ∪ out M q) ∩ x)) ∩ inFace E p)) _ k)) h
-    ok-active (hide p x y) a o c h k = ok-active p a (o ∖ x) c h k
-    ok-active (dec d ss) a o c h k = either (same c d) (HasS ss c) _ _ _
-        (λ e. rw (same→≡ c d e) (okChart-some (E d) a ((o ∪ (actionOf (M d) ∪ outs M ss) ∩ E d .feedback) ∩ inFaceChart (E d)) (cfg d) (M d)
-        (and-l _ _ k)))
-        (λ e. oks-active ss (λ q. a && meets (cfg d) (M d) q) (o ∪ (actionOf (M d) ∪ outs M ss) ∩ E d .feedback) c e
-        (and-r (okChart (E d) a ((o ∪ (actionOf (M d) ∪ outs M ss) ∩ E d .feedback) ∩ inFaceChart (E d)) (cfg d) (M d)) _ k)) h
-
-    oks-active : (ss : Slaves) (f : ℕ → Bool) (z : Set) (c : ℕ) → HasS ss c ≡ true → oks E state cfg M ss f z ≡ true
-        → some? (M c) ≡ actives state cfg M ss f c
-    oks-active nil f z c h k = absurd (false≢true h)
-    oks-active (snoc ss i t) f z c h k = either (Has t c) (HasS ss c) _ _ _
-        (λ e. ok-active t (f (state i)) (z ∩ inFace E t) c e (and-r (oks E state cfg M ss f z) _ k)) (λ e. oks-active ss f z c e (and-l _ _ k)) h
-
 module _ (state : ℕ → ℕ) (cfg : ℕ → ℕ) (M M₂ : ℕ → Move) (c : ℕ) (agree : (d : ℕ) → d < c → M d ≡ M₂ d) where
   mutual
     unfolding Has active
 
-    -- and that is settled by the charts below
-    pub active-agree : (t : Tree) (a : Bool) → Above t → Has t c ≡ true → active state cfg M t a c ≡ active state cfg M₂ t a c
+    -- whether chart c is active is settled by the charts below it
+    pub active-agree : (t : Tree) (a : Bool) → Above t → Has t c ≡ true → activeBy state cfg M t a c ≡ activeBy state cfg M₂ t a c
     active-agree (leaf d) a v h = refl
     active-agree (comp p q x) a v h = both-ways (Has p c) (Has q c) _ _ _ _ (λ e. active-agree p a (v .0) e) (λ e. active-agree q a (v .1) e) h
     active-agree (hide p x y) a v h = active-agree p a v h
     active-agree (dec d ss) a v h = both-ways (same c d) (HasS ss c) _ _ _ _ (λ e. refl)
-        (λ e. rw (agree d (v .0 c e)) (actives-agree ss (λ q. a && meets (cfg d) (M₂ d) q) (v .1) e)) h
+        (λ e. rw (agree d (v .0 c e)) (actives-agree ss (λ q. a && (same (cfg d) q || same (after (cfg d) (M₂ d)) q)) (v .1) e)) h
 
-    actives-agree : (ss : Slaves) (f : ℕ → Bool) → AboveS ss → HasS ss c ≡ true → actives state cfg M ss f c ≡ actives state cfg M₂ ss f c
+    actives-agree : (ss : Slaves) (f : ℕ → Bool) → AboveS ss → HasS ss c ≡ true
+        → actives state cfg (λ d. after (cfg d) (M d)) ss f c ≡ actives state cfg (λ d. after (cfg d) (M₂ d)) ss f c
     actives-agree nil f v h = refl
     actives-agree (snoc ss i t) f v h =
         both-ways (Has t c) (HasS ss c) _ _ _ _ (λ e. active-agree t (f (state i)) (v .1) e) (λ e. actives-agree ss f (v .0) e) h

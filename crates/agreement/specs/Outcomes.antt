@@ -18,11 +18,12 @@ use Rattle.meaning.specs.File.{Has}
 use Rattle.meaning.specs.Rewriting.{callIn, idle, called, chartWith}
 use Rattle.meaning.specs.Laws.Bools.{same→≡, same→≢, not-true}
 use Rattle.meaning.specs.Laws.Choices.{upto-cong, upd-at, upd-off, search-empty}
+use Rattle.meaning.specs.Active.Laws.{some?, activeBy, ok-active}
 use Rattle.meaning.specs.Laws.Above.{Above}
 use Rattle.meaning.specs.Laws.Editions.{places-one}
 use Rattle.agreement.specs.Tree.{on, tree, touch, moveR}
 use Rattle.agreement.specs.Same.{At, Rw, Rws, old-cut, ok-t, out-t, face-t, face-old}
-use Rattle.agreement.specs.Active.{active, some?, ok-active, active-agree, Live, live}
+use Rattle.agreement.specs.Active.{active-agree, Live, live}
 use Rattle.agreement.specs.Upto.{merge}
 use Rattle.agreement.specs.Charts.{place, idle-at, pick-moved, places, places-none, face-is, OldChart, old-pick, old-faceChart}
 use Rattle.agreement.specs.Fit.{Fit, FitS}
@@ -178,11 +179,11 @@ module _ (sig state : ℕ → ℕ) (inj : (i j : ℕ) → sig i ≡ sig j → i 
       (live sig fbs E′ state cfg (moves E′ ch₂) c t (inp ∩ inFace E′ (tree sig fbs t)) (has c l) k))))
 
   -- in the original, a chart's activity is settled by the charts below
-  settled : (n c v : ℕ) (ch : ℕ → ℕ) → c < N → (some? (pick (E c) v) ≡ active state cfg (moves E ch) t true c → ⊥)
+  settled : (n c v : ℕ) (ch : ℕ → ℕ) → c < N → (some? (pick (E c) v) ≡ activeBy state cfg (moves E ch) t true c → ⊥)
       → search E state cfg t inp N n (suc c) (upd ch c v) ≡ []
   unfolding permitted moves
   settled n c v ch l h = search-empty E state cfg t inp N n (suc c) (upd ch c v) (λ ch₂ b. not-true (λ k.
-      h (subst (λ u. some? (pick (E c) u) ≡ active state cfg (moves E ch₂) t true c) (b c (omega arith) ∙ upd-at ch c v)
+      h (subst (λ u. some? (pick (E c) u) ≡ activeBy state cfg (moves E ch₂) t true c) (b c (omega arith) ∙ upd-at ch c v)
       (ok-active E state cfg (moves E ch₂) t true (inp ∩ inFace E t) c (has c l) k)
       ∙ active-agree state cfg (moves E ch₂) (moves E ch) c
       (λ d e. ap (pick (E d)) (b d (omega arith) ∙ upd-off ch c v d e)) t true above (has c l))))
@@ -218,7 +219,7 @@ module _ (sig state : ℕ → ℕ) (inj : (i j : ℕ) → sig i ≡ sig j → i 
           (λ j h. subst (λ κ. f′ (place κ m (cfg c) (suc j)) ≡ f (suc j)) p (ih (suc j) (omega arith)))
           (subst (λ κ. f′ (place κ m (cfg c) zero) ≡ f zero) p (ih zero (omega arith)))
           (λ q h ne. dead n c (suc (m + q)) ch′ l (λ lv. ne (subst (Live (cfg c)) (at q h) lv)))
-          (active state cfg (moves E ch) t true c)
+          (activeBy state cfg (moves E ch) t true c)
           (λ b. ap (map turn) (settled n c zero ch l (λ q. false≢true (q ∙ b))))
           (λ b j h. ap (map turn) (settled n c (suc j) ch l (λ q. true≢false (sym (some-nth (behind (E c)) (E c .transitions) j h) ∙ q ∙ b)))))
         where

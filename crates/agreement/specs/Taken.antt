@@ -4,20 +4,21 @@ use mathlib.Core.Path.{_≡_, refl, sym, _∙_, ap, subst}
 use mathlib.Core.Bool.{true, false}
 use mathlib.Core.Logic.{_⊎_, inl, inr, ⊎-elim, _≢_}
 use mathlib.Core.Option.{Option, none, some}
-use mathlib.Core.List.{List, [], _∷_, _++_}
-use Prim.Native.Nat.{ℕ, zero, suc, _+_, _-_, _≤_, _<_}
+use mathlib.Core.List.{List, [], _∷_}
+use Prim.Native.Nat.{ℕ, zero, suc, _+_, _≤_, _<_}
 use native.Mathlib.Nat.{zero-add}
 use native.Mathlib.Omega.{arith}
 use native.Mathlib.Decide.{decLt}
-use lib.ListN.{length, getD, replicate, length-append, List·getD-eq-default}
+use lib.ListN.{length, getD, length-append, List·getD-eq-default}
 use Rattle.signals.specs.Mask.{_∩_}
 use Rattle.layout.specs.declared.record.Transition.{Transition}
-use Rattle.meaning.specs.Numbers.{mostCharts, noPlace}
-use Rattle.meaning.specs.Meaning.{Set, Chart, Outcome, Answer, noMove, takes, nth, pick, lastPlace, inFace, ok, permitted, moves, placeOf, placesFrom, firstPlaces, agree, answer}
+use Rattle.meaning.specs.Numbers.{noPlace}
+use Rattle.meaning.specs.Meaning.{Set, Outcome, Answer, noMove, takes, nth, pick, lastPlace, inFace, ok, permitted, moves, placeOf, firstPlaces, agree, answer}
 use Rattle.meaning.specs.File.{File, wholeOf}
-use Rattle.meaning.specs.Calls.{outcomesIn, stepIn, allPlaces, placesIn, refusalIn}
+use Rattle.meaning.specs.Calls.{outcomesIn, stepIn, placesIn, refusalIn}
+use Rattle.meaning.specs.Calls.Laws.{getD-all}
 use Rattle.meaning.specs.Rewriting.{call, chartWith, idle}
-use Rattle.meaning.specs.Laws.Choices.{place-own, length-places}
+use Rattle.meaning.specs.Laws.Choices.{place-own, length-places, getD-places}
 use Rattle.meaning.specs.Laws.Editions.{places-one}
 use Rattle.meaning.specs.Laws.Names.{kap}
 use Rattle.meaning.specs.Laws.Runs.{Valid}
@@ -47,20 +48,6 @@ module _ (F F′ : File) (config : List ℕ) (a : Answer) (ps ps′ : List ℕ) 
     pub taken : refusalIn a ≡ 0 → (c : ℕ) → c < F .charts → getD ps′ c noPlace ≢ noPlace
 
 -- ── places, one by one ──
-
-getD-alike : (n i d : ℕ) → getD (replicate n d) i d ≡ d
-getD-alike zero i d = refl
-getD-alike (suc n) zero d = refl
-getD-alike (suc n) (suc i) d = getD-alike n i d
-
--- what stands behind says nothing
-getD-behind : (xs : List ℕ) (n i d : ℕ) → getD (xs ++ replicate n d) i d ≡ getD xs i d
-getD-behind [] n i d = getD-alike n i d
-getD-behind (x ∷ xs) n zero d = refl
-getD-behind (x ∷ xs) n (suc i) d = getD-behind xs n i d
-
-getD-all : (ps : List ℕ) (c : ℕ) → getD (allPlaces ps) c noPlace ≡ getD ps c noPlace
-getD-all ps c = getD-behind ps (mostCharts - length ps) c noPlace
 
 module _ (F F′ : File) (rd : Ready F) (rw′ : Rewritten F F′) (config : List ℕ) (v : Valid F config) (inp : Set) where
   abbrev os : List Outcome
@@ -150,15 +137,6 @@ module _ (F F′ : File) (rd : Ready F) (rw′ : Rewritten F F′) (config : Lis
       go : (κ : Option ℕ) → length (chartWith (call F) κ T (F .chart c) .transitions) ≤ own c + F .chart c .states
       go none = let e = places-none (call F) T (F .chart c) in omega arith
       go (some i) = let e = places (call F) i T (F .chart c) in omega arith
-
-  -- a place of a choice
-  getD-places : (E : ℕ → Chart) (ch : ℕ → ℕ) (k n c : ℕ) → c < n
-      → getD (placesFrom E ch k n) c noPlace ≡ placeOf (pick (E (k + c)) (ch (k + c))) (ch (k + c))
-  unfolding placesFrom
-  getD-places E ch k zero c l = absurd (omega arith)
-  getD-places E ch k (suc n) zero l = ap (λ z. placeOf (pick (E z) (ch z)) (ch z)) (let e : k ≡ k + 0 = omega arith in e)
-  getD-places E ch k (suc n) (suc c) l = getD-places E ch (suc k) n c (omega arith)
-      ∙ ap (λ z. placeOf (pick (E z) (ch z)) (ch z)) (let e : suc k + c ≡ k + suc c = omega arith in e)
 
   one′ : (c : ℕ) → c < F .charts → F′ .chart c .stays ≡ false
   unfolding chartWith

@@ -1,12 +1,13 @@
 -- The meaning of chart files. What a reader must believe, in document 01's order: the numbers that have names (Numbers, Count), the meaning of a
--- step (Meaning), the file (File), its check (Check), the public calls (Calls), the rewriting (Rewriting), plain files (Plain). The theorems are
--- under Laws.
+-- step (Meaning), the file (File), its check (Check), the public calls (Calls), what is active in a step (Active), the rewriting (Rewriting), plain
+-- files (Plain). The theorems are under Laws.
 pub mod Numbers
 pub mod Count
 pub mod Meaning
 pub mod File
 pub mod Check
 pub mod Calls
+pub mod Active
 pub mod Rewriting
 pub mod Plain
 pub mod Laws

@@ -1,20 +1,21 @@
--- Laws of what calls answer. In this order: of `made`, its length, an entry of it, equal entries, and one entry more stored over a buffer; that
--- "refused steps carry 255 throughout" (`in-refused`, `of-refused`); what a step and a run that are not refused have (`step-allowed`,
--- `run-allowed`), and that with it they are not (`step-open`, `run-open`); answers behind tests (`behind-cong`, `behind-is`).
+-- Laws of what calls answer. In this order: of `made`, its length, an entry of it, equal entries, and one entry more stored over a buffer; a
+-- place among all (`getD-all`); that "refused steps carry 255 throughout" (`in-refused`, `of-refused`); what a step and a run that are not refused
+-- have (`step-allowed`, `run-allowed`), and that with it they are not (`step-open`, `run-open`); answers behind tests (`behind-cong`, `behind-is`);
+-- what a step that is given has (`answered`).
 use mathlib.Core.Path.{_≡_, refl, sym, ap, ap₂, _∙_}
 use mathlib.Core.Bool.{Bool, true, false, not, cond}
 use mathlib.Core.List.{List, [], _∷_, _++_, append-assoc}
-use Prim.Native.Nat.{ℕ, zero, suc, _+_, _*_, _≤_, _<_}
+use Prim.Native.Nat.{ℕ, zero, suc, _+_, _-_, _*_, _≤_, _<_}
 use native.Mathlib.Decide.{decLt}
 use native.Mathlib.Numerals.{add-one}
 use native.Mathlib.Omega.{arith}
 use borrow.Author.Tests.{lt-ltb, le-ltb, ltb-false}
 use lib.Dec.{ltb, lit<}
-use lib.ListN.{length, getD, drop, set, length-append, List·getD-append}
+use lib.ListN.{length, getD, drop, replicate, set, length-append, List·getD-append}
 use lib.Seq.{drop-cons, set-at, getD-at}
-use Rattle.meaning.specs.Numbers.{shortBuffer, shortRows}
+use Rattle.meaning.specs.Numbers.{mostCharts, noPlace, shortBuffer, shortRows}
 use Rattle.meaning.specs.Count.Laws.{any-never, any-all}
-use Rattle.meaning.specs.Meaning.{Set, same, Outcome, refused, answer, firstPlaces}
+use Rattle.meaning.specs.Meaning.{Set, same, Outcome, refused, given, answer, firstPlaces}
 use Rattle.meaning.specs.File.{File, fileOf}
 use Rattle.meaning.specs.Check.{Test, firstOf, fileTests, refusalOf}
 use Rattle.meaning.specs.Check.Laws.{below, alike, Passes, firstOf-passes, firstOf-++, all-pass, front, call-passed, in-front}
@@ -48,6 +49,20 @@ made-store b f i h =
     rw (drop-cons b i 0, set-at (made i f) (getD b i 0) (drop (suc i) b) (f i) i (length-made i f), add-one, append-assoc)
 
 -- ── places ──
+
+getD-alike : (n i d : ℕ) → getD (replicate n d) i d ≡ d
+getD-alike zero i d = refl
+getD-alike (suc n) zero d = refl
+getD-alike (suc n) (suc i) d = getD-alike n i d
+
+getD-behind : (xs : List ℕ) (n i d : ℕ) → getD (xs ++ replicate n d) i d ≡ getD xs i d
+getD-behind [] n i d = getD-alike n i d
+getD-behind (x ∷ xs) n zero d = refl
+getD-behind (x ∷ xs) n (suc i) d = getD-behind xs n i d
+
+-- what stands behind the places says nothing
+pub getD-all : (ps : List ℕ) (c : ℕ) → getD (allPlaces ps) c noPlace ≡ getD ps c noPlace
+getD-all ps c = getD-behind ps (mostCharts - length ps) c noPlace
 
 module _ (r : ℕ) where
   none-first : (os : List Outcome) → answer os ≡ refused r → firstPlaces os ≡ []
@@ -147,3 +162,31 @@ behind-cong {A} n x y z h = go (same n 0) refl
 -- where none does, it is what is answered
 pub behind-is : {A : Type 0} (n : ℕ) (x z : A) → n ≡ 0 → cond (same n 0) x z ≡ x
 behind-is n x z e = ap (λ b. cond b x z) (ap (λ k. same k 0) e ∙ same-refl 0)
+
+-- ── a step that is given ──
+
+-- its file is accepted, its configuration valid, and answer and places are those that the file's records give
+pub record Answered (f config : List ℕ) (i : Set) (room : ℕ) (o : Set) (n : List ℕ) (m : Bool) : Type 0 where
+  pub accepted : refusalOf f ≡ 0
+  pub valid : Valid (fileOf f) config
+  pub answer-is : stepIn (fileOf f) config i ≡ given o n m
+  pub places-are : placesOf f config i room ≡ placesIn (fileOf f) config i
+
+pub answered : (f config : List ℕ) (i : Set) (room : ℕ) (o : Set) (n : List ℕ) (m : Bool) → stepOf f config i room ≡ given o n m
+    → Answered f config i room o n m
+unfolding stepOf placesOf
+answered f config i room o n m e =
+    record {
+      accepted = step-allowed f config room passes .0;
+      valid = step-allowed f config room passes .1;
+      answer-is = sym (behind-is (stepRefusal f config room) _ _ passes) ∙ e;
+      places-are = behind-is (stepRefusal f config room) _ _ passes;
+    }
+  where
+    go : (b : Bool) → same (stepRefusal f config room) 0 ≡ b
+        → cond b (stepIn (fileOf f) config i) (refused (stepRefusal f config room)) ≡ given o n m → stepRefusal f config room ≡ 0
+    go true q h = same→≡ (stepRefusal f config room) 0 q
+    go false q h = absurd (let z : _≡_ {A = ℕ} 0 1 = cc in omega arith)
+
+    passes : stepRefusal f config room ≡ 0
+    passes = go (same (stepRefusal f config room) 0) refl e

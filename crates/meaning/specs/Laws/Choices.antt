@@ -10,6 +10,7 @@ use native.Mathlib.Omega.{arith}
 use lib.ListN.{length, getD, drop, drop-of-length-le}
 use lib.Seq.{drop-cons}
 use Rattle.layout.specs.declared.record.Transition.{Transition}
+use Rattle.meaning.specs.Numbers.{noPlace}
 use Rattle.meaning.specs.Meaning.{Set, same, Chart, Tree, Move, nth, behind, pick, lastPlace, after, permitted, upd, moves, nexts, placeOf, placesFrom, upto, outcome, search, eqList}
 use Rattle.meaning.specs.Laws.Bools.{and-l, and-r, same-refl, same→≡, same-≢}
 
@@ -121,6 +122,13 @@ module _ (E : ℕ → Chart) where
   unfolding placesFrom
   length-places ch c zero = refl
   length-places ch c (suc n) = ap suc (length-places ch (suc c) n)
+
+  pub getD-places : (ch : ℕ → ℕ) (k n c : ℕ) → c < n → getD (placesFrom E ch k n) c noPlace ≡ placeAt (k + c) (ch (k + c))
+  unfolding placesFrom
+  getD-places ch k zero c l = absurd (omega arith)
+  getD-places ch k (suc n) zero l = ap (λ z. placeAt z (ch z)) (let e : k ≡ k + 0 = omega arith in e)
+  getD-places ch k (suc n) (suc c) l =
+      getD-places ch (suc k) n c (omega arith) ∙ ap (λ z. placeAt z (ch z)) (let e : suc k + c ≡ k + suc c = omega arith in e)
 
   pub places-cong : (ch ch₂ : ℕ → ℕ) (c n : ℕ) → ((i : ℕ) → c ≤ i → i < c + n → ch₂ i ≡ ch i) → placesFrom E ch₂ c n ≡ placesFrom E ch c n
   unfolding placesFrom

@@ -1,7 +1,7 @@
 -- Demand 2 in words: a step is given exactly if a permitted choice exists (`given-if`, `refused-if`); it is the first in the order
 -- (`given-first`); the mark is yes exactly if all permitted choices agree on output and next configuration (`mark-yes`, `mark-no`). Then: an
 -- inactive part takes none (`inactive`); a signal outside the interface changes nothing (`outside-outcomes`, `outside`); the next configuration is
--- valid (`valid-next`). All of it over a tree; of files, runs among them, what is inactive and what is outside is in Files.
+-- valid (`valid-next`). All of it over a tree: of files, what is outside and what is valid is in Files, what is inactive in Activity.
 use mathlib.Core.Path.{_≡_, refl, sym, _∙_, ap, subst, fun-ext}
 use mathlib.Core.Bool.{Bool, true, false, _&&_, cond, true≢false, false≢true}
 use mathlib.Core.Logic.{_⊎_, inl, inr}

@@ -1,7 +1,7 @@
--- Demand 2 of files, as the public calls answer them: a signal outside the interface changes nothing, in a step (`step-outside`, `places-outside`) or
--- in a run (`run-outside`, `carried-outside`); the next configuration is valid again (`step-valid`); a run has exactly a row for each input
--- (`run-rows`), each configuration in it is valid (`run-valid`), each row is a step from where the row before it ended (`run-row`), and what is
--- carried (`run-given` to `run-last`).
+-- Demand 2 of files, as the public calls answer them. In this order: a signal outside the interface changes nothing, in a step
+-- (`step-outside`, `places-outside`) or in a run (`run-outside`, `carried-outside`); the next configuration is valid again (`step-valid`);
+-- a run has exactly a row for each input (`run-rows`), each configuration in it is valid (`run-valid`), each row is a step from where the
+-- row before it ended (`run-row`); what is carried (`run-given` to `run-last`). What is inactive is in Activity.
 use mathlib.Core.Path.{_≡_, refl, sym, _∙_, ap}
 use mathlib.Core.Bool.{Bool, true, false, cond}
 use mathlib.Core.List.{List, [], _∷_, _++_, map}
@@ -19,7 +19,7 @@ use Rattle.meaning.specs.Meaning.{Set, ∅, same, Answer, refused, given
 use Rattle.meaning.specs.File.{File, wholeOf, fileOf}
 use Rattle.meaning.specs.Check.{refusalOf}
 use Rattle.meaning.specs.Calls.{inputOf, outcomesIn, stepRefusal, stepIn, stepOf, allPlaces, placesIn, placesOf, refusalIn, outputIn, markIn, afterStep, rowOf, rowAt, configAt, carriedAt, stepAt, carriedAfter, rowsOf, carriedOf, laidOver, runRefusal, runBytes, runCarried}
-use Rattle.meaning.specs.Calls.Laws.{step-open, step-allowed, run-open, run-allowed, behind-cong, behind-is}
+use Rattle.meaning.specs.Calls.Laws.{step-open, step-allowed, run-open, run-allowed, behind-cong, behind-is, answered}
 use Rattle.meaning.specs.Laws.Bools.{same→≡}
 use Rattle.meaning.specs.Laws.Demand2.{outside-outcomes}
 use Rattle.meaning.specs.Laws.Runs.{Valid, Leads, file-leads, Stand, stepFrom, standAt, rowsFrom, valid-after, rows-all, valid-at, row-at, stand-take, carried-given, carried-refused, carried-last}
@@ -110,23 +110,11 @@ module _ (f : List ℕ) where
 
 -- ── the next configuration is valid again ──
 
--- what a step given has: a file that is accepted, a valid configuration, room, and the answer that the file's records give
-pub step-given : (f config : List ℕ) (i : Set) (room : ℕ) (o : Set) (n : List ℕ) (m : Bool) → stepOf f config i room ≡ given o n m
-    → (refusalOf f ≡ 0) × Valid (fileOf f) config × (stepIn (fileOf f) config i ≡ given o n m)
-unfolding stepOf
-step-given f config i room o n m e = go (same (stepRefusal f config room) 0) refl e
-  where
-    go : (b : Bool) → same (stepRefusal f config room) 0 ≡ b
-        → cond b (stepIn (fileOf f) config i) (refused (stepRefusal f config room)) ≡ given o n m
-        → (refusalOf f ≡ 0) × Valid (fileOf f) config × (stepIn (fileOf f) config i ≡ given o n m)
-    go true q h = let w = step-allowed f config room (same→≡ (stepRefusal f config room) 0 q) in (w .0, w .1, h)
-    go false q h = absurd (let z : _≡_ {A = ℕ} 0 1 = cc in omega arith)
-
 pub step-valid : (f config : List ℕ) (i : Set) (room : ℕ) (o : Set) (n : List ℕ) (m : Bool) → stepOf f config i room ≡ given o n m
     → Valid (fileOf f) n
 step-valid f config i room o n m e =
-    let w = step-given f config i room o n m e in
-    rw (w .2) at (valid-after (fileOf f) (file-leads f (w .0)) config i (w .1))
+    let w = answered f config i room o n m e in
+    rw (w .answer-is) at (valid-after (fileOf f) (file-leads f (w .accepted)) config i (w .valid))
 
 -- ── the rows of a run ──
 

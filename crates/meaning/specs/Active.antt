@@ -1,0 +1,44 @@
+-- Which charts are active in a step (document 01, "The meaning of a step"), told by the states before and after it, and what a part puts
+-- out in it, told by its places. Laws over a tree are in Active/Laws.antt, those over files in Laws/Activity.antt.
+use mathlib.Core.Bool.{Bool, true, false, _&&_, _||_, cond}
+use mathlib.Core.List.{List}
+use Prim.Native.Nat.{ℕ}
+use lib.ListN.{getD}
+use Rattle.meaning.specs.Numbers.{noPlace}
+use Rattle.meaning.specs.Meaning.{Set, same, Tree, Slaves, leaf, comp, hide, dec, nil, snoc, noMove, nth, out}
+use Rattle.meaning.specs.File.{File, wholeOf, Has}
+pub mod Laws
+
+-- state: of each slave, its state; before and next: of each chart, its state before and after the step
+module _ (state before next : ℕ → ℕ) where
+  unfoldable mutual
+    -- chart c stands in a part; whether it is active, by whether the part is
+    pub active : Tree → Bool → ℕ → Bool
+    active (leaf d) a c = a
+    -- "both parts are as active as the whole"
+    active (comp p q x) a c = cond (Has p c) (active p a c) (active q a c)
+    -- "the part is as active"
+    active (hide p x y) a c = active p a c
+    -- "A slave is active exactly if the master is active and its state before or after the step is the slave's state."
+    active (dec d ss) a c = cond (same c d) a (actives ss (λ q. a && (same (before d) q || same (next d) q)) c)
+
+    -- the same of slaves, by whether one is active by its state
+    pub actives : Slaves → (ℕ → Bool) → ℕ → Bool
+    actives nil f c = false
+    actives (snoc ss i t) f c = cond (Has t c) (active t (f (state i)) c) (actives ss f c)
+
+-- in a step of a file that leads from config to next
+module _ (F : File) (config next : List ℕ) where
+  -- "The whole is active"; chart c
+  unfoldable pub activeIn : ℕ → Bool
+  activeIn c = active (F .state) (λ d. getD config d 0) (λ d. getD next d 0) (wholeOf F) true c
+
+  -- slave i
+  unfoldable pub slaveActive : ℕ → Bool
+  slaveActive i =
+      activeIn (F .master i)
+      && (same (getD config (F .master i) 0) (F .state i) || same (getD next (F .master i) 0) (F .state i))
+
+-- what a part puts out in a step with these places: a place is one of the chart's transitions, and 254 and 255 are none of them
+unfoldable pub putOut : File → List ℕ → Tree → Set
+putOut F places t = out (λ c. nth noMove (F .chart c .transitions) (getD places c noPlace)) t
