@@ -2,7 +2,7 @@
 -- answered like the file by every other call, for every configuration, input and buffer.
 use mathlib.Core.Path.{_≡_, refl, sym, _∙_, ap, ap₂}
 use mathlib.Core.Bool.{Bool, true, false, cond, false≢true}
-use mathlib.Core.Logic.{inl}
+use mathlib.Core.Logic.{inl, _↔_}
 use mathlib.Core.List.{List, [], _∷_, _++_, append-assoc}
 use Prim.Native.Nat.{ℕ, _+_, _*_, _-_, _≤_, _<_}
 use native.Mathlib.Omega.{arith}
@@ -21,7 +21,7 @@ use Rattle.meaning.specs.Check.Laws.{firstOf-passes, Passed, passed, call-passe
 use Rattle.meaning.specs.Check.{Test, firstOf, differ, notBelow, fileTests, refusalOf}
 use Rattle.meaning.specs.Calls.{made, laidOver, firstRefusal, initials, firstBytes, inputOf, outputOf, configTests, stepRefusal, stepIn, stepOf, allPlaces, placesIn, placesOf, runRefusal, rowsOf, carriedOf, runBytes, runCarried}
 use Rattle.meaning.specs.Calls.Laws.{made-cong, call-allowed}
-use Rattle.meaning.specs.Rewriting.{chartWith, rewrittenChart, rewriteTests, rewriteBytes, stayTest, rewriteRefusal, rewrite, rewriteLength, shapeIn}
+use Rattle.meaning.specs.Rewriting.{free, call, LowestLeft, noFree?, chartWith, rewrittenChart, rewriteTests, rewriteBytes, stayTest, rewriteRefusal, rewrite, rewriteLength, shapeIn}
 use Rattle.meaning.specs.Laws.Bools.{same-refl, same→≡}
 use Rattle.meaning.specs.Laws.Runs.{Valid}
 use Rattle.meaning.specs.Laws.Editions.{edition-left}
@@ -31,6 +31,7 @@ use Rattle.agreement.specs.Run.{run-is, carried-is}
 use Rattle.agreement.specs.Faces.{input-is, output-is}
 use Rattle.agreement.specs.Passed.{ended, smalls, body-bytes, ready}
 use Rattle.agreement.specs.New.{Regular}
+use Rattle.agreement.specs.Free.{call-is}
 use Rattle.agreement.specs.Slaveless.{slaveless-same}
 use Rattle.agreement.specs.Written.{encode-again}
 use Rattle.agreement.specs.Again.{Given, fits, new-passes, new-reads, new-slaves}
@@ -230,6 +231,14 @@ module _ (f : List ℕ) (ab : AllBytes f) (room : ℕ) (ok : rewriteRefusal f ro
     unfolding runCarried runRefusal rowsTest
     same-carried left = answer-same config _ _ (ap (rowsTest (length inputs) left) (r .charts)) (carriedOf (fileOf f) config carried inputs)
         (carriedOf (fileOf f′) config carried inputs) (λ n. ∅) (λ v. carried-is (fileOf f) (rg .ready) (fileOf f′) r inputs config carried v)
+
+-- the call of a slave is the lowest number that is left for it, and no other number is
+pub call-exactly : (f : List ℕ) (room : ℕ) → rewriteRefusal f room ≡ 0 → (i : ℕ) → i < fileOf f .slaves
+    → (m : ℕ) → (m ≡ call (fileOf f) i) ↔ LowestLeft (fileOf f) i m
+unfolding noFree?
+call-exactly f room ok i l m =
+    let h = ltb-false (length (free (fileOf f))) (fileOf f .slaves) (allowed f room ok .given .room) in
+    call-is (fileOf f) i (omega arith) m
 
 -- a file of edition 1 without slaves rewrites to itself, without its front
 pub slaveless-rewrites : (f : List ℕ) → AllBytes f → refusalOf f ≡ 0 → trailer f .edition ≡ firstEdition → fileOf f .slaves ≡ 0

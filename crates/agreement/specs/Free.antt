@@ -1,27 +1,26 @@
--- The call signals: no two slaves have the same, none is in a set of the file, and each is the lowest number left. In this order: unions; the
--- numbers that a set lacks; the calls; sets of the file.
-use mathlib.Core.Path.{_≡_, refl, sym, _∙_, ap, ap₂}
-use mathlib.Core.Bool.{Bool, true, false, _||_, cond, true≢false}
+-- The call signals: no two slaves have the same (`call-inj`), none is in a set of the file (`call-old`), and each is the lowest number left,
+-- which no other is (`call-is`). In this order: unions; the numbers that a set lacks; the calls; sets of the file.
+use mathlib.Core.Path.{_≡_, refl, sym, _∙_, ap}
+use mathlib.Core.Bool.{Bool, true, false, cond, true≢false}
 use mathlib.Core.List.{List, [], _∷_, _++_}
 use Prim.Native.Nat.{ℕ, zero, suc, _+_, _^_, _<_}
 use native.Mathlib.Omega.{arith}
 use native.Mathlib.Decide.{decLt}
-use borrow.Author.Tests.{eq-eqb, ne-eqb}
 use lib.Dec.{lit<}
 use lib.ListN.{length, getD, length-append, List·getD-append, List·getD-eq-default}
 use lib.Seq.{getD-at}
 use Rattle.signals.specs.Mask.{_∪_, _∖_, bit, single}
-use Rattle.signals.specs.Mask.Laws.{bit-single, bit-none, bit-union, within-at, bit-high, union-lt, single-apart}
+use Rattle.signals.specs.Mask.Laws.{bit-high, union-lt, single-apart}
 use Rattle.signals.specs.Decide.{Claim, sets, A, B, C, D, E as Eₑ, _∪ₑ_, _⊑_, _⊥ₑ_}
 use Rattle.layout.specs.declared.record.Transition.{Transition}
 use Rattle.meaning.specs.Meaning.{Set, ∅, guards, actions}
 use Rattle.meaning.specs.File.{File}
-use Rattle.meaning.specs.Count.Laws.{below-suc, or-left, or-right}
-use Rattle.meaning.specs.Rewriting.{unionUpTo, lacking, used, free, call}
+use Rattle.meaning.specs.Count.Laws.{below-suc}
+use Rattle.meaning.specs.Rewriting.{unionUpTo, lacking, used, free, call, LowestLeft}
 use Rattle.meaning.specs.Rewriting.Laws.{union-in}
 use Rattle.agreement.specs.Same.{Old}
 use Rattle.agreement.specs.Charts.{OldTs, OldChart}
-use mathlib.Core.Logic.{⊎-elim}
+use mathlib.Core.Logic.{_⊎_, inl, inr, ⊎-elim, _↔_}
 
 -- ── unionUpTo ──
 
@@ -142,43 +141,32 @@ module _ (F : File) where
           not-later (no b) = let z : i ≡ j = omega arith in let y : getD L i (64 + i) ≡ getD L j (64 + j) = ap (λ n. getD L n (64 + n)) z in
               omega arith
 
-  -- what is taken before slave i: the file's sets and the calls of the slaves before it
-  unfoldable pub taken : ℕ → Set
-  taken i = used F ∪ unionUpTo i (λ k. single (call F k))
+  free-unused : (i : ℕ) → i < length (free F) → bit (used F) (call F i) ≡ false
+  unfolding call free
+  free-unused i l = lacking-is (used F) 64 i (64 + i) l .1
 
-  in-calls : (i k n : ℕ) → k < i → call F k ≡ n → bit (unionUpTo i (λ k. single (call F k))) n ≡ true
-  in-calls i k n l e = within-at (single (call F k)) (unionUpTo i (λ k. single (call F k))) (union-in i (λ k. single (call F k)) k l) n
-      (rw e (bit-single n n ∙ eq-eqb n n refl))
-
-  not-in-calls : (i n : ℕ) → ((k : ℕ) → k < i → call F k ≡ n → ⊥) → bit (unionUpTo i (λ k. single (call F k))) n ≡ false
-  unfolding unionUpTo
-  not-in-calls zero n h = bit-none n
-  not-in-calls (suc i) n h = bit-union n (unionUpTo i (λ k. single (call F k))) (single (call F i))
-      ∙ ap₂ _||_ (not-in-calls i n (λ k l. h k (omega arith))) (bit-single (call F i) n ∙ ne-eqb (call F i) n (h i (omega arith)))
-
-  -- a number that is not taken is no slave's before i, and not used
-  not-taken : (i n : ℕ) → bit (taken i) n ≡ false → (bit (used F) n ≡ false) × ((k : ℕ) → k < i → call F k ≡ n → ⊥)
-  unfolding taken
-  not-taken i n e = let q = sym (bit-union n (used F) (unionUpTo i (λ k. single (call F k)))) ∙ e in
-      (or-left (bit (used F) n) _ q, λ k l z. true≢false (sym (in-calls i k n l z) ∙ or-right (bit (used F) n) _ q))
-
-  -- the call of slave i is not taken, and each lower number is
-  call-free : (i : ℕ) → i < length (free F) → bit (taken i) (call F i) ≡ false
-  unfolding taken call free
-  call-free i l = bit-union (call F i) (used F) (unionUpTo i (λ k. single (call F k)))
-      ∙ ap₂ _||_ (free-unused i l) (not-in-calls i (call F i) (λ k m e. let u = call-lt k i m in omega arith))
+  call-left : (i : ℕ) → i < length (free F) → LowestLeft F i (call F i)
+  call-left i l =
+      record {
+        unused = free-unused i l;
+        left = λ k m e. absurd (let u = call-lt k i m in omega arith);
+        lower = λ j m. go j m (bit (used F) j) refl;
+      }
     where
-      free-unused : (i : ℕ) → i < length (free F) → bit (used F) (call F i) ≡ false
-      free-unused i l = lacking-is (used F) 64 i (64 + i) l .1
+      go : (j : ℕ) → j < call F i → (b : Bool) → bit (used F) j ≡ b → (b ≡ true) ⊎ ((k : ℕ) × (k < i) × (call F k ≡ j))
+      go j m true e = inl refl
+      go j m false e = inr (call-lowest i l j m e)
 
-  -- the lowest number that is not taken is the call of slave i
-  pub call-is : (i m : ℕ) → i < length (free F) → bit (taken i) m ≡ false → ((k : ℕ) → k < m → bit (taken i) k ≡ true) → m ≡ call F i
-  call-is i m l e h = go (decLt m (call F i)) (decLt (call F i) m)
+  -- a number is the call of slave i exactly if it is the lowest that is left
+  pub call-is : (i : ℕ) → i < length (free F) → (m : ℕ) → (m ≡ call F i) ↔ LowestLeft F i m
+  call-is i l m = (λ e. rw e (call-left i l), λ h. go h (decLt m (call F i)) (decLt (call F i) m))
     where
-      go : Dec (m < call F i) → Dec (call F i < m) → m ≡ call F i
-      go (yes a) b = absurd (let q = not-taken i m e in let u = call-lowest i l m a (q .0) in q .1 (u .0) (u .1) (u .2))
-      go (no a) (yes b) = absurd (true≢false (sym (h (call F i) b) ∙ call-free i l))
-      go (no a) (no b) = omega arith
+      go : LowestLeft F i m → Dec (m < call F i) → Dec (call F i < m) → m ≡ call F i
+      go h (yes a) b = absurd (let u = call-lowest i l m a (h .unused) in h .left (u .0) (u .1) (u .2))
+      go h (no a) (yes b) =
+          absurd (⊎-elim (λ e. true≢false (sym e ∙ free-unused i l))
+          (λ u. let z = call-inj (u .0) i (u .2) in let q = u .1 in omega arith) (h .lower (call F i) b))
+      go h (no a) (no b) = omega arith
 
   module _ (small : used F < 2 ^ 64) where
     call-unused : (i : ℕ) → bit (used F) (call F i) ≡ false

@@ -1,10 +1,12 @@
 -- The rewriting (document 01, "The rewriting"): a file with slaves becomes a file without, sentence by sentence. In this order: the call signals;
 -- the charts; the nodes; the rewritten file; refusals 40 to 44; the file in bytes; what the call answers. That the rewritten file steps as the
 -- file does is proved in the crate agreement. Laws of the refusals are in Rewriting/Laws.antt.
-use mathlib.Core.Bool.{Bool, _&&_, _||_, cond}
+use mathlib.Core.Path.{_≡_}
+use mathlib.Core.Bool.{Bool, true, false, _&&_, _||_, cond}
+use mathlib.Core.Logic.{_≢_, _⊎_}
 use mathlib.Core.Option.{Option, none, some}
 use mathlib.Core.List.{List, [], _∷_, _++_, map}
-use Prim.Native.Nat.{ℕ, zero, suc, _+_}
+use Prim.Native.Nat.{ℕ, zero, suc, _+_, _<_}
 use lib.Dec.{ltb}
 use lib.ListN.{length, getD}
 use Rattle.signals.specs.Mask.{_∪_, bit, single}
@@ -50,6 +52,12 @@ module _ (F : File) where
   -- Where none is left, which 40 refuses, it is a number that is no signal.
   unfoldable pub call : ℕ → ℕ
   call i = getD free i (mostSignals + i)
+
+  -- the same said of a number m, for theorems: it is in no set of the file, it is no earlier slave's call, and each lower number is one of these
+  pub record LowestLeft (i m : ℕ) : Type 0 where
+    pub unused : bit used m ≡ false
+    pub left : (k : ℕ) → k < i → call k ≢ m
+    pub lower : (j : ℕ) → j < m → (bit used j ≡ true) ⊎ ((k : ℕ) × (k < i) × (call k ≡ j))
 
   -- ── the charts ──
 
