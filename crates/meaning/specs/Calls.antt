@@ -1,8 +1,9 @@
 -- What the public calls answer (document 01), the rewriting aside: the first configuration, the interface, the step, the run. Each has one list
 -- of tests, in the order in which document 01 names them. A refusal leaves lent bytes as they were.
+use mathlib.Core.Path.{_≡_}
 use mathlib.Core.Bool.{Bool, false, cond}
 use mathlib.Core.List.{List, [], _∷_, _++_}
-use Prim.Native.Nat.{ℕ, zero, suc, _+_, _-_, _*_}
+use Prim.Native.Nat.{ℕ, zero, suc, _+_, _-_, _*_, _<_}
 use lib.Dec.{ltb}
 use lib.ListN.{length, getD, take, drop, replicate}
 use Rattle.signals.specs.Mask.{_∪_}
@@ -51,6 +52,11 @@ configTests f config =
     record { number = wrongLength; applies = differ (length config) (fileOf f .charts) }
     ∷ record { number = badState; applies = anyUpTo (fileOf f .charts) (λ c. notBelow (getD config c 0) (fileOf f .chart c .states)) }
     ∷ []
+
+-- a configuration of a file that neither applies to: a state of each chart
+pub record Valid (F : File) (config : List ℕ) : Type 0 where
+  pub long : length config ≡ F .charts
+  pub states : (c : ℕ) → c < F .charts → getD config c 0 < F .chart c .states
 
 unfoldable pub stepRefusal : List ℕ → List ℕ → ℕ → ℕ
 stepRefusal f config room =

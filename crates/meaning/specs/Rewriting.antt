@@ -53,7 +53,8 @@ module _ (F : File) where
   unfoldable pub call : ℕ → ℕ
   call i = getD free i (mostSignals + i)
 
-  -- the same said of a number m, for theorems: it is in no set of the file, it is no earlier slave's call, and each lower number is one of these
+  -- the same said of a number m: it is in no set of the file and no earlier slave's call, and each lower number is in one
+  -- or is one
   pub record LowestLeft (i m : ℕ) : Type 0 where
     pub unused : bit used m ≡ false
     pub left : (k : ℕ) → k < i → call k ≢ m

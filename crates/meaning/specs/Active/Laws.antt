@@ -1,7 +1,8 @@
--- Laws of activity and of what parts put out. In this order: a permitted choice moves the charts that are active, and no others
--- (`ok-active`); in it the part of a slave keeps to the rules by whether the slave is active (`slave-part`); a chart moves exactly if its
--- nearest slave is active (`near`); what a part puts out hangs on its charts' actions alone (`out-cong`), and is nothing if they take
--- none (`out-none`); a place of a step says what its chart puts out (`place-action`), and that it moves (`place-some`).
+-- Laws of activity and of what parts put out. In this order: a permitted choice moves the charts that are active, and
+-- no others (`ok-active`); in it the part of a slave keeps to the rules by whether the slave is active (`slave-part`); a
+-- chart moves exactly if its nearest slave is active (`near`); what a part puts out hangs on its charts' actions alone
+-- (`out-cong`), and is nothing if they take none (`out-none`); a place of a step says what its chart puts out
+-- (`place-action`), and that it moves (`place-some`).
 use mathlib.Core.Path.{_≡_, refl, sym, _∙_, ap, ap₂}
 use mathlib.Core.Bool.{Bool, true, false, _&&_, _||_, cond, false≢true}
 use mathlib.Core.List.{List, [], _∷_}
@@ -64,10 +65,12 @@ module _ (E : ℕ → Chart) (state : ℕ → ℕ) (cfg : ℕ → ℕ) (M : ℕ 
         → some? (M c) ≡ activeBy state cfg M t a c
     ok-active (leaf d) a o c h k = rw (same→≡ c d h) (okChart-some (E d) a o (cfg d) (M d) k)
     ok-active (comp p q x) a o c h k =
-        either (Has p c) (Has q c) _ _ _ (λ e. ok-active p a _ c e (and-l _ _ k)) (λ e. ok-active q a _ c e (and-r (ok E state cfg M p a _) _ k)) h
+        either (Has p c) (Has q c) _ _ _ (λ e. ok-active p a _ c e (and-l _ _ k))
+        (λ e. ok-active q a _ c e (and-r (ok E state cfg M p a _) _ k)) h
     ok-active (hide p x y) a o c h k = ok-active p a (o ∖ x) c h k
     ok-active (dec d ss) a o c h k =
-        either (same c d) (HasS ss c) _ _ _ (λ e. rw (same→≡ c d e) (okChart-some (E d) a _ (cfg d) (M d) (and-l _ _ k)))
+        either (same c d) (HasS ss c) _ _ _
+        (λ e. rw (same→≡ c d e) (okChart-some (E d) a _ (cfg d) (M d) (and-l _ _ k)))
         (λ e. oks-active ss _ _ c e (and-r (okChart (E d) a _ (cfg d) (M d)) _ k)) h
 
     oks-active : (ss : Slaves) (f : ℕ → Bool) (z : Set) (c : ℕ) → HasS ss c ≡ true → oks E state cfg M ss f z ≡ true
@@ -94,8 +97,10 @@ module _ (E : ℕ → Chart) (state : ℕ → ℕ) (cfg : ℕ → ℕ) (M : ℕ 
       rest : Slaves
       rest = gather sc g c k
 
-      go : (b : Bool) → same i k ≡ b → (a : Bool) → same (sc k) c ≡ a → oks E state cfg M (cond a (snoc rest k (g k)) rest) f z ≡ true
-          → (i < k → oks E state cfg M rest f z ≡ true → Part E state cfg M (g i) (f (state i))) → Part E state cfg M (g i) (f (state i))
+      go : (b : Bool) → same i k ≡ b → (a : Bool) → same (sc k) c ≡ a
+          → oks E state cfg M (cond a (snoc rest k (g k)) rest) f z ≡ true
+          → (i < k → oks E state cfg M rest f z ≡ true → Part E state cfg M (g i) (f (state i)))
+          → Part E state cfg M (g i) (f (state i))
       go true p true q h r =
           rw (same→≡ i k p) (z ∩ inFace E (g k), and-r (oks E state cfg M rest f z) _ h)
       go true p false q h r = absurd (false≢true (sym q ∙ rw (sym (ap sc (same→≡ i k p)) ∙ e) (same-refl c)))
@@ -122,17 +127,20 @@ module _ (F : File) (w : Ordered F) (jn : Joined F) (cfg : ℕ → ℕ) (M : ℕ
       → PartOf (F .node i) (woken i)
   by-master i j a l m e p u =
       let v = whole-ok (F .chart) (F .state) cfg M (F .a j) _ a (u .0) (rw (tree₀ F w j m e) at (u .1)) in
-      rw (← p) (gather-ok (F .chart) (F .state) cfg M (F .master) (λ i. treeOf F (F .node i)) (F .a j) (F .slaves) i _ (v .0) l (sym p) (v .1))
+      rw (← p) (gather-ok (F .chart) (F .state) cfg M (F .master) (λ i. treeOf F (F .node i)) (F .a j) (F .slaves) i _
+      (v .0) l (sym p) (v .1))
 
   -- a node's part, from that of what names the node
-  named-part : (j : ℕ) → Namer F j → ((k : ℕ) → j < k → k < F .nodes → (a : Bool) × PartOf k a) → (a : Bool) × PartOf j a
+  named-part : (j : ℕ) → Namer F j → ((k : ℕ) → j < k → k < F .nodes → (a : Bool) × PartOf k a)
+      → (a : Bool) × PartOf j a
   unfolding ok
   named-part j (left k l e p) ih =
       let u = ih k (rw p at (w .lower₁ k l e .0)) l in
       (u .0, (_, and-l _ _ (rw (tree₁ F w k l e, p) at (u .1 .1))))
   named-part j (right k l e p) ih =
       let u = ih k (rw p at (w .lower₁ k l e .1)) l in
-      (u .0, (_, and-r (ok (F .chart) (F .state) cfg M (treeOf F (F .a k)) (u .0) _) _ (rw (tree₁ F w k l e, p) at (u .1 .1))))
+      let v = ok (F .chart) (F .state) cfg M (treeOf F (F .a k)) (u .0) _ in
+      (u .0, (_, and-r v _ (rw (tree₁ F w k l e, p) at (u .1 .1))))
   named-part j (inside k l e p) ih =
       let u = ih k (rw p at (w .lower₂ k l e)) l in
       (u .0, (_, rw (tree₂ F w k l e, p) at (u .1 .1)))
@@ -146,7 +154,8 @@ module _ (F : File) (w : Ordered F) (jn : Joined F) (cfg : ℕ → ℕ) (M : ℕ
     parts zero j b l = absurd (omega arith)
     parts (suc f) j b l = go (same j last) refl (λ k p q. parts f k (omega arith) q)
       where
-        go : (x : Bool) → same j last ≡ x → ((k : ℕ) → j < k → k < F .nodes → (a : Bool) × PartOf k a) → (a : Bool) × PartOf j a
+        go : (x : Bool) → same j last ≡ x → ((k : ℕ) → j < k → k < F .nodes → (a : Bool) × PartOf k a)
+            → (a : Bool) × PartOf j a
         go true p ih = rw (same→≡ j last p) (true, whole-part)
         go false p ih = let z : j ≢ last = same→≢ j last p in named-part j (jn .named j (omega arith)) ih
 
@@ -185,11 +194,13 @@ module _ (F : File) (w : Ordered F) (cfg : ℕ → ℕ) (M : ℕ → Move) where
     abbrev Among : Slaves → Type 0
     Among ss = HasS ss c ≡ true → By (nearestAmong ss c)
 
-    one-of : (b b′ : Bool) (p q : Option ℕ) → (b ≡ true → By p) → (b′ ≡ true → By q) → (b || b′) ≡ true → By (cond b p q)
+    one-of : (b b′ : Bool) (p q : Option ℕ) → (b ≡ true → By p) → (b′ ≡ true → By q) → (b || b′) ≡ true
+        → By (cond b p q)
     one-of true b′ p q f g h = f refl
     one-of false b′ p q f g h = g h
 
-    near-whole : (d : ℕ) (ss : Slaves) (κ : Option ℕ) (o : Set) → Its κ → Among ss → Ok (whole d ss) (within κ) o ≡ true → Near (whole d ss) κ
+    near-whole : (d : ℕ) (ss : Slaves) (κ : Option ℕ) (o : Set) → Its κ → Among ss → Ok (whole d ss) (within κ) o ≡ true
+        → Near (whole d ss) κ
     unfolding ok Has nearestIn
     near-whole d nil κ o y g k h = (rw (same→≡ c d h) (okChart-some (F .chart d) (within κ) o (cfg d) (M d) k), y)
     near-whole d (snoc ss i t) κ o y g k h =
@@ -197,12 +208,15 @@ module _ (F : File) (w : Ordered F) (cfg : ℕ → ℕ) (M : ℕ → Move) where
         (λ e. (rw (same→≡ c d e) (okChart-some (F .chart d) (within κ) _ (cfg d) (M d) (and-l _ _ k)), y)) g h
 
     near-gather : (d k : ℕ) (z : Set) → k ≤ F .slaves
-        → ((s : ℕ) → s < k → F .master s ≡ d → (o : Set) → Ok (treeOf F (F .node s)) (within (some s)) o ≡ true → Near (treeOf F (F .node s)) (some s))
-        → oks (F .chart) (F .state) cfg M (gather (F .master) (λ s. treeOf F (F .node s)) d k) (λ q. some? (M d) && meets (cfg d) (M d) q) z ≡ true
+        → ((s : ℕ) → s < k → F .master s ≡ d → (o : Set) → Ok (treeOf F (F .node s)) (within (some s)) o ≡ true
+        → Near (treeOf F (F .node s)) (some s))
+        → oks (F .chart) (F .state) cfg M (gather (F .master) (λ s. treeOf F (F .node s)) d k)
+        (λ q. some? (M d) && meets (cfg d) (M d) q) z ≡ true
         → Among (gather (F .master) (λ s. treeOf F (F .node s)) d k)
     unfolding gather ok Has nearestIn
     near-gather d zero z l ih k h = absurd (false≢true h)
-    near-gather d (suc n) z l ih k h = go (same (F .master n) d) refl k h (near-gather d n z (omega arith) (λ s m. ih s (omega arith)))
+    near-gather d (suc n) z l ih k h =
+        go (same (F .master n) d) refl k h (near-gather d n z (omega arith) (λ s m. ih s (omega arith)))
       where
         rest : Slaves
         rest = gather (F .master) (λ s. treeOf F (F .node s)) d n
@@ -218,33 +232,40 @@ module _ (F : File) (w : Ordered F) (cfg : ℕ → ℕ) (M : ℕ → Move) where
         go true e k h r =
             let q = same→≡ (F .master n) d e in
             one-of (Has (treeOf F (F .node n)) c) (HasS rest c) _ _
-            (ih n (omega arith) q (z ∩ inFace (F .chart) (treeOf F (F .node n))) (rw q (and-r (oks (F .chart) (F .state) cfg M rest f z) _ k)))
+            (ih n (omega arith) q (z ∩ inFace (F .chart) (treeOf F (F .node n)))
+            (rw q (and-r (oks (F .chart) (F .state) cfg M rest f z) _ k)))
             (r (and-l _ _ k)) h
         go false e k h r = r k h
 
-    near-node : (n j : ℕ) → j < n → j < F .nodes → (κ : Option ℕ) (o : Set) → Its κ → Ok (treeOf F j) (within κ) o ≡ true → Near (treeOf F j) κ
+    near-node : (n j : ℕ) → j < n → j < F .nodes → (κ : Option ℕ) (o : Set) → Its κ
+        → Ok (treeOf F j) (within κ) o ≡ true → Near (treeOf F j) κ
     unfolding ok Has nearestIn
     near-node zero j q l κ o y k h = absurd (omega arith)
     near-node (suc n) j q l κ o y k h = go (F .kind j) refl (λ i m. near-node n i (omega arith) (omega arith))
       where
         go : (b : ℕ) → F .kind j ≡ b
-            → ((i : ℕ) → i < j → (κ : Option ℕ) (o : Set) → Its κ → Ok (treeOf F i) (within κ) o ≡ true → Near (treeOf F i) κ)
+            → ((i : ℕ) → i < j → (κ : Option ℕ) (o : Set) → Its κ → Ok (treeOf F i) (within κ) o ≡ true
+            → Near (treeOf F i) κ)
             → By (nearestIn (treeOf F j) κ c)
         go zero e ih =
             let ss = gather (F .master) (λ s. treeOf F (F .node s)) (F .a j) (F .slaves) in
             let k₀ : Ok (whole (F .a j) ss) (within κ) o ≡ true = rw (tree₀ F w j l e) at k in
             let v = whole-ok (F .chart) (F .state) cfg M (F .a j) ss (within κ) o k₀ in
             rw (tree₀ F w j l e) (near-whole (F .a j) ss κ o y
-            (near-gather (F .a j) (F .slaves) (v .0) (omega arith) (λ s m p z. ih (F .node s) (w .lower₀ j l e s m p) (some s) z m) (v .1))
+            (near-gather (F .a j) (F .slaves) (v .0) (omega arith)
+            (λ s m p z. ih (F .node s) (w .lower₀ j l e s m p) (some s) z m) (v .1))
             k₀ (rw (tree₀ F w j l e) at h))
         go (suc zero) e ih =
             let u = w .lower₁ j l e in
-            let k₁ : Ok (comp (treeOf F (F .a j)) (treeOf F (F .b j)) (F .x j)) (within κ) o ≡ true = rw (tree₁ F w j l e) at k in
-            rw (tree₁ F w j l e) (one-of (Has (treeOf F (F .a j)) c) (Has (treeOf F (F .b j)) c) _ _ (ih (F .a j) (u .0) κ _ y (and-l _ _ k₁))
-            (ih (F .b j) (u .1) κ _ y (and-r (Ok (treeOf F (F .a j)) (within κ) _) _ k₁)) (rw (tree₁ F w j l e) at h))
+            let p = treeOf F (F .a j) in
+            let q = treeOf F (F .b j) in
+            let k₁ : Ok (comp p q (F .x j)) (within κ) o ≡ true = rw (tree₁ F w j l e) at k in
+            rw (tree₁ F w j l e) (one-of (Has p c) (Has q c) _ _ (ih (F .a j) (u .0) κ _ y (and-l _ _ k₁))
+            (ih (F .b j) (u .1) κ _ y (and-r (Ok p (within κ) _) _ k₁)) (rw (tree₁ F w j l e) at h))
         go (suc (suc b)) e ih =
             let e₂ : F .kind j ≡ 2 = (let m = w .kinds j l in omega arith) in
-            rw (tree₂ F w j l e₂) (ih (F .a j) (w .lower₂ j l e₂) κ (o ∖ F .x j) y (rw (tree₂ F w j l e₂) at k) (rw (tree₂ F w j l e₂) at h))
+            rw (tree₂ F w j l e₂) (ih (F .a j) (w .lower₂ j l e₂) κ (o ∖ F .x j) y (rw (tree₂ F w j l e₂) at k)
+            (rw (tree₂ F w j l e₂) at h))
 
     pub near : (j : ℕ) → j < F .nodes → (o : Set) → Ok (treeOf F j) true o ≡ true → Near (treeOf F j) none
     near j l o k = near-node (suc j) j (omega arith) l none o tt k
@@ -278,7 +299,8 @@ mutual
   folds-none nil = refl
   folds-none (snoc ss i t) = rw (folds-none ss, fold-none t) (sets [] [] (∅ₑ ∪ₑ ∅ₑ ≐ ∅ₑ) tt)
 
-pub out-cong : (M M₂ : ℕ → Move) (t : Tree) → ((c : ℕ) → Has t c ≡ true → actionOf (M c) ≡ actionOf (M₂ c)) → out M t ≡ out M₂ t
+pub out-cong : (M M₂ : ℕ → Move) (t : Tree) → ((c : ℕ) → Has t c ≡ true → actionOf (M c) ≡ actionOf (M₂ c))
+    → out M t ≡ out M₂ t
 out-cong M M₂ t h =
     out-is M t ∙ fold-own (λ c. actionOf (M c)) (λ c. actionOf (M₂ c)) (λ x y. y) t h ∙ sym (out-is M₂ t)
 
@@ -315,7 +337,8 @@ module _ (C : Chart) (few : length (C .transitions) ≤ mostInChart) where
   place-action zero = behind-action false zero
   place-action (suc k) = go (decLt k (length (C .transitions)))
     where
-      go : Dec (k < length (C .transitions)) → actionOf (nth noMove (C .transitions) (placeOf (pick C (suc k)) (suc k))) ≡ actionOf (pick C (suc k))
+      go : Dec (k < length (C .transitions))
+          → actionOf (nth noMove (C .transitions) (placeOf (pick C (suc k)) (suc k))) ≡ actionOf (pick C (suc k))
       go (yes l) = rw (place-own C k l) (ap actionOf (nth-own noMove (behind C) (C .transitions) k l))
       go (no l) = rw (nth-past (behind C) (C .transitions) k (omega arith)) (behind-action (C .stays) (suc k))
 
@@ -331,4 +354,6 @@ module _ (C : Chart) (few : length (C .transitions) ≤ mostInChart) where
 
       go : Dec (k < length (C .transitions)) → ⊥
       go (yes l) = let p = place-own C k l in omega arith
-      go (no l) = let p = nth-past (behind C) (C .transitions) k (omega arith) in stays (C .stays) (rw p at e) (rw p at q)
+      go (no l) =
+          let p = nth-past (behind C) (C .transitions) k (omega arith) in
+          stays (C .stays) (rw p at e) (rw p at q)

@@ -19,9 +19,8 @@ use Rattle.meaning.specs.Meaning.{Set, same, Outcome, refused, given, an
 use Rattle.meaning.specs.File.{File, fileOf}
 use Rattle.meaning.specs.Check.{Test, firstOf, fileTests, refusalOf}
 use Rattle.meaning.specs.Check.Laws.{below, alike, Passes, firstOf-passes, firstOf-++, all-pass, front, call-passed, in-front}
-use Rattle.meaning.specs.Calls.{made, outcomesIn, configTests, stepRefusal, stepIn, stepOf, allPlaces, placesIn, placesOf, runRefusal}
+use Rattle.meaning.specs.Calls.{made, outcomesIn, configTests, Valid, stepRefusal, stepIn, stepOf, allPlaces, placesIn, placesOf, runRefusal}
 use Rattle.meaning.specs.Laws.Bools.{agrees, same-refl, same→≡}
-use Rattle.meaning.specs.Laws.Runs.{Valid}
 
 pub length-made : (n : ℕ) (f : ℕ → ℕ) → length (made n f) ≡ n
 unfolding made
@@ -95,7 +94,10 @@ module _ (f config : List ℕ) where
   unfolding configTests
   config-passes v = (
     agrees (length config) (fileOf f .charts) (v .long),
-    (any-all (fileOf f .charts) _ (λ c m. ap not (lt-ltb (getD config c 0) (fileOf f .chart c .states) (v .states c m))), tt),
+    (
+      any-all (fileOf f .charts) _ (λ c m. ap not (lt-ltb (getD config c 0) (fileOf f .chart c .states) (v .states c m))),
+      tt,
+    ),
   )
 
   config-valid : Passes (configTests f config) → Valid (fileOf f) config
@@ -108,7 +110,8 @@ module _ (f config : List ℕ) where
     tests : firstOf (fileTests f ++ configTests f config ++ us) ≡ firstOf (fileTests f ++ (configTests f config ++ us))
     tests = ap firstOf (append-assoc (fileTests f) (configTests f config) us)
 
-    pub call-open : refusalOf f ≡ 0 → Valid (fileOf f) config → firstOf (fileTests f ++ configTests f config ++ us) ≡ firstOf us
+    pub call-open : refusalOf f ≡ 0 → Valid (fileOf f) config
+        → firstOf (fileTests f ++ configTests f config ++ us) ≡ firstOf us
     call-open h v = tests ∙ call-passed f _ h ∙ firstOf-++ (configTests f config) us (config-passes v)
 
     pub call-allowed : firstOf (fileTests f ++ configTests f config ++ us) ≡ 0
@@ -130,7 +133,8 @@ module _ (f config : List ℕ) where
     room-left : firstOf (short ∷ []) ≡ 0 → need ≤ room
     room-left e = ltb-false room need (firstOf-passes (short ∷ []) (n, tt) e .0)
 
-  pub step-open : (room : ℕ) → refusalOf f ≡ 0 → Valid (fileOf f) config → fileOf f .charts ≤ room → stepRefusal f config room ≡ 0
+  pub step-open : (room : ℕ) → refusalOf f ≡ 0 → Valid (fileOf f) config → fileOf f .charts ≤ room
+      → stepRefusal f config room ≡ 0
   unfolding stepRefusal
   step-open room h v l = call-open _ h v ∙ room-open shortBuffer (lit< tt) _ room l
 
@@ -172,8 +176,8 @@ pub record Answered (f config : List ℕ) (i : Set) (room : ℕ) (o : Set) (n : 
   pub answer-is : stepIn (fileOf f) config i ≡ given o n m
   pub places-are : placesOf f config i room ≡ placesIn (fileOf f) config i
 
-pub answered : (f config : List ℕ) (i : Set) (room : ℕ) (o : Set) (n : List ℕ) (m : Bool) → stepOf f config i room ≡ given o n m
-    → Answered f config i room o n m
+pub answered : (f config : List ℕ) (i : Set) (room : ℕ) (o : Set) (n : List ℕ) (m : Bool)
+    → stepOf f config i room ≡ given o n m → Answered f config i room o n m
 unfolding stepOf placesOf
 answered f config i room o n m e =
     record {
@@ -184,7 +188,8 @@ answered f config i room o n m e =
     }
   where
     go : (b : Bool) → same (stepRefusal f config room) 0 ≡ b
-        → cond b (stepIn (fileOf f) config i) (refused (stepRefusal f config room)) ≡ given o n m → stepRefusal f config room ≡ 0
+        → cond b (stepIn (fileOf f) config i) (refused (stepRefusal f config room)) ≡ given o n m
+        → stepRefusal f config room ≡ 0
     go true q h = same→≡ (stepRefusal f config room) 0 q
     go false q h = absurd (let z : _≡_ {A = ℕ} 0 1 = cc in omega arith)
 

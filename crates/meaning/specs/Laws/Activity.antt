@@ -1,14 +1,15 @@
--- Demand 2 on what is inactive, of a step that is given. In this order: what is known of such a step; a chart that is inactive keeps its
--- state and has no place, and one that is active has one (`inactive-stays`, `inactive-place`, `active-place`); a chart is as active as
--- its nearest slave (`outside-active`, `inside-active`); the places say what the whole puts out (`whole-output`), and a part whose
--- charts are inactive puts out nothing (`inactive-output`); in a slave that is inactive every chart is, at any depth, so that the slave
--- stays as it is and puts out nothing (`inactive-inside`, `slave-stays`, `slave-output`).
+-- Demand 2 on what is inactive, of a step that is given. In this order: what is known of such a step; a chart that is
+-- inactive keeps its state and has no place, and one that is active has one (`inactive-stays`, `inactive-place`,
+-- `active-place`); a chart is as active as its nearest slave (`outside-active`, `inside-active`); the places say what
+-- the whole puts out (`whole-output`), and a part whose charts are inactive puts out nothing (`inactive-output`); in a
+-- slave that is inactive every chart is, at any depth, so that the slave stays as it is and puts out nothing
+-- (`inactive-inside`, `slave-stays`, `slave-output`).
 use mathlib.Core.Path.{_≡_, sym, _∙_, ap, ap₂, fun-ext}
 use mathlib.Core.Bool.{Bool, true, false, _&&_, _||_}
 use mathlib.Core.List.{List}
 use mathlib.Core.Option.{Option, none, some}
 use mathlib.Core.Logic.{_≢_}
-use Prim.Native.Nat.{ℕ, zero, _-_, _≤_, _<_}
+use Prim.Native.Nat.{ℕ, zero, suc, _-_, _≤_, _<_}
 use native.Mathlib.Nat.{zero-add}
 use native.Mathlib.Decide.{decLt}
 use native.Mathlib.Omega.{arith}
@@ -32,7 +33,8 @@ use Rattle.meaning.specs.Laws.Names.{joined}
 use Rattle.meaning.specs.Laws.Demand2.{Given, given-first, inactive}
 
 -- a step that is given
-module _ (f config : List ℕ) (i : Set) (room : ℕ) (o : Set) (n : List ℕ) (m : Bool) (e : stepOf f config i room ≡ given o n m) where
+module _ (f config : List ℕ) (i : Set) (room : ℕ) (o : Set) (n : List ℕ) (m : Bool)
+    (e : stepOf f config i room ≡ given o n m) where
   abbrev F : File
   F = fileOf f
 
@@ -56,11 +58,15 @@ module _ (f config : List ℕ) (i : Set) (room : ℕ) (o : Set) (n : List ℕ) (
   few c l =
       rw length-from (charted (shapeOf (trailer f)) (bodyOf f) (passed f (known .accepted) .charts) c l .transitions)
 
+  -- the last node is there
+  last : suc (F .nodes - 1) ≡ F .nodes
+  last = let z = some-node in omega arith
+
   joins : Joined F
   joins = let s = right in joined F (s .ordered) (s .rule10) (s .chart-there) (s .node-there)
 
   there : (c : ℕ) → c < F .charts → Has (wholeOf F) c ≡ true
-  there c l = all-there F (right .ordered) joins (F .nodes - 1) c (let z = some-node in omega arith) l
+  there c l = all-there F (right .ordered) joins (F .nodes - 1) c last l
 
   by : Given (F .chart) (F .state) cfg (wholeOf F) i (F .charts) o n
   unfolding stepIn
@@ -83,7 +89,8 @@ module _ (f config : List ℕ) (i : Set) (room : ℕ) (o : Set) (n : List ℕ) (
           ap (λ k. getD k c 0) (by .next) ∙ getD-nexts cfg (moves (F .chart) (by .choice)) zero (F .charts) c l
           ∙ ap (λ d. after (cfg d) (M d)) (zero-add c)
       go (no l) =
-          let a : length n ≡ F .charts = ap length (by .next) ∙ length-nexts cfg (moves (F .chart) (by .choice)) zero (F .charts) in
+          let a : length n ≡ F .charts =
+          ap length (by .next) ∙ length-nexts cfg (moves (F .chart) (by .choice)) zero (F .charts) in
           let b = known .valid .long in
           List·getD-eq-default n 0 {n = c} (omega arith) ∙ sym (List·getD-eq-default config 0 {n = c} (omega arith))
           ∙ ap (λ v. after (cfg c) (pick (F .chart c) v)) (sym (by .chosen .others c (omega arith)))
@@ -132,7 +139,8 @@ module _ (f config : List ℕ) (i : Set) (room : ℕ) (o : Set) (n : List ℕ) (
   module _ (c : ℕ) (l : c < F .charts) where
     nearest : (κ : Option ℕ) → nearestSlave F c ≡ κ → By F (right .ordered) cfg M c κ
     unfolding nearestSlave
-    nearest κ q = rw q at (near F (right .ordered) cfg M c (F .nodes - 1) (let z = some-node in omega arith) _ keeps-rules (there c l))
+    nearest κ q =
+        rw q at (near F (right .ordered) cfg M c (F .nodes - 1) (omega (arith, last)) _ keeps-rules (there c l))
 
     pub outside-active : nearestSlave F c ≡ none → activeIn F config n c ≡ true
     outside-active q = sym (moves-is c l) ∙ nearest none q .0
@@ -151,11 +159,12 @@ module _ (f config : List ℕ) (i : Set) (room : ℕ) (o : Set) (n : List ℕ) (
   unfolding putOut
   put-out j l =
       out-cong _ M (treeOf F j) (λ c h. let b = below j c l h in
-      ap (λ p. actionOf (nth noMove (F .chart c .transitions) p)) (place-is c b) ∙ place-action (F .chart c) (few c b) (by .choice c))
+      ap (λ p. actionOf (nth noMove (F .chart c .transitions) p)) (place-is c b)
+      ∙ place-action (F .chart c) (few c b) (by .choice c))
 
   pub whole-output : putOut F (placesOf f config i room) (wholeOf F) ≡ o
   unfolding moves
-  whole-output = put-out (F .nodes - 1) (let z = some-node in omega arith) ∙ sym (by .output)
+  whole-output = put-out (F .nodes - 1) (omega (arith, last)) ∙ sym (by .output)
 
   -- a part whose charts are inactive puts out nothing
   pub inactive-output : (j : ℕ) → j < F .nodes → ((c : ℕ) → Has (treeOf F j) c ≡ true → activeIn F config n c ≡ false)
@@ -171,9 +180,10 @@ module _ (f config : List ℕ) (i : Set) (room : ℕ) (o : Set) (n : List ℕ) (
     pub inactive-inside : (c : ℕ) → Has (treeOf F (F .node s)) c ≡ true → activeIn F config n c ≡ false
     unfolding some?
     inactive-inside c k =
-        let p = slave-part F (right .ordered) joins cfg M (F .nodes - 1) (let z = some-node in omega arith) (_, keeps-rules) s l in
+        let p = slave-part F (right .ordered) joins cfg M (F .nodes - 1) last (_, keeps-rules) s l in
+        let q = rw (woken s l ∙ h) at (p .1) in
         sym (moves-is c (below (F .node s) c node k))
-        ∙ ap some? (inactive (F .chart) (F .state) cfg M (treeOf F (F .node s)) (p .0) (rw (woken s l ∙ h) at (p .1)) c k)
+        ∙ ap some? (inactive (F .chart) (F .state) cfg M (treeOf F (F .node s)) (p .0) q c k)
 
     -- so it keeps its state and has no place, and the slave puts out nothing
     pub slave-stays : (c : ℕ) → Has (treeOf F (F .node s)) c ≡ true

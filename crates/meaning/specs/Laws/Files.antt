@@ -1,7 +1,8 @@
--- Demand 2 of files, as the public calls answer them. In this order: a signal outside the interface changes nothing, in a step
--- (`step-outside`, `places-outside`) or in a run (`run-outside`, `carried-outside`); the next configuration is valid again (`step-valid`);
--- a run has exactly a row for each input (`run-rows`), each configuration in it is valid (`run-valid`), each row is a step from where the
--- row before it ended (`run-row`); what is carried (`run-given` to `run-last`). What is inactive is in Activity.
+-- Demand 2 of files, as the public calls answer them. In this order: a signal outside the interface changes nothing, in
+-- a step (`step-outside`, `places-outside`) or in a run (`run-outside`, `carried-outside`); the next configuration is
+-- valid again (`step-valid`); a run has exactly a row for each input (`run-rows`), each configuration in it is valid
+-- (`run-valid`), each row is a step from where the row before it ended (`run-row`); what is carried (`run-given` to
+-- `run-last`). What is inactive is in Activity.
 use mathlib.Core.Path.{_≡_, refl, sym, _∙_, ap}
 use mathlib.Core.Bool.{Bool, true, false, cond}
 use mathlib.Core.List.{List, [], _∷_, _++_, map}
@@ -18,11 +19,11 @@ use Rattle.meaning.specs.Count.{one}
 use Rattle.meaning.specs.Meaning.{Set, ∅, same, Answer, refused, given, inFace, answer, firstPlaces}
 use Rattle.meaning.specs.File.{File, wholeOf, fileOf}
 use Rattle.meaning.specs.Check.{refusalOf}
-use Rattle.meaning.specs.Calls.{inputOf, outcomesIn, stepRefusal, stepIn, stepOf, allPlaces, placesIn, placesOf, refusalIn, outputIn, markIn, afterStep, rowOf, rowAt, configAt, carriedAt, stepAt, carriedAfter, rowsOf, carriedOf, laidOver, runRefusal, runBytes, runCarried}
+use Rattle.meaning.specs.Calls.{inputOf, Valid, outcomesIn, stepRefusal, stepIn, stepOf, allPlaces, placesIn, placesOf, refusalIn, outputIn, markIn, afterStep, rowOf, rowAt, configAt, carriedAt, stepAt, carriedAfter, rowsOf, carriedOf, laidOver, runRefusal, runBytes, runCarried}
 use Rattle.meaning.specs.Calls.Laws.{step-open, step-allowed, run-open, run-allowed, behind-cong, behind-is, answered}
 use Rattle.meaning.specs.Laws.Bools.{same→≡}
 use Rattle.meaning.specs.Laws.Demand2.{outside-outcomes}
-use Rattle.meaning.specs.Laws.Runs.{Valid, Leads, file-leads, Stand, stepFrom, standAt, rowsFrom, valid-after, rows-all, valid-at, row-at, stand-take, carried-given, carried-refused, carried-last}
+use Rattle.meaning.specs.Laws.Runs.{Leads, file-leads, Stand, stepFrom, standAt, rowsFrom, valid-after, rows-all, valid-at, row-at, stand-take, carried-given, carried-refused, carried-last}
 
 -- ── a signal outside the interface changes nothing ──
 
@@ -38,14 +39,16 @@ module _ (F : File) where
   joined c d i j =
       sets (c ∷ d ∷ i ∷ j ∷ face F ∷ []) (A ∩ₑ E ≐ B ∩ₑ E ∷ C ∩ₑ E ≐ D ∩ₑ E ∷ []) ((A ∪ₑ C) ∩ₑ E ≐ (B ∪ₑ D) ∩ₑ E) tt
 
-  carried-alike : (r : Answer) (i j : Set) → i ∩ face F ≡ j ∩ face F → carriedAfter r i ∩ face F ≡ carriedAfter r j ∩ face F
+  carried-alike : (r : Answer) (i j : Set) → i ∩ face F ≡ j ∩ face F
+      → carriedAfter r i ∩ face F ≡ carriedAfter r j ∩ face F
   carried-alike (refused r) i j e = e
   carried-alike (given o n m) i j e = refl
 
   -- the rows of two runs, and what they carry then
   abbrev Agrees : List ℕ → Set → Set → List Set → List Set → Type 0
   Agrees config c d is js =
-      (rowsOf F config c is ≡ rowsOf F config d js) × (carriedOf F config c is ∩ face F ≡ carriedOf F config d js ∩ face F)
+      (rowsOf F config c is ≡ rowsOf F config d js)
+      × (carriedOf F config c is ∩ face F ≡ carriedOf F config d js ∩ face F)
 
   rows-outside : (is js : List Set) (config : List ℕ) (c d : Set) → c ∩ face F ≡ d ∩ face F
       → map (λ i. i ∩ face F) is ≡ map (λ j. j ∩ face F) js → Agrees config c d is js
@@ -57,9 +60,11 @@ module _ (F : File) where
       let q : i ∩ face F ≡ j ∩ face F = cc in
       let t : map (λ i. i ∩ face F) is ≡ map (λ j. j ∩ face F) js = cc in
       let w = joined c d i j e q in
-      let s : stepIn F config (c ∪ i) ≡ stepIn F config (d ∪ j) = unfold stepIn in ap answer (in-outside config (c ∪ i) (d ∪ j) w) in
+      let s : stepIn F config (c ∪ i) ≡ stepIn F config (d ∪ j) =
+      unfold stepIn in ap answer (in-outside config (c ∪ i) (d ∪ j) w) in
       let r = stepIn F config (d ∪ j) in
-      let u = rows-outside is js (afterStep r config) (carriedAfter r (c ∪ i)) (carriedAfter r (d ∪ j)) (carried-alike r (c ∪ i) (d ∪ j) w) t in
+      let v = carried-alike r (c ∪ i) (d ∪ j) w in
+      let u = rows-outside is js (afterStep r config) (carriedAfter r (c ∪ i)) (carriedAfter r (d ∪ j)) v t in
       (rw s (ap (λ z. rowOf r config ++ z) (u .0)), rw s (u .1))
 
 module _ (f : List ℕ) where
@@ -78,7 +83,8 @@ module _ (f : List ℕ) where
 
     pub places-outside : placesOf f config i room ≡ placesOf f config j room
     unfolding placesOf placesIn
-    places-outside = behind-cong (stepRefusal f config room) _ _ _ (λ e. ap (λ os. allPlaces (firstPlaces os)) (all-outside e))
+    places-outside =
+        behind-cong (stepRefusal f config room) _ _ _ (λ e. ap (λ os. allPlaces (firstPlaces os)) (all-outside e))
 
   -- of a run: its rows, and what is carried then is alike again
   module _ (config : List ℕ) (c d : Set) (is js : List Set) (alike : c ∩ inputOf f ≡ d ∩ inputOf f)
@@ -97,12 +103,14 @@ module _ (f : List ℕ) where
         rw as-many (behind-cong (runRefusal f config (length is) (length rows)) _ _ rows
         (λ e. ap (λ z. laidOver z rows) (agree (length rows) e .0)))
 
-    pub carried-outside : (room : ℕ) → runCarried f config c is room ∩ inputOf f ≡ runCarried f config d js room ∩ inputOf f
+    pub carried-outside : (room : ℕ)
+        → runCarried f config c is room ∩ inputOf f ≡ runCarried f config d js room ∩ inputOf f
     unfolding runCarried
     carried-outside room = rw as-many (go (same (runRefusal f config (length is) room) 0) refl)
       where
         go : (b : Bool) → same (runRefusal f config (length is) room) 0 ≡ b
-            → cond b (carriedOf (fileOf f) config c is) ∅ ∩ inputOf f ≡ cond b (carriedOf (fileOf f) config d js) ∅ ∩ inputOf f
+            → cond b (carriedOf (fileOf f) config c is) ∅ ∩ inputOf f
+            ≡ cond b (carriedOf (fileOf f) config d js) ∅ ∩ inputOf f
         go true e =
             let h = same→≡ (runRefusal f config (length is) room) 0 e in
             rw (accepted-face (run-allowed f config (length is) room h .0)) (agree room h .1)
@@ -110,8 +118,8 @@ module _ (f : List ℕ) where
 
 -- ── the next configuration is valid again ──
 
-pub step-valid : (f config : List ℕ) (i : Set) (room : ℕ) (o : Set) (n : List ℕ) (m : Bool) → stepOf f config i room ≡ given o n m
-    → Valid (fileOf f) n
+pub step-valid : (f config : List ℕ) (i : Set) (room : ℕ) (o : Set) (n : List ℕ) (m : Bool)
+    → stepOf f config i room ≡ given o n m → Valid (fileOf f) n
 step-valid f config i room o n m e =
     let w = answered f config i room o n m e in
     rw (w .answer-is) at (valid-after (fileOf f) (file-leads f (w .accepted)) config i (w .valid))
@@ -125,7 +133,8 @@ row-ends k n w l = rw suc-mul at (mul-le-mul-right w l)
 row-tail : (r : Answer) (config : List ℕ) → drop 10 (rowOf r config) ≡ afterStep r config
 unfolding rowOf
 row-tail r config =
-    rw (length-bytes 8 (outputIn r)) at (drop-append-add (bytes 8 (outputIn r)) (one (markIn r) ∷ refusalIn r ∷ afterStep r config) 2)
+    rw (length-bytes 8 (outputIn r))
+    at (drop-append-add (bytes 8 (outputIn r)) (one (markIn r) ∷ refusalIn r ∷ afterStep r config) 2)
 
 module _ (f config : List ℕ) (carried : Set) (inputs : List Set) (rows : List ℕ)
     (h : runRefusal f config (length inputs) (length rows) ≡ 0) where
@@ -168,12 +177,17 @@ module _ (f config : List ℕ) (carried : Set) (inputs : List Set) (rows : List 
   unfolding start
   all-rows = rows-all F leads start inputs valid
 
-  -- exactly a row for each input: what stands behind them is as it was
-  pub run-rows : (length left ≡ length rows) × (drop (length inputs * w) left ≡ drop (length inputs * w) rows)
+  -- exactly a row for each input: there is room for them, and what stands behind them is as it was
+  pub run-rows : (length left ≡ length rows) × (length inputs * w ≤ length left)
+      × (drop (length inputs * w) left ≡ drop (length inputs * w) rows)
   run-rows = (
-    rw (left-is, length-append, length-drop, all-rows) (omega (arith, room)),
+    long,
+    rw long room,
     rw left-is (drop-at (rowsFrom F start inputs) _ (length inputs * w) all-rows ∙ ap (λ n. drop n rows) all-rows),
   )
+    where
+      long : length left ≡ length rows
+      long = rw (left-is, length-append, length-drop, all-rows) (omega (arith, room))
 
   row-there : (k : ℕ) → k < length inputs → rowAt f left k ≡ rowOf (stepFrom F (at k) (getD inputs k 0)) (at k .config)
   unfolding start
@@ -216,7 +230,8 @@ module _ (f config : List ℕ) (carried : Set) (inputs : List Set) (rows : List 
       ∙ rw (config-there k l, carried-there k l)
 
   -- row k is the step from where the row before it ended, under input k joined with what is carried there
-  pub run-row : (k : ℕ) → k < length inputs → rowAt f left k ≡ rowOf (stepAt f config carried inputs rows k) (configAt f config left k)
+  pub run-row : (k : ℕ) → k < length inputs
+      → rowAt f left k ≡ rowOf (stepAt f config carried inputs rows k) (configAt f config left k)
   run-row k l = row-there k l ∙ rw (step-there k (omega arith), config-there k (omega arith))
 
   -- a step given carries nothing on; a refused one, all that it was offered

@@ -19,11 +19,7 @@ use Rattle.meaning.specs.Check.{transitions?, refusalOf}
 use Rattle.meaning.specs.Check.Laws.{passed, to-states}
 use Rattle.meaning.specs.Calls.{stepIn, outputIn, afterStep, carriedAfter, rowOf, rowsOf, carriedOf}
 use Rattle.meaning.specs.Laws.Demand2.{valid-next}
-
--- a state of each chart
-pub record Valid (F : File) (config : List ℕ) : Type 0 where
-  pub long : length config ≡ F .charts
-  pub states : (c : ℕ) → c < F .charts → getD config c 0 < F .chart c .states
+pub use Rattle.meaning.specs.Calls.{Valid}
 
 -- each transition leads to a state of its chart
 abbrev pub Leads : File → Type 0
