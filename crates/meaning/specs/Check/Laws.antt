@@ -45,6 +45,9 @@ below m n h = ltb-true m n (not-false (ltb m n) h)
 pub alike : (m n : ℕ) → differ m n ≡ false → m ≡ n
 alike m n h = same→≡ m n (not-false (same m n) h)
 
+pub eq-or-not : (a b : ℕ) → (a ≡ b) ⊎ (a ≡ b → ⊥)
+eq-or-not a b = ⊎-elim (λ e. inl (eqb-true a b e)) (λ e. inr (eqb-false a b e)) (decided (eqb a b))
+
 -- ── firstOf ──
 
 pub firstOf-here : (t : Test) (ts : List Test) → t .applies ≡ true → firstOf (t ∷ ts) ≡ t .number
@@ -106,9 +109,6 @@ firstOf-before (t ∷ ts) us h =
 
 pub all-pass : (ts : List Test) → Passes ts → firstOf ts ≡ 0
 all-pass ts p = ap firstOf (sym (append-nil ts)) ∙ firstOf-++ ts [] p ∙ firstOf-[]
-
-pub eq-or-not : (a b : ℕ) → (a ≡ b) ⊎ (a ≡ b → ⊥)
-eq-or-not a b = ⊎-elim (λ e. inl (eqb-true a b e)) (λ e. inr (eqb-false a b e)) (decided (eqb a b))
 
 -- no test of a list applies, and none behind it
 pub front : (ts us : List Test) → Numbered ts → firstOf (ts ++ us) ≡ 0 → Passes ts × (firstOf us ≡ 0)
