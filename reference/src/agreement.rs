@@ -1,6 +1,5 @@
-//! 02, No. 1, of a file and the file that it is rewritten into: "Under demand 3 the places agree,
-//! except that in a step given an idle transition stands where the original says 255 for one of its
-//! charts."
+//! The places of a file's step and of its rewritten file's (RULES 9.8): they are equal, but where a
+//! chart of the old file has 255 in a step that is given, the new one has an idle transition.
 
 use crate::limits::{refusal, NO_PLACE};
 use crate::model::{Model, Transition};
@@ -8,7 +7,7 @@ use crate::rewriting::calls;
 use crate::set::Set;
 use crate::step::Places;
 
-/// A file, the file that it is rewritten into, and the calls of the old one's slaves.
+/// A file, the file that it is rewritten into, and the call signals of the old one's slaves.
 pub struct Agreement<'a> {
     old: &'a Model,
     new: &'a Model,
@@ -16,7 +15,7 @@ pub struct Agreement<'a> {
 }
 
 impl<'a> Agreement<'a> {
-    /// The old file isn't refused with 40.
+    /// The old file is not refused with 40.
     pub fn new(old: &'a Model, new: &'a Model) -> Agreement<'a> {
         let calls = calls(old).expect("a call for each slave");
         Agreement { old, new, calls }
@@ -33,9 +32,9 @@ impl<'a> Agreement<'a> {
         })
     }
 
-    /// Whether a place of the new chart's list has its idle transition of a state. 01: its own
-    /// transitions, "and after them, for each state rising, an idle transition from the state to
-    /// itself bars it, with empty action", where it is the nearest enclosing slave's call.
+    /// Whether a place of the new chart's list is that of its idle transition of a state: one from
+    /// the state to itself that bars the call signal of the chart's nearest slave, without action,
+    /// after the chart's own transitions (RULES 9.3).
     fn is_idle(&self, chart: usize, state: u8, place: u8) -> bool {
         let own = self.old.charts[chart].transitions.len();
         let idle = |slave: usize| Transition {

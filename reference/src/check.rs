@@ -1,11 +1,11 @@
-//! Refusals 1 to 11. 01: "Each file check scans the whole file before the next begins."
+//! Refusals 1 to 11 (RULES 3.2). Each test looks at all of the file before the next one begins.
 
 use crate::file::{NodeRecord, Records, Trailer};
 use crate::limits::*;
 use crate::model::{Edition, Model};
 use crate::set::Set;
 
-/// 01: "Checking a chart file". 01: "checking and the interface [test] 1 to 11. ... Success is 0."
+/// The call `check`: 0, or one of 1 to 11 (RULES 3.6).
 pub fn check(file: &[u8]) -> u8 {
     match accept(file) {
         Ok(_) => refusal::SUCCESS,
@@ -47,7 +47,7 @@ fn accept_structure(model: &Model) -> Result<(), u8> {
     refuse_if(numbering_wrong(model), refusal::NUMBERING)
 }
 
-/// A number of the table, given if its condition holds.
+/// A refusal, if its test applies.
 pub fn refuse_if(applies: bool, number: u8) -> Result<(), u8> {
     if applies {
         Err(number)
@@ -56,7 +56,7 @@ pub fn refuse_if(applies: bool, number: u8) -> Result<(), u8> {
     }
 }
 
-/// 3: "charts not 1 to 8, slaves over 7, nodes not 1 to 64, transitions over 512".
+/// 3: a count is outside the limits of RULES 2.8.
 fn counts_out_of_range(trailer: &Trailer) -> bool {
     !(1..=CHARTS).contains(&usize::from(trailer.charts))
         || usize::from(trailer.slaves) > SLAVES
@@ -64,13 +64,13 @@ fn counts_out_of_range(trailer: &Trailer) -> bool {
         || usize::from(trailer.transitions) > TRANSITIONS
 }
 
-/// 4: "distance is not the body size made by the counts, or exceeds length less 12".
+/// 4: the distance differs from the body size, or the file has fewer bytes before its trailer.
 fn distance_wrong(trailer: &Trailer, length: usize) -> bool {
     trailer.distance as usize != trailer.body_bytes()
         || trailer.distance as usize > length - TRAILER_BYTES
 }
 
-/// 5: "a byte laid down as zero byte isn't zero": chart, transition, slave, node and trailer. A
+/// 5: a zero byte is not 0, in a chart, transition, slave or node record or in the trailer. A
 /// node's unused b, x and y are fields, not zero bytes, and fall under 9.
 fn zero_byte_set(records: &Records) -> bool {
     records.charts.iter().any(|chart| chart.zeros != [0; 5])
@@ -83,8 +83,8 @@ fn zero_byte_set(records: &Records) -> bool {
         || records.trailer.zeros != [0; 2]
 }
 
-/// 6: "states not 1 to 16, initial not below states, over 64 transitions in a chart, or the
-/// charts' numbers don't sum to the trailer's".
+/// 6: no state or more than 16, an initial state that the chart lacks, more than 64 transitions, or
+/// a sum that is not the trailer's number.
 fn chart_wrong(records: &Records) -> bool {
     let sum: usize = records
         .charts
@@ -98,7 +98,7 @@ fn chart_wrong(records: &Records) -> bool {
     }) || sum != usize::from(records.trailer.transitions)
 }
 
-/// 7: "from or to not below the chart's states, or over 8 transitions from one state".
+/// 7: a state that the chart lacks, or more than 8 transitions that leave one state.
 fn transition_wrong(records: &Records) -> bool {
     (0..records.charts.len()).any(|chart| {
         let states = records.charts[chart].states;
@@ -111,8 +111,7 @@ fn transition_wrong(records: &Records) -> bool {
     })
 }
 
-/// 8: "slave's chart, state or node out of range, or slaves not strictly rising by chart, then
-/// state".
+/// 8: a slave names a chart, state or node that does not exist, or the slaves are out of order.
 fn slave_wrong(records: &Records) -> bool {
     let out_of_range =
         records
@@ -131,8 +130,8 @@ fn slave_wrong(records: &Records) -> bool {
     out_of_range || not_rising
 }
 
-/// 9: "kind over 2, kind 0 with a no chart, kinds 1 and 2 naming a node that isn't lower than
-/// their own, or an unused field of a node not zero".
+/// 9: a kind above 2, a chart that does not exist, a named node that is not lower than the node
+/// itself, or a value in a field that the kind does not use.
 fn node_wrong(records: &Records) -> bool {
     let charts = records.charts.len();
     records
@@ -142,7 +141,7 @@ fn node_wrong(records: &Records) -> bool {
         .any(|(own, node)| names_wrong(node, own, charts) || unused_field_set(node))
 }
 
-/// 9, a node's kind and names.
+/// 9: a node's kind and names.
 fn names_wrong(node: &NodeRecord, own: usize, charts: usize) -> bool {
     let (a, b) = (usize::from(node.a), usize::from(node.b));
     match node.kind {
@@ -153,8 +152,7 @@ fn names_wrong(node: &NodeRecord, own: usize, charts: usize) -> bool {
     }
 }
 
-/// 9, "an unused field of a node not zero". 01: "Kind 0: chart a; b, x, y zero. Kind 1: ...; y
-/// zero. Kind 2: ...; b zero."
+/// 9: a value in a field that the node's kind does not use (the table of RULES 2.6).
 fn unused_field_set(node: &NodeRecord) -> bool {
     match node.kind {
         KIND_CHART => node.b != 0 || node.x != Set::EMPTY || node.y != Set::EMPTY,
@@ -164,9 +162,8 @@ fn unused_field_set(node: &NodeRecord) -> bool {
     }
 }
 
-/// 10: "a chart not held by exactly one node; a node but the last not named exactly once by nodes
-/// and slaves together; the last named; a slave's node not lower than the node holding its
-/// master".
+/// 10: the nodes do not make one tree. Each chart has one node that holds it, each node but the
+/// last has one name, the last has none, and a slave's node is lower than its master's.
 fn naming_wrong(model: &Model) -> bool {
     let whole = model.whole() as u8;
     (0..model.charts.len() as u8).any(|chart| model.holders(chart).len() != 1)
@@ -178,7 +175,7 @@ fn naming_wrong(model: &Model) -> bool {
             .any(|slave| slave.node >= model.holders(slave.chart)[0])
 }
 
-/// How often a node is named "by nodes and slaves together".
+/// How many names a node has, those in nodes and those in slaves.
 fn times_named(model: &Model, node: u8) -> usize {
     let by_nodes = model.nodes.iter().flat_map(|other| other.names());
     let by_slaves = model.slaves.iter().map(|slave| slave.node);
@@ -188,7 +185,7 @@ fn times_named(model: &Model, node: u8) -> usize {
         .count()
 }
 
-/// 11: "a chart inside a slave not numbered above that slave's master".
+/// 11: a chart inside a slave has a number that is not above the slave's master's.
 fn numbering_wrong(model: &Model) -> bool {
     model.slaves.iter().any(|slave| {
         model

@@ -1,4 +1,4 @@
-//! 01, "The day program". 02, No. 5: it "starts with none carried".
+//! The day program (RULES 10).
 
 use crate::check::{accept, refuse_if};
 use crate::first::first_configuration;
@@ -7,7 +7,7 @@ use crate::model::Model;
 use crate::run::{run_model, Row};
 use crate::set::Set;
 
-/// What the day program prints for an input. 01: "A bad file prints only `file refused N`".
+/// What the day program prints for an input; of a refused file one line only (RULES 10.2).
 pub fn day(input: &[u8]) -> Vec<u8> {
     let text = match try_day(input) {
         Ok(text) => text,
@@ -16,8 +16,8 @@ pub fn day(input: &[u8]) -> Vec<u8> {
     text.into_bytes()
 }
 
-/// 01: "(31 if longer, tested first; then 1 to 11; 30 if the front isn't a multiple of 8)". "It
-/// runs them from the first configuration and prints per input a line".
+/// Tests 31, then 1 to 11, then 30 (RULES 10.2). Makes a run from the first configuration, with
+/// nothing carried, and prints a line for each input (RULES 10.1, 10.3).
 fn try_day(input: &[u8]) -> Result<String, u8> {
     refuse_if(input.len() > DAY_INPUT, refusal::DAY_INPUT)?;
     let model = accept(input)?;
@@ -29,12 +29,12 @@ fn try_day(input: &[u8]) -> Result<String, u8> {
     Ok(lines.collect())
 }
 
-/// 01: "the front holds 8-byte inputs, the chart stands behind".
+/// The bytes before the body: the inputs (RULES 10.1).
 fn front<'a>(input: &'a [u8], model: &Model) -> &'a [u8] {
     &input[..input.len() - model.file().len()]
 }
 
-/// The front's sets, "little-endian".
+/// The inputs in the front, 8 bytes each, little-endian (RULES 1.2).
 fn inputs(front: &[u8]) -> Vec<Set> {
     front
         .chunks_exact(SET_BYTES)
@@ -42,8 +42,8 @@ fn inputs(front: &[u8]) -> Vec<Set> {
         .collect()
 }
 
-/// 01: "number from 1, output as 16 hex digits (lower case), states joined by dots, `y` or `n`; or
-/// number, `refused`, refusal. ... Fields stand one space apart and every line ends in byte 10."
+/// The line of a row: its number, output, states and mark; or its number and the refusal
+/// (RULES 10.3).
 pub fn line(number: usize, row: &Row) -> String {
     if row.refusal != refusal::SUCCESS {
         return format!("{number} refused {}\n", row.refusal);

@@ -1,13 +1,11 @@
-//! 01, "The file": the bytes of the body and the trailer as records, and records as bytes again.
-//! Nothing is checked here, and each record keeps its zero bytes, so that every body and trailer
-//! can be told apart and written again byte for byte.
+//! The layout of a file (RULES 2.1 to 2.6): the bytes of the body and the trailer as records, and
+//! records as bytes again. Nothing is checked here, and each record keeps its zero bytes, so that
+//! every body and trailer is told apart from any other and written again byte for byte.
 
 use crate::limits::*;
 use crate::set::Set;
 
-/// 01: "distance back from the trailer's first byte to the body's first byte (4 bytes); charts,
-/// slaves, nodes, edition (1 byte each, edition 1); transitions (2 bytes); two zero bytes". 02, No. 7
-/// adds edition 2, which is laid out alike.
+/// The trailer (RULES 2.2). Both editions have this layout.
 #[derive(Clone, PartialEq, Eq, Debug)]
 pub struct Trailer {
     pub distance: u32,
@@ -19,8 +17,7 @@ pub struct Trailer {
     pub zeros: [u8; 2],
 }
 
-/// 01: "Chart, 24 bytes: states, initial state, number of transitions, five zero bytes, feedback
-/// set, extra interface set."
+/// A chart record (RULES 2.3).
 #[derive(Clone, PartialEq, Eq, Debug)]
 pub struct ChartRecord {
     pub states: u8,
@@ -31,8 +28,7 @@ pub struct ChartRecord {
     pub extra: Set,
 }
 
-/// 01: "Transition, 28 bytes, those of chart 0 first: from, to, two zero bytes, needed set, barred
-/// set, action set."
+/// A transition record (RULES 2.4).
 #[derive(Clone, PartialEq, Eq, Debug)]
 pub struct TransitionRecord {
     pub from: u8,
@@ -43,7 +39,7 @@ pub struct TransitionRecord {
     pub action: Set,
 }
 
-/// 01: "Slave, 4 bytes: chart, state, node, zero byte."
+/// A slave record (RULES 2.5).
 #[derive(Clone, PartialEq, Eq, Debug)]
 pub struct SlaveRecord {
     pub chart: u8,
@@ -52,7 +48,7 @@ pub struct SlaveRecord {
     pub zero: u8,
 }
 
-/// 01: "Node, 20 bytes: kind, a, b, zero byte, set x, set y."
+/// A node record (RULES 2.6).
 #[derive(Clone, PartialEq, Eq, Debug)]
 pub struct NodeRecord {
     pub kind: u8,
@@ -63,7 +59,7 @@ pub struct NodeRecord {
     pub y: Set,
 }
 
-/// All records of a file, in the order of the body, and its trailer.
+/// All records of a file, in the order of the body, and its trailer (RULES 2.1).
 #[derive(Clone, PartialEq, Eq, Debug)]
 pub struct Records {
     pub charts: Vec<ChartRecord>,
@@ -73,7 +69,7 @@ pub struct Records {
     pub trailer: Trailer,
 }
 
-/// Bytes read one field after the other. 01: "All numbers little-endian."
+/// Bytes read one field after the other; numbers are little-endian (RULES 1.2).
 struct Fields<'a> {
     rest: &'a [u8],
 }
@@ -98,7 +94,7 @@ impl Fields<'_> {
 }
 
 impl Trailer {
-    /// 01: "The last 12 bytes are the trailer". The file has that many.
+    /// Reads the end of the file, which is not shorter than a trailer.
     pub fn read(file: &[u8]) -> Trailer {
         let mut fields = Fields {
             rest: &file[file.len() - TRAILER_BYTES..],
@@ -114,7 +110,7 @@ impl Trailer {
         }
     }
 
-    /// "the body size made by the counts" (01, No. 4).
+    /// The size of the body, from the counts (RULES 2.1).
     pub fn body_bytes(&self) -> usize {
         usize::from(self.charts) * CHART_BYTES
             + usize::from(self.transitions) * TRANSITION_BYTES
@@ -212,8 +208,7 @@ impl NodeRecord {
 }
 
 impl Records {
-    /// 01: "The chart stands at the back of a longer file. ... Bytes in front of the body are not
-    /// read by the chart. The body, in order:" charts, transitions, slaves, nodes. The file has
+    /// Reads the body directly before the trailer; the front is not read (RULES 2.1). The file has
     /// passed 1 to 4.
     pub fn read(file: &[u8]) -> Records {
         let trailer = Trailer::read(file);
@@ -250,8 +245,8 @@ impl Records {
         bytes
     }
 
-    /// The transitions of one chart. 01: "those of chart 0 first". The charts' numbers sum to the
-    /// trailer's.
+    /// The transitions of one chart: they come after those of the lower charts (RULES 2.4). The
+    /// charts' numbers add up to the trailer's.
     pub fn transitions_of(&self, chart: usize) -> &[TransitionRecord] {
         let number = |record: &ChartRecord| usize::from(record.transitions);
         let start: usize = self.charts[..chart].iter().map(number).sum();

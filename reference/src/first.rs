@@ -1,15 +1,15 @@
-//! 01: "giving its first configuration".
+//! The first configuration (RULES 6.1).
 
 use crate::check::{accept, refuse_if};
 use crate::limits::refusal;
 use crate::model::Model;
 
-/// 01: "the first one has every chart's initial state, slaves included".
+/// The initial state of every chart, whether it is inside a slave or not.
 pub fn first_configuration(model: &Model) -> Vec<u8> {
     model.charts.iter().map(|chart| chart.initial).collect()
 }
 
-/// 01: "the first configuration [tests] 1 to 11, 22". Writes it at the front of the lent buffer.
+/// The call `first`. It tests 1 to 11, 22 (RULES 3.6), and writes to the front of the buffer.
 pub fn first(file: &[u8], next: &mut [u8]) -> u8 {
     match try_first(file, next.len()) {
         Ok(configuration) => {

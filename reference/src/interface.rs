@@ -1,6 +1,4 @@
-//! 01: "Input interface: chart, all signals in its guards plus the extra set (...); composed or
-//! decomposed, the union over its parts; hidden, less x. Output interface: likewise over actions,
-//! less y." (003, section 2.6.)
+//! Input and output interface (RULES 4).
 
 use crate::check::accept;
 use crate::limits::refusal;
@@ -15,7 +13,7 @@ pub struct Interface {
     pub output: Set,
 }
 
-/// 01: "checking and the interface [test] 1 to 11. ... A refusal returns its number, empty sets".
+/// The call `interface`. Refusals 1 to 11; both sets of a refused file are empty.
 pub fn interface(file: &[u8]) -> Interface {
     match accept(file) {
         Ok(model) => Interface {
@@ -31,37 +29,37 @@ pub fn interface(file: &[u8]) -> Interface {
     }
 }
 
-/// "chart, all signals in its guards plus the extra set (...; here it is always joined)"
+/// The signals that a chart's guards name, and its extra set (RULES 4.1).
 pub fn chart_input(chart: &Chart) -> Set {
     let guards = chart.transitions.iter().map(|t| t.needed.joined(t.barred));
     Set::union(guards).joined(chart.extra)
 }
 
-/// "Output interface: likewise over actions"; the extra set is one of the input alone.
+/// The signals of a chart's actions (RULES 4.1). The extra set belongs to the input only.
 pub fn chart_output(chart: &Chart) -> Set {
     Set::union(chart.transitions.iter().map(|t| t.action))
 }
 
-/// The input interface of a node; "hidden, less x".
+/// The input interface of a node; a hidden one removes x (RULES 4.2).
 pub fn node_input(model: &Model, node: u8) -> Set {
     of_node(model, node, chart_input, |filtered, _| filtered)
 }
 
-/// The output interface of a node; "likewise over actions, less y".
+/// The output interface of a node; a hidden one removes y (RULES 4.2).
 pub fn node_output(model: &Model, node: u8) -> Set {
     of_node(model, node, chart_output, |_, hidden| hidden)
 }
 
-/// An interface of a node, from that of a chart and what a hidden node takes away.
+/// An interface of a node, from that of a chart and what a hidden node removes.
 fn of_node(model: &Model, node: u8, own: fn(&Chart) -> Set, lost: fn(Set, Set) -> Set) -> Set {
     let of = |part: u8| of_node(model, part, own, lost);
     match model.nodes[usize::from(node)] {
-        // "decomposed, the union over its parts": the chart and its slaves
+        // a chart alone, or a master with its slaves
         Node::Chart { chart } => {
             let slaves = model.slaves_of(chart).map(|slave| of(slave.node));
             own(&model.charts[usize::from(chart)]).joined(Set::union(slaves))
         }
-        // "composed ..., the union over its parts"
+        // both parts
         Node::Composed { a, b, .. } => of(a).joined(of(b)),
         Node::Hidden {
             part,

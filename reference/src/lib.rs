@@ -1,32 +1,30 @@
-//! A chart engine in plain Rust, written from the words of document 01 (`01-scope.md`), of the
-//! requests in document 02 and of the paper on mu-Charts that 01 points to (003), as naively as its
-//! sentences allow. It is made to be read beside document 01 and to be compared with other engines,
-//! not to be fast.
+//! A chart engine in plain Rust that follows docs/RULES.md, cited here as `RULES 5.7`, as naively
+//! as the rules allow. It is made to be read beside them and to be compared with other engines, not
+//! to be fast. It is independent of the proved engine.
 //!
-//! In the order of document 01:
+//! The rules, by module:
 //!
-//! - [`limits`]: the limits and the refusal numbers, each by name.
-//! - [`set`]: signal sets.
-//! - [`file`]: the bytes as records and back, nothing checked.
-//! - [`model`]: an accepted file as charts, slaves and nodes.
-//! - [`check`]: refusals 1 to 11.
-//! - [`first`]: the first configuration.
-//! - [`interface`]: input and output interface.
-//! - [`step`]: the meaning of a step, refusals 20 to 23; the places of 02, No. 1; the staying of 02,
-//!   No. 7.
-//! - [`run`]: a run, refusal 27; what 02, No. 5 carries.
-//! - [`rewriting`]: the rewriting, refusals 40 to 46.
-//! - [`plain`]: whether a file is plain (02, No. 11).
-//! - [`agreement`]: the places of a step of the rewritten file (02, No. 1).
-//! - [`day`]: the day program, refusals 30 and 31.
+//! - [`limits`]: the limits and the refusal numbers, each by name (RULES 2.8, 3).
+//! - [`set`]: signal sets (RULES 1.2).
+//! - [`file`]: the bytes as records and back, nothing checked (RULES 2.1 to 2.6).
+//! - [`model`]: an accepted file as charts, slaves and nodes (RULES 2.7).
+//! - [`check`]: refusals 1 to 11 (RULES 3.2).
+//! - [`first`]: the first configuration (RULES 6.1).
+//! - [`interface`]: input and output interface (RULES 4).
+//! - [`step`]: a step of either edition, its places, refusals 20 to 23 (RULES 5).
+//! - [`run`]: a run, what it carries, refusal 27 (RULES 6).
+//! - [`rewriting`]: the rewriting, refusals 40 to 46 (RULES 9).
+//! - [`plain`]: whether a file is plain (RULES 8).
+//! - [`agreement`]: the places of a step of the rewritten file (RULES 9.8).
+//! - [`day`]: the day program, refusals 30 and 31 (RULES 10).
 //! - [`chart`]: the command line tool's answers.
 //!
 //! What the comparison needs: [`command`] (one call as bytes, its answer as a line), [`cases`]
 //! (calls with a name and an answer written by hand), [`generate`] (random calls from fixed seeds),
 //! [`record`] (what is recorded of each kind), [`draw`] (random calls of every kind) and [`walk`]
 //! (random files with slaves, and all their configurations). With the feature `engine` also `fuzz`,
-//! which holds the proved engine against this one. [`words`] is what a program does with its command
-//! line.
+//! which compares the proved engine with this one. [`words`] is what a program does with its
+//! command line.
 
 pub mod agreement;
 pub mod cases;

@@ -1,5 +1,5 @@
-//! A file as the document speaks of it: charts with their own transitions, slaves, and nodes of
-//! three kinds.
+//! A file as RULES 2 describes it: charts with their own transitions, slaves, and nodes of three
+//! kinds.
 
 use crate::file::*;
 use crate::limits::*;
@@ -25,7 +25,7 @@ pub struct Chart {
     pub transitions: Vec<Transition>,
 }
 
-/// A slave: the master's chart, the state it stands in, and the node that it is.
+/// A slave: its master, the state of the master that it belongs to, and its node (RULES 2.5).
 #[derive(Clone, PartialEq, Eq, Debug)]
 pub struct Slave {
     pub chart: u8,
@@ -33,14 +33,14 @@ pub struct Slave {
     pub node: u8,
 }
 
-/// A node.
+/// A node (RULES 2.6).
 #[derive(Clone, PartialEq, Eq, Debug)]
 pub enum Node {
-    /// 01: "Kind 0: chart a; b, x, y zero."
+    /// Kind 0: it holds a chart.
     Chart { chart: u8 },
-    /// 01: "Kind 1: nodes a and b composed, feedback x; y zero."
+    /// Kind 1: two nodes, with feedback.
     Composed { a: u8, b: u8, feedback: Set },
-    /// 01: "Kind 2: node a hidden, x filtered from input, y hidden from output; b zero."
+    /// Kind 2: a node, without some signals of its input and of its output.
     Hidden {
         part: u8,
         filtered: Set,
@@ -48,12 +48,12 @@ pub enum Node {
     },
 }
 
-/// The rules that a file's charts go by.
+/// The rules that a file's charts follow (RULES 7).
 #[derive(Clone, Copy, PartialEq, Eq, Debug)]
 pub enum Edition {
-    /// 01: an active chart takes a transition.
+    /// An active chart takes a transition.
     First,
-    /// 02, No. 7: an active chart takes a transition, or stays where none is triggered.
+    /// It takes one, or stays if nothing triggers it.
     Second,
 }
 
@@ -264,13 +264,12 @@ impl Model {
         self.records().encode()
     }
 
-    /// 01: "The last node is the whole."
+    /// The node with the highest number (RULES 2.7).
     pub fn whole(&self) -> usize {
         self.nodes.len() - 1
     }
 
-    /// The slaves of a chart, by state. 01: "A chart with slaves is a decomposed chart and its
-    /// master."
+    /// The slaves of a chart, by state: of a master some, of other charts none (RULES 2.7).
     pub fn slaves_of(&self, chart: u8) -> impl Iterator<Item = &Slave> {
         self.slaves.iter().filter(move |slave| slave.chart == chart)
     }

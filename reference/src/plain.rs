@@ -1,5 +1,4 @@
-//! 02, No. 11: "A file is plain if it is edition 1 and, for any two transitions from one state, some
-//! signal is needed by one, barred by the other, and stands in no feedback set of the file."
+//! Which files are plain (RULES 8).
 
 use crate::check::accept;
 use crate::limits::refusal;
@@ -13,8 +12,8 @@ pub struct Plain {
     pub plain: bool,
 }
 
-/// 02, No. 11: "a yes or no that holds exactly then. ... Refusals: 1 to 11." A refused file's answer
-/// is no; so is that of every accepted file of edition 2.
+/// The call `plain`. Refusals 1 to 11. The answer is no for a refused file, and for every accepted
+/// file of edition 2 (RULES 8.3).
 pub fn plain(file: &[u8]) -> Plain {
     match accept(file) {
         Ok(model) => Plain {
@@ -28,16 +27,16 @@ pub fn plain(file: &[u8]) -> Plain {
     }
 }
 
-/// "it is edition 1 and, for any two transitions from one state": of one chart, two places of its
-/// list.
+/// Edition 1, and every two places of one chart's list whose transitions leave the same state are
+/// told apart (RULES 8.2).
 pub fn is_plain(model: &Model) -> bool {
     let feedback = feedback_sets(model);
     let mut pairs = model.charts.iter().flat_map(pairs_from_one_state);
     model.edition == Edition::First && pairs.all(|(one, other)| told_apart(&feedback, one, other))
 }
 
-/// The feedback sets of a file: of each chart, and of each composed node. What a hidden node filters
-/// is none.
+/// The feedback sets of a file: of each chart, and x of each composed node. What a hidden node
+/// removes does not count (RULES 8.1).
 pub fn feedback_sets(model: &Model) -> Vec<Set> {
     let of_charts = model.charts.iter().map(|chart| chart.feedback);
     let of_nodes = model.nodes.iter().filter_map(|node| match *node {
@@ -60,7 +59,7 @@ pub fn pairs_from_one_state(chart: &Chart) -> Vec<(&Transition, &Transition)> {
     pairs
 }
 
-/// "some signal is needed by one, barred by the other, and stands in no feedback set of the file".
+/// Whether one transition needs a signal that the other bars and that is not fed back (RULES 8.2).
 fn told_apart(feedback: &[Set], one: &Transition, other: &Transition) -> bool {
     let parts = |signal: Set, needing: &Transition, barring: &Transition| {
         needing.needed.holds_all(signal) && barring.barred.holds_all(signal)

@@ -1,4 +1,4 @@
-//! 01, "The rewriting".
+//! The rewriting (RULES 9).
 
 use crate::check::{accept, refuse_if};
 use crate::limits::*;
@@ -12,10 +12,9 @@ pub struct Rewritten {
     pub length: usize,
 }
 
-/// 01: "the rewriting [tests] 1 to 11, 40 to 45. ... A refusal returns its number, ..., length 0". 02,
-/// No. 7 puts 46 behind 11 and before 40: edition 2 has no rewriting, since a master that stays has no
-/// action to put a call in.
-/// Writes the rewritten file at the front of the lent buffer; "no front bytes are copied".
+/// The call `rewriting`. It tests 1 to 11, 46, 40, 41, 42, 44, 45 (RULES 3.6): edition 2 is refused,
+/// since a master that stays has no action in which it could call its slave. Writes the rewritten
+/// file, which has no front, to the front of the buffer. The length of a refused one is 0.
 pub fn rewrite(file: &[u8], room: &mut [u8]) -> Rewritten {
     match try_rewrite(file, room.len()) {
         Ok(written) => {
@@ -44,7 +43,7 @@ fn try_rewrite(file: &[u8], room: usize) -> Result<Vec<u8>, u8> {
     Ok(written)
 }
 
-/// 41 to 44, each over the whole result before the next.
+/// 41, 42 and 44, each over the whole result before the next (RULES 9.6).
 fn accept_limits(model: &Model) -> Result<(), u8> {
     let charts = &model.charts;
     refuse_if(charts.iter().any(state_full), refusal::REWRITING_STATE)?;
@@ -52,19 +51,19 @@ fn accept_limits(model: &Model) -> Result<(), u8> {
     refuse_if(model.nodes.len() > NODES, refusal::REWRITING_NODES)
 }
 
-/// 41: "a state would have over 8 transitions out".
+/// 41: more than 8 transitions would leave one state.
 fn state_full(chart: &Chart) -> bool {
     let out_of = |state| chart.transitions.iter().filter(|t| t.from == state).count();
     (0..chart.states).any(|state| out_of(state) > STATE_TRANSITIONS)
 }
 
-/// 42: "a chart would have over 64".
+/// 42: a chart would have more than 64 transitions.
 fn chart_full(chart: &Chart) -> bool {
     chart.transitions.len() > CHART_TRANSITIONS
 }
 
-/// 01: "Each slave, in record order, gets the lowest free number left as its call signal." One set
-/// of one signal for each slave record, if there are enough.
+/// The call signals, one for each slave record: the lowest free signal, then the next one, and so
+/// on (RULES 9.2). None if there are not enough.
 pub fn calls(model: &Model) -> Option<Vec<Set>> {
     let free = Set::FULL.less(used_signals(model));
     let calls: Vec<Set> = free
@@ -79,7 +78,7 @@ pub fn calls(model: &Model) -> Option<Vec<Set>> {
     }
 }
 
-/// 01: "Free numbers are signals in no set of the file." These are the others.
+/// The signals that are in a set of the file, so are not free (RULES 9.2).
 fn used_signals(model: &Model) -> Set {
     let in_charts = model.charts.iter().map(|c| c.feedback.joined(c.extra));
     let all = model.charts.iter().flat_map(|chart| &chart.transitions);
@@ -94,7 +93,8 @@ fn used_signals(model: &Model) -> Set {
     Set::union(in_charts.chain(in_transitions).chain(in_nodes))
 }
 
-/// The rewritten file, whatever its size. 01: "No slaves remain, extra sets are unchanged".
+/// The rewritten file, whatever its size: it has no slaves, and its charts keep their sets
+/// (RULES 9.3, 9.5).
 pub fn rewrite_model(model: &Model, calls: &[Set]) -> Model {
     let charts = 0..model.charts.len() as u8;
     Model {
@@ -107,7 +107,7 @@ pub fn rewrite_model(model: &Model, calls: &[Set]) -> Model {
     }
 }
 
-/// A master's slaves with their calls, by state.
+/// A master's slaves with their call signals, by state.
 fn called_slaves<'a>(model: &'a Model, calls: &[Set], chart: u8) -> Vec<(&'a Slave, Set)> {
     model
         .slaves
@@ -117,11 +117,12 @@ fn called_slaves<'a>(model: &'a Model, calls: &[Set], chart: u8) -> Vec<(&'a Sla
         .collect()
 }
 
-/// A chart's own transitions rewritten, "and after them" the idle ones if it is inside a slave.
+/// A chart's own transitions rewritten, then its idle transitions if it is inside a slave
+/// (RULES 9.3).
 fn rewrite_chart(model: &Model, calls: &[Set], number: u8) -> Chart {
     let chart = &model.charts[usize::from(number)];
     let slaves = called_slaves(model, calls, number);
-    // "A chart inside a slave takes the nearest enclosing slave's call"
+    // the call signal of the nearest slave
     let own_call = model.nearest_slave(number).map(|place| calls[place]);
     let mut transitions: Vec<Transition> = chart
         .transitions
@@ -137,8 +138,8 @@ fn rewrite_chart(model: &Model, calls: &[Set], number: u8) -> Chart {
     }
 }
 
-/// "A transition of a master whose from or to is a slave's state adds that call to its action."
-/// And in a chart inside a slave "each own transition needs it too".
+/// A chart's own transition: it outputs the call signals of the slaves whose state it leaves or
+/// enters, and needs that of the chart's nearest slave (RULES 9.3).
 fn rewrite_transition(
     transition: &Transition,
     slaves: &[(&Slave, Set)],
@@ -155,8 +156,8 @@ fn rewrite_transition(
     }
 }
 
-/// "for each state rising, an idle transition from the state to itself bars it, with empty action.
-/// Idle transitions never get calls added."
+/// The idle transitions of a chart, by state: from the state to itself, barring the call signal,
+/// without action, also in a master (RULES 9.3).
 fn idle(state: u8, call: Set) -> Transition {
     Transition {
         from: state,
@@ -167,8 +168,8 @@ fn idle(state: u8, call: Set) -> Transition {
     }
 }
 
-/// "Other nodes stay. Old order is kept, names renumbered, a replaced node named by its hidden
-/// node."
+/// All nodes, from node 0 up, with new numbers. Where an old node became several, its new number is
+/// that of the last (RULES 9.4).
 fn rewrite_nodes(model: &Model, calls: &[Set]) -> Vec<Node> {
     let mut made: Vec<Node> = Vec::new();
     let mut new_names: Vec<u8> = Vec::new();
@@ -184,9 +185,9 @@ fn rewrite_nodes(model: &Model, calls: &[Set]) -> Vec<Node> {
     made
 }
 
-/// "A master's node becomes its chart node; then, for each of its slaves by state, a composed node
-/// (a = what was made so far, b = slave's node), feedback = the master's joined with all its calls;
-/// last a hidden node with x and y both those calls."
+/// A master's nodes (RULES 9.4): its chart; then a composed node for each slave by state, with the
+/// master's feedback and all its call signals as x; last a hidden node that removes these call
+/// signals on both sides.
 fn push_master(model: &Model, calls: &[Set], chart: u8, new_names: &[u8], made: &mut Vec<Node>) {
     let slaves = called_slaves(model, calls, chart);
     let all_calls = Set::union(slaves.iter().map(|&(_, call)| call));

@@ -1,4 +1,4 @@
-//! 01, "Run.", with what 02, No. 5 carries.
+//! Runs (RULES 6).
 
 use crate::check::{accept, refuse_if};
 use crate::limits::{refusal, ROW_HEAD_BYTES};
@@ -6,7 +6,7 @@ use crate::model::Model;
 use crate::set::Set;
 use crate::step::{accept_configuration, step_model};
 
-/// One row of a run.
+/// One row of a run (RULES 6.3).
 #[derive(Clone, PartialEq, Eq, Debug)]
 pub struct Row {
     pub output: Set,
@@ -16,8 +16,7 @@ pub struct Row {
 }
 
 impl Row {
-    /// 01: "output (8 bytes, zero if refused), mark (1 for yes, else 0), 0 or the refusal (1 byte),
-    /// then the configuration after it".
+    /// The row's bytes: output, mark, refusal, configuration.
     fn bytes(&self) -> Vec<u8> {
         let mut bytes = self.output.bytes().to_vec();
         bytes.push(u8::from(self.mark));
@@ -27,16 +26,15 @@ impl Row {
     }
 }
 
-/// What a run answers beside its rows. 02, No. 5: "A run is given the carried set and returns the new
-/// one, or the empty set where the run itself is refused."
+/// What a run returns beside its rows; if it is refused, nothing is carried (RULES 1.4, 6.4).
 #[derive(Clone, Copy, PartialEq, Eq, Debug)]
 pub struct Ran {
     pub refusal: u8,
     pub carried: Set,
 }
 
-/// 01: "a run [tests] 1 to 11, 20, 21, 27". "Each input gives a row in a lent buffer ... Bytes after
-/// the last row keep their values."
+/// The call `run`. It tests 1 to 11, 20, 21, 27 (RULES 3.6), and writes one row for each input to
+/// the front of the buffer. The bytes after the last row are unchanged.
 pub fn run(
     file: &[u8],
     configuration: &[u8],
@@ -60,8 +58,8 @@ pub fn run(
     }
 }
 
-/// The rows to be written and the new carried set, or the refusal. 27: "buffer shorter than one row
-/// per input".
+/// The rows to be written and the new carried set, or the refusal. 27: the buffer is too short for
+/// the rows.
 fn try_run(
     file: &[u8],
     configuration: &[u8],
@@ -76,10 +74,9 @@ fn try_run(
     Ok(run_model(&model, configuration, carried, inputs))
 }
 
-/// 01: "From a given configuration the inputs, a lent list of 64-bit sets, are taken in turn. A
-/// refused step keeps the configuration, ... and the run goes on." 02, No. 5: "the signals of a refused
-/// step (23 or 24) are carried uncut and joined to the next input, until a step is given; then nothing
-/// is carried." The rows, and what is carried after the last.
+/// The rows of a run, and what is carried after the last (RULES 6.2, 6.4). A refused step leaves
+/// the configuration unchanged, and the set that it was made under is carried to the next input. A
+/// step that is given ends this.
 pub fn run_model(
     model: &Model,
     configuration: &[u8],
@@ -102,7 +99,7 @@ pub fn run_model(
     (rows, carried)
 }
 
-/// The row of one step. Once 1 to 21 have passed, 23 is the only refusal left.
+/// The row of one step. After tests 1 to 21, 23 is the only refusal left.
 fn one_row(model: &Model, present: &[u8], joined: Set) -> Row {
     match step_model(model, present, joined) {
         Some(verdict) => Row {

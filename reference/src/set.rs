@@ -1,4 +1,4 @@
-//! 01: "A signal set is 8 bytes: bit n stands for signal n, 0 to 63."
+//! Signal sets (RULES 1.2): a number of 64 bits, one for each signal.
 
 use crate::limits::{SET_BYTES, SIGNALS};
 
@@ -57,12 +57,12 @@ impl Set {
         (0..SIGNALS).filter(move |&signal| self.holds_all(Set::one(signal)))
     }
 
-    /// The set as it stands in a file. 01: "All numbers little-endian."
+    /// The set as it is in a file: little-endian (RULES 1.2).
     pub fn bytes(self) -> [u8; SET_BYTES] {
         self.0.to_le_bytes()
     }
 
-    /// 01: "the hex is the set as one number, highest digit first", 16 digits, lower case.
+    /// The set as the day program prints it: 16 hex digits (RULES 10.3).
     pub fn hex(self) -> String {
         format!("{:016x}", self.0)
     }

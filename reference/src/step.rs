@@ -1,6 +1,5 @@
-//! 01, "The meaning of a step (003, sections 2.6 and 3)": every choice is made in order and held
-//! against all the equations; no output is grown or guessed. And of 02, No. 1: which transitions
-//! moved; No. 7: under edition 2 a chart may stay.
+//! A step (RULES 5): every choice is made in order and tested as a whole against all the rules.
+//! Nothing is computed in rounds.
 
 use crate::check::{accept, refuse_if};
 use crate::interface::{chart_input, node_input};
@@ -17,16 +16,14 @@ pub struct Stepped {
     pub places: Places,
 }
 
-/// 02, No. 1: "for each chart, the place of the transition taken in that chart's own list, or 255
-/// for none. Entries past the last chart are 255". 02, No. 7: 254 for a chart that stayed.
+/// The places of a step, by chart (RULES 5.11).
 pub type Places = [u8; CHARTS];
 
-/// 02, No. 1: "Refused steps carry 255 throughout."
+/// The places of a refused step (RULES 5.11).
 pub const NO_PLACES: Places = [NO_PLACE; CHARTS];
 
-/// A chart's part of a choice. 01: "A choice gives each chart one of its transitions or none"; 02,
-/// No. 7 adds staying. Rust's order is that of the choices: none, the transitions by their places in
-/// the chart's own list, staying.
+/// A chart's move in a choice (RULES 5.2). Rust's order is that of RULES 5.8: none, the transitions
+/// by place, staying.
 #[derive(Clone, Copy, PartialEq, Eq, PartialOrd, Ord, Debug)]
 pub enum Place {
     None,
@@ -45,15 +42,16 @@ impl Place {
     }
 }
 
-/// What a permitted choice leads to, as far as the mark asks: which transitions lead there is not in
-/// it.
+/// What a permitted choice leads to, as far as the mark compares it (RULES 5.10): its places are
+/// not in it.
 #[derive(Clone, PartialEq, Eq, Debug)]
 pub struct Outcome {
     pub output: Set,
     pub next: Vec<u8>,
 }
 
-/// What all permitted choices together lead to: the first one, its outcome, and the mark.
+/// What all permitted choices together lead to: the first one, its outcome, and the mark
+/// (RULES 5.9).
 #[derive(Clone, PartialEq, Eq, Debug)]
 pub struct Verdict {
     pub choice: Vec<Place>,
@@ -61,9 +59,9 @@ pub struct Verdict {
     pub mark: bool,
 }
 
-/// 01: "A step tests 1 to 11, then 20 to 23". Writes the next configuration at the front of the
-/// lent buffer; "A refusal returns its number, empty sets, mark no, ..., and leaves lent memory
-/// untouched. On success, bytes beyond the configuration ... keep their values."
+/// The call `step`. It tests 1 to 11, then 20 to 23 (RULES 3.6), and writes the next configuration
+/// to the front of the buffer. All other bytes, and all bytes of a refused step, are unchanged
+/// (RULES 1.4).
 pub fn step(file: &[u8], configuration: &[u8], input: Set, next: &mut [u8]) -> Stepped {
     match try_step(file, configuration, input, next.len()) {
         Ok(verdict) => {
@@ -102,8 +100,7 @@ fn try_step(file: &[u8], configuration: &[u8], input: Set, room: usize) -> Resul
     step_model(&model, configuration, input).ok_or(refusal::NO_STEP)
 }
 
-/// 20: "configuration length is not the number of charts"; 21: "a state in it not below its
-/// chart's states". 01: "A configuration is one byte per chart, its state, in chart order".
+/// 20 and 21 (RULES 3.3): one byte for each chart, each a state of its chart.
 pub fn accept_configuration(model: &Model, configuration: &[u8]) -> Result<(), u8> {
     let wrong_length = configuration.len() != model.charts.len();
     refuse_if(wrong_length, refusal::CONFIGURATION_LENGTH)?;
@@ -114,8 +111,7 @@ pub fn accept_configuration(model: &Model, configuration: &[u8]) -> Result<(), u
     refuse_if(wrong_state, refusal::CONFIGURATION_STATE)
 }
 
-/// The first permitted choice in order, and the mark: yes exactly if all permitted choices give
-/// the same output of the whole and the same next configuration. None at all is refusal 23.
+/// The first permitted choice in order, and the mark (RULES 5.9, 5.10). None at all is refusal 23.
 pub fn step_model(model: &Model, configuration: &[u8], input: Set) -> Option<Verdict> {
     let situation = Situation::new(model, configuration, input);
     let mut verdict: Option<Verdict> = None;
@@ -137,8 +133,8 @@ pub fn step_model(model: &Model, configuration: &[u8], input: Set) -> Option<Ver
     verdict
 }
 
-/// A chart file at a configuration with an input offered to it, and what is looked up often: the
-/// input interface of each node and of each chart alone, and each chart's nearest slave.
+/// A file at a configuration under an input, and what is looked up often: the input interface of
+/// each node and of each chart alone, and each chart's nearest slave.
 pub struct Situation<'a> {
     model: &'a Model,
     configuration: &'a [u8],
@@ -181,7 +177,7 @@ impl<'a> Situation<'a> {
         self.configuration[usize::from(chart)]
     }
 
-    /// A chart's state after the step. 01: with none it "keeps its state"; so it does where it stays.
+    /// A chart's state after the step (RULES 5.2).
     fn after(&self, chart: u8, choice: &[Place]) -> u8 {
         match self.taken(chart, choice) {
             None => self.before(chart),
@@ -189,8 +185,7 @@ impl<'a> Situation<'a> {
         }
     }
 
-    /// A chart's own output. 01: with none it "puts out nothing", and likewise where it stays; else
-    /// "Its output is the action."
+    /// A chart's own output: the action of its transition, empty if it takes none (RULES 5.2).
     fn own_output(&self, chart: u8, choice: &[Place]) -> Set {
         match self.taken(chart, choice) {
             None => Set::EMPTY,
@@ -198,8 +193,8 @@ impl<'a> Situation<'a> {
         }
     }
 
-    /// What a choice leads to, if it "meets all this". 01: "Each node is offered a set and has an
-    /// output. The whole is active and is offered the input cut to its interface."
+    /// What a choice leads to, if it is permitted (RULES 5.7). The whole is active (RULES 5.3) and
+    /// is offered the input, cut to its input interface (RULES 5.5).
     pub fn permitted(&self, choice: &[Place]) -> Option<Outcome> {
         let whole = self.model.whole();
         let outputs = self.outputs(choice);
@@ -215,20 +210,21 @@ impl<'a> Situation<'a> {
         }
     }
 
-    /// The output of each node. All that a node's output is made of stands lower (No. 9 and 10).
+    /// The output of each node (RULES 5.4). All nodes that it is made of are lower (tests 9 and
+    /// 10).
     fn outputs(&self, choice: &[Place]) -> Vec<Set> {
         let mut outputs: Vec<Set> = Vec::with_capacity(self.model.nodes.len());
         for node in &self.model.nodes {
             let of = |part: u8| outputs[usize::from(part)];
             let output = match *node {
-                // "Decomposed: output is the union of master and slaves"
+                // a chart alone, or a master with its slaves
                 Node::Chart { chart } => {
                     let slaves = self.model.slaves_of(chart).map(|slave| of(slave.node));
                     self.own_output(chart, choice).joined(Set::union(slaves))
                 }
-                // "Composed: ... Output is the union."
+                // both parts
                 Node::Composed { a, b, .. } => of(a).joined(of(b)),
-                // "Hidden: ... output loses y."
+                // without y
                 Node::Hidden { part, hidden, .. } => of(part).less(hidden),
             };
             outputs.push(output);
@@ -236,7 +232,8 @@ impl<'a> Situation<'a> {
         outputs
     }
 
-    /// Whether a choice meets the equations of a node and of all inside it.
+    /// Whether a choice satisfies the rules in a node and in everything inside it: RULES 5.3 for
+    /// what is active, RULES 5.5 for what is offered.
     fn node_meets(
         &self,
         node: u8,
@@ -251,7 +248,8 @@ impl<'a> Situation<'a> {
         };
         let cut_to = |set: Set, part: u8| set.cut(self.node_inputs[usize::from(part)]);
         match self.model.nodes[usize::from(node)] {
-            // "Decomposed: ... the master's feedback serves all as in composition."
+            // decomposed: the master's feedback set feeds the whole node's output back to master
+            // and slaves
             Node::Chart { chart } if self.model.is_master(chart) => {
                 let feedback = self.chart(chart).feedback;
                 let fed = offered.joined(output.cut(feedback));
@@ -263,26 +261,24 @@ impl<'a> Situation<'a> {
                     })
             }
             Node::Chart { chart } => self.chart_meets(chart, active, offered, choice),
-            // "Composed: both parts are as active as the whole. ... Each part is offered the
-            // offered set joined with the part of that union in x, cut to the part's interface."
+            // composed: x feeds the node's output back to both parts, which are active if the node
+            // is
             Node::Composed { a, b, feedback } => {
                 let fed = offered.joined(output.cut(feedback));
                 meets(a, active, cut_to(fed, a)) && meets(b, active, cut_to(fed, b))
             }
-            // "Hidden: the part is as active, is offered the set less x"
+            // hidden: x is removed from what the part is offered
             Node::Hidden { part, filtered, .. } => meets(part, active, offered.less(filtered)),
         }
     }
 
-    /// "A slave is active exactly if the master is active and its state before or after the step
-    /// is the slave's state."
+    /// Whether a slave is active: its master is, and has the slave's state before the step or after
+    /// it (RULES 5.3).
     fn slave_active(&self, master_active: bool, master: u8, state: u8, choice: &[Place]) -> bool {
         master_active && (self.before(master) == state || self.after(master, choice) == state)
     }
 
-    /// "Chart: inactive, it takes none, ... Active, it takes a transition from its present state.
-    /// The guard holds if ... the offered set joined with the part of its own output in its
-    /// feedback." Or, under edition 2, it is active and stays.
+    /// Whether a chart's move is permitted (RULES 5.7).
     fn chart_meets(&self, chart: u8, active: bool, offered: Set, choice: &[Place]) -> bool {
         match choice[usize::from(chart)] {
             Place::None => !active,
@@ -301,24 +297,23 @@ impl<'a> Situation<'a> {
         self.model.edition == Edition::Second
     }
 
-    /// 02, No. 7: whether no transition from a chart's present state has its guard met on what the
-    /// chart is offered. A chart that stays puts out nothing, so nothing of its own joins that set,
-    /// and a transition that its own action would hinder counts as well.
+    /// Whether what a chart is offered meets the guard of no transition from its present state
+    /// (RULES 5.7). A chart that stays outputs nothing, so nothing of its own is joined to that
+    /// set, and a transition that its own output would prevent counts as well.
     fn is_untriggered(&self, chart: u8, offered: Set) -> bool {
         let state = self.before(chart);
         let mut out = self.chart(chart).transitions.iter();
         !out.any(|transition| transition.from == state && guard_met(transition, offered))
     }
 
-    /// Every choice that keeps present states and activity, in order. 01: "Choices are ordered by
-    /// chart 0's place, then chart 1's and so on; none comes before transition 0." The others are
-    /// not permitted, whatever the sets; without them "At most 8 to the power 8 choices arise", and
-    /// 9 to the power 8 under edition 2.
+    /// Every choice that satisfies RULES 5.7 apart from its guards, in order (RULES 5.8). The
+    /// others are not permitted whatever is offered. There are at most 8^8 of these in edition 1,
+    /// and 9^8 in edition 2.
     pub fn each_open_choice(&self, visit: &mut dyn FnMut(&[Place])) {
         self.settle(&mut Vec::new(), visit);
     }
 
-    /// 01: "The search settles one chart after another until none is left."
+    /// Gives the next chart each of its moves in turn, and the charts after it theirs.
     fn settle(&self, chosen: &mut Vec<Place>, visit: &mut dyn FnMut(&[Place])) {
         let chart = chosen.len();
         if chart == self.model.charts.len() {
@@ -332,9 +327,8 @@ impl<'a> Situation<'a> {
         }
     }
 
-    /// The places open to a chart once all lower charts have theirs: inactive "it takes none",
-    /// active "it takes a transition from its present state", or under edition 2 stays. They are in
-    /// order.
+    /// The moves of a chart, in order, once all lower charts have theirs: none if it is inactive;
+    /// if it is active the transitions from its present state, and in edition 2 staying.
     fn open_places(&self, chart: u8, chosen: &[Place]) -> Vec<Place> {
         if !self.chart_active(chart, chosen) {
             return vec![Place::None];
@@ -347,9 +341,8 @@ impl<'a> Situation<'a> {
         taken.chain(stay).collect()
     }
 
-    /// Whether a chart is active: it is as active as its nearest slave, and outside all slaves as
-    /// the whole is. A slave's master has a lower number than the chart (No. 11), so its place is
-    /// chosen already.
+    /// Whether a chart is active (RULES 5.3): its nearest slave is, or there is none. The slave's
+    /// master has a lower number than the chart (test 11), so its move is chosen already.
     fn chart_active(&self, chart: u8, chosen: &[Place]) -> bool {
         match self.nearest_slaves[usize::from(chart)] {
             None => true,
@@ -362,8 +355,8 @@ impl<'a> Situation<'a> {
     }
 }
 
-/// "The guard holds if all needed signals, and no barred one, are in the offered set joined with
-/// the part of its own output in its feedback. Its output is the action."
+/// Whether a transition that its chart takes has its guard met: on the offered set, joined with the
+/// part of its own action that the chart feeds back (RULES 5.6).
 fn guard_holds(chart: &Chart, transition: &Transition, offered: Set) -> bool {
     guard_met(
         transition,
@@ -371,7 +364,7 @@ fn guard_holds(chart: &Chart, transition: &Transition, offered: Set) -> bool {
     )
 }
 
-/// Whether a set has all signals that a transition needs, and none that it bars.
+/// Whether a set has all signals that a transition needs, and none that it bars (RULES 5.6).
 fn guard_met(transition: &Transition, set: Set) -> bool {
     set.holds_all(transition.needed) && set.holds_none(transition.barred)
 }

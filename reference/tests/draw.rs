@@ -15,7 +15,7 @@ fn drawn(seed: u64, count: usize) -> Vec<Command> {
         .collect()
 }
 
-/// The refusals that the documents name at a call beside 1 to 11.
+/// The refusals of a call beside 1 to 11 (RULES 3.6).
 fn own_refusals(op: Op) -> &'static [u8] {
     match op {
         Op::Check | Op::Interface | Op::Plain => &[],

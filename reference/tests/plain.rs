@@ -1,4 +1,5 @@
-//! 02, No. 11: which files are plain, and that a plain file's step has mark yes or is refused with 23.
+//! Which files are plain, and that a plain file's step has mark yes or is refused with 23
+//! (RULES 8).
 
 use reference::cases::charts::d;
 use reference::cases::file::one_fault;

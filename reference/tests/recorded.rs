@@ -46,9 +46,7 @@ fn reach_exactly(kind: Kind, which: &dyn Fn(&Recorded) -> bool, others: &[u8]) {
     assert_eq!(found, expected, "{kind:?}");
 }
 
-/// 01: "A step tests 1 to 11, then 20 to 23; a run 1 to 11, 20, 21, 27; the first configuration 1 to
-/// 11, 22; checking and the interface 1 to 11; the rewriting 1 to 11, 40 to 45." There is no 43. 02,
-/// No. 7 adds 46 to the rewriting. No. 11: "Refusals: 1 to 11."
+/// What each call tests (RULES 3.6). There is no 43.
 #[test]
 fn every_refusal_of_every_call_is_reached() {
     reach_exactly(Kind::File, &|r| r.command.op == Op::Check, &[]);
@@ -112,9 +110,8 @@ fn recordings_are_of_moderate_size() {
     }
 }
 
-/// 01: "A refusal returns its number, empty sets, mark no, length 0, and leaves lent memory
-/// untouched." 02, No. 1: "Refused steps carry 255 throughout." No. 5: "the empty set where the run
-/// itself is refused".
+/// A refused call leaves the buffer unchanged and returns nothing else: empty sets, mark no, length
+/// 0, places of 255 (RULES 1.4).
 #[test]
 fn a_refusal_leaves_all_lent_bytes_and_gives_empty_answers() {
     for kind in KINDS {

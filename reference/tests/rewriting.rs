@@ -27,7 +27,7 @@ fn rewritten(file: &[u8]) -> Result<Vec<u8>, u8> {
     Ok(room)
 }
 
-/// D rewritten, from document 01's words: "Rewritten, the call is 5", which is bit 0x20.
+/// D rewritten, from RULES 9.7: the call signal is 5, which is bit 0x20.
 fn d_by_hand() -> Vec<u8> {
     fn set(low: u8) -> [u8; 8] {
         [low, 0, 0, 0, 0, 0, 0, 0]
@@ -41,25 +41,25 @@ fn d_by_hand() -> Vec<u8> {
     put(&[2, 0, 3, 0, 0, 0, 0, 0], &[0x02, 0x00]);
     // chart 1: 2 states, initial 0, 2 own transitions and 2 idle ones; no feedback
     put(&[2, 0, 4, 0, 0, 0, 0, 0], &[0x00, 0x00]);
-    // 0 to 1 needs {0}, out {1} and the call, for it enters the slave's state
+    // 0 to 1 needs {0}, action {1} and the call signal, for it enters the slave's state
     put(&[0, 1, 0, 0], &[0x01, 0x00, 0x22]);
-    // 0 to 0 bars {0}: not the slave's state, no call
+    // 0 to 0 bars {0}: not the slave's state, no call signal
     put(&[0, 0, 0, 0], &[0x00, 0x01, 0x00]);
-    // 1 to 0 needs {3}, and the call, for it leaves the slave's state
+    // 1 to 0 needs {3}, action the call signal, for it leaves the slave's state
     put(&[1, 0, 0, 0], &[0x08, 0x00, 0x20]);
-    // slave: 0 to 1 needs {1} and the call, out {2}
+    // slave: 0 to 1 needs {1} and the call signal, action {2}
     put(&[0, 1, 0, 0], &[0x22, 0x00, 0x04]);
-    // slave: 1 to 1 needs {3} and the call, out {4}
+    // slave: 1 to 1 needs {3} and the call signal, action {4}
     put(&[1, 1, 0, 0], &[0x28, 0x00, 0x10]);
-    // idle in state 0, then in state 1: bars the call
+    // idle transition of state 0, then of state 1: bars the call signal
     put(&[0, 0, 0, 0], &[0x00, 0x20, 0x00]);
     put(&[1, 1, 0, 0], &[0x00, 0x20, 0x00]);
-    // node 0: chart 1; node 1: the master's chart node
+    // node 0: chart 1; node 1: the master
     put(&[0, 1, 0, 0], &[0x00, 0x00]);
     put(&[0, 0, 0, 0], &[0x00, 0x00]);
-    // node 2: 1 and 0 composed, feedback {1} and the call
+    // node 2: 1 and 0 composed, x is {1} and the call signal
     put(&[1, 1, 0, 0], &[0x22, 0x00]);
-    // node 3: 2 hidden, the call filtered and hidden
+    // node 3: 2 hidden, x and y are the call signal
     put(&[2, 2, 0, 0], &[0x20, 0x20]);
     // distance 2 * 24 + 7 * 28 + 4 * 20 = 324; 2 charts, 0 slaves, 4 nodes, edition 1, 7 transitions
     put(&[0x44, 0x01, 0, 0, 2, 0, 4, 1, 7, 0, 0, 0], &[]);
@@ -73,7 +73,7 @@ fn d_is_rewritten_byte_for_byte() {
     assert_eq!(rewritten(&fronted), Ok(d_by_hand()));
 }
 
-/// 46 stands behind 11 and before 40, and a file without slaves has no rewriting either.
+/// 46 comes after 11 and before 40, and a file of edition 2 without slaves is refused as well.
 #[test]
 fn edition_2_is_refused_with_46() {
     let second = |model: Model| model.under(Edition::Second).file();
@@ -149,7 +149,7 @@ fn the_rewritten_file_steps_as_the_old_one() {
     assert!(given > 2_000 && refused > 2_000 && doubtful > 300 && idle > 500 && nested > 40);
 }
 
-/// 01's D: chart 1 has two transitions of its own, so its idle ones stand at 2 and 3.
+/// D: chart 1 has two transitions of its own, so its idle transitions are at 2 and 3.
 #[test]
 fn the_places_of_d_rewritten_by_hand() {
     let (old, new) = (d().file(), d_by_hand());
@@ -291,7 +291,8 @@ fn the_nodes_of_two_masters_by_hand() {
     assert_eq!(new.nodes, expected);
 }
 
-/// Charts that pass 42 have at most 8 times 64 transitions: no sum passes the limit in all.
+/// Charts that pass 42 have at most 8 times 64 transitions, so the sum is never above 512
+/// (RULES 3.5).
 #[test]
 fn charts_within_their_limit_are_within_the_limit_in_all() {
     const { assert!(CHARTS * CHART_TRANSITIONS <= TRANSITIONS) };

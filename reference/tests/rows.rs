@@ -1,4 +1,5 @@
-//! The thirteen rows of document 01, and the meanings written by hand, as lent bytes.
+//! The thirteen charts of docs/EXAMPLES.md, section 2, and the answers written by hand, as bytes of
+//! a buffer.
 
 use reference::cases::rows::{rows, RowAnswer};
 use reference::cases::step::{cases, meanings};
@@ -9,7 +10,7 @@ use reference::{step, Set};
 /// A lent byte that no state is.
 const FILL: u8 = 0xA5;
 
-/// Holds a step against what was written by hand, with one byte to spare.
+/// Compares a step with what was written by hand, with one byte to spare.
 fn hold(row: &RowAnswer) {
     let charts = row.configuration.len();
     let mut next = vec![FILL; charts + 1];
@@ -42,8 +43,8 @@ fn the_thirteen_rows_have_seventeen_answers() {
     rows.iter().for_each(hold);
 }
 
-/// Which transitions move the rows that are given, from document 01's words: D's chart 1 is inactive
-/// in D2, and a choice of two transitions takes the first one in N1 and N2.
+/// The places of the thirteen charts' steps that are given: D's chart 1 is inactive in D2, and of
+/// two transitions N1 and N2 take the first.
 #[test]
 fn the_places_of_the_rows() {
     let expected: [(&str, &[u8]); 11] = [

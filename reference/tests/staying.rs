@@ -1,5 +1,5 @@
-//! 02, No. 7: edition 2. Answers written by hand, as lent bytes and places; and staying held against
-//! edition 1, where it is spelled out in transitions.
+//! Edition 2 (RULES 7). Answers written by hand, as bytes of a buffer and places; and staying
+//! compared with edition 1, where it is spelled out in transitions.
 
 use reference::cases::charts::{alone, chart, d, go, l2, p2, whole_case};
 use reference::cases::damage::changed;
@@ -17,7 +17,7 @@ use std::collections::HashSet;
 /// A lent byte that no state is.
 const FILL: u8 = 0xA5;
 
-/// Holds a step against what was written by hand, with one byte to spare.
+/// Compares a step with what was written by hand, with one byte to spare.
 fn hold(answer: &StayAnswer) {
     let (row, name) = (&answer.row, answer.row.name);
     let charts = row.configuration.len();
@@ -60,7 +60,7 @@ fn the_meanings_written_by_hand() {
     meanings.iter().for_each(hold);
 }
 
-/// What the request says of L2 and of P2, byte by byte.
+/// L2 and P2 under edition 2, byte by byte (RULES 5.7, 7.2).
 #[test]
 fn l2_and_p2() {
     let (l2, p2) = (

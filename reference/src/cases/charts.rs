@@ -1,5 +1,5 @@
-//! The charts that the cases are about: document 01's own, and a few more, each as small as its
-//! purpose allows.
+//! The charts that the cases are about: those of docs/EXAMPLES.md, section 2, and a few more, each
+//! as small as its purpose allows.
 
 use crate::limits::*;
 use crate::model::{Chart, Edition, Model, Node, Slave, Transition};
@@ -89,8 +89,8 @@ pub fn wrapped(mut model: Model, filtered: &[u32], hides: &[u32]) -> Model {
     model
 }
 
-/// 01: "Whole case: ... one chart, 2 states, initial 0, empty sets; 0 to 1 needs {0}, puts out {1};
-/// 1 to 0 needs {1}; node kind 0."
+/// The whole file of docs/FORMAT.md, without its front: one chart of two states, 0 to 1 needing {0}
+/// with action {1}, and 1 to 0 needing {1}.
 pub fn whole_case() -> Model {
     alone(chart(
         2,
@@ -99,32 +99,32 @@ pub fn whole_case() -> Model {
     ))
 }
 
-/// 01, L1: "0 to 1 needs {0}, out {0}; F {0}".
+/// L1: a chart that needs its own output, and feeds it back.
 pub fn l1() -> Model {
     alone(chart(2, &[0], vec![go(0, 1, &[0], &[], &[0])]))
 }
 
-/// 01, L2: "as L1 but bars {0}".
+/// L2: a chart that bars its own output, and feeds it back.
 pub fn l2() -> Model {
     alone(chart(2, &[0], vec![go(0, 1, &[], &[0], &[0])]))
 }
 
-/// 01, L3: "L1, F empty".
+/// L3: L1 without feedback.
 pub fn l3() -> Model {
     alone(chart(2, &[], vec![go(0, 1, &[0], &[], &[0])]))
 }
 
-/// 01, P1: "0 to 1 needs {0}, out {1}; beside it 0 to 1 needs {1}, out {2}; F {1} between".
+/// P1: the second chart needs what the first outputs, and it is fed back.
 pub fn p1() -> Model {
     p1_with(&[1])
 }
 
-/// 01, P2: "P1, F empty".
+/// P2: P1 without feedback.
 pub fn p2() -> Model {
     p1_with(&[])
 }
 
-/// P1 with any feedback between.
+/// P1 with any feedback of the composed node.
 fn p1_with(feedback: &[u32]) -> Model {
     beside(
         chart(2, &[], vec![go(0, 1, &[0], &[], &[1])]),
@@ -133,12 +133,12 @@ fn p1_with(feedback: &[u32]) -> Model {
     )
 }
 
-/// 01, P3: "P1 hidden, x and y {1}".
+/// P3: P1 hidden, with the signal between the two charts removed on both sides.
 pub fn p3() -> Model {
     wrapped(p1(), &[1], &[1])
 }
 
-/// 01, P4: "0 to 1 needs {1}, out {0}; beside it 0 to 1 needs {0}, out {1}; F {0,1} between".
+/// P4: each chart needs what the other outputs, and both signals are fed back.
 pub fn p4() -> Model {
     beside(
         chart(2, &[], vec![go(0, 1, &[1], &[], &[0])]),
@@ -147,20 +147,20 @@ pub fn p4() -> Model {
     )
 }
 
-/// 01, N1: "0 to 0 out {1}; 0 to 1 out {2}".
+/// N1: two transitions with empty guards that differ in action and next state.
 pub fn n1() -> Model {
     let transitions = vec![go(0, 0, &[], &[], &[1]), go(0, 1, &[], &[], &[2])];
     alone(chart(2, &[], transitions))
 }
 
-/// 01, N2: "0 to 1 out {1}, twice".
+/// N2: two equal transitions.
 pub fn n2() -> Model {
     let transitions = vec![go(0, 1, &[], &[], &[1]), go(0, 1, &[], &[], &[1])];
     alone(chart(2, &[], transitions))
 }
 
-/// 01, D: "chart 0, F {1}: 0 to 1 needs {0}, out {1}; 0 to 0 bars {0}; 1 to 0 needs {3}. Slave of
-/// state 1, chart 1: 0 to 1 needs {1}, out {2}; 1 to 1 needs {3}, out {4}."
+/// D: chart 0 is a master with feedback {1}, and chart 1 its slave of state 1. Entering that state,
+/// the master outputs the 1 that the slave needs.
 pub fn d() -> Model {
     decomposed(
         chart(

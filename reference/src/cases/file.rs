@@ -43,7 +43,7 @@ pub fn cases() -> Vec<Case> {
     .collect()
 }
 
-/// Document 01's own charts and the fullest ones.
+/// The charts of docs/EXAMPLES.md and the fullest ones.
 fn accepted() -> Vec<Case> {
     let good = |name: &str, model: Model| case(name, model.file(), refusal::SUCCESS);
     vec![
@@ -79,7 +79,7 @@ fn accepted() -> Vec<Case> {
     ]
 }
 
-/// 1: "fewer than 12 bytes".
+/// 1: shorter than a trailer.
 fn length() -> Vec<Case> {
     let trailer = whole_case().records().trailer.encode();
     vec![
@@ -126,8 +126,8 @@ fn fit(records: &mut Records) {
     records.trailer.distance = records.trailer.body_bytes() as u32;
 }
 
-/// 3: "charts not 1 to 8, slaves over 7, nodes not 1 to 64, transitions over 512": each at 0, at its
-/// limit and one past it, laid out so that all else fits; then each count alone too large.
+/// 3: each count of the trailer at 0, at its limit and one past it (RULES 2.8), laid out so that
+/// all else fits; then each count alone too large.
 fn counts() -> Vec<Case> {
     let (good, bad) = (refusal::SUCCESS, refusal::COUNTS);
     let most_slaves = master_of(SLAVES as u8);
@@ -174,7 +174,8 @@ fn counts() -> Vec<Case> {
     cases
 }
 
-/// 4: "distance is not the body size made by the counts, or exceeds length less 12".
+/// 4: a distance that differs from the body size, and a file that has fewer bytes than that before
+/// its trailer.
 fn distance() -> Vec<Case> {
     let body = d().records().trailer.distance;
     let with = |distance: u32| {
@@ -219,8 +220,8 @@ fn distance() -> Vec<Case> {
     cases
 }
 
-/// 5: "a byte laid down as zero byte isn't zero": each zero byte of each kind of record, in the
-/// first and the last record of the kind, and each of the trailer's.
+/// 5: each zero byte of each kind of record, in the first and the last record of the kind, and each
+/// of the trailer's.
 fn zero_bytes() -> Vec<Case> {
     let model = d_hidden();
     let places = Places::of(&model);
@@ -253,7 +254,7 @@ fn zero_bytes() -> Vec<Case> {
     cases
 }
 
-/// 6: "states not 1 to 16, initial not below states".
+/// 6: the number of states, and the initial state.
 fn charts() -> Vec<Case> {
     let states = |states: u8, initial: u8| {
         let mut model = alone(chart(states, &[], vec![]));
@@ -291,7 +292,7 @@ fn charts() -> Vec<Case> {
     ]
 }
 
-/// 6: "over 64 transitions in a chart, or the charts' numbers don't sum to the trailer's".
+/// 6: the number of transitions of a chart, and the sum of them all.
 fn transition_numbers() -> Vec<Case> {
     let (good, bad) = (refusal::SUCCESS, refusal::CHART);
     let numbers = |model: &Model, numbers: &[u8]| {
@@ -354,7 +355,7 @@ fn transition_numbers() -> Vec<Case> {
     ]
 }
 
-/// 7: "from or to not below the chart's states, or over 8 transitions from one state".
+/// 7: the states of a transition, and how many transitions leave one state.
 fn transitions() -> Vec<Case> {
     let (good, bad) = (refusal::SUCCESS, refusal::TRANSITION);
     let one = |from, to| alone(chart(3, &[], vec![go(from, to, &[], &[], &[])])).file();
@@ -430,8 +431,7 @@ fn two_slaves() -> Model {
     }
 }
 
-/// 8: "slave's chart, state or node out of range, or slaves not strictly rising by chart, then
-/// state".
+/// 8: a slave's chart, state and node, and the order of the slaves.
 fn slave_records() -> Vec<Case> {
     let (good, bad) = (refusal::SUCCESS, refusal::SLAVE);
     let with = |first: (u8, u8, u8), second: (u8, u8, u8)| {
@@ -491,8 +491,7 @@ fn p3_with(place: usize, node: Node) -> Vec<u8> {
     model.file()
 }
 
-/// 9: "kind over 2, kind 0 with a no chart, kinds 1 and 2 naming a node that isn't lower than their
-/// own".
+/// 9: the kind of a node, its chart, and the nodes that it names.
 fn node_records() -> Vec<Case> {
     let bad = refusal::NODE;
     let kind = |place: usize, kind: u8| changed(&p3(), |r| r.nodes[place].kind = kind);
@@ -546,7 +545,7 @@ fn node_records() -> Vec<Case> {
     ]
 }
 
-/// 9: "or an unused field of a node not zero", each with a lowest and a highest bit.
+/// 9: the fields that a node does not use, each with a lowest and a highest bit.
 fn unused_fields() -> Vec<Case> {
     let bad = refusal::NODE;
     let (low, high) = (Set::one(0), Set::one(63));
@@ -602,8 +601,7 @@ fn skeleton(charts: u8, slaves: &[(u8, u8, u8)], nodes: Vec<Node>) -> Vec<u8> {
     .file()
 }
 
-/// 10: "a node but the last not named exactly once by nodes and slaves together; the last named; a
-/// slave's node not lower than the node holding its master".
+/// 10: how many names a node has, and whether a slave's node is below its master's.
 fn naming() -> Vec<Case> {
     let (good, bad) = (refusal::SUCCESS, refusal::NAMING);
     let three = || vec![leaf(0), leaf(1), leaf(2)];
@@ -747,7 +745,7 @@ fn naming() -> Vec<Case> {
     ]
 }
 
-/// 10: "a chart not held by exactly one node".
+/// 10: a chart that no node holds, and one that several hold.
 fn held_charts() -> Vec<Case> {
     let bad = refusal::NAMING;
     let join = |a, b, c| {
@@ -815,7 +813,8 @@ fn held_charts() -> Vec<Case> {
     ]
 }
 
-/// 11: "a chart inside a slave not numbered above that slave's master", directly and nested.
+/// 11: a chart inside a slave that has no higher number than the slave's master, directly and
+/// nested.
 fn numbering() -> Vec<Case> {
     let (good, bad) = (refusal::SUCCESS, refusal::NUMBERING);
     vec![
@@ -918,7 +917,7 @@ fn numbering() -> Vec<Case> {
     ]
 }
 
-/// 01: "Bytes in front of the body are not read by the chart": any content, any length.
+/// The front is not read (RULES 2.1): any content, any length.
 fn fronts() -> Vec<Case> {
     let good = refusal::SUCCESS;
     let file = || whole_case().file();
@@ -986,8 +985,8 @@ pub fn one_fault_under(edition: Edition) -> Vec<(u8, Vec<u8>)> {
     files
 }
 
-/// 01: "Given exactly if no lower number that the call tests applies": every pair of faults, and
-/// all of them, of which the lowest is given.
+/// The first test that applies gives the refusal (RULES 3.1): every pair of faults, and all of them
+/// at once, where the lowest number is given.
 fn two_faults() -> Vec<Case> {
     let mut cases = Vec::new();
     for (place, (lower, first)) in FAULTS.iter().enumerate() {

@@ -32,8 +32,8 @@ fn starting(charts: u8) -> Model {
     model
 }
 
-/// 01: "the first one has every chart's initial state, slaves included"; 22: "buffer for a
-/// configuration shorter than the number of charts".
+/// The first configuration has the initial state of every chart (RULES 6.1). 22: the buffer is too
+/// short.
 fn firsts() -> Vec<Case> {
     let mut cases = Vec::new();
     for charts in [1, 3, CHARTS] {
@@ -57,8 +57,8 @@ fn firsts() -> Vec<Case> {
     cases
 }
 
-/// A file for each of 1 to 11: the first configuration with a buffer long enough and with none (01:
-/// "1 to 11, 22"), and the interface.
+/// A file for each of 1 to 11: the first configuration with a buffer long enough and with none,
+/// since 22 is tested last (RULES 3.6), and the interface.
 fn refused() -> Vec<Case> {
     let mut cases = Vec::new();
     for (number, file) in one_fault() {
@@ -84,9 +84,7 @@ pub struct Known {
     pub output: Set,
 }
 
-/// 01: "Input interface: chart, all signals in its guards plus the extra set ...; composed or
-/// decomposed, the union over its parts; hidden, less x. Output interface: likewise over actions,
-/// less y."
+/// Interfaces of charts, and of decomposed, composed and hidden nodes (RULES 4.1, 4.2).
 pub fn interfaces() -> Vec<Known> {
     let known = |name, model: Model, input: &[u32], output: &[u32]| Known {
         name,

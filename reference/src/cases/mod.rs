@@ -1,5 +1,5 @@
-//! Calls with a name. The refusal of each is written by hand beside it, from document 01's words;
-//! the tests hold the engine against it.
+//! Calls with a name. The refusal of each is written by hand beside it, from docs/RULES.md; the
+//! tests compare the engine's with it.
 
 pub mod charts;
 pub mod damage;
@@ -15,7 +15,7 @@ pub mod step;
 use crate::command::Command;
 use crate::limits::refusal;
 
-/// A named call and the refusal that document 01 gives it.
+/// A named call and its refusal by RULES 3.
 pub struct Case {
     pub command: Command,
     pub refusal: u8,

@@ -62,8 +62,8 @@ pub fn answers() -> Vec<Known> {
     .collect()
 }
 
-/// Document 01's charts and others of the kind. D's two transitions from state 0 are told apart by 0,
-/// those of N1 and N2 by nothing; most of the others have one from a state.
+/// The charts of docs/EXAMPLES.md and similar ones. D's two transitions from state 0 are told apart
+/// by 0, those of N1 and N2 by nothing; most of the others have one from a state.
 fn documents() -> Vec<Known> {
     vec![
         yes("plain-whole-case", whole_case()),
@@ -91,7 +91,7 @@ fn out(needed: &[u32], barred: &[u32]) -> Transition {
     go(0, 1, needed, barred, &[])
 }
 
-/// "some signal is needed by one, barred by the other": either may be the one.
+/// Either of the two transitions may be the one that needs the signal (RULES 8.2).
 fn two() -> Vec<Known> {
     let pair = |one: Transition, other: Transition| single(&[], vec![one, other]);
     vec![
@@ -156,7 +156,7 @@ fn twice() -> Vec<Known> {
     ]
 }
 
-/// "for any two transitions from one state": other states and other charts are not asked about.
+/// Only transitions that leave the same state of the same chart are compared (RULES 8.2).
 fn places() -> Vec<Known> {
     let from = |state: u8, needed: &[u32], barred: &[u32]| go(state, 0, needed, barred, &[]);
     let one_doubtful = |state: u8| {
@@ -215,8 +215,8 @@ fn places() -> Vec<Known> {
     ]
 }
 
-/// "and stands in no feedback set of the file": of charts and of composed nodes. What a hidden node
-/// filters or hides is fed back nowhere.
+/// Signals that a chart or a composed node feeds back do not tell apart. What a hidden node removes
+/// is not fed back (RULES 8.1).
 fn fed_back() -> Vec<Known> {
     let guards = || vec![out(&[3], &[]), out(&[], &[3])];
     let both = || vec![out(&[3, 4], &[]), out(&[], &[3, 4])];
@@ -366,7 +366,7 @@ fn many() -> Vec<Known> {
     ]
 }
 
-/// Bytes in front of the body are not read.
+/// The front is not read (RULES 2.1).
 fn fronts() -> Vec<Known> {
     let fronted = |name, model: Model, plain| {
         let file = behind(&[0xff; 29], model.file());

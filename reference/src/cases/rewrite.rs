@@ -26,9 +26,9 @@ pub fn cases() -> Vec<Case> {
     .collect()
 }
 
-/// The length of the rewritten file of a model, counted from document 01's words: each chart inside
-/// a slave gets an idle transition per state, each slave a composed node, each master a hidden one,
-/// and the slave records go.
+/// The length of the rewritten file of a model, counted by RULES 9.3 and 9.4: each chart inside a
+/// slave gets an idle transition for each state, each slave a composed node, each master a hidden
+/// one, and there are no slave records.
 pub fn rewritten_bytes(model: &Model) -> usize {
     let idle: usize = (0..model.charts.len())
         .filter(|&chart| model.nearest_slave(chart as u8).is_some())
@@ -96,7 +96,7 @@ fn two_masters() -> Model {
     }
 }
 
-/// 01's D and other shapes that can be rewritten.
+/// D and other shapes that can be rewritten.
 fn given() -> Vec<Case> {
     let in_front = {
         let room = d().file().len() * 2;
@@ -162,8 +162,7 @@ fn given() -> Vec<Case> {
     ]
 }
 
-/// 40: "fewer free signal numbers than slaves". 01: "Free numbers are signals in no set of the
-/// file."
+/// 40: more slaves than free signals (RULES 9.2).
 fn free_signals() -> Vec<Case> {
     // signals 0 to 4 are used by D; the others go into one more set, all but those listed
     let mostly = |free: &[u32]| Set::FULL.less(Set::of(free));
@@ -283,7 +282,7 @@ fn evenly(states: u8, each: usize) -> Chart {
     spread(states, usize::from(states) * each)
 }
 
-/// 41: "a state would have over 8 transitions out".
+/// 41: more than 8 transitions would leave one state.
 fn state_limit() -> Vec<Case> {
     let bad = refusal::REWRITING_STATE;
     let last_state = {
@@ -317,8 +316,8 @@ fn state_limit() -> Vec<Case> {
     ]
 }
 
-/// 42: "a chart would have over 64". Charts of at most 64 transitions each have at most 512 in all,
-/// so there is no refusal for the sum.
+/// 42: a chart would have more than 64 transitions. Eight charts of at most 64 have at most 512
+/// together, so there is no refusal for the sum (RULES 3.5).
 fn chart_limit() -> Vec<Case> {
     let bad = refusal::REWRITING_CHART;
     let fullest = {
@@ -357,7 +356,7 @@ fn d_deep(nodes: usize) -> Model {
     model
 }
 
-/// 44: "over 64 nodes": D gets a composed and a hidden node.
+/// 44: more than 64 nodes; D gets a composed and a hidden node.
 fn node_limit() -> Vec<Case> {
     let bad = refusal::REWRITING_NODES;
     vec![
@@ -368,7 +367,7 @@ fn node_limit() -> Vec<Case> {
     ]
 }
 
-/// 45: "buffer shorter than the result".
+/// 45: a buffer that is too short for the result.
 fn rooms() -> Vec<Case> {
     let short = |name: &str, model: &Model, room: usize| {
         let command = Command::rewrite(name, model.file(), room);

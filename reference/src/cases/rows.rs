@@ -1,4 +1,4 @@
-//! 01, "Charts to hold it against": the thirteen rows, with their seventeen answers.
+//! The thirteen charts of docs/EXAMPLES.md, section 2, with their seventeen answers.
 
 use super::charts::*;
 use super::Case;
@@ -49,12 +49,12 @@ pub fn row(
     }
 }
 
-/// "1.1, {1,2}, yes" and the like.
+/// An answer of a step that is given.
 pub fn gives(next: &[u8], output: &[u32], mark: bool) -> Result {
     Some((next.to_vec(), Set::of(output), mark))
 }
 
-/// The seventeen answers. "F is feedback. Start is all zeros unless shown."
+/// The seventeen answers, from the configuration of zeros unless one is given.
 pub fn rows() -> Vec<RowAnswer> {
     let (yes, no) = (true, false);
     vec![

@@ -26,7 +26,7 @@ pub fn rows_bytes(inputs: usize, charts: usize) -> usize {
     inputs * (ROW_HEAD_BYTES + charts)
 }
 
-/// The whole case as a run, from each of its states, and rows of other charts of document 01.
+/// The whole case as a run, from each of its states, and rows of other charts of docs/EXAMPLES.md.
 fn whole() -> Vec<Case> {
     let run = |name: &str, model: Model, at: &[u8], inputs: &[Set]| {
         let room = rows_bytes(inputs.len(), at.len()) + 3;
@@ -73,7 +73,7 @@ fn whole() -> Vec<Case> {
     ]
 }
 
-/// 02, No. 5: what is carried into a run, from one input to the next, and on.
+/// What is carried into a run, from one input to the next, and out of it (RULES 6.4).
 fn carried() -> Vec<Case> {
     let run = |name: &str, model: Model, at: &[u8], carried: &[u32], inputs: &[&[u32]]| {
         let inputs: Vec<Set> = inputs.iter().map(|signals| Set::of(signals)).collect();
@@ -104,7 +104,7 @@ fn carried() -> Vec<Case> {
     ]
 }
 
-/// 27: "buffer shorter than one row per input".
+/// 27: a buffer that is too short for a row for each input.
 fn rooms() -> Vec<Case> {
     let mut cases = Vec::new();
     let mut run = |name: String, charts: usize, inputs: usize, room: usize| {

@@ -1,5 +1,5 @@
-//! Named cases of a step beyond the thirteen rows: what the sentences of "The meaning of a step"
-//! say one by one, and the refusals 20 to 23 with their order.
+//! Named cases of a step beyond the thirteen charts: the rules of RULES 5 one by one, and the
+//! refusals 20 to 23 with their order.
 
 use super::charts::*;
 use super::file::one_fault;
@@ -10,7 +10,7 @@ use crate::limits::*;
 use crate::model::{Chart, Edition, Model};
 use crate::set::Set;
 
-/// All named cases of a step but the thirteen rows.
+/// All named cases of a step but those of the thirteen charts.
 pub fn cases() -> Vec<Case> {
     let meanings = meanings().into_iter().map(|row| row.case(row.name, 1));
     let edges = [
@@ -26,7 +26,7 @@ pub fn cases() -> Vec<Case> {
     meanings.chain(edges.into_iter().flatten()).collect()
 }
 
-/// The answers of single sentences, written by hand.
+/// The answers of single rules, written by hand.
 pub fn meanings() -> Vec<RowAnswer> {
     [
         choices(),
@@ -54,7 +54,7 @@ fn crossed() -> Model {
     beside(chart(2, &[], first), chart(2, &[], second), &[5])
 }
 
-/// "Choices are ordered by chart 0's place, then chart 1's and so on", and the mark.
+/// The order of choices (RULES 5.8), and the mark (RULES 5.10).
 fn choices() -> Vec<RowAnswer> {
     let out = |to, signal| go(0, to, &[], &[], &[signal]);
     let swapped = Model {
@@ -132,7 +132,7 @@ fn choices() -> Vec<RowAnswer> {
     ]
 }
 
-/// "The guard holds if all needed signals, and no barred one, are in the offered set".
+/// When a guard is met on the offered set (RULES 5.6).
 fn guards() -> Vec<RowAnswer> {
     let needs = |needed: &[u32], barred: &[u32]| single(vec![go(0, 1, needed, barred, &[9])]);
     let met = || gives(&[1], &[9], true);
@@ -267,7 +267,7 @@ pub(super) fn three_composed(inside: &[u32], outside: &[u32]) -> Model {
     }
 }
 
-/// "Each part is offered the offered set joined with the part of that union in x".
+/// What the parts of composed nodes are offered (RULES 5.5).
 fn feedback() -> Vec<RowAnswer> {
     let all = || gives(&[1, 1, 1], &[1, 2, 3], true);
     let zeros = [0, 0, 0];
@@ -362,8 +362,8 @@ fn feedback() -> Vec<RowAnswer> {
     ]
 }
 
-/// "the part is as active, is offered the set less x; output loses y. Feedback inside comes before
-/// hiding."
+/// What the part of a hidden node is offered, what the node outputs, and feedback inside it
+/// (RULES 5.4, 5.5).
 fn hiding() -> Vec<RowAnswer> {
     let first_hidden = |x: &[u32], y: &[u32]| Model {
         nodes: vec![leaf(0), hidden(0, x, y), leaf(1), composed(1, 2, &[1])],
@@ -479,8 +479,7 @@ pub(super) fn hears(y: &[u32]) -> Model {
     }
 }
 
-/// "A slave is active exactly if the master is active and its state before or after the step is the
-/// slave's state", and "the master's feedback serves all as in composition".
+/// Which slaves are active (RULES 5.3), and what master and slaves are offered (RULES 5.5).
 fn slaves() -> Vec<RowAnswer> {
     let master = |moves| chart(2, &[7], moves);
     let stuck = chart(1, &[], vec![]);
@@ -576,7 +575,7 @@ fn slaves() -> Vec<RowAnswer> {
     ]
 }
 
-/// A slave inside a slave: its activity hangs on both.
+/// A slave inside a slave: whether it is active depends on both masters.
 fn inner_slaves() -> Vec<RowAnswer> {
     vec![
         meaning(
@@ -681,8 +680,7 @@ fn stairs(charts: u8) -> Model {
     model
 }
 
-/// 20: "configuration length is not the number of charts": every length from 0 to 9, and some
-/// that are right but for whole 256s.
+/// 20: every length from 0 to 9, and some that are right but for whole 256s.
 fn lengths() -> Vec<Case> {
     let mut cases = Vec::new();
     for charts in [1, 3, CHARTS] {
@@ -707,8 +705,7 @@ fn lengths() -> Vec<Case> {
     cases
 }
 
-/// 21: "a state in it not below its chart's states": each chart's state at its number of states, and
-/// one below it.
+/// 21: each chart's state at its number of states, and one below it.
 fn states() -> Vec<Case> {
     let charts = CHARTS as u8;
     let mut cases = Vec::new();
@@ -734,7 +731,7 @@ fn states() -> Vec<Case> {
     cases
 }
 
-/// 22: "buffer for a configuration shorter than the number of charts".
+/// 22: a buffer that is too short for a configuration.
 fn rooms() -> Vec<Case> {
     let mut cases = Vec::new();
     for charts in [1, 3, CHARTS] {
@@ -899,8 +896,8 @@ fn wide() -> Vec<Case> {
     ]
 }
 
-/// 02, No. 1: the highest place that there is, and one in the middle of a list; the first of three
-/// equal transitions, behind one that is not met.
+/// Places (RULES 5.11): the highest that there is, and one in the middle of a list; the first of
+/// three equal transitions, after one that is not met.
 fn places() -> Vec<Case> {
     let step = |name: &str, charts: Vec<Chart>, at: &[u8]| {
         let file = row_of_charts(charts).file();

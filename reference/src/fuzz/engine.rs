@@ -90,7 +90,7 @@ pub fn binding(command: &Command, lent: &mut [u8]) -> (u8, Numbers) {
     )
 }
 
-/// The places of a step that the binding gives, as 02 has them.
+/// The places of a step that the binding gives, as bytes (RULES 5.11).
 pub fn places(step: &Step) -> Places {
     step.places.map(Place::number)
 }

@@ -1,5 +1,5 @@
-//! The proved engine held against this one: random calls are made in both, and what each tells is
-//! compared, refusal, answers and every lent byte.
+//! The proved engine compared with this one: random calls are made in both, and what each tells is
+//! compared, refusal, answers and every byte of the buffer.
 
 mod engine;
 pub mod same;

@@ -1,5 +1,5 @@
-//! Demand 3 over the proved engine: random files with slaves, of edition 1, are rewritten by it and
-//! here, and then it answers for the old file and for the new one, from every configuration.
+//! RULES 9.8 over the proved engine: random files with slaves, of edition 1, are rewritten by it
+//! and here, and then it answers for the old file and for the new one, from every configuration.
 
 use super::engine::places;
 use crate::agreement::Agreement;
@@ -119,7 +119,7 @@ pub fn agree(seed: u64, count: usize) -> Result<Compared, String> {
     }
 }
 
-/// Rewrites a file by both engines; if it isn't refused, holds the new file against it.
+/// Rewrites a file by both engines; if it is not refused, compares the new file with it.
 fn compare(
     random: &mut Random,
     shape: &Shape,

@@ -1,5 +1,5 @@
-//! What a step of edition 2 answers, by hand, from the rule alone: an active chart may stay, putting
-//! out nothing, exactly if no transition from its state has its guard met on what it is offered.
+//! What a step of edition 2 answers, by hand, from RULES 5.7: what decides whether an active chart
+//! may stay.
 
 use crate::cases::charts::*;
 use crate::cases::rows::{gives, row, rows, Result, RowAnswer};
@@ -43,12 +43,14 @@ fn refused(name: &'static str, model: Model, at: &[u8], input: &[u32]) -> StayAn
     given(name, model, at, input, None, &[])
 }
 
-/// Document 01's thirteen rows with their seventeen inputs, under edition 2.
+/// The thirteen charts of docs/EXAMPLES.md, section 2, with their seventeen inputs, under edition
+/// 2.
 ///
-/// L1 and P4 move by what they put out themselves; where they put out nothing they wait, so there is
-/// a second outcome. L2 is triggered on the empty input and hindered by its own output: it can neither
-/// move nor stay. Given {0}, which it bars, it stays. What waits without being fed back stays: L3, the
-/// second chart of P2, both of P3 on {1}, the slave of D4. N1 and N2 have empty guards and never stay.
+/// L1 and P4 move by their own outputs; if they output nothing they can stay, so there is a second
+/// outcome. L2 is triggered on the empty input and prevented by its own output: it can neither move
+/// nor stay. Under {0}, which it bars, it stays. What lacks a signal that is not fed back stays:
+/// L3, the second chart of P2, both of P3 on {1}, the slave of D4. N1 and N2 have empty guards and
+/// never stay.
 pub fn thirteen() -> Vec<StayAnswer> {
     let (yes, no) = (true, false);
     let answers: [(Result, &[u8]); 17] = [
@@ -548,7 +550,8 @@ fn kept(feedback: &[u32], leaving: Transition) -> Model {
     )
 }
 
-/// A master that stays keeps its state's slave active; an inactive chart never stays.
+/// A master that stays in its slave's state keeps the slave active (RULES 5.3); an inactive chart
+/// never stays.
 fn masters() -> Vec<StayAnswer> {
     let leaving = || go(1, 0, &[3], &[], &[]);
     let stuck = || chart(1, &[], vec![]);
@@ -668,8 +671,8 @@ fn masters() -> Vec<StayAnswer> {
     ]
 }
 
-/// A master is offered what its slaves put out into its feedback. So its slave may trigger it, and may
-/// be what lets it move at all.
+/// A master is offered what its slaves output and it feeds back. So its slave may trigger it, and
+/// may be what lets it move at all.
 fn triggered_masters() -> Vec<StayAnswer> {
     let by_slave = || go(1, 0, &[6], &[], &[]);
     let unless_slave = || go(1, 0, &[], &[6], &[8]);

@@ -1,4 +1,4 @@
-//! Named cases of edition 2 (02, No. 7), of every call.
+//! Named cases of edition 2 (RULES 7), of every call.
 
 pub mod meanings;
 
