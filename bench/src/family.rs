@@ -156,7 +156,7 @@ fn feed_back(model: &mut Model, set: Set) {
     }
 }
 
-/// The special ones, each with 8 to the power 8 choices.
+/// The special ones, each with 8^8 choices.
 pub fn special() -> Vec<(&'static str, Subject)> {
     vec![
         ("the last needs what none puts out", last_needs()),
@@ -181,7 +181,7 @@ fn eight(sets: impl Fn(u32, u32) -> [Vec<u32>; 3]) -> Subject {
     Subject::new(model, vec![0; 8], Set::EMPTY)
 }
 
-/// The last chart needs a signal that no chart puts out; the others may do anything.
+/// The last chart needs a signal that no chart outputs; the others may do anything.
 fn last_needs() -> Subject {
     eight(|number, place| match number {
         7 => [vec![60], vec![], vec![place]],
@@ -189,7 +189,7 @@ fn last_needs() -> Subject {
     })
 }
 
-/// Seven charts need a signal that only the last transition of the last chart puts out.
+/// Seven charts need a signal that only the last transition of the last chart outputs.
 fn all_wait() -> Subject {
     eight(|number, place| match (number, place) {
         (7, 7) => [vec![], vec![], vec![60]],

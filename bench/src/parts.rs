@@ -175,8 +175,8 @@ pub fn step() -> Part {
     part("step", rows)
 }
 
-/// Steps of edition 2, where every active chart may also stay: 9 to the power 8 choices instead of 8 to
-/// the power 8, and 3 to the power 8 instead of 2 to the power 8.
+/// Steps of edition 2, where every active chart may also stay: 9^8 choices instead of 8^8, and 3^8
+/// instead of 2^8.
 pub fn staying() -> Part {
     let row = |label: &str, family: &[Subject]| row_of(label, family, |s| step_calls(s, true));
     let everyday = taken_by(&family::everyday_staying(), |s| step_calls(s, true));

@@ -1,11 +1,11 @@
-/* Document 01's whole case: checks the file, takes its first configuration, asks for its interface, makes its three steps one by one, then as one
+/* The whole file of docs/FORMAT.md: checks it, takes its first configuration, asks for its interface, makes its three steps one by one, then as one
  * run and as two, rewrites it, asks whether it is plain; then, under edition 2, steps, rewrites and asks again. Prints what it got. */
 #include <stdio.h>
 #include "mestecur.h"
 
 enum { CHARTS = 1, INPUTS = 3, ROW = 10 + CHARTS, PLACES = 8, EDITION_FROM_END = 5 };
 
-/* One chart of 2 states; 0 to 1 needs {0} and puts out {1}; 1 to 0 needs {1}. */
+/* One chart of 2 states; 0 to 1 needs {0}, action {1}; 1 to 0 needs {1}. */
 static uint8_t file[] = {
     /* chart: 2 states, initial state 0, 2 transitions, zeros; feedback; extra set */
     2, 0, 2, 0, 0, 0, 0, 0, 0, 0, 0, 0, 0, 0, 0, 0, 0, 0, 0, 0, 0, 0, 0, 0,

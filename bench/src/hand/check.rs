@@ -67,7 +67,7 @@ fn nonzero(body: &Body, trailer: &[u8]) -> bool {
         || trailer[10..] != [0, 0]
 }
 
-/// 6: a bad chart, or other numbers than the trailer's in all.
+/// 6: a bad chart, or a sum of transitions that is not the trailer's.
 fn bad_charts(body: &Body) -> bool {
     let mut sum = 0;
     for chart in (0..body.charts).map(|c| body.chart(c)) {
@@ -80,7 +80,7 @@ fn bad_charts(body: &Body) -> bool {
     sum != body.transitions
 }
 
-/// 7: a bad transition, or over 8 from a state.
+/// 7: a bad transition, or more than 8 from a state.
 fn bad_transitions(body: &Body) -> bool {
     let mut next = 0;
     for chart in (0..body.charts).map(|c| body.chart(c)) {
@@ -197,7 +197,7 @@ fn lowest(body: &Body) -> [u8; 64] {
     lowest
 }
 
-/// The number of each chart's nearest enclosing slave, from the last node down.
+/// The number of each chart's nearest slave, from the last node down.
 pub fn nearest(body: &Body) -> [u8; 8] {
     let mut of_node = [NONE; 64];
     let mut of_chart = [NONE; 8];

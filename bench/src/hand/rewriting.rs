@@ -11,7 +11,7 @@ pub fn rewrite(file: &[u8], out: &mut [u8]) -> (u8, usize) {
     }
 }
 
-/// What the rewriting goes by: the file, each slave's call, and each chart's own call.
+/// What the rewriting goes by: the file, each slave's call signal, and each chart's own.
 struct Plan<'a> {
     body: Body<'a>,
     calls: [u64; 7],
@@ -158,7 +158,7 @@ impl<'a> Plan<'a> {
         }
     }
 
-    /// A chart's own transition with the calls that it makes and needs.
+    /// A chart's own transition with the call signals that it outputs and needs.
     fn called(&self, chart: usize, mut transition: Transition) -> Transition {
         transition.needed |= self.own[chart];
         for (slave, call) in self.body.all_slaves().zip(self.calls) {

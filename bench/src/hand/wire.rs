@@ -39,7 +39,7 @@ struct Rows {
 }
 
 impl Rows {
-    /// Joins the rows of a part, x filtered from its input and y hidden from its output.
+    /// Joins the rows of a part, without x of its input and y of its output.
     fn join(&mut self, part: &Rows, x: u64, y: u64) {
         for c in 0..8 {
             self.down[c] |= part.down[c] & !x;

@@ -1,9 +1,9 @@
-//! The proved chart engine for Rust. What a chart file is and what a step means stands in document
-//! 01; what is proved of each call stands in docs/PROMISES.md.
+//! The proved chart engine for Rust. docs/RULES.md defines chart files and every answer, and is
+//! cited here as RULES; docs/PROMISES.md says what is proved of each call.
 //!
-//! Every call takes slices and gives a result: what document 01 says, or the [`Refusal`]. A refused
-//! call leaves every lent buffer as it was; after a success the bytes behind what was written have
-//! the values that they had.
+//! Every call takes slices and gives a result: its answer, or the [`Refusal`]. A call that is
+//! refused leaves every buffer unchanged; one that succeeds writes to the front of the buffer, and
+//! leaves the rest of it unchanged (RULES 1.4).
 //!
 //! ```no_run
 //! # fn main() -> Result<(), Box<dyn std::error::Error>> {
@@ -33,15 +33,15 @@ pub use refusal::Refusal;
 pub use row::{rows, rows_bytes, Given, Row};
 pub use set::{Set, Signals};
 
-/// The signals that a file's whole looks at, and those that it can put out.
+/// The signals that a file looks at, and those that it can output (RULES 4).
 #[derive(Clone, Copy, PartialEq, Eq, Debug)]
 pub struct Interface {
     pub input: Set,
     pub output: Set,
 }
 
-/// What a step gives beside the next configuration: what the whole puts out, whether every permitted
-/// choice leads to the same output and the same next configuration, and what each chart did.
+/// What a step gives beside the next configuration: the output, whether all permitted choices have
+/// the same output and the same next configuration (RULES 5.10), and what each chart did.
 #[derive(Clone, Copy, PartialEq, Eq, Debug)]
 pub struct Step {
     pub output: Set,
@@ -49,14 +49,14 @@ pub struct Step {
     pub places: Places,
 }
 
-/// Whether a file holds a chart. Refusals 1 to 11.
+/// Tests whether a file is accepted. Refusals 1 to 11.
 pub fn check(file: &[u8]) -> Result<(), Refusal> {
     // SAFETY: the pointer is that of a slice with this length.
     Refusal::unless_zero(unsafe { raw::mestecur_check(file.as_ptr(), file.len()) })
 }
 
-/// Writes the first configuration, every chart's initial state, to the front of the buffer. Refusals
-/// 1 to 11, 22.
+/// Writes the first configuration, the initial state of every chart, to the front of the buffer
+/// (RULES 6.1). Refusals 1 to 11, 22.
 pub fn first(file: &[u8], config: &mut [u8]) -> Result<(), Refusal> {
     // SAFETY: the pointers are those of slices with these lengths; the one written is lent alone.
     Refusal::unless_zero(unsafe {
@@ -64,7 +64,7 @@ pub fn first(file: &[u8], config: &mut [u8]) -> Result<(), Refusal> {
     })
 }
 
-/// The interface of a file's whole. Refusals 1 to 11.
+/// The interface of a file. Refusals 1 to 11.
 pub fn interface(file: &[u8]) -> Result<Interface, Refusal> {
     let (mut input, mut output) = (0, 0);
     // SAFETY: the pointers are those of a slice with this length and of two numbers of our own.
@@ -77,8 +77,8 @@ pub fn interface(file: &[u8]) -> Result<Interface, Refusal> {
     })
 }
 
-/// One step from a configuration under an input; writes the next configuration to the front of the
-/// buffer. Refusals 1 to 11, 20 to 23.
+/// Makes one step from a configuration under an input (RULES 5), and writes the next configuration
+/// to the front of the buffer. Refusals 1 to 11, 20 to 23.
 pub fn step(file: &[u8], config: &[u8], input: Set, next: &mut [u8]) -> Result<Step, Refusal> {
     let (mut output, mut mark, mut places) = (0, 0, [Place::NO_PLACE; 8]);
     // SAFETY: the pointers are those of slices with these lengths, of two numbers and of eight bytes of
@@ -104,10 +104,11 @@ pub fn step(file: &[u8], config: &[u8], input: Set, next: &mut [u8]) -> Result<S
     })
 }
 
-/// A step for each input in turn, from a configuration on and with what is carried there; writes a row
-/// for each to the front of the buffer, which [`rows`] reads. The signals of a refused step are carried:
-/// they are joined to the next input, until a step is given. Gives what is carried after the last
-/// input, for the run that goes on from there. Refusals 1 to 11, 20, 21, 27.
+/// Makes one step for each input, in order, starting from a configuration and with a carried set
+/// (RULES 6). Writes one row for each input to the front of the buffer; [`rows`] reads them. The
+/// signals of a refused step are carried: the following steps are made under their input and the
+/// carried signals together, up to the first that is given. Returns what is carried after the last
+/// input, for the run that continues from there. Refusals 1 to 11, 20, 21, 27.
 pub fn run(
     file: &[u8],
     config: &[u8],
@@ -135,8 +136,9 @@ pub fn run(
     Ok(Set(carried_on))
 }
 
-/// Writes a file without slaves that makes the same steps to the front of the buffer, and gives its
-/// length. Files of edition 2 can't be rewritten. Refusals 1 to 11, 46, 40 to 42, 44, 45.
+/// Writes a file without slaves that makes the same steps to the front of the buffer, and returns
+/// its length (RULES 9). Files of edition 2 can't be rewritten. Refusals 1 to 11, 46, 40 to 42, 44,
+/// 45.
 pub fn rewrite(file: &[u8], buffer: &mut [u8]) -> Result<usize, Refusal> {
     let mut length = 0;
     // SAFETY: the pointers are those of slices with these lengths and of a number of our own; the slice
@@ -153,9 +155,8 @@ pub fn rewrite(file: &[u8], buffer: &mut [u8]) -> Result<usize, Refusal> {
     Ok(length)
 }
 
-/// Whether a file is plain: it is edition 1, and any two transitions from one state are told apart by
-/// a signal that one needs, the other bars and no feedback set of the file has. No step of a plain file
-/// has the mark no. Refusals 1 to 11.
+/// Whether a file is plain (RULES 8). Every step of a plain file that is given has the mark yes.
+/// Refusals 1 to 11.
 pub fn plain(file: &[u8]) -> Result<bool, Refusal> {
     let mut plain = 0;
     // SAFETY: the pointers are those of a slice with this length and of a number of our own.

@@ -7,7 +7,7 @@ pub enum Place {
     None,
     /// It took the transition at this place of its own list, from 0 on.
     Transition(u8),
-    /// It was active and stayed: no transition from its state was triggered. Edition 2 alone.
+    /// It was active and stayed: no transition from its state was triggered. Edition 2 only.
     Stayed,
 }
 
@@ -15,9 +15,9 @@ pub enum Place {
 pub type Places = [Place; 8];
 
 impl Place {
-    /// What the engine has for no transition.
+    /// The byte for no transition (RULES 5.11).
     pub(crate) const NO_PLACE: u8 = 255;
-    /// What the engine has for staying.
+    /// The byte for staying (RULES 5.11).
     const STAYED: u8 = 254;
 
     /// The place of a byte in the engine's answer.

@@ -4,12 +4,11 @@ use std::error::Error;
 use std::fmt::{self, Display, Formatter};
 use std::num::NonZeroU8;
 
-/// The refusal of a call. It prints as its number and the documents' words for it.
+/// The refusal of a call. It prints as its number and words for it.
 #[derive(Clone, Copy, PartialEq, Eq, PartialOrd, Ord, Hash, Debug)]
 pub struct Refusal(NonZeroU8);
 
-/// Document 01's table with what document 02 changes in it, without the day program's numbers, which
-/// no call gives.
+/// The refusals of docs/RULES.md, section 3, without the day program's, which no call gives.
 const WORDS: [(u8, &str); 22] = [
     (1, "fewer than 12 bytes"),
     (2, "edition not 1 or 2"),
@@ -81,12 +80,12 @@ impl Refusal {
         }
     }
 
-    /// Its number in the documents.
+    /// Its number (RULES 3).
     pub fn number(self) -> u8 {
         self.0.get()
     }
 
-    /// The documents' words for it.
+    /// What it means, in words.
     pub fn words(self) -> &'static str {
         let found = WORDS.iter().find(|(number, _)| *number == self.number());
         found.map_or("no refusal of a call", |(_, words)| words)

@@ -2,12 +2,11 @@
 
 use crate::{Refusal, Set};
 
-/// The bytes of a row in front of its configuration: output (8), mark (1), refusal (1).
+/// The bytes of a row before its configuration: output (8), mark (1), refusal (1) (RULES 6.3).
 const HEAD_BYTES: usize = 10;
 
-/// What a row has of a step that was given: what the whole puts out, and whether every permitted
-/// choice leads to the same output and the same next configuration. Which transitions were taken is in
-/// no row.
+/// What a row has of a step that was given: the output, and whether all permitted choices have the
+/// same output and the same next configuration. Rows have no places.
 #[derive(Clone, Copy, PartialEq, Eq, Debug)]
 pub struct Given {
     pub output: Set,

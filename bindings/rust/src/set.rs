@@ -2,7 +2,7 @@
 
 use std::fmt::{self, Display, Formatter};
 
-/// A set of signals: bit n stands for signal n, 0 to 63.
+/// A set of signals: bit n is signal n, from 0 to 63.
 #[derive(Clone, Copy, PartialEq, Eq, Hash, Debug, Default)]
 #[repr(transparent)]
 pub struct Set(pub u64);
@@ -46,7 +46,7 @@ impl IntoIterator for Set {
     }
 }
 
-/// As document 01 writes them: `{1,2}`, and `none` for the empty one.
+/// Signals in braces, `{1,2}`, and `none` for the empty set.
 impl Display for Set {
     fn fmt(&self, out: &mut Formatter) -> fmt::Result {
         if *self == Set::EMPTY {

@@ -10,7 +10,7 @@ fn number<T: std::fmt::Debug>(answer: Result<T, Refusal>) -> u8 {
     answer.unwrap_err().number()
 }
 
-/// Holds that every call refuses a bad file with this number, and touches nothing.
+/// Asserts that every call refuses a bad file with this number, and leaves the buffers unchanged.
 fn every_call_refuses(file: &[u8], refusal: u8) {
     let mut buffer = [0xA5; 300];
     assert_eq!(number(check(file)), refusal);
@@ -55,7 +55,7 @@ fn bad_files() {
     every_call_refuses(&swapped(), 11);
 }
 
-/// D with the numbers of its charts exchanged: the slave's chart stands below its master.
+/// D with the numbers of its charts exchanged: the slave's chart is numbered below its master.
 fn swapped() -> Vec<u8> {
     let mut file = d();
     let nodes = file.len() - 12 - 2 * 20;

@@ -1,14 +1,14 @@
-//! Document 01, "Charts to hold it against": the thirteen rows.
+//! The thirteen charts of docs/EXAMPLES.md, section 2.
 
 mod charts;
 
 use charts::*;
 use mestecur::{step, Place, Set};
 
-/// What a row says of one input: the next configuration, the output and the mark, or refusal 23.
+/// What is expected of one input: the next configuration, the output and the mark, or refusal 23.
 type Says<'a> = Option<(&'a [u8], &'a [u8], bool)>;
 
-/// Holds a step against what a row says; the buffer is two bytes longer than needed.
+/// Compares a step with what is expected; the buffer is two bytes longer than needed.
 fn hold(name: &str, file: &[u8], at: &[u8], input: &[u8], says: Says) {
     let mut next = vec![0xA5; at.len() + 2];
     let answer = step(file, at, input.iter().copied().collect(), &mut next);
@@ -95,7 +95,7 @@ fn a_master_and_its_slave() {
     hold("D4", &d, &[0, 1], &[0, 3], Some((&[1, 1], &[1, 4], true)));
 }
 
-/// Which transitions move D's rows: chart 1 takes none while it is inactive, and there is no chart 2.
+/// The places of D's steps: chart 1 takes none while it is inactive, and there is no chart 2.
 #[test]
 fn the_transitions_of_a_master_and_its_slave() {
     let took = |at: &[u8], input: &[u8]| {

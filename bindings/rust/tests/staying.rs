@@ -43,8 +43,8 @@ fn one(feedback: &[u8], needed: &[u8], barred: &[u8], action: &[u8]) -> Chart {
 const STAYED: Place = Place::Stayed;
 const FIRST: Place = Place::Transition(0);
 
-/// L1 moves by what it puts out itself, or waits. L2 is triggered by nothing and hindered by itself,
-/// so it can do neither; given 0 it waits. L3 hears nothing and waits.
+/// L1 moves by its own output, or stays. On the empty input L2 is triggered and prevented by its
+/// own output, so it can do neither; under {0} it stays. L3 lacks what it needs and stays.
 #[test]
 fn one_chart() {
     let l1 = alone(one(&[0], &[0], &[], &[0]));
@@ -61,7 +61,7 @@ fn one_chart() {
     );
 }
 
-/// P2's second chart waits for what it doesn't hear; of P4 both move or both wait.
+/// P2's second chart stays, since what it needs is not fed back; of P4 both move or both stay.
 #[test]
 fn two_charts() {
     let p2 = beside(one(&[], &[0], &[], &[1]), one(&[], &[1], &[], &[2]), &[]);
@@ -80,8 +80,8 @@ fn two_charts() {
     );
 }
 
-/// D4's slave waits. A master that stays in the slave's state keeps the slave active; an inactive one
-/// doesn't stay.
+/// D4's slave stays. A master that stays in the slave's state keeps the slave active; an inactive
+/// one doesn't stay.
 #[test]
 fn a_master_and_its_slave() {
     let d = d();

@@ -1,4 +1,4 @@
-//! Document 01's whole case, call by call, and the rewriting of D.
+//! The whole file of docs/FORMAT.md, call by call, and the rewriting of D.
 
 mod charts;
 
@@ -8,7 +8,7 @@ use mestecur::{
     Step,
 };
 
-/// A row's answer for a step that puts out these signals, all choices agreeing.
+/// A row's answer for a step with this output, all choices agreeing.
 fn puts_out<const N: usize>(signals: [u8; N]) -> Given {
     Given {
         output: Set::from(signals),
@@ -16,7 +16,7 @@ fn puts_out<const N: usize>(signals: [u8; N]) -> Given {
     }
 }
 
-/// The answer of a step that puts out these signals by this transition, all choices agreeing.
+/// The answer of a step with this output by this transition, all choices agreeing.
 fn by<const N: usize>(place: u8, signals: [u8; N]) -> Step {
     let Given { output, mark } = puts_out(signals);
     let mut places = [Place::None; 8];
@@ -118,7 +118,7 @@ fn a_file_without_slaves_rewrites_to_itself() {
     assert!(buffer[file.len()..].iter().all(|&byte| byte == 0xA5));
 }
 
-/// "Rewritten, the call is 5."
+/// The call signal is 5 (RULES 9.7).
 #[test]
 fn d_rewritten_makes_the_same_steps() {
     let mut buffer = [0; 1_000];
@@ -139,8 +139,8 @@ fn d_rewritten_makes_the_same_steps() {
     }
 }
 
-/// The answer of the rewritten D: its chart 1 takes the idle transition of its state, which stands
-/// behind its two own ones, where the old one took none.
+/// The answer of the rewritten D: where the old chart 1 took none, the new one takes the idle
+/// transition of its state, whose place is after those of its two own transitions.
 fn with_idle(step: Step, state: u8) -> Step {
     let mut places = step.places;
     if places[1] == Place::None {

@@ -1,4 +1,4 @@
-//! Chart files for the tests, laid down byte by byte as document 01's layout says.
+//! Chart files for the tests, byte by byte in the layout of RULES 2.
 #![allow(dead_code)] // each test file uses a part
 
 /// A set by its signals.
@@ -66,7 +66,7 @@ pub fn alone(only: Chart) -> Vec<u8> {
     file(&[only], &[], &[node(0, 0, 0, &[], &[])])
 }
 
-/// Two charts composed, with feedback between.
+/// Two charts composed, with feedback.
 pub fn beside(first: Chart, second: Chart, feedback: &[u8]) -> Vec<u8> {
     file(&[first, second], &[], &pair(feedback))
 }
@@ -80,14 +80,14 @@ pub fn pair(feedback: &[u8]) -> Vec<Vec<u8>> {
     ]
 }
 
-/// Document 01's whole case, without the inputs in front.
+/// The whole file of docs/FORMAT.md, without its front.
 pub fn whole_case() -> Vec<u8> {
     let there = go(0, 1, &[0], &[], &[1]);
     let back = go(1, 0, &[1], &[], &[]);
     alone(chart(&[], vec![there, back]))
 }
 
-/// Document 01's D: a master and a slave of its state 1.
+/// D of docs/EXAMPLES.md: a master, and a slave of its state 1.
 pub fn d() -> Vec<u8> {
     let master = chart(
         &[1],
