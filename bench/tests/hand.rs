@@ -7,7 +7,7 @@ use reference::command::{Command, Numbers, Op, FILL};
 use reference::draw::Draw;
 use reference::Set;
 
-/// What a call tells: refusal, numbers, and the lent buffer.
+/// What a call tells: refusal, numbers, and the buffer.
 type Told = (u8, Numbers, Vec<u8>);
 
 /// The call in the reference.

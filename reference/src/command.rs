@@ -1,19 +1,19 @@
 //! One call as recorded bytes, and its answer as a line of text.
 //!
 //! A command is a header of 24 bytes, numbers little-endian: op (1 byte), length of the name (1),
-//! of the configuration (2), of the file (4), room, which is the length of the lent buffer (4),
-//! number of inputs (2), two zero bytes, what is carried into a run (8). Then the name, the file, the
-//! configuration, the inputs (8 bytes each). Before the call each byte of the lent buffer is [`FILL`].
+//! of the configuration (2), of the file (4), room, which is the length of the buffer (4), number
+//! of inputs (2), two zero bytes, what is carried into a run (8). Then the name, the file, the
+//! configuration, the inputs (8 bytes each). Before the call each byte of the buffer is [`FILL`].
 
 use crate::set::Set;
 use crate::step::NO_PLACES;
 use crate::{check, first, interface, plain, rewrite, run, step, Places};
 
-/// The value of each lent byte before a call.
+/// The value of each byte of the buffer before a call.
 pub const FILL: u8 = 0xA5;
 /// The bytes of a command's header.
 pub const HEADER_BYTES: usize = 24;
-/// The longest file and the largest lent buffer of a command.
+/// The longest file and the largest buffer of a command.
 pub const MOST_BYTES: usize = 65_536;
 /// The most inputs of a command.
 pub const MOST_INPUTS: usize = 4_096;
@@ -41,7 +41,7 @@ pub const OPS: [Op; 7] = [
     Op::Plain,
 ];
 
-/// One call, with all that is lent to it.
+/// One call, with all that is passed to it.
 #[derive(Clone, PartialEq, Eq, Debug)]
 pub struct Command {
     pub op: Op,
@@ -54,8 +54,8 @@ pub struct Command {
     pub inputs: Vec<Set>,
 }
 
-/// What a call answers beside its refusal and its lent buffer: up to two numbers, 0 where it has
-/// none, and a step's places.
+/// What a call answers beside its refusal and its buffer: up to two numbers, 0 where it has none,
+/// and a step's places.
 #[derive(Clone, Copy, PartialEq, Eq, Debug)]
 pub struct Numbers {
     pub two: [u64; 2],
@@ -195,7 +195,7 @@ impl Command {
         bytes
     }
 
-    /// The answer of the call, made with a lent buffer of its own.
+    /// The answer of the call, made with a buffer of its own.
     pub fn answer(&self) -> Answer {
         let mut lent = vec![FILL; self.room];
         let (refusal, numbers) = self.call(&mut lent);
@@ -209,7 +209,7 @@ impl Command {
         Answer { refusal, line }
     }
 
-    /// The fields of a line behind the refusal: the call's numbers, and its lent buffer.
+    /// The fields of a line after the refusal: the call's numbers, and its buffer.
     fn fields(&self, numbers: Numbers, lent: &[u8]) -> Vec<String> {
         let [one, other] = numbers.two;
         let mark = if other == 1 { "y" } else { "n" };

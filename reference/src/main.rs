@@ -80,7 +80,7 @@ fn rewrite(file: &str, out: &str) -> Result<(), String> {
     chart("rewrite", file, &[])
 }
 
-/// Holds the proved engine against this one on so many random calls or files.
+/// Compares the proved engine with this one on so many random calls or files.
 #[cfg(feature = "engine")]
 fn hold_engine(command: &str, seed: &str, count: &str) -> Result<(), String> {
     let seed: u64 = seed.parse().map_err(|_| USE)?;

@@ -33,8 +33,8 @@ pub struct Ran {
     pub carried: Set,
 }
 
-/// The call `run`. It tests 1 to 11, 20, 21, 27 (RULES 3.6), and writes one row for each input to
-/// the front of the buffer. The bytes after the last row are unchanged.
+/// The call `run`, with the tests 1 to 11, 20, 21 and 27 (RULES 3.6). It writes one row for each
+/// input to the front of the buffer, and leaves the rest of it unchanged.
 pub fn run(
     file: &[u8],
     configuration: &[u8],

@@ -59,9 +59,9 @@ pub struct Verdict {
     pub mark: bool,
 }
 
-/// The call `step`. It tests 1 to 11, then 20 to 23 (RULES 3.6), and writes the next configuration
-/// to the front of the buffer. All other bytes, and all bytes of a refused step, are unchanged
-/// (RULES 1.4).
+/// The call `step`, with the tests 1 to 11 and 20 to 23 (RULES 3.6). It writes the next
+/// configuration to the front of the buffer. The other bytes are unchanged, and if it is refused
+/// all of them (RULES 1.4).
 pub fn step(file: &[u8], configuration: &[u8], input: Set, next: &mut [u8]) -> Stepped {
     match try_step(file, configuration, input, next.len()) {
         Ok(verdict) => {
@@ -193,8 +193,8 @@ impl<'a> Situation<'a> {
         }
     }
 
-    /// What a choice leads to, if it is permitted (RULES 5.7). The whole is active (RULES 5.3) and
-    /// is offered the input, cut to its input interface (RULES 5.5).
+    /// What a choice leads to, if it is permitted (RULES 5.7). The whole is active (RULES 5.3), and
+    /// is offered what its input interface has of the input (RULES 5.5).
     pub fn permitted(&self, choice: &[Place]) -> Option<Outcome> {
         let whole = self.model.whole();
         let outputs = self.outputs(choice);
@@ -355,8 +355,8 @@ impl<'a> Situation<'a> {
     }
 }
 
-/// Whether a transition that its chart takes has its guard met: on the offered set, joined with the
-/// part of its own action that the chart feeds back (RULES 5.6).
+/// Whether the guard of a transition is met when its chart takes it: what the chart is offered
+/// counts, and what it feeds back of this transition's action (RULES 5.6).
 fn guard_holds(chart: &Chart, transition: &Transition, offered: Set) -> bool {
     guard_met(
         transition,

@@ -37,8 +37,8 @@ pub fn every<T: Clone>(lists: Vec<Vec<T>>) -> Vec<Vec<T>> {
     lists.into_iter().fold(vec![vec![]], longer)
 }
 
-/// No signal, all of them, each of the interface alone, the calls that the rewriting would give, and
-/// three random inputs.
+/// No signal, all of them, each of the interface alone, the call signals that the rewriting would
+/// give, and three random inputs.
 pub fn inputs(random: &mut Random, shape: &Shape, model: &Model) -> Vec<Set> {
     let interface = node_input(model, model.whole() as u8);
     let calls = calls(model).unwrap_or_default();

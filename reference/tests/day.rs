@@ -44,7 +44,7 @@ fn the_whole_case_written_byte_by_byte() {
     // chart: states, initial, transitions, five zero bytes, feedback, extra
     input.extend([2, 0, 2, 0, 0, 0, 0, 0]);
     input.extend([0; 16]);
-    // 0 to 1 needs {0}, puts out {1}
+    // 0 to 1 needs {0}, action {1}
     input.extend([0, 1, 0, 0]);
     input.extend([1, 0, 0, 0, 0, 0, 0, 0]);
     input.extend([0; 8]);

@@ -235,8 +235,8 @@ fn step_here(file: &[u8], from: &[u8], input: u64) -> (Answer, Vec<u8>) {
 fn step_there(file: &[u8], from: &[u8], input: u64) -> (Answer, Vec<u8>) {
     let mut next = vec![FILL; from.len() + 1];
     let (mut output, mut mark, mut places) = (0, 0, [0; 8]);
-    // SAFETY: each pointer is that of a slice with the length beside it, or of numbers of our own; what
-    // is written is lent alone.
+    // SAFETY: each pointer is that of a slice with the length beside it, or of numbers of our own;
+    // what is written overlaps nothing else.
     let refusal = unsafe {
         mestecur::raw::mestecur_step(
             file.as_ptr(),

@@ -148,8 +148,8 @@ fn other_files_step_with_mark_no_too() {
     assert!(doubtful > 1_000 && files > 40, "{doubtful} {files}");
 }
 
-/// D is plain. Rewritten it is not: an idle transition is told apart from an own one by the call
-/// alone, and the call is fed back. Its marks stay yes all the same.
+/// D is plain. Rewritten it is not: only the call signal tells an idle transition apart from an own
+/// one, and the call signal is fed back. Its marks are still yes.
 #[test]
 fn the_rewriting_of_a_plain_file_need_not_be_plain() {
     let mut out = vec![0; 1_000];

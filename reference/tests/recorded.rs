@@ -110,8 +110,8 @@ fn recordings_are_of_moderate_size() {
     }
 }
 
-/// A refused call leaves the buffer unchanged and returns nothing else: empty sets, mark no, length
-/// 0, places of 255 (RULES 1.4).
+/// A refused call leaves the buffer unchanged, and its other results are those of RULES 1.4: sets
+/// are empty, the mark is no, the length is 0 and places are 255.
 #[test]
 fn a_refusal_leaves_all_lent_bytes_and_gives_empty_answers() {
     for kind in KINDS {

@@ -274,7 +274,7 @@ fn the_nodes_of_two_masters_by_hand() {
         nodes: vec![leaf(3), leaf(2), leaf(1), leaf(0), hidden(3, &[9], &[])],
     };
     assert_eq!(check(&model.file()), refusal::SUCCESS);
-    // free are 2, 3, 4: the call of chart 0's slave is 2, of chart 1's slaves 3 and 4
+    // free are 2, 3, 4: the call signal of chart 0's slave is 2, of chart 1's slaves 3 and 4
     let new = accept(&rewritten(&model.file()).unwrap()).unwrap();
     let expected: Vec<Node> = vec![
         leaf(3),

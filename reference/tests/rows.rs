@@ -7,7 +7,7 @@ use reference::limits::{refusal, CHARTS, NO_PLACE};
 use reference::step::NO_PLACES;
 use reference::{step, Set};
 
-/// A lent byte that no state is.
+/// A byte of the buffer that is no state.
 const FILL: u8 = 0xA5;
 
 /// Compares a step with what was written by hand, with one byte to spare.

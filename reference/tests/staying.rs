@@ -14,7 +14,7 @@ use reference::walk::{every, hides_inside, is_nested};
 use reference::{check, first, interface, plain, rewrite, step, Set};
 use std::collections::HashSet;
 
-/// A lent byte that no state is.
+/// A byte of the buffer that is no state.
 const FILL: u8 = 0xA5;
 
 /// Compares a step with what was written by hand, with one byte to spare.
@@ -180,9 +180,9 @@ fn reasons(transition: &Transition) -> Vec<Reason> {
         .collect()
 }
 
-/// Transitions of edition 1 by which a chart keeps a state and puts out nothing, each where all
+/// Transitions of edition 1 by which a chart keeps a state and outputs nothing, each where all
 /// transitions from the state have their guards not met, each for one reason; one for every way to
-/// give each its reason. As its action is empty, its guard is asked about the offered set itself.
+/// give each its reason. As its action is empty, its guard is tested on the offered set itself.
 fn spelled_out(chart: &Chart, state: u8) -> Vec<Transition> {
     let from = chart.transitions.iter().filter(|t| t.from == state);
     let keeping = |reasons: Vec<Reason>| {

@@ -58,7 +58,8 @@ pub fn check(file: &[u8]) -> Result<(), Refusal> {
 /// Writes the first configuration, the initial state of every chart, to the front of the buffer
 /// (RULES 6.1). Refusals 1 to 11, 22.
 pub fn first(file: &[u8], config: &mut [u8]) -> Result<(), Refusal> {
-    // SAFETY: the pointers are those of slices with these lengths; the one written is lent alone.
+    // SAFETY: the pointers are those of slices with these lengths; the one written overlaps nothing
+    // else.
     Refusal::unless_zero(unsafe {
         raw::mestecur_first(file.as_ptr(), file.len(), config.as_mut_ptr(), config.len())
     })
@@ -82,7 +83,7 @@ pub fn interface(file: &[u8]) -> Result<Interface, Refusal> {
 pub fn step(file: &[u8], config: &[u8], input: Set, next: &mut [u8]) -> Result<Step, Refusal> {
     let (mut output, mut mark, mut places) = (0, 0, [Place::NO_PLACE; 8]);
     // SAFETY: the pointers are those of slices with these lengths, of two numbers and of eight bytes of
-    // our own; the slice written is lent alone.
+    // our own; the slice written overlaps nothing else.
     Refusal::unless_zero(unsafe {
         raw::mestecur_step(
             file.as_ptr(),
@@ -118,7 +119,7 @@ pub fn run(
 ) -> Result<Set, Refusal> {
     let mut carried_on = 0;
     // SAFETY: the pointers are those of slices with these lengths and of a number of our own, and a set
-    // is laid out as its number; the slice written is lent alone.
+    // is laid out as its number; the slice written overlaps nothing else.
     Refusal::unless_zero(unsafe {
         raw::mestecur_run(
             file.as_ptr(),
@@ -142,7 +143,7 @@ pub fn run(
 pub fn rewrite(file: &[u8], buffer: &mut [u8]) -> Result<usize, Refusal> {
     let mut length = 0;
     // SAFETY: the pointers are those of slices with these lengths and of a number of our own; the slice
-    // written is lent alone.
+    // written overlaps nothing else.
     Refusal::unless_zero(unsafe {
         raw::mestecur_rewrite(
             file.as_ptr(),

@@ -53,7 +53,7 @@ fn refused(name: &str, model: &Model, number: u8) -> Case {
     Case::new(Command::rewrite(name, model.file(), 6), number)
 }
 
-/// A chart that is both slave and master, with self transitions in its slave's state.
+/// A chart that is inside a slave and is a master too, with self transitions in its slave's state.
 fn both() -> Model {
     let mut model = nested();
     model.charts[1].feedback = Set::of(&[10]);

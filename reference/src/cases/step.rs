@@ -242,7 +242,7 @@ fn guards() -> Vec<RowAnswer> {
     ]
 }
 
-/// Three charts: the first puts out 1, the second needs 1 and puts out 2, the third needs 2.
+/// Three charts: the first outputs 1, the second needs 1 and outputs 2, the third needs 2.
 fn three() -> Vec<Chart> {
     vec![
         chart(2, &[], vec![go(0, 1, &[], &[], &[1])]),
@@ -441,8 +441,8 @@ fn hiding() -> Vec<RowAnswer> {
     ]
 }
 
-/// A master that goes 0, 1, 2 whatever is offered, with slaves in states 0 and 1: chart 1 puts out
-/// 7, chart 2 needs 7 and puts out 8.
+/// A master that goes 0, 1, 2 whatever is offered, with slaves in states 0 and 1: chart 1 outputs
+/// 7, chart 2 needs 7 and outputs 8.
 pub(super) fn two_slaves(feedback: &[u32]) -> Model {
     let moves = vec![
         go(0, 1, &[], &[], &[]),
@@ -465,7 +465,7 @@ pub(super) fn two_slaves(feedback: &[u32]) -> Model {
     }
 }
 
-/// A master that enters its state 1 on 7, which only the slave there puts out, with these signals
+/// A master that enters its state 1 on 7, which only the slave there outputs, with these signals
 /// hidden.
 pub(super) fn hears(y: &[u32]) -> Model {
     Model {
@@ -622,7 +622,7 @@ fn inner_slaves() -> Vec<RowAnswer> {
     ]
 }
 
-/// Eight charts where each needs what the one `step` further puts out, all fed back.
+/// Eight charts where each needs what the one `step` further outputs, all fed back.
 pub(super) fn ring(step: u32) -> Model {
     let count = CHARTS as u32;
     let all: Vec<u32> = (0..count).collect();

@@ -18,8 +18,8 @@ pub fn raw(command: &Command, lent: &mut [u8]) -> (u8, Numbers) {
     let (mut one, mut other, mut mark, mut length) =
         (BEFORE, BEFORE, BEFORE as u8, BEFORE as usize);
     let mut places = [BEFORE as u8; CHARTS];
-    // SAFETY: each pointer is that of a slice with the length beside it, or of a number of our own; what
-    // is written is lent alone.
+    // SAFETY: each pointer is that of a slice with the length beside it, or of a number of our own;
+    // what is written overlaps nothing else.
     unsafe {
         match command.op {
             Op::Check => (mestecur_check(file, long), Numbers::NONE),

@@ -11,11 +11,11 @@ use crate::draw::Draw;
 use crate::generate::Random;
 use crate::Set;
 
-/// The bytes of a lent buffer's surroundings, in front and behind; the engine may not touch them.
+/// The bytes around a buffer, before it and after it; the engine may not touch them.
 const MARGIN: usize = 21;
 
-/// What a call tells: its refusal, the numbers that it answers, and all bytes of the lent
-/// buffer and around it.
+/// What a call tells: its refusal, the numbers that it answers, and all bytes of the buffer and
+/// around it.
 #[derive(Clone, PartialEq, Eq, Debug)]
 pub struct Told {
     pub refusal: u8,
@@ -61,7 +61,7 @@ fn compare(command: &Command) -> Result<(), String> {
     Ok(())
 }
 
-/// How a call is made: with a lent buffer, giving the refusal and the numbers.
+/// How a call is made: with a buffer, giving the refusal and the numbers.
 type Call = fn(&Command, &mut [u8]) -> (u8, Numbers);
 
 /// Makes a call with a buffer that has a pattern in it and around it.

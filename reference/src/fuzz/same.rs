@@ -177,7 +177,7 @@ fn rewritten(old: &[u8], room: usize) -> Result<Option<Vec<u8>>, String> {
     }
 }
 
-/// A lent buffer after a call; shown in hex.
+/// A buffer after a call; shown in hex.
 #[derive(PartialEq)]
 struct Lent(Vec<u8>);
 
@@ -195,7 +195,7 @@ struct Pair<'a> {
     agreement: Agreement<'a>,
 }
 
-/// A step's answer, and its lent buffer.
+/// A step's answer, and its buffer.
 type Stepped = (Result<Step, Refusal>, Lent);
 
 /// What a step told, but for its places.
@@ -248,15 +248,15 @@ impl Pair<'_> {
         Ok(())
     }
 
-    /// A step of one of the files: its answer, and its lent buffer.
+    /// A step of one of the files: its answer, and its buffer.
     fn step(&self, file: &[u8], at: &[u8], input: Set) -> Stepped {
         let mut next = vec![FILL; self.charts + 1];
         let answer = mestecur::step(file, at, mestecur::Set(input.0), &mut next);
         (answer, Lent(next))
     }
 
-    /// A step's refusal, output and mark, and all of its lent buffer, are those of the old file, and
-    /// the places agree.
+    /// A step's refusal, output and mark, and all of its buffer, are those of the old file, and the
+    /// places agree.
     fn hold_step(&self, at: &[u8], input: Set) -> Result<Result<Step, Refusal>, String> {
         let what = format_args!("step from {at:?} under {input:x?}");
         let old = self.step(self.old, at, input);

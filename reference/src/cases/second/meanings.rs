@@ -106,7 +106,7 @@ fn single(transitions: Vec<Transition>) -> Model {
     alone(chart(2, &[], transitions))
 }
 
-/// One that goes from 0 to 1 with this guard and puts out 9.
+/// One that goes from 0 to 1 with this guard and outputs 9.
 fn guarded(needed: &[u32], barred: &[u32]) -> Model {
     single(vec![go(0, 1, needed, barred, &[9])])
 }
@@ -241,8 +241,8 @@ fn guards() -> Vec<StayAnswer> {
     ]
 }
 
-/// A transition that bars what it puts out itself: where it is triggered it hinders itself, and its
-/// chart can't stay.
+/// A transition that bars its own output: where it is triggered it prevents itself, and its chart
+/// can't stay.
 fn hindered() -> Vec<StayAnswer> {
     let itself = || go(0, 1, &[], &[1], &[1]);
     let and = |other: Transition| alone(chart(2, &[1], vec![itself(), other]));
@@ -297,14 +297,14 @@ fn hindered() -> Vec<StayAnswer> {
     ]
 }
 
-/// A first chart that puts out 1 where 0 is offered.
+/// A first chart that outputs 1 where 0 is offered.
 fn sender() -> Chart {
     chart(2, &[], vec![go(0, 1, &[0], &[], &[1])])
 }
 
-/// What other charts put out counts in what a chart is offered, if it is fed back to it.
+/// The output of other charts counts in what a chart is offered, if it is fed back.
 fn feedback() -> Vec<StayAnswer> {
-    // triggered by 1, and hindered by its own 2
+    // triggered by 1, and prevented by its own 2
     let blocked = || chart(2, &[2], vec![go(0, 1, &[1], &[2], &[2])]);
     let barring = || chart(2, &[], vec![go(0, 1, &[], &[1], &[2])]);
     let either = || {
@@ -401,9 +401,9 @@ fn feedback() -> Vec<StayAnswer> {
     ]
 }
 
-/// Staying comes behind the transitions, and chart 0's place counts first.
+/// Staying comes after the transitions, and chart 0's move counts first (RULES 5.8).
 fn order() -> Vec<StayAnswer> {
-    // each may move by what it puts out itself, unless the other does; or both wait
+    // each may move by its own output, unless the other does; or both stay
     let one = |own: u32, other: u32| chart(2, &[own], vec![go(0, 1, &[own], &[other], &[own])]);
     let apart = |feedback: &[u32]| beside(one(0, 1), one(1, 0), feedback);
     let swapped = Model {
@@ -541,7 +541,7 @@ fn hiding() -> Vec<StayAnswer> {
     ]
 }
 
-/// A master that leaves its state 1 on 3, with a slave there that moves on 5 and puts out 6.
+/// A master that leaves its state 1 on 3, with a slave there that moves on 5 and outputs 6.
 fn kept(feedback: &[u32], leaving: Transition) -> Model {
     decomposed(
         chart(2, feedback, vec![leaving]),
@@ -716,7 +716,7 @@ fn triggered_masters() -> Vec<StayAnswer> {
             gives(&[1, 1], &[], true),
             &[STAYED, 0],
         ),
-        // the slave's 6 triggers the master, whose own 7 hinders it
+        // the slave's 6 triggers the master, whose own 7 prevents it
         refused(
             "stay-forbidden-by-the-slave-master-hindered",
             kept(&[6, 7], blocked()),
@@ -739,8 +739,8 @@ fn triggered_masters() -> Vec<StayAnswer> {
             gives(&[0, 0], &[8], true),
             &[0, STAYED],
         ),
-        // entering the slave's state makes the slave put out what the master needs to enter it; where
-        // the master stays the slave is inactive, and nothing triggers the master
+        // when the slave's state is entered, the slave outputs what the master needs to enter it;
+        // where the master stays the slave is inactive, and nothing triggers the master
         given(
             "stay-or-enter-by-the-slaves-output",
             hears(&[]),

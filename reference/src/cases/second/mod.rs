@@ -220,7 +220,7 @@ fn wide() -> Vec<Case> {
     let most = STATE_TRANSITIONS as u32;
     let waiting = |count: u32| chart(1, &[], alike(count, &[60], &[]));
     let ready = |count: u32| chart(1, &[], alike(count, &[], &[]));
-    // each bars what it puts out itself: never met, and yet triggered where nothing is offered
+    // each bars its own output: never met, and yet triggered where nothing is offered
     let hindered = {
         let transitions = (0..most).map(|signal| go(0, 0, &[], &[signal], &[signal]));
         let all: Vec<u32> = (0..most).collect();
@@ -243,7 +243,7 @@ fn wide() -> Vec<Case> {
             vec![ready(2); CHARTS],
             refusal::SUCCESS,
         ),
-        // of 9 to the power 8 choices the last one alone is permitted
+        // of 9^8 choices only the last one is permitted
         step(
             "edition-2-wide-last-choice-alone",
             vec![waiting(most); CHARTS],
@@ -321,7 +321,7 @@ pub fn run_cases() -> Vec<Case> {
     ]
 }
 
-/// The rewriting refuses edition 2 with 46: behind 1 to 11, before 40 to 45, also where there is
+/// The rewriting refuses edition 2 with 46: after 1 to 11, before 40 to 45, also where there is
 /// nothing to be rewritten.
 pub fn rewrite_cases() -> Vec<Case> {
     let case = |name: &str, file: Vec<u8>, room: usize, number: u8| {
