@@ -1,4 +1,4 @@
--- The body of a chart file (document 01, "The file"): charts, transitions, slaves and nodes, in this order, each by its number.
+-- The body of a chart file (RULES 2.1): charts, transitions, slaves and nodes, in this order, each by its number.
 use mathlib.Core.Path.{_≡_}
 use mathlib.Core.List.{List, [], _∷_}
 use Prim.Native.Nat.{ℕ, zero, suc, _+_, _*_}
@@ -11,7 +11,7 @@ use Rattle.layout.specs.declared.record.Slave.{Slave}
 use Rattle.layout.specs.declared.record.Node.{Node}
 pub mod Laws
 
--- where the transitions, the slaves and the nodes begin, and the body's end
+-- where the transitions, the slaves and the nodes begin, and the body's size (RULES 2.1)
 abbrev pub transitionsFrom : Shape → ℕ
 transitionsFrom n = 24 * n .charts
 
@@ -28,7 +28,7 @@ sizeOf n = nodesFrom n + 20 * n .nodes
 abbrev pub Holds : Shape → List ℕ → Type 0
 Holds n b = length b ≡ sizeOf n
 
--- chart c; transition t, counted through all charts; slave i; node j
+-- chart c; transition t, counted through all charts; slave i; node j (RULES 2.3 to 2.6)
 unfoldable pub headAt : Shape → List ℕ → ℕ → Head
 headAt n b c = headOf (drop (24 * c) b)
 
@@ -41,7 +41,7 @@ slaveAt n b i = slaveOf (drop (slavesFrom n + 4 * i) b)
 unfoldable pub nodeAt : Shape → List ℕ → ℕ → Node
 nodeAt n b j = nodeOf (drop (nodesFrom n + 20 * j) b)
 
--- Transitions, those of chart 0 first: how many the charts below c have
+-- where the transitions of chart c begin: how many the lower charts have (RULES 2.4)
 unfoldable pub startOf : Shape → List ℕ → ℕ → ℕ
 startOf n b zero = 0
 startOf n b (suc c) = startOf n b c + headAt n b c .transitions
@@ -51,6 +51,6 @@ unfoldable pub from : {A : Type 0} → (ℕ → A) → ℕ → ℕ → List A
 from f k zero = []
 from f k (suc n) = f k ∷ from f (suc k) n
 
--- the transitions of chart c
+-- the transitions of chart c (RULES 2.4)
 unfoldable pub transitionsOf : Shape → List ℕ → ℕ → List Transition
 transitionsOf n b c = from (transitionAt n b) (startOf n b c) (headAt n b c .transitions)

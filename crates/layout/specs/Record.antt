@@ -1,5 +1,5 @@
--- The records of a chart file in bytes (document 01, "The file"): of each, the record that bytes begin with, and the bytes of a record. All
--- numbers little-endian; a byte laid down as zero byte is no part of a record. That what is written reads back is in Record/Laws.antt.
+-- The records of a chart file in bytes (RULES 2.2 to 2.6): of each, the record that bytes begin with, and the bytes of a record. Zero bytes are not a
+-- part of it: they are not read here, and written as 0. That what is written reads back is in Record/Laws.antt.
 use mathlib.Core.List.{List, [], _∷_, _++_}
 use Prim.Native.Nat.{ℕ}
 use lib.ListN.{getD, drop}
@@ -11,7 +11,7 @@ use Rattle.layout.specs.declared.record.Slave.{Slave}
 use Rattle.layout.specs.declared.record.Node.{Node}
 pub mod Laws
 
--- The last 12 bytes: distance (4 bytes); charts, slaves, nodes, edition (1 byte each); transitions (2 bytes); two zero bytes.
+-- the trailer: 12 bytes, of which the last two are zero bytes (RULES 2.2)
 unfoldable pub trailerOf : List ℕ → Trailer
 trailerOf s =
     record {
@@ -27,7 +27,7 @@ unfoldable pub trailerBytes : Trailer → List ℕ
 trailerBytes r =
     bytes 4 (r .distance) ++ (r .charts ∷ r .slaves ∷ r .nodes ∷ r .edition ∷ bytes 2 (r .transitions)) ++ (0 ∷ 0 ∷ [])
 
--- Chart, 24 bytes: states, initial state, number of transitions, five zero bytes, feedback set, extra interface set.
+-- a chart: 24 bytes, of which 3 to 7 are zero bytes (RULES 2.3)
 unfoldable pub headOf : List ℕ → Head
 headOf s =
     record {
@@ -42,7 +42,7 @@ unfoldable pub headBytes : Head → List ℕ
 headBytes r =
     (r .states ∷ r .initial ∷ r .transitions ∷ 0 ∷ 0 ∷ 0 ∷ 0 ∷ 0 ∷ []) ++ bytes 8 (r .feedback) ++ bytes 8 (r .extra)
 
--- Transition, 28 bytes: from, to, two zero bytes, needed set, barred set, action set.
+-- a transition: 28 bytes, of which 2 and 3 are zero bytes (RULES 2.4)
 unfoldable pub transitionOf : List ℕ → Transition
 transitionOf s =
     record {
@@ -57,14 +57,14 @@ unfoldable pub transitionBytes : Transition → List ℕ
 transitionBytes r =
     (r .from ∷ r .to ∷ 0 ∷ 0 ∷ []) ++ bytes 8 (r .needed) ++ bytes 8 (r .barred) ++ bytes 8 (r .action)
 
--- Slave, 4 bytes: chart, state, node, zero byte.
+-- a slave: 4 bytes, of which the last is a zero byte (RULES 2.5)
 unfoldable pub slaveOf : List ℕ → Slave
 slaveOf s = record { chart = getD s 0 0; state = getD s 1 0; node = getD s 2 0 }
 
 unfoldable pub slaveBytes : Slave → List ℕ
 slaveBytes r = r .chart ∷ r .state ∷ r .node ∷ 0 ∷ []
 
--- Node, 20 bytes: kind, a, b, zero byte, set x, set y.
+-- a node: 20 bytes, of which 3 is a zero byte (RULES 2.6)
 unfoldable pub nodeOf : List ℕ → Node
 nodeOf s =
     record { kind = getD s 0 0; a = getD s 1 0; b = getD s 2 0; x = le 8 (drop 4 s); y = le 8 (drop 12 s) }

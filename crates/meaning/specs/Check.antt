@@ -1,4 +1,4 @@
--- The file check: refusals 1 to 11 of document 01, each beside its sentence, in the table's order. A test is true where its refusal applies.
+-- The file check: refusals 1 to 11 (RULES 3.2), in this order. A test is true where its refusal applies.
 use mathlib.Core.Bool.{Bool, true, _&&_, _||_, not, cond}
 use mathlib.Core.List.{List, [], _∷_}
 use Prim.Native.Nat.{ℕ, zero, suc, _+_, _*_}
@@ -17,11 +17,12 @@ pub mod Nodes
 
 -- ── the first refusal that applies ──
 
+-- the number of a refusal, and whether it applies
 pub record Test : Type 0 where
   pub number : ℕ
   pub applies : Bool
 
--- "Given exactly if no lower number that the call tests applies"; "Success is 0"
+-- the number of the first test that applies; if none does, 0 for success (RULES 3.1)
 unfoldable pub firstOf : List Test → ℕ
 firstOf [] = 0
 firstOf (t ∷ ts) = cond (t .applies) (t .number) (firstOf ts)
@@ -30,6 +31,7 @@ firstOf (t ∷ ts) = cond (t .applies) (t .number) (firstOf ts)
 abbrev pub notBelow : ℕ → ℕ → Bool
 notBelow m n = not (ltb m n)
 
+-- two numbers differ
 abbrev pub differ : ℕ → ℕ → Bool
 differ m n = not (same m n)
 
@@ -39,7 +41,7 @@ differ m n = not (same m n)
 unfoldable pub edition? : Trailer → Bool
 edition? t = differ (t .edition) firstEdition && differ (t .edition) stayEdition
 
--- 3: "charts not 1 to 8, slaves over 7, nodes not 1 to 64, transitions over 512"
+-- 3: the number of charts, slaves, nodes or transitions is outside its limits (RULES 2.8, 3.2)
 unfoldable pub counts? : Trailer → Bool
 counts? t =
     (same (t .charts) 0 || ltb mostCharts (t .charts))
@@ -47,17 +49,18 @@ counts? t =
     || (same (t .nodes) 0 || ltb mostNodes (t .nodes))
     || ltb mostTransitions (t .transitions)
 
--- 4: "distance is not the body size made by the counts, or exceeds length less 12"
+-- 4: the distance differs from the body size, or the file has fewer bytes before its trailer (RULES 2.1, 3.2)
 unfoldable pub distance? : List ℕ → Bool
 distance? f = differ (trailer f .distance) (sizeOf (shapeOf (trailer f))) || ltb (endOf f) (trailer f .distance)
 
--- ── 5: "a byte laid down as zero byte isn't zero" ──
+-- ── 5: zero bytes (RULES 3.2) ──
 
 -- one of the k bytes from `at` on is not zero
 unfoldable pub nonzero : List ℕ → ℕ → ℕ → Bool
 nonzero b at k = anyUpTo k (λ i. differ (getD b (at + i) 0) 0)
 
 module _ (n : Shape) (b : List ℕ) where
+  -- a zero byte of a record is not 0 (RULES 2.3 to 2.6); the trailer's are tested in `fileTests`
   unfoldable pub zeros? : Bool
   zeros? =
       anyUpTo (n .charts) (λ c. nonzero b (24 * c + 3) 5)
@@ -67,14 +70,14 @@ module _ (n : Shape) (b : List ℕ) where
 
   -- ── 6 and 7: charts and their transitions ──
 
-  -- 6: "states not 1 to 16, initial not below states, over 64 transitions in a chart"
+  -- 6: a chart has no state or more than 16, its initial state is not one of its states, or it has more than 64 transitions (RULES 3.2)
   unfoldable pub chart? : ℕ → Bool
   chart? c =
       (same (headAt n b c .states) 0 || ltb mostStates (headAt n b c .states))
       || notBelow (headAt n b c .initial) (headAt n b c .states)
       || ltb mostInChart (headAt n b c .transitions)
 
-  -- "or the charts' numbers don't sum to the trailer's"
+  -- 6 of all charts; or their transitions do not add up to the trailer's number (RULES 3.2)
   unfoldable pub charts? : Bool
   charts? = anyUpTo (n .charts) chart? || differ (startOf n b (n .charts)) (n .transitions)
 
@@ -82,15 +85,15 @@ module _ (n : Shape) (b : List ℕ) where
   abbrev pub inChart : ℕ → ℕ → Transition
   inChart c k = transitionAt n b (startOf n b c + k)
 
-  -- 7: "from or to not below the chart's states"
+  -- 7: a transition leaves or enters a state that its chart does not have (RULES 3.2)
   unfoldable pub ends? : ℕ → ℕ → Bool
   ends? c k = notBelow (inChart c k .from) (headAt n b c .states) || notBelow (inChart c k .to) (headAt n b c .states)
 
-  -- how many of the first k transitions of chart c are from the state s
+  -- how many of the first k transitions of chart c leave the state s
   unfoldable pub leaving : ℕ → ℕ → ℕ → ℕ
   leaving c s k = tally k (λ u. one (same (inChart c u .from) s))
 
-  -- "or over 8 transitions from one state"
+  -- 7 of all charts; or more than 8 transitions leave one state (RULES 3.2)
   unfoldable pub transitions? : Bool
   transitions? =
       anyUpTo (n .charts)
@@ -101,7 +104,7 @@ module _ (n : Shape) (b : List ℕ) where
 -- ── 8 to 11: slaves and nodes ──
 
 module _ (F : File) where
-  -- "strictly rising by chart, then state"
+  -- slave i has a higher chart than slave h, or the same chart and a higher state (RULES 3.2)
   unfoldable pub rising : ℕ → ℕ → Bool
   rising h i = ltb (F .master h) (F .master i) || (same (F .master h) (F .master i) && ltb (F .state h) (F .state i))
 
@@ -110,7 +113,7 @@ module _ (F : File) where
   inOrder zero = true
   inOrder (suc h) = rising h (suc h)
 
-  -- 8: "slave's chart, state or node out of range, or slaves not strictly rising by chart, then state"
+  -- 8: a slave names a chart, a state or a node that does not exist, or is not in order (RULES 3.2)
   unfoldable pub slave? : ℕ → Bool
   slave? i =
       notBelow (F .master i) (F .charts)
@@ -118,32 +121,34 @@ module _ (F : File) where
       || notBelow (F .node i) (F .nodes)
       || not (inOrder i)
 
+  -- 8 of all slaves
   unfoldable pub slaves? : Bool
   slaves? = anyUpTo (F .slaves) slave?
 
-  -- 9: "kind over 2, kind 0 with a no chart, kinds 1 and 2 naming a node that isn't lower than their own, or an unused field of a node not
-  -- zero". "Kind 0: chart a; b, x, y zero. Kind 1: [..] y zero. Kind 2: [..] b zero."
+  -- 9: the kind is above 2, the node holds a chart that does not exist, it names a node that is not lower than itself, or a field that its kind does
+  -- not use is not 0 (RULES 2.6, 3.2)
   unfoldable pub nodeOfKind? : ℕ → ℕ → Bool
   nodeOfKind? zero j = notBelow (F .a j) (F .charts) || differ (F .b j) 0 || differ (F .x j) 0 || differ (F .y j) 0
   nodeOfKind? (suc zero) j = notBelow (F .a j) j || notBelow (F .b j) j || differ (F .y j) 0
   nodeOfKind? (suc (suc zero)) j = notBelow (F .a j) j || differ (F .b j) 0
   nodeOfKind? (suc (suc (suc k))) j = true
 
+  -- 9 of all nodes
   unfoldable pub nodes? : Bool
   nodes? = anyUpTo (F .nodes) (λ j. nodeOfKind? (F .kind j) j)
 
-  -- how often node k names node j; kind 0's a names a chart
+  -- how often node k names node j (RULES 3.2); the a of kind 0 is a chart
   unfoldable pub names : ℕ → ℕ → ℕ
   names k j =
       one (same (F .kind k) 1 && same (F .a k) j)
       + one (same (F .kind k) 1 && same (F .b k) j)
       + one (same (F .kind k) 2 && same (F .a k) j)
 
-  -- how often node j is named "by nodes and slaves together"
+  -- how often node j is named, by slaves and by nodes (RULES 3.2)
   unfoldable pub named : ℕ → ℕ
   named j = tally (F .slaves) (λ i. one (same (F .node i) j)) + tally (F .nodes) (λ k. names k j)
 
-  -- node j holds chart c
+  -- node j holds chart c (RULES 2.6)
   abbrev pub holds : ℕ → ℕ → Bool
   holds j c = same (F .kind j) 0 && same (F .a j) c
 
@@ -151,21 +156,21 @@ module _ (F : File) where
   unfoldable pub held : ℕ → ℕ
   held c = tally (F .nodes) (λ k. one (holds k c))
 
-  -- 10: "a chart not held by exactly one node; a node but the last not named exactly once by nodes and slaves together; the last named; a
-  -- slave's node not lower than the node holding its master"
+  -- 10: the nodes do not make one tree (RULES 3.2). For each chart one node has to hold it, and only one; each node has one name, but the last has
+  -- none; a slave's node is lower than its master's.
   unfoldable pub naming? : Bool
   naming? =
       anyUpTo (F .charts) (λ c. differ (held c) 1)
       || anyUpTo (F .nodes) (λ j. differ (named j) (cond (same (suc j) (F .nodes)) 0 1))
       || anyUpTo (F .slaves) (λ i. anyUpTo (F .nodes) (λ j. holds j (F .master i) && notBelow (F .node i) j))
 
-  -- 11: "a chart inside a slave not numbered above that slave's master"
+  -- 11: the number of a chart inside a slave is not above that of the master (RULES 2.7, 3.2)
   unfoldable pub inside? : Bool
   inside? = anyUpTo (F .slaves) (λ i. anyUpTo (F .charts) (λ c. Has (treeOf F (F .node i)) c && notBelow (F .master i) c))
 
 -- ── the table ──
 
--- 6 to 11
+-- 6 to 11, over a body of this shape
 abbrev pub bodyTests : Shape → List ℕ → List Test
 bodyTests n b =
     record { number = badChart; applies = charts? n b }
@@ -176,6 +181,7 @@ bodyTests n b =
     ∷ record { number = badInside; applies = inside? (fileAt n b) }
     ∷ []
 
+-- 1 to 11 (RULES 3.2); 1: the file is shorter than a trailer
 unfoldable pub fileTests : List ℕ → List Test
 fileTests f =
     record { number = tooShort; applies = ltb (length f) 12 }
@@ -185,6 +191,6 @@ fileTests f =
     ∷ record { number = notZero; applies = nonzero f (endOf f + 10) 2 || zeros? (shapeOf (trailer f)) (bodyOf f) }
     ∷ bodyTests (shapeOf (trailer f)) (bodyOf f)
 
--- what `check` answers
+-- what `check` answers (RULES 3.6)
 unfoldable pub refusalOf : List ℕ → ℕ
 refusalOf f = firstOf (fileTests f)

@@ -1,4 +1,4 @@
--- A chart file (document 01, "The file"): its records by number, the tree that its nodes make, and the file that bytes hold.
+-- A chart file (RULES 2): its records by number, the tree of its nodes, and the file that bytes hold.
 use mathlib.Core.Bool.{Bool, false, _||_, cond}
 use mathlib.Core.List.{List}
 use Prim.Native.Nat.{ℕ, zero, suc, _-_}
@@ -12,6 +12,7 @@ use Rattle.meaning.specs.Meaning.{Set, same, Chart, Tree, Slaves, leaf, 
 
 -- ── records by number ──
 
+-- the fields of charts, slaves and nodes, by the number of the record (RULES 2.3 to 2.6)
 pub record File : Type 0 where
   pub charts : ℕ
   pub chart : ℕ → Chart
@@ -28,36 +29,38 @@ pub record File : Type 0 where
 
 -- ── the tree ──
 
+-- one of three trees, by a node's kind (RULES 2.6)
 abbrev pub byKind : ℕ → Tree → Tree → Tree → Tree
 byKind zero p q r = p
 byKind (suc zero) p q r = q
 byKind (suc (suc k)) p q r = r
 
--- "A chart with slaves is a decomposed chart and its master."
+-- the tree of a node that holds chart c: decomposed if c is a master, a leaf if it has no slaves (RULES 2.7)
 abbrev pub whole : ℕ → Slaves → Tree
 whole c nil = leaf c
 whole c (snoc ss i t) = dec c (snoc ss i t)
 
--- the slaves of chart c among the first k records, with their trees
+-- the slaves of chart c among the first k records, with their trees (RULES 2.5)
 unfoldable pub gather : (ℕ → ℕ) → (ℕ → Tree) → ℕ → ℕ → Slaves
 gather master g c zero = nil
 gather master g c (suc i) = cond (same (master i) c) (snoc (gather master g c i) i (g i)) (gather master g c i)
 
 module _ (F : File) where
-  -- the tree of node j, down to a depth; each node names lower ones, so a depth of j + 1 is all of it
+  -- the tree of node j (RULES 2.7), down to a depth; each node names lower ones, so a depth of j + 1 is all of it
   unfoldable pub build : ℕ → ℕ → Tree
   build zero j = leaf zero
   build (suc f) j = byKind (F .kind j) (whole (F .a j) (gather (F .master) (λ i. build f (F .node i)) (F .a j) (F .slaves)))
       (comp (build f (F .a j)) (build f (F .b j)) (F .x j)) (hide (build f (F .a j)) (F .x j) (F .y j))
 
+  -- all of the tree of node j
   unfoldable pub treeOf : ℕ → Tree
   treeOf j = build (suc j) j
 
-  -- "The last node is the whole."
+  -- the whole: the tree of the node with the highest number (RULES 2.7)
   abbrev pub wholeOf : Tree
   wholeOf = treeOf (F .nodes - 1)
 
--- the chart c stands in the tree
+-- chart c is in the tree, at any depth, also inside slaves (RULES 2.7)
 unfoldable mutual
   pub Has : Tree → ℕ → Bool
   Has (leaf d) c = same c d
@@ -71,20 +74,23 @@ unfoldable mutual
 
 -- ── the file that bytes hold ──
 
--- "The last 12 bytes are the trailer"
+-- where the trailer begins, 12 bytes before the end (RULES 2.1)
 abbrev pub endOf : List ℕ → ℕ
 endOf f = length f - 12
 
+-- the trailer (RULES 2.2)
 unfoldable pub trailer : List ℕ → Trailer
 trailer f = trailerOf (drop (endOf f) f)
 
--- "distance back from the trailer's first byte to the body's first byte"
+-- the body: directly before the trailer, as long as the distance (RULES 2.1, 2.2)
 unfoldable pub bodyOf : List ℕ → List ℕ
 bodyOf f = take (trailer f .distance) (drop (endOf f - trailer f .distance) f)
 
+-- a body's counts and edition, from the trailer (RULES 2.2)
 unfoldable pub shapeOf : Trailer → Shape
 shapeOf t = record { charts = t .charts; transitions = t .transitions; slaves = t .slaves; nodes = t .nodes; edition = t .edition }
 
+-- chart c of a body: its record (RULES 2.3), its transitions (RULES 2.4), and whether its edition lets it stay (RULES 7.1)
 unfoldable pub chartOf : Shape → List ℕ → ℕ → Chart
 chartOf n b c =
     record {
@@ -96,6 +102,7 @@ chartOf n b c =
       stays = same (n .edition) stayEdition;
     }
 
+-- the file that a body holds (RULES 2.3 to 2.6)
 unfoldable pub fileAt : Shape → List ℕ → File
 fileAt n b =
     record {
@@ -113,5 +120,6 @@ fileAt n b =
       y = λ j. nodeAt n b j .y;
     }
 
+-- the file that bytes hold; the front is not read (RULES 2.1)
 unfoldable pub fileOf : List ℕ → File
 fileOf f = fileAt (shapeOf (trailer f)) (bodyOf f)

@@ -1,5 +1,5 @@
--- The meaning of a step (document 01, "The meaning of a step"; source document 003, sections 2.6 and 3), over a tree of parts.
--- Here: charts and the tree; interfaces; what a choice puts out; when a choice is permitted; all choices in order; the step's answer.
+-- Interfaces and steps (RULES 4 and 5; RULES 1.1 says where they come from), over a tree of parts. Here: charts and the tree; moves; the test of a
+-- guard; interfaces; what a part puts out; when a choice is permitted; all choices in order; the step's answer.
 -- Laws are elsewhere: that interfaces cut nothing off and how the tree folds into masks in the crate wiring, the rewriting in agreement.
 use mathlib.Core.Bool.{Bool, true, false, _&&_, _||_, not, cond}
 use mathlib.Core.List.{List, [], _∷_, _++_}
@@ -10,7 +10,7 @@ use Rattle.signals.specs.Mask.{_∪_, _∩_, _∖_, bit, within, apart}
 use Rattle.layout.specs.declared.record.Transition.{Transition}
 use Rattle.meaning.specs.Numbers.{mostSignals, noStep, noPlace, stayPlace}
 
--- a set of signals, as a mask; the empty set
+-- a signal set (RULES 1.2), as a mask; the empty set
 abbrev pub Set : Type 0
 Set = ℕ
 
@@ -23,16 +23,17 @@ same m n = eqb m n
 
 -- ── charts and the tree ──
 
+-- a chart with its transitions (RULES 2.3, 2.4)
 pub record Chart : Type 0 where
   pub states : ℕ
   pub initial : ℕ
   pub transitions : List Transition
   pub feedback : Set
   pub extra : Set
-  pub stays : Bool  -- may it stay? in an edition 2 file (document 02, No. 7)
+  pub stays : Bool  -- may it stay? in a file of edition 2 (RULES 7.1)
 
--- A part: a chart; two parts composed, with their feedback; a part hidden, x filtered from its input and y hidden from its output; a chart
--- decomposed by its slaves, of which each is named by its record's number. Charts are named by number too.
+-- A part (RULES 2.6, 2.7): a chart; two parts composed, with their feedback; a part hidden, without x in its input and y in its output; a master
+-- decomposed, with its slaves, each named by the number of its record. Charts are named by number too.
 mutual
   pub data Tree : Type 0 where
     leaf : ℕ → Tree
@@ -44,8 +45,9 @@ mutual
     nil : Slaves
     snoc : Slaves → ℕ → Tree → Slaves
 
--- ── moves (RULES 5.2): a choice gives each chart none, one of its transitions, or, in edition 2, staying ──
+-- ── moves ──
 
+-- what a choice has for each chart (RULES 5.2): none, a transition, or staying, in edition 2 only
 pub data Move : Type 0 where
   noMove : Move
   takes : Transition → Move
@@ -57,26 +59,26 @@ nth m [] k = m
 nth m (t ∷ ts) zero = takes t
 nth m (t ∷ ts) (suc k) = nth m ts k
 
--- what comes behind a chart's transitions: staying, if the chart may stay (RULES 5.8)
+-- what comes after a chart's transitions: staying, if the chart may stay (RULES 5.8)
 abbrev pub behind : Chart → Move
 behind C = cond (C .stays) stay noMove
 
--- the move at a place, "none comes before transition 0": 0 is none, suc k is transition k, and after the last transition comes staying
+-- the move at a place of a choice, in the order of RULES 5.8: 0 is none, suc k is transition k, and staying comes after the last transition
 unfoldable pub pick : Chart → ℕ → Move
 pick C zero = noMove
 pick C (suc k) = nth (behind C) (C .transitions) k
 
--- the last place that a choice may give the chart
+-- the last place that a choice may give the chart (RULES 5.8)
 unfoldable pub lastPlace : Chart → ℕ
 lastPlace C = cond (C .stays) (suc (length (C .transitions))) (length (C .transitions))
 
--- what a chart puts out: the action of the transition that it takes, else nothing (RULES 5.4)
+-- a chart's own output (RULES 5.2): the action of the transition that it takes, else nothing
 unfoldable pub actionOf : Move → Set
 actionOf noMove = ∅
 actionOf (takes t) = t .action
 actionOf stay = ∅
 
--- the state after the step; taking none it "keeps its state", and so it does staying
+-- its state after the step (RULES 5.2): the one that the transition enters; without a transition, the present one
 unfoldable pub after : ℕ → Move → ℕ
 after s noMove = s
 after s (takes t) = t .to
@@ -89,16 +91,18 @@ unfoldable pub lowestFrom : ℕ → ℕ → Set → ℕ
 lowestFrom zero n s = n
 lowestFrom (suc k) n s = cond (bit s n) n (lowestFrom k (suc n) s)
 
+-- the lowest signal of a set; of the empty set, 64
 abbrev pub lowest : Set → ℕ
 lowest s = lowestFrom mostSignals 0 s
 
--- a guard is met; or the lowest of its needed signals that are absent; or, where all are there, the lowest of its barred ones that are present
+-- what testing a guard shows (RULES 5.6): it is met; or one signal says why not, the lowest needed one that is missing, and if none is missing, the
+-- lowest barred one that is there
 pub data Tested : Type 0 where
   met : Tested
   absent : ℕ → Tested
   present : ℕ → Tested
 
--- needed signals are looked up in i and barred ones in j: one and the same set, but where a search knows only bounds on it
+-- needed signals are looked up in i and barred ones in j (RULES 5.6): the same set twice, except where a search has only bounds on it
 unfoldable pub guard : Set → Set → Set → Set → Tested
 guard needed barred i j = cond (within needed i) (cond (apart barred j) met (present (lowest (barred ∩ j)))) (absent (lowest (needed ∖ i)))
 
@@ -107,32 +111,33 @@ isMet met = true
 isMet (absent n) = false
 isMet (present n) = false
 
--- the guard of a transition is met
+-- the guard of a transition is met (RULES 5.6)
 unfoldable pub met? : Transition → Set → Set → Bool
 met? t i j = isMet (guard (t .needed) (t .barred) i j)
 
--- nothing triggers a chart at s: each transition from s has a guard that is not met
+-- nothing triggers a chart in state s (RULES 5.7): no transition that leaves s has a guard that is met
 unfoldable pub untriggered : List Transition → ℕ → Set → Set → Bool
 untriggered [] s i j = true
 untriggered (t ∷ ts) s i j = not (same (t .from) s && met? t i j) && untriggered ts s i j
 
 -- ── interfaces ──
 
--- "all signals in its guards"
+-- all signals that guards name, needed or barred (RULES 4.1)
 unfoldable pub guards : List Transition → Set
 guards [] = ∅
 guards (t ∷ ts) = (t .needed ∪ t .barred) ∪ guards ts
 
+-- all signals of actions, a chart's output interface (RULES 4.1)
 unfoldable pub actions : List Transition → Set
 actions [] = ∅
 actions (t ∷ ts) = t .action ∪ actions ts
 
--- "all signals in its guards plus the extra set"
+-- the input interface of a chart: what its guards name, and its extra set (RULES 4.1)
 unfoldable pub inFaceChart : Chart → Set
 inFaceChart C = guards (C .transitions) ∪ C .extra
 
 module _ (E : ℕ → Chart) where
-  -- the input interface: "composed or decomposed, the union over its parts; hidden, less x"
+  -- the input interface of a part (RULES 4.2): that of its chart; of several parts, theirs together; of a hidden part, its own without x
   unfoldable mutual
     pub inFace : Tree → Set
     inFace (leaf c) = inFaceChart (E c)
@@ -144,7 +149,7 @@ module _ (E : ℕ → Chart) where
     inFaces nil = ∅
     inFaces (snoc ss i t) = inFaces ss ∪ inFace t
 
-  -- the output interface: "likewise over actions, less y"
+  -- the output interface of a part (RULES 4.2): the same with the signals of actions, and without y if hidden
   unfoldable mutual
     pub outFace : Tree → Set
     outFace (leaf c) = actions (E c .transitions)
@@ -159,6 +164,7 @@ module _ (E : ℕ → Chart) where
 -- ── what a part puts out ──
 
 module _ (M : ℕ → Move) where
+  -- the output of a part (RULES 5.4); M: the moves of a choice
   unfoldable mutual
     pub out : Tree → Set
     out (leaf c) = actionOf (M c)
@@ -172,9 +178,9 @@ module _ (M : ℕ → Move) where
 
 -- ── when a choice is permitted ──
 
--- The rule of a chart (RULES 5.6, 5.7). An inactive chart takes none. An active one takes a transition from its present state whose guard is met on what
--- it is offered, joined with what its own action feeds back to it; or it stays, where it may and nothing triggers it on what it is offered alone.
--- Here of a chart: whether it is active, the offered set, its present state, its move.
+-- The rule of one chart (RULES 5.6, 5.7). An inactive chart takes none. An active one takes a transition that leaves its present state and whose
+-- guard is met on the offered set, joined with what its own action feeds back to it; or it stays, if it may and the offered set alone triggers
+-- nothing. Given: the chart, whether it is active, the offered set, its present state, its move.
 unfoldable pub okChart : Chart → Bool → Set → ℕ → Move → Bool
 okChart C false o s noMove = true
 okChart C false o s (takes t) = false
@@ -190,26 +196,26 @@ meets s m q = same s q || same (after s m) q
 -- E: the charts; state: of each slave, its state; cfg: the present states; M: the moves of a choice
 module _ (E : ℕ → Chart) (state : ℕ → ℕ) (cfg : ℕ → ℕ) (M : ℕ → Move) where
   unfoldable mutual
-    -- a part, whether it is active, and the set that it is offered
+    -- every chart of a part follows its rule (RULES 5.7); given whether the part is active, and the set that it is offered
     pub ok : Tree → Bool → Set → Bool
     ok (leaf c) a o = okChart (E c) a o (cfg c) (M c)
-    -- "Each part is offered the offered set joined with the part of that union in x, cut to the part's interface."
+    -- both parts are offered the set and what x feeds back of their output, cut to their interfaces (RULES 5.5)
     ok (comp l r x) a o =
         ok l a ((o ∪ ((out M l ∪ out M r) ∩ x)) ∩ inFace E l) && ok r a ((o ∪ ((out M l ∪ out M r) ∩ x)) ∩ inFace E r)
-    -- "Hidden: the part is as active, is offered the set less x"
+    -- the part is offered the set without x (RULES 5.5)
     ok (hide l x y) a o = ok l a (o ∖ x)
-    -- "the master's feedback serves all as in composition. A slave is active exactly if the master is active and its state before or after
-    -- the step is the slave's state."
+    -- the master's feedback set feeds back what master and slaves put out, to all of them (RULES 5.5); a slave is active if the master is and meets
+    -- the slave's state (RULES 5.3)
     ok (dec c ss) a o =
         okChart (E c) a ((o ∪ ((actionOf (M c) ∪ outs M ss) ∩ E c .feedback)) ∩ inFaceChart (E c)) (cfg c) (M c)
         && oks ss (λ q. a && meets (cfg c) (M c) q) (o ∪ ((actionOf (M c) ∪ outs M ss) ∩ E c .feedback))
 
-    -- slaves, whether one is active by its state, and what all are offered before the cut
+    -- the same of slaves; given whether one is active, by its state, and what all are offered before the cut (RULES 5.5)
     pub oks : Slaves → (ℕ → Bool) → Set → Bool
     oks nil f z = true
     oks (snoc ss i t) f z = oks ss f z && ok t (f (state i)) (z ∩ inFace E t)
 
-  -- "The whole is active and is offered the input cut to its interface."
+  -- a choice is permitted (RULES 5.7): the whole is active (RULES 5.3), and offered what its interface has of the input (RULES 5.5)
   unfoldable pub permitted : Tree → Set → Bool
   permitted t i = ok t true (i ∩ inFace E t)
 
@@ -219,33 +225,34 @@ module _ (E : ℕ → Chart) (state : ℕ → ℕ) (cfg : ℕ → ℕ) (M : ℕ 
 unfoldable pub upd : (ℕ → ℕ) → ℕ → ℕ → ℕ → ℕ
 upd ch c v i = cond (same i c) v (ch i)
 
--- the moves of a choice of places
+-- the moves of a choice of places (RULES 5.2)
 unfoldable pub moves : (ℕ → Chart) → (ℕ → ℕ) → ℕ → Move
 moves E ch c = pick (E c) (ch c)
 
--- the states after the step, of charts c, c + 1, .. (n of them)
+-- the states after the step (RULES 5.9), of charts c, c + 1, .. (n of them)
 unfoldable pub nexts : (ℕ → ℕ) → (ℕ → Move) → ℕ → ℕ → List ℕ
 nexts cfg M c zero = []
 nexts cfg M c (suc n) = after (cfg c) (M c) ∷ nexts cfg M (suc c) n
 
--- what an answer has for a chart (RULES 5.11): the place of its transition in its own list, 254 if it stayed, 255 if it took none; of a move at a place
--- of the choice
+-- the place that an answer has for a chart (RULES 5.11): that of its transition, 254 if it stayed, 255 if it took none; given its move, and the place
+-- of the move in the choice
 unfoldable pub placeOf : Move → ℕ → ℕ
 placeOf noMove v = noPlace
 placeOf (takes t) v = v - 1
 placeOf stay v = stayPlace
 
--- of charts c, c + 1, .. (n of them)
+-- the same of charts c, c + 1, .. (n of them)
 unfoldable pub placesFrom : (ℕ → Chart) → (ℕ → ℕ) → ℕ → ℕ → List ℕ
 placesFrom E ch c zero = []
 placesFrom E ch c (suc n) = placeOf (pick (E c) (ch c)) (ch c) ∷ placesFrom E ch (suc c) n
 
--- what a permitted choice gives: the output of the whole, the next configuration, and the places of the transitions taken
+-- what a permitted choice gives (RULES 5.9): the output of the whole, the next configuration, and the places
 pub record Outcome : Type 0 where
   pub output : Set
   pub next : List ℕ
   pub places : List ℕ
 
+-- the outcome of a choice, in a file of N charts
 unfoldable pub outcomeOf : (ℕ → Chart) → (ℕ → ℕ) → Tree → ℕ → (ℕ → ℕ) → Outcome
 outcomeOf E cfg t N ch = record { output = out (moves E ch) t; next = nexts cfg (moves E ch) zero N; places = placesFrom E ch zero N }
 
@@ -256,42 +263,44 @@ module _ {A : Type 0} where
   upto (suc m) f = upto m f ++ f (suc m)
 
 module _ (E : ℕ → Chart) (state : ℕ → ℕ) (cfg : ℕ → ℕ) (t : Tree) (i : Set) (N : ℕ) where
-  -- a choice's outcome, if it is permitted
+  -- a choice's outcome, if it is permitted (RULES 5.7)
   unfoldable pub outcome : (ℕ → ℕ) → List Outcome
   outcome ch = cond (permitted E state cfg (moves E ch) t i) (outcomeOf E cfg t N ch ∷ []) []
 
-  -- "Choices are ordered by chart 0's place, then chart 1's and so on": n charts are left, c is the next
+  -- choices in order (RULES 5.8), by the move of the lowest chart first: n charts are left, c is the next
   unfoldable pub search : ℕ → ℕ → (ℕ → ℕ) → List Outcome
   search zero c ch = outcome ch
   search (suc n) c ch = upto (lastPlace (E c)) (λ v. search n (suc c) (upd ch c v))
 
-  -- the outcomes of all permitted choices, in the order of choices
+  -- the outcomes of all permitted choices, in the order of choices (RULES 5.8)
   unfoldable pub outcomes : List Outcome
   outcomes = search N zero (λ c. zero)
 
 -- ── the step's answer: the first permitted choice's outcome, and the mark, for which places do not count ──
 
+-- a step is refused, with a number; or given, with output, next configuration and mark (RULES 5.9)
 pub data Answer : Type 0 where
   refused : ℕ → Answer
   given : Set → List ℕ → Bool → Answer
 
+-- two lists are equal, as a test
 unfoldable pub eqList : List ℕ → List ℕ → Bool
 eqList [] [] = true
 eqList [] (b ∷ bs) = false
 eqList (a ∷ as′) [] = false
 eqList (a ∷ as′) (b ∷ bs) = same a b && eqList as′ bs
 
--- all of the outcomes agree with a, on output and next configuration
+-- the mark (RULES 5.10): all of the outcomes agree with a, on output and next configuration
 unfoldable pub agree : Outcome → List Outcome → Bool
 agree a [] = true
 agree a (b ∷ bs) = (same (a .output) (b .output) && eqList (a .next) (b .next)) && agree a bs
 
--- 23: no permitted step
+-- the first permitted choice is the step; if there is none, 23 (RULES 5.9)
 unfoldable pub answer : List Outcome → Answer
 answer [] = refused noStep
 answer (a ∷ as′) = given (a .output) (a .next) (agree a as′)
 
--- the places of the first permitted choice
+-- the places of the first permitted choice (RULES 5.9)
 unfoldable pub firstPlaces : List Outcome → List ℕ
 firstPlaces [] = []
 firstPlaces (a ∷ as′) = a .places

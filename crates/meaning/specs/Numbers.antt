@@ -1,19 +1,20 @@
--- The numbers of document 01 that have a name: limits, and refusals. Each stands here once.
+-- The numbers of the rules that have a name: limits (RULES 2.8) and refusals (RULES 3). Each is written here once.
 use Prim.Native.Nat.{ℕ}
 
 -- ── limits ──
 
--- the edition that is written, and the one in which an untriggered part may stay (document 02, No. 7)
+-- the two editions (RULES 7.1): the first, which the rewriting writes, and the one in which a chart may stay
 abbrev pub firstEdition : ℕ
 firstEdition = 1
 
 abbrev pub stayEdition : ℕ
 stayEdition = 2
 
--- signals are 0 to 63
+-- signals are 0 to 63 (RULES 1.2)
 abbrev pub mostSignals : ℕ
 mostSignals = 64
 
+-- of a file (RULES 2.8)
 abbrev pub mostCharts : ℕ
 mostCharts = 8
 
@@ -26,31 +27,32 @@ mostNodes = 64
 abbrev pub mostTransitions : ℕ
 mostTransitions = 512
 
--- in a chart
+-- of a chart (RULES 2.8)
 abbrev pub mostStates : ℕ
 mostStates = 16
 
 abbrev pub mostInChart : ℕ
 mostInChart = 64
 
--- transitions from one state
+-- transitions from one state (RULES 2.8)
 abbrev pub mostFromState : ℕ
 mostFromState = 8
 
--- in a step's places: no transition was taken
+-- among a step's places (RULES 5.11): the chart took no transition
 abbrev pub noPlace : ℕ
 noPlace = 255
 
--- in a step's places: the chart stayed
+-- among a step's places (RULES 5.11): the chart stayed
 abbrev pub stayPlace : ℕ
 stayPlace = 254
 
--- bytes on the day program's standard input
+-- bytes on the day program's standard input (RULES 10.1)
 abbrev pub mostInput : ℕ
 mostInput = 65536
 
 -- ── refusals ──
 
+-- of a file: 1 to 11 (RULES 3.2)
 abbrev pub tooShort : ℕ
 tooShort = 1
 
@@ -84,6 +86,7 @@ badNaming = 10
 abbrev pub badInside : ℕ
 badInside = 11
 
+-- of a configuration, a step or a run: 20 to 23, 27 (RULES 3.3)
 abbrev pub wrongLength : ℕ
 wrongLength = 20
 
@@ -99,12 +102,14 @@ noStep = 23
 abbrev pub shortRows : ℕ
 shortRows = 27
 
+-- of the day program: 30, 31 (RULES 3.4)
 abbrev pub oddFront : ℕ
 oddFront = 30
 
 abbrev pub tooLong : ℕ
 tooLong = 31
 
+-- of the rewriting: 40 to 46, without 43 (RULES 3.5)
 abbrev pub noFreeSignal : ℕ
 noFreeSignal = 40
 
