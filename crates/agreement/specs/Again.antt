@@ -297,7 +297,7 @@ module _ (F : File) (rg : Regular F) (gv : Given F) where
     whole = tree-same R G (reads-back R fits) w (R .nodes - 1) (let h = some-node in omega arith);
   })
 
-  -- "No slaves remain"
+  -- it has no slaves (RULES 9.5)
   pub new-slaves : fileOf (encode R) .slaves ≡ 0
   unfolding fileAt shapeIn
   new-slaves = ap (λ G. G .slaves) (file-is R fits)

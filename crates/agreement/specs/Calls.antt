@@ -1,4 +1,4 @@
--- What the rewriting promises (demand 3), over the calls: where it is not refused, its bytes are a file that passes 1 to 11, has no slaves, and is
+-- What the rewriting promises (RULES 9.8), over the calls: where it is not refused, its bytes are a file that passes 1 to 11, has no slaves, and is
 -- answered like the file by every other call, for every configuration, input and buffer.
 use mathlib.Core.Path.{_≡_, refl, sym, _∙_, ap, ap₂}
 use mathlib.Core.Bool.{Bool, true, false, cond, false≢true}
@@ -94,12 +94,12 @@ module _ (f : List ℕ) (ab : AllBytes f) (room : ℕ) (ok : rewriteRefusal f ro
   unfolding rewriteBytes
   r = new-reads (fileOf f) rg (allowed f room ok .given)
 
-  -- "checking": it is a file
+  -- `check`: it is a file
   pub same-check : refusalOf f′ ≡ 0
   unfolding rewriteBytes
   same-check = new-passes (fileOf f) rg (allowed f room ok .given)
 
-  -- "No slaves remain"
+  -- it has no slaves (RULES 9.5)
   pub no-slaves : fileOf f′ .slaves ≡ 0
   unfolding rewriteBytes
   no-slaves = new-slaves (fileOf f) rg (allowed f room ok .given)

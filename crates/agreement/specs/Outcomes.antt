@@ -1,5 +1,5 @@
--- The rewritten tree has the outcomes of the tree, in the same order, with their places turned: so first, output, next configuration, mark and refusal
--- are the same.
+-- The rewritten tree has the outcomes of the tree, in the same order, with their places turned: so a step has the same refusal, output, next
+-- configuration and mark.
 use mathlib.Core.Path.{_≡_, refl, sym, _∙_, ap, ap₂, subst, subst₂}
 use mathlib.Core.Bool.{Bool, true, false, true≢false, false≢true}
 use mathlib.Core.Option.{Option, none, some}

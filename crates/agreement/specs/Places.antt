@@ -1,5 +1,6 @@
--- Places after the rewriting (document 02, No. 1): a transition keeps its place, and where a chart takes none an idle transition stands, if it has any.
--- So an outcome is turned into one of the rewritten file, and the answer is the same. In this order: one place; the places of a choice; outcomes.
+-- Places after the rewriting (RULES 9.8): a transition keeps its place, and a chart that takes none has the place of an idle transition, if it has
+-- any. So an outcome is turned into one of the rewritten file, and the answer is the same. In this order: one place; the places of a choice;
+-- outcomes.
 use mathlib.Core.Path.{_≡_, refl, sym, _∙_, ap, ap₂}
 use mathlib.Core.Bool.{Bool, true, false, _&&_, cond}
 use mathlib.Core.Logic.{_⊎_, inl, inr}

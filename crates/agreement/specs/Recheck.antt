@@ -1,4 +1,5 @@
--- The rewritten file passes rule 10: each chart is held once, each node but the last named once. The names of all new nodes are summed node by node.
+-- The rewritten file passes test 10 (RULES 3.2): each chart is held once, each node has one name except the last. The names of all new nodes are
+-- summed node by node.
 use mathlib.Core.Path.{_≡_, refl, sym, _∙_, ap, ap₂, subst}
 use mathlib.Core.Bool.{Bool, true, false, _&&_, cond}
 use mathlib.Core.Option.{none}

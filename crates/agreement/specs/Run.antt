@@ -25,7 +25,7 @@ module _ (F : File) (rd : Ready F) where
         ap (λ z. rowOf z config ++ rowsOf F′ (afterStep z config) (carriedAfter z (carried ∪ i)) is) (step-is F rd F′ r config v (carried ∪ i))
         ∙ ap (λ z. rowOf a config ++ z) (run-is is (afterStep a config) (carriedAfter a (carried ∪ i)) (valid-after F leads config (carried ∪ i) v))
 
-    -- "the carried set is part of what demand 3 makes agree"
+    -- the carried set agrees too (RULES 9.8)
     pub carried-is : (inputs : List Set) (config : List ℕ) (carried : Set) → Valid F config
         → carriedOf F′ config carried inputs ≡ carriedOf F config carried inputs
     unfolding carriedOf

@@ -61,7 +61,7 @@ pub record Ready (F : File) : Type 0 where
   pub few : (c : ℕ) → c < F .charts → length (F .chart c .transitions) + F .chart c .states < noPlace
   -- its sets are of 64 signals
   pub small : used F < 2 ^ 64
-  -- "Demand 3 covers edition 1" (document 02, No. 7)
+  -- it has edition 1: no other is rewritten (RULES 9.1)
   pub one : (c : ℕ) → c < F .charts → F .chart c .stays ≡ false
 
 -- a file that is the rewriting of F as far as it is read

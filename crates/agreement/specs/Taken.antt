@@ -1,5 +1,5 @@
--- Which transitions a step of the rewritten file takes (document 02, No. 1): the definition of what agrees (`PlacesAgree`), and that it holds of two
--- steps (`taken-agree`).
+-- Which transitions a step of the rewritten file takes (RULES 9.8): the definition of what agrees (`PlacesAgree`), and that it holds of two steps
+-- (`taken-agree`).
 use mathlib.Core.Path.{_≡_, refl, sym, _∙_, ap, subst}
 use mathlib.Core.Bool.{true, false}
 use mathlib.Core.Logic.{_⊎_, inl, inr, ⊎-elim, _≢_}
@@ -30,9 +30,9 @@ use Rattle.agreement.specs.Active.{Live, live}
 use Rattle.agreement.specs.Places.{turnedPlace, turned-or-idle, turnedPlaces, length-turned}
 use Rattle.agreement.specs.Step.{Ready, Rewritten, has, whole-is, chart-is, step-is, places-are}
 
--- F: the file; F′: the rewritten one; config: the configuration; a: the answer of a step of either; ps and ps′: the places of both
+-- F: the file; F′: the rewritten one; config: the configuration; a: what a step of either answers; ps and ps′: the places of both
 module _ (F F′ : File) (config : List ℕ) (a : Answer) (ps ps′ : List ℕ) where
-  -- "in a step given an idle transition stands where the original says 255 for one of its charts"
+  -- the exception (RULES 9.8): the step is given, chart c of the file took none, and in the rewritten file it takes an idle transition
   pub record IdleStands (c : ℕ) : Type 0 where
     pub is-given : refusalIn a ≡ 0
     pub one-of-its : c < F .charts
@@ -40,11 +40,11 @@ module _ (F F′ : File) (config : List ℕ) (a : Answer) (ps ps′ : List ℕ) 
     pub slave : ℕ
     pub is-idle : nth noMove (F′ .chart c .transitions) (getD ps′ c noPlace) ≡ takes (idle (call F) slave (getD config c 0))
 
-  -- "the places agree, except that" so
+  -- apart from that, the places are the same (RULES 9.8)
   pub record PlacesAgree : Type 0 where
     pub long : length ps′ ≡ length ps
     pub each : (c : ℕ) → (getD ps′ c noPlace ≡ getD ps c noPlace) ⊎ IdleStands c
-    -- a chart of the rewritten file takes a transition in each step given: so an idle one stands wherever the original says 255
+    -- every chart of the rewritten file takes a transition in a step that is given: so where the file has 255, it is an idle one
     pub taken : refusalIn a ≡ 0 → (c : ℕ) → c < F .charts → getD ps′ c noPlace ≢ noPlace
 
 -- ── places, one by one ──

@@ -63,7 +63,7 @@ fn print_byte(b: u8) {
     io::print_hex(STDOUT_FILENO, b as u64, 2);
 }
 
-// A step's places, or a lent buffer after the call, all of it; `-` if it is empty.
+// A step's places, or a buffer after the call, all of it; `-` if it is empty.
 fn print_buffer(buffer: &[u8]) {
     space();
     if buffer.len() == 0 {
@@ -154,7 +154,7 @@ fn first_of(inputs: &[u64]) -> u64 {
     inputs[0]
 }
 
-// The call that a command asks for, on its file, its configuration, what is carried, its inputs and a lent buffer.
+// The call that a command asks for, on its file, its configuration, what is carried, its inputs and a buffer.
 fn print_call(op: u8, file: &[u8], config: &[u8], carried: u64, inputs: &[u64], lent: &mut [u8]) {
     match op {
         0 => print_check(file),
@@ -167,7 +167,7 @@ fn print_call(op: u8, file: &[u8], config: &[u8], carried: u64, inputs: &[u64], 
     }
 }
 
-// Makes the call with the first n inputs, on the first `room` bytes of the lent buffer.
+// Makes the call with the first n inputs, on the first `room` bytes of the buffer.
 fn print_within(
     op: u8,
     file: &[u8],

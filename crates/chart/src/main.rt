@@ -8,7 +8,7 @@ ghost use mathlib.Core.Path.{_≡_};
 ghost use lib.ListN.{length};
 use ask::Command;
 
-// The longest file, as document 01 has it of the day program's input.
+// The longest file: as long as the day program's input may be (RULES 3.4).
 const MOST_BYTES: usize = 65536;
 
 // Room for that and one byte more, which tells that a file is longer. Only the length is promised, so that no proof looks at so many zeros.

@@ -46,7 +46,7 @@ fn line_of(refusal: u8) -> u8 {
     20 + (refusal - limits::MANY_NODES)
 }
 
-// Document 01's words for a refusal, a line for each in the order of its table.
+// What a refusal says (RULES 3.2 to 3.5), a line for each, in the order of their numbers.
 fn say_words(refusal: u8) {
     say_line(
         b"accepted\n\

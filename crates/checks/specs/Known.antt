@@ -20,7 +20,7 @@ pub record Sized (n : Shape) (b : List ℕ) : Type 0 where
   pub some-node : 0 < n .nodes
   pub nodes : n .nodes ≤ mostNodes
 
--- after 6: the charts' numbers of transitions sum to the trailer's
+-- after 6: the transitions of all charts add up to the trailer's number
 abbrev pub Summed : Shape → List ℕ → Type 0
 Summed n b = startOf n b (n .charts) ≡ n .transitions
 

@@ -22,7 +22,7 @@ fn bad_chart(h: Head) -> bool
         | (h.transitions > limits::MOST_IN_CHART)
 }
 
-// 6: a chart is bad, or their numbers of transitions do not sum to the trailer's.
+// 6: a chart is bad, or their transitions do not add up to the trailer's number.
 pub fn bad_charts(n: Shape, body: &[u8]) -> bool
     requires { ⌜ Sized n (now body) ⌝ }
     ensures { λ r. ⌜ r ≡ charts? n (now (body .entry)) ⌝ }
@@ -61,7 +61,7 @@ fn bad_transition(t: Transition, states: u8, left: &mut [u8; limits::MOST_STATES
     false
 }
 
-// 7: the first bad transition, whichever chart it belongs to, ends the walk.
+// 7: the walk over all charts ends at the first bad transition.
 pub fn bad_transitions(n: Shape, body: &[u8]) -> bool
     requires { ⌜ Sized n (now body) × (charts? n (now body) ≡ false) ⌝ }
     ensures { λ r. ⌜ r ≡ transitions? n (now (body .entry)) ⌝ }

@@ -1,4 +1,4 @@
-// The file check: refusals 1 to 11 of document 01, each in its own module, and the opening of a file that passes them.
+// The file check: refusals 1 to 11 (RULES 3.2), each in its own module, and the opening of a file that passes them.
 pub mod body;
 pub mod charts;
 pub mod inside;

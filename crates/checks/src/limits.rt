@@ -1,4 +1,4 @@
-// The numbers of document 01 that have a name: limits, bytes of a record, and refusals. Each stands here once.
+// The numbers of the rules that have a name: limits (RULES 2.8), bytes of a record (RULES 2), and refusals (RULES 3). Each is written here once.
 
 pub const FIRST_EDITION: u8 = 1;
 

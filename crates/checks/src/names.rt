@@ -1,5 +1,6 @@
-// Refusal 10: one node holds each chart, each node but the last is named once, and a slave's node is lower than the node that holds its master. One
-// walk over slaves and nodes fills the tables: how often each node is named, how many nodes hold each chart, and which was the last of them.
+// Refusal 10 (RULES 3.2): each chart has one node that holds it, each node one name except the last, which has none, and a slave's node comes below
+// its master's. One walk over slaves and nodes fills the tables: how often each node is named, how many nodes hold each chart, and which was the last
+// of them.
 ghost use mathlib.Core.Path.{_≡_};
 ghost use mathlib.Core.Bool.{cond};
 ghost use Prim.Native.Nat.{_+_, _≤_, _<_, suc};
@@ -79,7 +80,7 @@ fn walk_nodes(
     }
 }
 
-// A chart is not held by exactly one node.
+// A chart is held by no node, or by several.
 fn bad_held(n: Shape, held: &[u8; MOST_CHARTS as usize]) -> bool
     requires { ⌜ n .charts ≤ mostCharts ⌝ }
     ensures { λ r. ⌜ r ≡ heldAmiss (n .charts) (now (held .entry)) ⌝ }
@@ -117,7 +118,7 @@ fn bad_named(n: Shape, named: &[u8; MOST_NODES as usize]) -> bool
     false
 }
 
-// A slave's node is not lower than the node that holds its master.
+// A slave's node does not come below its master's.
 fn bad_masters(n: Shape, body: &[u8], holder: &[u8; MOST_CHARTS as usize]) -> bool
     requires { ⌜ Ranged n (now body) ⌝ }
     ensures { λ r. ⌜ r ≡ mastersAmiss (fileAt n (now (body .entry))) (now (holder .entry)) ⌝ }

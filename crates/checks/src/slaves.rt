@@ -1,4 +1,4 @@
-// Refusal 8: each slave's chart, state and node are there, and slaves rise strictly by chart, then state.
+// Refusal 8 (RULES 3.2): the chart, state and node of each slave exist, and slaves are in order.
 ghost use mathlib.Core.Path.{_≡_};
 ghost use Prim.Native.Nat.{_<_};
 ghost use Rattle.meaning.specs.File.{fileAt};
@@ -6,7 +6,7 @@ ghost use Rattle.meaning.specs.Check.{slave?, slaves?, rising};
 ghost use Rattle.checks.specs.Known.{Sized};
 use layout::body::Shape;
 
-// Slave h stands before slave i by chart, then state.
+// Slave h comes before slave i: it has a lower chart, or the same chart and a lower state.
 fn rising(n: Shape, body: &[u8], h: usize, i: usize) -> bool
     requires { ⌜ Sized n (now body) × ((h < n .slaves) × (i < n .slaves)) ⌝ }
     ensures { λ r. ⌜ r ≡ rising (fileAt n (now (body .entry))) h i ⌝ }

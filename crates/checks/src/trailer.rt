@@ -40,7 +40,7 @@ fn bad_counts(t: Trailer) -> bool
         | (t.transitions > limits::MOST_TRANSITIONS)
 }
 
-// 4: the distance is not the size made by the counts, or reaches in front of the file, whose trailer stands at `end`.
+// 4: the distance differs from the body size, or the file, whose trailer begins at `end`, has fewer bytes before it.
 fn bad_distance(t: Trailer, end: usize) -> bool
     ensures { λ r. ⌜ r ≡ (differ (t .distance) (sizeOf (shapeOf t)) || ltb end (t .distance)) ⌝ }
 {

@@ -1,4 +1,4 @@
-// 5: bytes laid down as zero bytes.
+// 5: zero bytes (RULES 3.2).
 ghost use mathlib.Core.Path.{_≡_};
 ghost use Prim.Native.Nat.{_+_, _*_, _≤_};
 ghost use lib.ListN.{length};

@@ -1,4 +1,4 @@
-// The day program (document 01, "The day program"): it reads standard input, a chart file with inputs in front, and prints a line for each.
+// The day program (RULES 10): it takes a chart file with inputs in front from standard input, and prints a line for each input.
 ghost use mathlib.Core.Path.{_≡_};
 ghost use Prim.Native.Nat.{_+_, _*_, _≤_};
 ghost use lib.ListN.{length};

@@ -1,4 +1,4 @@
--- Any two results that a public call's contract allows are equal, lent bytes too. Each theorem here takes the contract's clauses twice, word for
+-- Any two results that a public call's contract allows are equal, and so are the bytes of buffers. Each theorem here takes the contract's clauses twice, word for
 -- word, and says so.
 use mathlib.Core.Path.{_≡_, sym, _∙_}
 use mathlib.Core.List.{List}
@@ -25,7 +25,7 @@ module _ {A B : Type 0} where
   both : {d : A} {e : B} (x y : A) (u v : B) → (x ≡ d) × (u ≡ e) → (y ≡ d) × (v ≡ e) → (x ≡ y) × (u ≡ v)
   both x y u v p q = (one x y (p .0) (q .0), one u v (p .1) (q .1))
 
--- a file f, lent bytes b; r and r′ are results, c and c′ what the lent bytes became
+-- a file f, a buffer b; r and r′ are results, c and c′ what the buffer became
 module _ (f : List ℕ) where
   pub check-determined : (r r′ : ℕ) → r ≡ refusalOf f → r′ ≡ refusalOf f → r ≡ r′
   check-determined = one

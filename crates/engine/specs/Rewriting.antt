@@ -1,4 +1,4 @@
--- What the rewriting of a file that passed 1 to 11 answers: what document 01's list goes on with. Laws are in Rewriting/Laws.antt.
+-- What the rewriting of a file that passed 1 to 11 answers: what the list of RULES 3.6 goes on with. Laws are in Rewriting/Laws.antt.
 use mathlib.Core.Bool.{cond}
 use mathlib.Core.List.{List, [], _∷_, _++_}
 use Prim.Native.Nat.{ℕ}

@@ -1,4 +1,4 @@
--- A run of a body that passed 1 to 11 is what document 01's list goes on with: 20, 21, 27, then the rows and what is carried.
+-- A run of a body that passed 1 to 11: what the list of RULES 3.6 goes on with, 20, 21, 27, then the rows and what is carried.
 use mathlib.Core.Bool.{cond}
 use mathlib.Core.List.{List, [], _∷_, _++_}
 use Prim.Native.Nat.{ℕ, _+_, _*_}

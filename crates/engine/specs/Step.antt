@@ -1,4 +1,4 @@
--- What the step's functions ask and leave. A step of a body that passed 1 to 11 (`stepAfter`) is what document 01's list goes on with; the search
+-- What the step's functions ask and leave. A step of a body that passed 1 to 11 (`stepAfter`) is what the list of RULES 3.6 goes on with; the search
 -- over the tables of a wired file answers it (`Prepared`, `Finds`).
 use mathlib.Core.Path.{_≡_}
 use mathlib.Core.Bool.{false, cond}

@@ -26,7 +26,7 @@ struct Own {
     output: [u64; MOST_CHARTS as usize],
 }
 
-// The extra set joined with the guards of `count` transitions from `start` on.
+// The extra set, and what the guards of `count` transitions from `start` on name.
 fn guards(n: Shape, body: &[u8], start: usize, count: usize, extra: u64) -> u64
     requires { ⌜ Sized n (now body) × (start + count ≤ n .transitions) ⌝ }
     ensures { λ r. ⌜ r ≡ guards (from (transitionAt n (now (body .entry))) start count) ∪ extra ⌝ }

@@ -1,4 +1,4 @@
-// Whether a file is plain, so that no step of it can be marked no (document 02, No. 11).
+// Whether a file is plain, so that no step of it can be marked no (RULES 8).
 ghost use mathlib.Core.Path.{_≡_};
 ghost use Rattle.meaning.specs.Check.{refusalOf};
 ghost use Rattle.meaning.specs.Plain.{plainOf};

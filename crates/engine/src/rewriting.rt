@@ -1,4 +1,4 @@
-// The rewriting (document 01, "The rewriting"): a file with slaves becomes a file without, over the front of a lent buffer.
+// The rewriting (RULES 9): a file with slaves becomes a file without, over the front of the caller's buffer.
 ghost use mathlib.Core.Path.{_≡_};
 ghost use lib.ListN.{length};
 ghost use Rattle.meaning.specs.File.{fileAt};

@@ -1,4 +1,4 @@
-// The run (document 01, "Run."): the file is opened and wired once, then each input gives a row.
+// The run (RULES 6): the file is opened and wired once, then a row is made for each input.
 ghost use mathlib.Core.Path.{_≡_};
 ghost use mathlib.Core.List.{_∷_, _++_};
 ghost use Prim.Native.Nat.{ℕ, _+_, _*_, _≤_, _<_};
@@ -22,7 +22,7 @@ const REFUSAL: usize = 9;
 
 const STATES: usize = 10;
 
-// The answer of a run beside its rows: 0 or the refusal, and what is carried after the last input, nothing where the run is refused.
+// What a run answers, its rows aside: 0 or the refusal, and what is carried after the last input, nothing if the run is refused (RULES 1.4, 6.4).
 pub struct Ran {
     pub refusal: u8,
     pub carried: u64,

@@ -1,4 +1,4 @@
-// The step (document 01, "The meaning of a step"): check, wire, choose candidates, search.
+// The step (RULES 5): check, wire, choose candidates, search.
 ghost use mathlib.Core.Path.{_≡_};
 ghost use mathlib.Core.Bool.{false};
 ghost use mathlib.Core.List.{[]};
@@ -20,8 +20,8 @@ use checks::limits;
 use layout::body::Shape;
 use search::Found;
 
-// The answer of a step beside the next configuration: 0 or the refusal, the output, whether all permitted choices agree, and of each chart the
-// place of the transition taken in its list, 254 if it stayed, 255 for none.
+// What a step answers, the next configuration aside (RULES 5.9): 0 or the refusal, the output, the mark, and the places, 254 for a chart that stayed
+// and 255 for one that took none.
 pub struct Stepped {
     pub refusal: u8,
     pub output: u64,
@@ -167,7 +167,7 @@ fn found_new(n: Shape, body: &[u8], config: &[u8], input: u64) -> Found
     found_in(n, body, config, input, &mut masks)
 }
 
-// The first n states, over the front of a lent buffer.
+// The first n states, over the front of the caller's buffer.
 pub fn put_states(buffer: &mut [u8], states: [u8; 8], n: usize)
     requires { ⌜ (n ≤ 8) × (n ≤ length (now buffer)) ⌝ }
     ensures { λ _. ⌜ now (buffer .exit) ≡ laidOver (take n states) (now (buffer .entry)) ⌝ }

@@ -16,7 +16,7 @@ pub struct Shape {
     pub edition: usize,
 }
 
-// The body's size made by the counts.
+// The body size that follows from the counts (RULES 2.1).
 pub fn size(n: Shape) -> usize
     requires { ⌜ (n .charts < 256) × (n .transitions < 65536) × (n .slaves < 256) × (n .nodes < 256) ⌝ }
     ensures { λ r. ⌜ r ≡ sizeOf n ⌝ }

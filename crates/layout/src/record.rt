@@ -40,7 +40,7 @@ pub struct Slave {
     pub node: u8,
 }
 
-// Kind 0: chart a. Kind 1: nodes a and b composed, feedback x. Kind 2: node a hidden, x from its input and y from its output.
+// By kind (RULES 2.6): 0 holds chart a; 1 composes nodes a and b, with the feedback x; 2 hides node a, without x in its input and y in its output.
 pub struct Node {
     pub kind: u8,
     pub a: u8,

@@ -1,5 +1,5 @@
-// The making of the day program's lines (document 01, "The day program"), and the parts that others make lines of. Nothing here knows a file. Each
-// function that writes a part of a line takes the place where it begins and returns the place behind it.
+// The making of the day program's lines (RULES 10.3), and the parts that others make lines of. Nothing here knows a file. Each function that writes a
+// part of a line takes the place where it begins and returns the place behind it.
 ghost use mathlib.Core.Path.{_≡_};
 ghost use mathlib.Core.List.{[], _∷_};
 ghost use Prim.Native.Nat.{_+_, _-_, _≤_, _<_, _^_};
@@ -59,7 +59,7 @@ pub fn put_decimal(out: &mut [u8], at: usize, x: u64) -> usize
     put_digits(out, at, 10, width(x), x)
 }
 
-// A set as 16 hex digits.
+// A set in hex, 16 digits.
 fn put_hex(out: &mut [u8], at: usize, x: u64) -> usize
     requires { ⌜ Room (now out) at (hex 16 x) ⌝ }
     ensures { λ r. ⌜ Put (now (out .entry)) at (hex 16 x) (now (out .exit)) r ⌝ }
@@ -96,7 +96,7 @@ fn put_state(out: &mut [u8], at: usize, state: u8) -> usize
     put_decimal(out, next, state as u64)
 }
 
-// States joined by dots.
+// The states, with dots between them.
 pub fn put_states(out: &mut [u8], at: usize, states: &[u8]) -> usize
     requires { ⌜ Room (now out) at (dotted (now states)) ⌝ }
     ensures { λ r. ⌜ Put (now (out .entry)) at (dotted (now (states .entry))) (now (out .exit)) r ⌝ }

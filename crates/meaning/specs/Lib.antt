@@ -1,6 +1,6 @@
--- The meaning of chart files. What a reader must believe, in document 01's order: the numbers that have names (Numbers, Count), the meaning of a
--- step (Meaning), the file (File), its check (Check), the public calls (Calls), what is active in a step (Active), the rewriting (Rewriting), plain
--- files (Plain). The theorems are under Laws.
+-- The meaning of chart files. What a reader must believe: the numbers that have names (Numbers, Count), what a step means (Meaning), the file (File),
+-- its check (Check), the public calls (Calls), what is active in a step (Active), the rewriting (Rewriting), plain files (Plain). The theorems are
+-- under Laws.
 pub mod Numbers
 pub mod Count
 pub mod Meaning

@@ -106,7 +106,7 @@ module _ (E : ℕ → Chart) (state : ℕ → ℕ) (cfg : ℕ → ℕ) (f : Set)
 -- every chart stands in the tree
 module _ (E : ℕ → Chart) (state : ℕ → ℕ) (cfg : ℕ → ℕ) (t : Tree) (inp : Set) (N : ℕ) (f : Set) (w : PlainTree E f t)
     (has : (c : ℕ) → c < N → Has t c ≡ true) where
-  -- "the mark can never be no": no two permitted choices differ in a move
+  -- at most one choice is permitted (RULES 8.3): no two differ in a move
   pub one-choice : (ch ch₂ : ℕ → ℕ) → Choice E state cfg t inp N ch → Choice E state cfg t inp N ch₂ → Permitted E state cfg t inp N ch
       → Permitted E state cfg t inp N ch₂ → moves E ch ≡ moves E ch₂
   unfolding permitted

@@ -1,6 +1,6 @@
--- A plain file, given a valid configuration and a long enough buffer, steps with mark yes or refuses with 23 (`plain-sure`), and so does every step of a
--- run (`row-sure`). In this order: an answer without doubt (Sure); the tree of a plain file is plain, and so its steps are sure (`step-sure`); the same
--- of bytes.
+-- A step of a plain file (RULES 8.3), from a valid configuration and with room for the next, has the mark yes or is refused with 23 (`plain-sure`),
+-- and so is every step of a run (`row-sure`). In this order: an answer that is sure (Sure); the tree of a plain file is plain, and so its steps are
+-- sure (`step-sure`); the same of bytes.
 use mathlib.Core.Path.{_≡_, refl, _∙_, ap}
 use mathlib.Core.Bool.{Bool, true, false, _&&_, cond, false≢true}
 use mathlib.Core.List.{List, [], _∷_, _++_}
@@ -35,7 +35,7 @@ use Rattle.meaning.specs.Laws.Runs.{Valid}
 use Rattle.meaning.specs.Laws.Files.{run-valid, run-row}
 use Rattle.plain.specs.Choices.{PlainChart, PlainTree, PlainSlaves, never-no}
 
--- an answer without doubt: the mark is yes, or there is no permitted step
+-- an answer that is sure: the mark is yes, or no choice is permitted
 abbrev pub Sure : Answer → Type 0
 Sure (refused r) = r ≡ noStep
 Sure (given o n m) = m ≡ true
@@ -113,7 +113,7 @@ module _ (F : File) (p : plainIn F ≡ true) (one-edition : (c : ℕ) → c < F 
 
 -- ── bytes ──
 
--- "1 to 11" do not apply to a plain file
+-- a plain file passes 1 to 11 (RULES 8.2)
 pub plain-passes : (f : List ℕ) → plainOf f ≡ true → (refusalOf f ≡ 0) × (plainIn (fileOf f) ≡ true) × (trailer f .edition ≡ firstEdition)
 unfolding plainOf
 plain-passes f p = go (same (refusalOf f) 0) refl p
@@ -136,7 +136,7 @@ module _ (f : List ℕ) (p : plainOf f ≡ true) where
   unfolding stepOf
   unrefused-sure config i room e = rw (ap (λ r. same r 0) e ∙ same-refl 0) (every-sure config i)
 
-  -- "given a valid configuration and a long enough buffer"
+  -- from every valid configuration, with room for the next
   pub plain-sure : (config : List ℕ) (i : Set) (room : ℕ) → Valid (fileOf f) config → fileOf f .charts ≤ room → Sure (stepOf f config i room)
   plain-sure config i room v l = unrefused-sure config i room (step-open f config room (plain-passes f p .0) v l)
 

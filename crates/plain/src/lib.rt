@@ -1,4 +1,4 @@
-// The profile without doubt (document 02, No. 11): whether any two transitions from one state are told apart by a signal that no feedback set has.
+// Which files are plain (RULES 8): whether each two transitions of a chart that leave the same state are told apart by a signal that is not fed back.
 ghost use mathlib.Core.Path.{_≡_};
 ghost use mathlib.Core.Bool.{cond};
 ghost use Prim.Native.Nat.{_+_, _≤_, _<_};
@@ -50,7 +50,7 @@ fn fed_by_nodes(n: Shape, body: &[u8]) -> u64
     all
 }
 
-// All signals in a feedback set of the file.
+// All signals that are fed back (RULES 8.1).
 fn fed_back(n: Shape, body: &[u8]) -> u64
     requires { ⌜ Holds n (now body) ⌝ }
     ensures { λ r. ⌜ r ≡ fedBack (fileAt n (now (body .entry))) ⌝ }
@@ -58,7 +58,7 @@ fn fed_back(n: Shape, body: &[u8]) -> u64
     fed_by_charts(n, body) | fed_by_nodes(n, body)
 }
 
-// Some signal is needed by one, barred by the other, and not fed back.
+// One of the two needs a signal that the other bars, and it is not fed back (RULES 8.2).
 fn told_apart(fed: u64, t: Transition, u: Transition) -> bool
     ensures { λ r. ⌜ r ≡ toldApart fed t u ⌝ }
 {

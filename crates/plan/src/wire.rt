@@ -64,7 +64,7 @@ fn join_row(rows: &mut [u64; 16], part: &[u64; 16], at: usize, x: u64)
     }
 }
 
-// Joins a part's rows to those of what it stands in: x is filtered from its input, y hidden from its output.
+// Joins a part's rows to those of what it stands in, without x on the way in and without y on the way out.
 fn join(rows: &mut [u64; 16], part: &[u64; 16], x: u64, y: u64)
     requires { ⌜ length (now rows) ≡ 16 ⌝ }
     ensures { λ _. ⌜ JoinsRows (now (rows .entry)) (now (rows .exit)) (λ c. downIn (now (part .entry)) c ∖ x) (λ c. upIn (now (part .entry)) c ∖ y) ⌝ }

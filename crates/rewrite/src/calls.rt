@@ -80,7 +80,7 @@ pub struct Calls {
     pub sets: [u64; 8],
 }
 
-// Each slave, in record order, gets the lowest number left.
+// The slaves get the lowest free signals for their call signals, in the order of their records (RULES 9.2).
 pub fn given(slaves: usize, used: u64) -> Calls
     requires { ⌜ slaves ≤ 8 ⌝ }
     ensures { λ r. ⌜ Calling used slaves r ⌝ }

@@ -81,7 +81,7 @@ fn calls_of(n: Shape, body: &[u8], calls: &[u64; 8], c: usize) -> u64
     all
 }
 
-// An own transition of a chart that takes the call `inner`.
+// One of the own transitions of a chart, where they also need the call signal `inner` (RULES 9.3).
 fn called(t: Transition, inner: u64, added: u64) -> Transition
     ensures { λ r. ⌜ r ≡ calledWith inner added t ⌝ }
 {
@@ -126,7 +126,7 @@ fn own(
     p
 }
 
-// `count` idle transitions, for each state rising, that bar the call `inner`.
+// The idle transitions of `count` states, from 0 up, that bar the call signal `inner` (RULES 9.3).
 fn idles(inner: u64, count: u8, out: &mut [u8], at: usize) -> usize
     requires { ⌜ Room (now out) at (inTurn count (λ s. transitionBytes (idleWith inner s))) ⌝ }
     ensures { λ r. ⌜ Put (now (out .entry)) at (inTurn count (λ s. transitionBytes (idleWith inner s))) (now (out .exit)) r ⌝ }

@@ -36,7 +36,7 @@ fn leaving(n: Shape, body: &[u8], start: usize, count: usize, s: u8) -> usize
     times
 }
 
-// A state of a chart would have over `most` transitions out: own ones, which begin at `start`, and `idle` more.
+// More than `most` transitions would leave one state of a chart: its own ones, which begin at `start`, and `idle` more.
 fn over_from_states(n: Shape, body: &[u8], start: usize, h: Head, idle: usize, most: usize) -> bool
     requires { ⌜ Holds n (now body) × (start + h .transitions ≤ n .transitions) × (idle ≤ 1) ⌝ }
     ensures { λ r. ⌜ r
@@ -54,7 +54,7 @@ fn over_from_states(n: Shape, body: &[u8], start: usize, h: Head, idle: usize, m
     false
 }
 
-// A state would have over `most` transitions out.
+// 41: more than `most` transitions would leave one state.
 pub fn over_from(n: Shape, body: &[u8], inner: &[u64; 8], most: usize) -> bool
     requires { ⌜ Checked n (now body) × InnerIn (fileAt n (now body)) (now inner) ⌝ }
     ensures { λ r. ⌜ r ≡ anyUpTo (n .charts) (λ c. anyUpTo (rewrite (fileAt n (now (body .entry))) .chart c .states)
@@ -81,7 +81,7 @@ pub fn in_chart(h: Head, inner: u64) -> usize
     h.transitions as usize + idle_count(inner, h.states as usize)
 }
 
-// A chart would have over `most` transitions.
+// 42: more than `most` transitions would be in one chart.
 pub fn over_in_chart(n: Shape, body: &[u8], inner: &[u64; 8], most: usize) -> bool
     requires { ⌜ Checked n (now body) × InnerIn (fileAt n (now body)) (now inner) ⌝ }
     ensures { λ r. ⌜ r ≡ anyUpTo (n .charts) (λ c. ltb most (length (rewrite (fileAt n (now (body .entry))) .chart c .transitions))) ⌝ }

@@ -1,4 +1,4 @@
-// The search for permitted choices over tables of masks: it settles one chart after another until none is left. It knows no file.
+// A search over tables of masks: it finds the permitted choices by settling chart after chart. It knows no file.
 ghost use mathlib.Core.Path.{_≡_};
 ghost use mathlib.Core.Bool.{_&&_, not};
 ghost use mathlib.Core.List.{List};

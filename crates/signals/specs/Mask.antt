@@ -10,15 +10,15 @@ pub mod Laws
 infixl 70 _∪_
 infixl 75 _∩_
 infixl 75 _∖_
--- union
+-- union (RULES 1.2)
 abbrev pub _∪_ : ℕ → ℕ → ℕ
 a ∪ b = bitOr a b
 
--- cut
+-- what is in both (RULES 1.2)
 abbrev pub _∩_ : ℕ → ℕ → ℕ
 a ∩ b = bitAnd a b
 
--- removal: a less b
+-- what is in a and not in b (RULES 1.2)
 abbrev pub _∖_ : ℕ → ℕ → ℕ
 a ∖ b = bitXor a (bitAnd a b)
 

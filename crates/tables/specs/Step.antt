@@ -1,4 +1,4 @@
--- A step by tables, for a file that rules 9 to 11 allow: where the wiring is in the tables and the candidates are chosen, a search over them
+-- A step by tables, for a file that tests 9 to 11 allow: where the wiring is in the tables and the candidates are chosen, a search over them
 -- answers the step and has its places.
 use mathlib.Core.Path.{_≡_, ap}
 use mathlib.Core.Bool.{true}

@@ -1,4 +1,4 @@
--- A search over tables finds what the meaning of a step says, in both editions: chart by chart (simulate), and for a file (found-is).
+-- A search over tables finds what a step means, in both editions: chart by chart (simulate), and for a file (found-is).
 use mathlib.Core.Path.{_≡_, refl, sym, _∙_, ap, ap₂, subst}
 use mathlib.Core.Bool.{Bool, true, false, _&&_, cond, false≢true}
 use mathlib.Core.Option.{Option, none, some}
@@ -361,7 +361,7 @@ module _ (E : ℕ → Chart) (state : ℕ → ℕ) (cfg : ℕ → ℕ) (N : ℕ)
     unfolding outcomes beginning placesFrom
     places-all lows h = found-places N refl _ _ (finds lows h) (sizes N zero (λ c. zero))
 
--- ── for a file that rules 9 to 11 allow ──
+-- ── for a file that tests 9 to 11 allow ──
 
 -- a transition is kept: it may be met between what its chart is surely offered and what all the others might put in
 abbrev pub keeps : File → (ℕ → ℕ) → Set → ℕ → ℕ → Bool

@@ -197,7 +197,7 @@ fn signal_list(word: &[u8]) -> Read
     }
 }
 
-// A set of signals: `-` is none, `0x` and hex digits the set as one number, anything else signals.
+// A signal set: `-` is empty, `0x` and hex digits give it as a number, anything else is signals.
 pub fn set(word: &[u8]) -> Read
     ensures { λ r. ⌜ r ≡ setOf (now (word .entry)) ⌝ }
 {

@@ -1,4 +1,4 @@
--- The tree of a file that rules 9 to 11 allow: no chart stands in it twice, each chart's nearest slave is known, and masters are lower.
+-- The tree of a file that tests 9 to 11 allow: no chart stands in it twice, each chart's nearest slave is known, and masters are lower.
 use mathlib.Core.Path.{_≡_, refl, sym, _∙_, ap, ap₂, subst}
 use mathlib.Core.Bool.{Bool, true, false, _&&_, _||_, cond, false≢true}
 use mathlib.Core.Option.{Option, none, some}
@@ -233,7 +233,7 @@ module _ (encC : ℕ → Option ℕ) (sc : ℕ → ℕ) where
         go (inl e) = (i, e, (let z = k .1 in omega arith))
         go (inr u) = u
 
--- ── rules 10 and 11 give all this ──
+-- ── tests 10 and 11 give all this ──
 module _ (F : File) (w : Ordered F) (r : Rule10 F) (r11 : Rule11 F)
     (chart-there : (j : ℕ) → j < F .nodes → F .kind j ≡ 0 → F .a j < F .charts)
     (node-there : (i : ℕ) → i < F .slaves → (F .node i < F .nodes) × (F .master i < F .charts)) where

@@ -41,7 +41,7 @@ surely enc E cfg c = outside (enc c) (sureIn (E c .stays) (sureOf (E c .transiti
 
 -- ── a chart that keeps activity and state puts out what it surely does ──
 
--- a rule is its activity, its state and the exact test; staying "counts as an open choice". b: may the chart stay?
+-- the rule of a chart (RULES 5.7) is this, its activity and its state, and the exact test of guards. b: may the chart stay?
 unfoldable pub open? : Bool → Bool → ℕ → Move → Bool
 open? b false s noMove = true
 open? b false s (takes t) = false

@@ -1,4 +1,4 @@
--- Laws of the day program, in this order: what is laid over the front of a part of a lent buffer; lines of rows, one more, and the last; the refusals 1
+-- Laws of the day program, in this order: what is laid over the front of a part of a buffer; lines of rows, one more, and the last; the refusals 1
 -- to 11 and 30; the first configuration; the whole output.
 use mathlib.Core.Path.{_≡_, refl, sym, ap, _∙_}
 use mathlib.Core.Bool.{not}

@@ -1,5 +1,5 @@
 -- Laws of the run, in this order: the call's list behind 1 to 11; 20, 21 and 27; a checked body's transitions lead to states of their charts; a row laid
--- over a part of a lent buffer; one row more, and the last.
+-- over a part of a buffer; one row more, and the last.
 use mathlib.Core.Path.{_≡_, sym, _∙_}
 use mathlib.Core.List.{List, [], _∷_, _++_, append-assoc, append-nil}
 use Prim.Native.Nat.{ℕ, _+_, _*_, _-_, _/_, _≤_, _<_}
@@ -57,7 +57,7 @@ module _ (F : File) (config : List ℕ) (carried : Set) (inputs : List Set) (row
   abbrev rows-test : Test
   rows-test = record { number = shortRows; applies = ltb (length rows) (length inputs * (10 + F .charts)) }
 
-  -- a call returns a, and leaves rows′ in the lent rows
+  -- a call returns a, and leaves rows′ in the buffer for rows
   abbrev pub Ends : Ran → List ℕ → Type 0
   Ends a rows′ =
       (a ≡ record { refusal = runRefusalAfter F config (length inputs) (length rows); carried = carriedRun F config carried inputs (length rows) })

@@ -1,4 +1,4 @@
--- Document 01's whole case, "The day program", and files that are refused, by computation.
+-- The example of RULES 10.4, and files that are refused, by computation.
 use mathlib.Core.Path.{_≡_, refl}
 use mathlib.Core.List.{List, [], _∷_, _++_}
 use Prim.Native.Nat.{ℕ}
@@ -17,11 +17,11 @@ use Rattle.line.specs.Line.{digit, digits, widthTo, width, decimal, behi
 abbrev zeros : ℕ → List ℕ
 zeros n = replicate n 0
 
--- "inputs 1, 0, 2"
+-- the inputs {0}, ∅ and {1}
 front : List ℕ
 front = bytes 8 1 ++ bytes 8 0 ++ bytes 8 2
 
--- "one chart, 2 states, initial 0, empty sets; 0 to 1 needs {0}, puts out {1}; 1 to 0 needs {1}; node kind 0"
+-- one chart with two states and the initial state 0: 0 to 1 needs {0} and outputs {1}, 1 to 0 needs {1}; no feedback, no extra set; one node
 chart : List ℕ
 chart =
     (2 ∷ 0 ∷ 2 ∷ zeros 21)
@@ -34,12 +34,12 @@ pub case : List ℕ
 unfolding front chart
 case = front ++ chart
 
--- "136 bytes"
+-- 24 bytes of inputs, 100 of the body, 12 of the trailer
 pub case-length : length case ≡ 136
 unfolding case bytes
 case-length = refl
 
--- the case; its chart alone ("An empty front prints nothing"); a front of 23 bytes; the last byte cut off (no charts); nothing at all
+-- all of it; without the front (no line, RULES 10.3); with a front of 23 bytes; without the last byte (no charts); nothing at all
 pub outputs : List (List ℕ)
 unfolding case chart
 outputs = dayOf case ∷ dayOf chart ∷ dayOf (drop 1 case) ∷ dayOf (take 135 case) ∷ dayOf [] ∷ []
@@ -53,7 +53,7 @@ pub printed : outputs ≡ ascii "1 0000000000000002 1 y\n2 refused 23\n3 0000000
 unfolding outputs case chart le bytes trailerOf headOf transitionOf slaveOf nodeOf headAt transitionAt slaveAt nodeAt startOf from transitionsOf anyUpTo tally same nth pick lastPlace actionOf after guard met? guards inFaceChart inFace inFaces out outs okChart meets ok oks permitted upd moves nexts placeOf placesFrom upto outcomeOf outcome search outcomes eqList agree answer gather build treeOf Has HasS trailer bodyOf shapeOf chartOf fileAt fileOf firstOf edition? counts? distance? nonzero zeros? chart? charts? ends? leaving transitions? rising slave? slaves? nodeOfKind? nodes? names named held naming? inside? fileTests refusalOf made initials stepIn rowOf rowsOf digit digits widthTo width decimal behind joined fields dotted letter rowFields lineOf fileRefused frontOf dayRefusal inputsOf linesOf dayLines dayOf
 printed = refl
 
--- 31 goes before all others: these bytes hold no chart
+-- 31 comes first: these bytes have no chart
 pub too-long : dayOf (zeros 65537) ≡ ascii "file refused 31\n"
 unfolding same firstOf digit digits widthTo width decimal behind joined fields fileRefused dayRefusal dayOf
 too-long = refl

@@ -1,5 +1,5 @@
 -- Laws of what calls answer. In this order: of `made`, its length, an entry of it, equal entries, and one entry more stored over a buffer; a
--- place among all (`getD-all`); that "refused steps carry 255 throughout" (`in-refused`, `of-refused`); what a step and a run that are not refused
+-- place among all (`getD-all`); that all places of a refused step are 255 (`in-refused`, `of-refused`); what a step and a run that are not refused
 -- have (`step-allowed`, `run-allowed`), and that with it they are not (`step-open`, `run-open`); answers behind tests (`behind-cong`, `behind-is`);
 -- what a step that is given has (`answered`).
 use mathlib.Core.Path.{_≡_, refl, sym, ap, ap₂, _∙_}

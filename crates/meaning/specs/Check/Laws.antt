@@ -1,5 +1,5 @@
 -- Laws of the file check, grouped under what they speak of: a test that is false; the first refusal that applies (`firstOf`); what a file that is
--- not refused meets (`refusalOf`); what 3 gives (`counts?`); what 6 gives (`charts?`); that over 8 transitions from one state are found as a walk
+-- not refused meets (`refusalOf`); what 3 gives (`counts?`); what 6 gives (`charts?`); that more than 8 transitions from a state are found as a walk
 -- goes, and that transitions lead to states of their chart (`transitions?`). Those of 8 to 11 are in Check/Nodes.antt.
 use mathlib.Core.Path.{_≡_, refl, sym, _∙_, ap}
 use mathlib.Core.Bool.{Bool, true, false, _||_}
@@ -245,7 +245,7 @@ module _ (n : Shape) (b : List ℕ) (c : ℕ) where
   abbrev fromAt : ℕ → ℕ
   fromAt k = inChart n b c k .from
 
-  -- transition k of chart c is bad as a walk meets it: an end out of range, or over 8 from its state up to it
+  -- transition k of chart c is bad as a walk meets it: an end that its chart does not have, or more than 8 from its state up to it
   unfoldable pub badAt : ℕ → Bool
   badAt k = ends? n b c k || ltb mostFromState (leaving n b c (fromAt k) (suc k))
 

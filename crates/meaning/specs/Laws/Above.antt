@@ -1,11 +1,11 @@
--- Rule 11 over a tree: a chart inside a slave is numbered above that slave's master.
+-- Test 11 over a tree (RULES 3.2): every chart inside a slave has a higher number than the master.
 use mathlib.Core.Path.{_≡_}
 use mathlib.Core.Bool.{true}
 use Prim.Native.Nat.{ℕ, _<_}
 use Rattle.meaning.specs.File.{HasS}
 use Rattle.meaning.specs.Meaning.{Tree, Slaves, leaf, comp, hide, dec, nil, snoc}
 
--- rule 11
+-- test 11
 abbrev mutual
   pub Above : Tree → Type 0
   Above (leaf d) = Unit {0}

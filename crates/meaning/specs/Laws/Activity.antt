@@ -1,8 +1,7 @@
--- Demand 2 on what is inactive, of a step that is given. In this order: what is known of such a step; a chart that is
--- inactive keeps its state and has no place, and one that is active has one (`inactive-stays`, `inactive-place`,
--- `active-place`); a chart is as active as its nearest slave (`outside-active`, `inside-active`); the places say what
--- the whole puts out (`whole-output`), and a part whose charts are inactive puts out nothing (`inactive-output`); in a
--- slave that is inactive every chart is, at any depth, so that the slave stays as it is and puts out nothing
+-- What is inactive (RULES 5.3), in a step that is given. In this order: what is known of such a step; a chart that is inactive keeps its state and
+-- has no place, and one that is active has one (`inactive-stays`, `inactive-place`, `active-place`); a chart is as active as its nearest slave
+-- (`outside-active`, `inside-active`); the places say what the whole puts out (`whole-output`), and a part whose charts are inactive puts out nothing
+-- (`inactive-output`); in a slave that is inactive every chart is, at any depth, so that the slave stays as it is and puts out nothing
 -- (`inactive-inside`, `slave-stays`, `slave-output`).
 use mathlib.Core.Path.{_≡_, sym, _∙_, ap, ap₂, fun-ext}
 use mathlib.Core.Bool.{Bool, true, false, _&&_, _||_}

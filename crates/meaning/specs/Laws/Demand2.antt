@@ -1,4 +1,4 @@
--- Demand 2 in words: a step is given exactly if a permitted choice exists (`given-if`, `refused-if`); it is the first in the order
+-- The step in words (RULES 5.9, 5.10): a step is given exactly if a permitted choice exists (`given-if`, `refused-if`); it is the first in the order
 -- (`given-first`); the mark is yes exactly if all permitted choices agree on output and next configuration (`mark-yes`, `mark-no`). Then: an
 -- inactive part takes none (`inactive`); a signal outside the interface changes nothing (`outside-outcomes`, `outside`); the next configuration is
 -- valid (`valid-next`). All of it over a tree: of files, what is outside and what is valid is in Files, what is inactive in Activity.
@@ -103,7 +103,7 @@ module _ (E : ℕ → Chart) (state : ℕ → ℕ) (cfg : ℕ → ℕ) (t : Tree
   abbrev by : (ℕ → ℕ) → Outcome
   by ch = record { output = outputBy ch; next = nextBy ch; places = placesBy ch }
 
-  -- "Choices are ordered by chart 0's place, then chart 1's and so on"
+  -- one choice comes before another (RULES 5.8): the first chart with different moves decides
   pub record Before (ch ch₂ : ℕ → ℕ) : Type 0 where
     pub at : ℕ
     pub lower : ch at < ch₂ at

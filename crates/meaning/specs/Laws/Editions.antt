@@ -48,7 +48,7 @@ module _ (C : Chart) (one : C .stays ≡ false) where
   stay-one false o s = refl
   stay-one true o s = ap (λ b. b && untriggered (C .transitions) s o o) one
 
--- the rule of a chart as document 01 has it, by its feedback
+-- the rule of a chart in edition 1 (RULES 5.7), by its feedback
 unfoldable pub okOne : Set → Bool → Set → ℕ → Move → Bool
 okOne F false o s noMove = true
 okOne F false o s (takes t) = false

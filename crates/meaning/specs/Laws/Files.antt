@@ -1,8 +1,7 @@
--- Demand 2 of files, as the public calls answer them. In this order: a signal outside the interface changes nothing, in
--- a step (`step-outside`, `places-outside`) or in a run (`run-outside`, `carried-outside`); the next configuration is
--- valid again (`step-valid`); a run has exactly a row for each input (`run-rows`), each configuration in it is valid
--- (`run-valid`), each row is a step from where the row before it ended (`run-row`); what is carried (`run-given` to
--- `run-last`). What is inactive is in Activity.
+-- Steps and runs of files, as the public calls answer them. In this order: a signal outside the interface changes nothing, in a step (`step-outside`,
+-- `places-outside`) or in a run (`run-outside`, `carried-outside`); the next configuration is valid again (`step-valid`); a run has exactly a row for
+-- each input (`run-rows`), each configuration in it is valid (`run-valid`), each row is a step from where the row before it ended (`run-row`); what
+-- is carried (`run-given` to `run-last`). What is inactive is in Activity.
 use mathlib.Core.Path.{_≡_, refl, sym, _∙_, ap}
 use mathlib.Core.Bool.{Bool, true, false, cond}
 use mathlib.Core.List.{List, [], _∷_, _++_, map}

@@ -1,6 +1,7 @@
--- Laws of the test of a guard, in both editions. In this order: what the lowest signal of a set is (`lowest-in`, `lowest-first`); a guard is met exactly
--- if all needed signals and no barred one are there (`guard-is`, `met-is`); a guard that is met is met between wider bounds (`met-wider`), and looks at its own signals alone (`met-cut`); the same of a chart that nothing
--- triggers (`quiet-wider`, `quiet-cut`), and that this is what it says (`quiet-out`, `quiet-in`).
+-- Laws of the test of a guard, in both editions. In this order: what the lowest signal of a set is (`lowest-in`, `lowest-first`); a guard is met
+-- exactly if all needed signals and no barred one are there (`guard-is`, `met-is`); a guard that is met is met between wider bounds (`met-wider`),
+-- and looks at its own signals alone (`met-cut`); the same of a chart that nothing triggers (`quiet-wider`, `quiet-cut`), and that this is what it
+-- says (`quiet-out`, `quiet-in`).
 use mathlib.Core.Path.{_≡_, refl, sym, _∙_, ap, ap₂}
 use mathlib.Core.Bool.{Bool, true, false, _&&_, not, cond, true≢false, false≢true}
 use mathlib.Core.List.{List, [], _∷_, List·Memᴰ, List·Memᴰ·head, List·Memᴰ·tail, List·Memᴰ·cases-cons, List·Memᴰ·not-nil}
@@ -106,7 +107,7 @@ quiet-cut (t ∷ ts) s I i k w e =
     (met-cut t I i k (sets (t .needed ∷ t .barred ∷ guards ts ∷ I ∷ []) (A ∪ₑ B ∪ₑ C ⊑ D ∷ []) (A ∪ₑ B ⊑ D) tt w) e)
     (quiet-cut ts s I i k (sets (t .needed ∷ t .barred ∷ guards ts ∷ I ∷ []) (A ∪ₑ B ∪ₑ C ⊑ D ∷ []) (C ⊑ D) tt w) e)
 
--- nothing triggers a chart exactly if no transition from its state has its guard met
+-- nothing triggers a chart exactly if, of the transitions from its state, none has a guard that is met (RULES 5.7)
 pub quiet-out : (ts : List Transition) (s : ℕ) (i j : Set) → untriggered ts s i j ≡ true → (t : Transition) → List·Memᴰ t ts → t .from ≡ s
     → met? t i j ≡ false
 unfolding untriggered

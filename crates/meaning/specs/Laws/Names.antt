@@ -1,4 +1,4 @@
--- Rule 10: every node but the last is named exactly once. So each node has one place in the whole.
+-- Test 10 (RULES 3.2): each node has one name, except the last, which has none. So each node has one place in the whole.
 use mathlib.Core.Path.{_≡_, refl, sym, _∙_, ap, ap₂}
 use mathlib.Core.Bool.{Bool, true, false, _&&_, not, cond, true≢false, false≢true}
 use mathlib.Core.Option.{Option, none, some}
@@ -49,7 +49,7 @@ find-some (suc n) p i e = go (p n) refl e (λ h. find-some n p i h)
 
 -- ── naming ──
 module _ (F : File) where
-  -- rule 10, as sums say it
+  -- test 10, as sums say it
   pub record Rule10 : Type 0 where
     pub once : (c : ℕ) → c < F .charts → held F c ≡ 1
     pub named-once : (j : ℕ) → suc j < F .nodes → named F j ≡ 1

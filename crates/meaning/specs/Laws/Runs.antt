@@ -1,4 +1,4 @@
--- Laws of the run (document 01, "Run."), in this order: what 7 tests (`body-leads`, `file-leads`); each configuration is valid again
+-- Laws of the run (RULES 6), in this order: what 7 tests (`body-leads`, `file-leads`); each configuration is valid again
 -- (`valid-after`); a row's length; no row is ever missing (`rows-all`); row k is the step from where the k inputs before it lead (`row-at`); what is
 -- carried (`carried-given` to `carried-last`). Of the bytes that a run leaves, and of the set that it returns, they are in Files.
 use mathlib.Core.Path.{_≡_, refl, ap, _∙_}

@@ -1,5 +1,5 @@
--- The thirteen rows of document 01, "Charts to hold it against": seventeen answers over the bytes of chart files, as one table and one claim
--- (`thirteen`). Then the same charts in edition 2 (document 02, No. 7), and the places of a step in which a chart stays.
+-- Thirteen small charts (EXAMPLES 2, 3): seventeen answers over the bytes of chart files, as one table and one claim (`thirteen`). Then the same
+-- charts in edition 2 (EXAMPLES 4), and the places of a step in which a chart stays.
 use mathlib.Core.Path.{_≡_, refl}
 use mathlib.Core.Bool.{Bool, true, false}
 use mathlib.Core.List.{List, [], _∷_, _++_}
@@ -44,7 +44,7 @@ joined : {A : Type 0} → (A → List ℕ) → List A → List ℕ
 joined f [] = []
 joined f (x ∷ xs) = f x ++ joined f xs
 
--- the transitions of all charts, those of chart 0 first
+-- the transitions of all charts, chart by chart
 drawnLines : List Drawn → List Transition
 drawnLines [] = []
 drawnLines (d ∷ ds) = d .lines ++ drawnLines ds
@@ -195,12 +195,12 @@ pub thirteen : answers 1 ≡ table
 unfolding answers table single le bytes trailerOf headOf transitionOf slaveOf nodeOf trailerBytes headBytes transitionBytes slaveBytes nodeBytes headAt transitionAt slaveAt nodeAt startOf from transitionsOf anyUpTo tally same nth pick lastPlace actionOf after lowestFrom guard met? untriggered guards inFaceChart inFace inFaces out outs okChart meets ok oks permitted upd moves nexts placeOf placesFrom upto outcomeOf outcome search outcomes eqList agree answer gather build treeOf Has HasS trailer bodyOf shapeOf chartOf fileAt fileOf firstOf edition? counts? distance? nonzero zeros? chart? charts? ends? leaving transitions? rising slave? slaves? nodeOfKind? nodes? names named held naming? inside? fileTests refusalOf configTests stepRefusal stepIn stepOf
 thirteen = refl
 
--- the same charts in edition 2, where an untriggered part may stay
+-- the same charts in edition 2, where a chart may stay (RULES 5.7)
 pub table₂ : List Answer
 unfolding gives
 table₂ =
     gives (1 ∷ []) (0 ∷ []) false  -- L1: it could stay, too
-    ∷ refused 23  -- L2: "stays refused on an empty input"
+    ∷ refused 23  -- L2: its transition keeps it from staying (RULES 5.7)
     ∷ gives (0 ∷ []) [] true
     ∷ gives (0 ∷ []) [] true  -- L3
     ∷ gives (1 ∷ 1 ∷ []) (1 ∷ 2 ∷ []) true  -- P1

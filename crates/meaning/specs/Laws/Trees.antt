@@ -1,5 +1,5 @@
 -- The tree of a file. In this order: the tree of a node from those of lower nodes, by its kind; how charts stand in their nearest slaves (Placed);
--- every chart stands in the whole (`all-there`); rule 11.
+-- every chart stands in the whole (`all-there`); test 11.
 use mathlib.Core.Path.{_≡_, refl, sym, _∙_, ap}
 use mathlib.Core.Bool.{Bool, true, false, _||_, cond, false≢true}
 use mathlib.Core.Option.{Option, some}
@@ -13,7 +13,7 @@ use Rattle.meaning.specs.File.{Has, HasS}
 use Rattle.meaning.specs.Laws.Above.{Above, AboveS}
 
 module _ (F : File) where
-  -- rules 9 and 10, the part on order
+  -- tests 9 and 10, the part on order
   pub record Ordered : Type 0 where
     pub lower₁ : (j : ℕ) → j < F .nodes → F .kind j ≡ 1 → (F .a j < j) × (F .b j < j)
     pub lower₂ : (j : ℕ) → j < F .nodes → F .kind j ≡ 2 → F .a j < j
@@ -140,7 +140,7 @@ module _ (F : File) (w : Ordered F) (jn : Joined F) where
       climb (F .nodes) (m .0) c last e (omega arith) (m .1)
       (rw (tree₀ F w (m .0) (m .1) (m .2), m .3) (whole-own c (gather (F .master) (λ i. treeOf F (F .node i)) c (F .slaves))))
 
--- ── rule 11 ──
+-- ── test 11 ──
 abbrev pub Rule11 : File → Type 0
 Rule11 F = (i c : ℕ) → i < F .slaves → Has (treeOf F (F .node i)) c ≡ true → F .master i < c
 

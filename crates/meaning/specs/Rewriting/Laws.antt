@@ -1,6 +1,6 @@
--- Laws of unions as a loop takes them, and that each set is in its union (`unionUpTo`); and of the rewriting's refusals, in this order: what 42 gives of
--- the list of a chart (`list-most`); that no sum of such lists passes the limit in all (`sum-most`); so that a test of the sum behind 42 changes no
--- first refusal, of the list (`sum-untested`) or of the call (`refusal-same`).
+-- Laws of unions as a loop takes them, and that each set is in its union (`unionUpTo`); and of the rewriting's refusals, in this order: what 42 gives
+-- of the list of a chart (`list-most`); that no sum of such lists passes the limit of all charts (`sum-most`); so that a test of the sum behind 42
+-- changes no first refusal, of the list (`sum-untested`) or of the call (`refusal-same`).
 use mathlib.Core.Path.{_≡_, refl, sym, _∙_, ap, ap₂}
 use mathlib.Core.Bool.{false}
 use mathlib.Core.List.{List, [], _∷_, _++_, append-assoc}
@@ -68,7 +68,7 @@ unfolding fileOf fileAt shapeOf
 charts-most f e = counted (trailer f) (passed f e .counts) .charts
 
 module _ (number : ℕ) where
-  -- the list with "over 512 in all" in it, as document 01 had it under the number 43
+  -- the list with a test for more than 512 transitions of all charts, once number 43 (RULES 3.5)
   abbrev pub testsWithSum : File → List Test
   testsWithSum F =
       record { number = noFreeSignal; applies = noFree? F }
