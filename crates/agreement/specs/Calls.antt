@@ -232,7 +232,7 @@ module _ (f : List ℕ) (ab : AllBytes f) (room : ℕ) (ok : rewriteRefusal f ro
     same-carried left = answer-same config _ _ (ap (rowsTest (length inputs) left) (r .charts)) (carriedOf (fileOf f) config carried inputs)
         (carriedOf (fileOf f′) config carried inputs) (λ n. ∅) (λ v. carried-is (fileOf f) (rg .ready) (fileOf f′) r inputs config carried v)
 
--- the call of a slave is the lowest number that is left for it, and no other number is
+-- the call signal of a slave is the lowest number that is left for it, and no other number is
 pub call-exactly : (f : List ℕ) (room : ℕ) → rewriteRefusal f room ≡ 0 → (i : ℕ) → i < fileOf f .slaves
     → (m : ℕ) → (m ≡ call (fileOf f) i) ↔ LowestLeft (fileOf f) i m
 unfolding noFree?

@@ -1,4 +1,4 @@
--- A rewritten chart: where its transitions stand, how many they are, its interface; a chart whose sets have no call.
+-- A rewritten chart: where its transitions stand, how many they are, its interface; a chart whose sets have no call signal.
 use mathlib.Core.Path.{_≡_, refl, sym, _∙_, ap, subst}
 use mathlib.Core.Bool.{false, cond}
 use mathlib.Core.Option.{Option, none, some}
@@ -93,7 +93,7 @@ module _ (sig : ℕ → ℕ) where
   guards-own κ T (t ∷ ts) r h = ap (λ z. ((t .needed ∪ callIn sig κ) ∪ t .barred) ∪ z) (guards-own κ T ts r h)
       ∙ sets (t .needed ∷ t .barred ∷ guards ts ∷ callIn sig κ ∷ []) [] (((A ∪ₑ D) ∪ₑ B) ∪ₑ (Cₑ ∪ₑ D) ≐ ((A ∪ₑ B) ∪ₑ Cₑ) ∪ₑ D) tt
 
-  -- the interface has the nearest call besides
+  -- the interface has the call signal of the nearest slave besides
   pub face-is : (κ : Option ℕ) (T : Transition → Set) (C : Chart) → zero < C .states
       → inFaceChart (chartWith sig κ T C) ≡ inFaceChart C ∪ callIn sig κ
   unfolding inFaceChart chartWith
@@ -105,7 +105,7 @@ module _ (sig : ℕ → ℕ) where
       go (suc m) l = ap (λ z. z ∪ C .extra) (guards-own κ T (C .transitions) (idles sig κ zero (suc m)) (guards-idles κ zero m))
           ∙ sets (guards (C .transitions) ∷ callIn sig κ ∷ C .extra ∷ []) [] ((A ∪ₑ B) ∪ₑ Cₑ ≐ (A ∪ₑ Cₑ) ∪ₑ B) tt
 
-  -- transitions, and a chart, whose sets have no call
+  -- transitions, and a chart, whose sets have no call signal
   abbrev pub OldTs : List Transition → Type 0
   OldTs = Every (λ t. OldMove sig (takes t))
 

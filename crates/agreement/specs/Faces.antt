@@ -1,4 +1,4 @@
--- The rewriting keeps both interfaces of the whole. (Inside, a rewritten part has the nearest call besides: `face-t` of Same.)
+-- The rewriting keeps both interfaces of the whole. (Inside, a rewritten part has the call signal of the nearest slave besides: `face-t` of Same.)
 use mathlib.Core.Path.{_≡_, refl, _∙_, ap, ap₂, subst₂}
 use mathlib.Core.Option.{Option, none, some}
 use mathlib.Core.List.{List, [], _∷_, _++_, map}
@@ -20,7 +20,7 @@ use Rattle.agreement.specs.Step.{Ready, Rewritten, whole-is, fits, chart
 
 -- ── actions ──
 
--- what the calls add to the actions
+-- what the call signals add to the actions
 added : (Transition → Set) → List Transition → Set
 added T [] = ∅
 added T (t ∷ ts) = T t ∪ added T ts

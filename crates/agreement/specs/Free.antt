@@ -118,7 +118,7 @@ module _ (F : File) where
       go (no a) (yes b) = absurd (let u = call-lt j i b in omega arith)
       go (no a) (no b) = omega arith
 
-  -- where 40 does not apply, a call is a signal
+  -- where 40 does not apply, a call signal is a signal
   pub call-small : (i : ℕ) → i < length (free F) → call F i < 64
   unfolding call free
   call-small i l = lacking-is (used F) 64 i (64 + i) l .0
@@ -157,7 +157,7 @@ module _ (F : File) where
       go j m true e = inl refl
       go j m false e = inr (call-lowest i l j m e)
 
-  -- a number is the call of slave i exactly if it is the lowest that is left
+  -- a number is the call signal of slave i exactly if it is the lowest that is left
   pub call-is : (i : ℕ) → i < length (free F) → (m : ℕ) → (m ≡ call F i) ↔ LowestLeft F i m
   call-is i l m = (λ e. rw e (call-left i l), λ h. go h (decLt m (call F i)) (decLt (call F i) m))
     where
@@ -177,7 +177,7 @@ module _ (F : File) where
         go (yes a) = lacking-is (used F) 64 i (64 + i) a .1
         go (no a) = rw (List·getD-eq-default (lacking (used F) 64) (64 + i) {n = i} (omega arith)) (bit-high 64 (used F) (64 + i) small (omega arith))
 
-    -- a part of what is used has no call in it
+    -- a part of what is used has no call signal in it
     pub call-old : (s : Set) → s ∖ used F ≡ ∅ → Old (call F) s
     call-old s h i = sets (single (call F i) ∷ used F ∷ s ∷ []) (A ⊥ₑ B ∷ C ⊑ B ∷ []) (A ⊥ₑ C) tt (single-apart (used F) (call F i) (call-unused i)) h
 

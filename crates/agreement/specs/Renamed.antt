@@ -27,7 +27,7 @@ count-less F c i k l e =
     omega arith
 
 module _ (F : File) where
-  -- the calls over its slaves are the calls by the records
+  -- the call signals over its slaves are those by the records
   pub calls-of : (c : ℕ) → calls (call F) (slavesOf F c) ≡ callsOf F c
   unfolding callsOf unionUpTo gather calls
   calls-of c = up (F .slaves)

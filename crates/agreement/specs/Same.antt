@@ -19,11 +19,11 @@ use Rattle.agreement.specs.Tree.{calls, on, tree, nest, touch, moveR}
 -- ── sets without calls ──
 
 module _ (sig : ℕ → ℕ) where
-  -- a set of the file: no call is in it
+  -- a set of the file: no call signal is in it
   abbrev pub Old : Set → Type 0
   Old s = (i : ℕ) → single (sig i) ∩ s ≡ ∅
 
-  -- a move of edition 1 whose sets have no call
+  -- a move of edition 1 whose sets have no call signal
   abbrev pub OldMove : Move → Type 0
   OldMove noMove = Unit {0}
   OldMove (takes t) = Old (t .needed) × Old (t .barred) × Old (t .action)
@@ -61,7 +61,7 @@ module _ (sig : ℕ → ℕ) where
   calls-old nil b o = sets (b ∷ []) [] (∅ₑ ∩ₑ A ≐ ∅ₑ) tt
   calls-old (snoc ss i t) b o = sets (calls sig ss ∷ single (sig i) ∷ b ∷ []) (A ⊥ₑ C ∷ B ⊥ₑ C ∷ []) (A ∪ₑ B ⊥ₑ C) tt (calls-old ss b o) (o i)
 
-  -- what is on is the nearest call, or nothing
+  -- what is on is the call signal of the nearest slave, or nothing
   pub on-in : (κ : Option ℕ) (a : Bool) → on sig κ a ∖ callIn sig κ ≡ ∅
   unfolding on
   on-in κ true = sets (callIn sig κ ∷ []) [] (A ⊑ A) tt
@@ -75,7 +75,7 @@ module _ (sig : ℕ → ℕ) where
   unfolding on callIn
   on-some i b = refl
 
-  -- two calls have no signal in common
+  -- two call signals differ
   module _ (inj : (i j : ℕ) → sig i ≡ sig j → i ≡ j) where
     pub sig-apart : (i j : ℕ) → (j ≡ i → ⊥) → single (sig i) ∩ single (sig j) ≡ ∅
     unfolding same
@@ -86,7 +86,7 @@ module _ (sig : ℕ → ℕ) where
     sig-call none i r = sets (single (sig i) ∷ []) [] (A ∩ₑ ∅ₑ ≐ ∅ₑ) tt
     sig-call (some j) i r = sig-apart i j r
 
--- the calls that a transition makes are its chart's slaves'
+-- the call signals that a transition outputs are those of its chart's slaves
 module _ (sig state : ℕ → ℕ) where
   pub touch-calls : (ss : Slaves) (t : Transition) → touch sig state ss t ∖ calls sig ss ≡ ∅
   unfolding touch calls
@@ -186,7 +186,7 @@ In : ℕ → Slaves → Bool
 In j nil = false
 In j (snoc ss i t) = In j ss || same j i
 
--- the calls that a move makes
+-- the call signals that a move outputs
 made : (sig state : ℕ → ℕ) → Slaves → Move → Set
 made sig state ss noMove = ∅
 made sig state ss (takes t) = touch sig state ss t
@@ -228,7 +228,7 @@ module _ (sig state : ℕ → ℕ) (inj : (i j : ℕ) → sig i ≡ sig j → i 
   mutual
     unfolding inFace tree calls callIn
 
-    -- the rewritten tree has the nearest call besides
+    -- the rewritten tree has the call signal of the nearest slave besides
     pub face-t : (t : Tree) (κ : Option ℕ) → RwT t κ → inFace E′ (tree sig fbs t) ≡ inFace E t ∪ callIn sig κ
     face-t (leaf c) κ r = r .faced
     face-t (comp a b x) κ r = ap₂ _∪_ (face-t a κ (r .0)) (face-t b κ (r .1))
@@ -373,7 +373,7 @@ module _ (sig state : ℕ → ℕ) (inj : (i j : ℕ) → sig i ≡ sig j → i 
   made-call ss κ r m = sets (made sig state ss m ∷ calls sig ss ∷ callIn sig κ ∷ []) (A ⊑ B ∷ B ⊥ₑ C ∷ []) (A ⊥ₑ C) tt (made-calls ss m)
       (calls-call ss κ r)
 
-  -- a move makes a slave's call exactly if it touches the slave's state
+  -- a move outputs a slave's call signal exactly if it touches the slave's state
   hits : Transition → ℕ → Bool
   hits t j = same (t .from) (state j) || same (t .to) (state j)
 
@@ -402,7 +402,7 @@ module _ (sig state : ℕ → ℕ) (inj : (i j : ℕ) → sig i ≡ sig j → i 
       go false e r = other-call (hits t i) (sig-apart sig inj j i (λ q. same→≢ j i e (sym q))) ∙ r
           ∙ ap (λ n. cond (n && hits t j) (single (sig j)) ∅) (sym (or-false (In j ss)))
 
-  -- a permitted move makes a slave's call exactly if the slave is active
+  -- a permitted move outputs a slave's call signal exactly if the slave is active
   made-at : (ss : Slaves) (F : Set) (a : Bool) (o : Set) (s : ℕ) (m : Move) → okOne F a o s m ≡ true → (j : ℕ) → In j ss ≡ true
       → single (sig j) ∩ made sig state ss m ≡ cond (a && meets s m (state j)) (single (sig j)) ∅
   unfolding okOne made meets after hits
@@ -455,7 +455,7 @@ module _ (sig state : ℕ → ℕ) (inj : (i j : ℕ) → sig i ≡ sig j → i 
           (on-in sig κ a) (call-old sig κ (zone c ss o) (zone-old c ss κ o at oo)) (call-old sig κ (inFaceChart (E c)) (at .old-face))
           (made-old ss (M c) (inFaceChart (E c)) (at .old-face)) (made-call ss κ r (M c))
 
-  -- what a part of a composition is offered
+  -- what a part of a composed node is offered
   offer : (o u u′ x i i′ : Set) (κ : Option ℕ) (a : Bool) → u′ ≡ u → i′ ≡ i ∪ callIn sig κ → Old sig o → Old sig u → Old sig i
       → ((o ∪ on sig κ a) ∪ (u′ ∩ x)) ∩ i′ ≡ ((o ∪ (u ∩ x)) ∩ i) ∪ on sig κ a
   offer o u u′ x i i′ κ a p q oo ou oi = ap₂ (λ u i. ((o ∪ on sig κ a) ∪ (u ∩ x)) ∩ i) p q
@@ -466,7 +466,7 @@ module _ (sig state : ℕ → ℕ) (inj : (i j : ℕ) → sig i ≡ sig j → i 
   mutual
     unfolding ok tree parts In inFace out touch
 
-    -- offered the nearest call exactly if it is active, the rewritten tree permits what the tree does
+    -- offered the call signal of its nearest slave exactly if it is active, the rewritten tree permits what the tree does
     pub ok-t : (t : Tree) (κ : Option ℕ) (a : Bool) (o : Set) → RwT t κ → Old sig o → Awake sig κ a
         → okR (tree sig fbs t) (o ∪ on sig κ a) ≡ ok E state cfg M t a o
     ok-t (leaf c) κ a o r oo w = ok-one (E′ c) (r .one′) true _ (cfg c) (M′ c)
@@ -509,7 +509,7 @@ module _ (sig state : ℕ → ℕ) (inj : (i j : ℕ) → sig i ≡ sig j → i 
         Z : Set
         Z = ((o ∪ on sig κ a) ∖ calls sig ss) ∪ (out M′ (nest sig fbs ss c (fbs c ∪ calls sig ss)) ∩ (fbs c ∪ calls sig ss))
 
-    -- z: what is offered before the cut; T: the calls made; f: which states are active
+    -- z: what is offered before the cut; T: the call signals that are output; f: which states are active
     parts-ok : (ss : Slaves) (κ : Option ℕ) (a : Bool) (z zo T : Set) (f : ℕ → Bool) → RwS ss κ → Old sig zo
         → z ≡ (zo ∪ on sig κ a) ∪ T → ((b : Set) → Old sig b → T ∩ b ≡ ∅)
         → ((j : ℕ) → In j ss ≡ true → single (sig j) ∩ T ≡ cond (f (state j)) (single (sig j)) ∅) → parts ss z ≡ oks E state cfg M ss f zo

@@ -1,4 +1,4 @@
--- The rewriting over a tree: what a decomposed chart becomes, the calls that its transitions make, what a move becomes. That the nodes of a
+-- The rewriting over a tree: what a decomposed chart becomes, the call signals that its transitions output, what a move becomes. That the nodes of a
 -- rewritten file make this tree is in Renamed and Laid.
 use mathlib.Core.Bool.{Bool, _||_, cond}
 use mathlib.Core.Option.{Option, none, some}
@@ -10,12 +10,12 @@ use Rattle.meaning.specs.Rewriting.{callIn, called, idle}
 
 -- sig: the call signal of each slave; state: its state
 module _ (sig : ℕ → ℕ) where
-  -- the calls of the slaves
+  -- the call signals of the slaves
   unfoldable pub calls : Slaves → Set
   calls nil = ∅
   calls (snoc ss i t) = calls ss ∪ single (sig i)
 
-  -- the call of the nearest slave, if that slave is active
+  -- the call signal of the nearest slave, if that slave is active
   unfoldable pub on : Option ℕ → Bool → Set
   on κ a = cond a (callIn sig κ) ∅
 
@@ -31,7 +31,7 @@ module _ (sig : ℕ → ℕ) where
       nest nil c x = leaf c
       nest (snoc ss i t) c x = comp (nest ss c x) (tree t) x
 
-  -- the calls that a master's transition makes
+  -- the call signals that a master's transition outputs
   unfoldable pub touch : (ℕ → ℕ) → Slaves → Transition → Set
   touch state nil t = ∅
   touch state (snoc ss i u) t = touch state ss t ∪ cond (same (t .from) (state i) || same (t .to) (state i)) (single (sig i)) ∅

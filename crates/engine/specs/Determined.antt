@@ -1,5 +1,5 @@
--- Any two results that a public call's contract allows are equal, and so are the bytes of buffers. Each theorem here takes the contract's clauses twice, word for
--- word, and says so.
+-- Any two results that a public call's contract allows are equal, and so are the bytes of buffers. Each theorem here takes the contract's clauses
+-- twice, word for word, and says so.
 use mathlib.Core.Path.{_≡_, sym, _∙_}
 use mathlib.Core.List.{List}
 use Prim.Native.Nat.{ℕ}

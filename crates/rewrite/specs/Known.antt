@@ -29,15 +29,15 @@ pub record Calling (used slaves : ℕ) (r : Calls) : Type 0 where
   pub enough : r .enough ≡ not (ltb (length (lacking used mostSignals)) slaves)
   pub sets : r .enough ≡ true → (i : ℕ) → i < slaves → getD (r .sets) i 0 ≡ single (getD (lacking used mostSignals) i (mostSignals + i))
 
--- of each slave the set of its call alone
+-- of each slave the set of its call signal alone
 abbrev pub CallsIn : File → List ℕ → Type 0
 CallsIn F l = (i : ℕ) → i < F .slaves → getD l i 0 ≡ single (call F i)
 
--- chart c takes the call κ
+-- κ is the set of the call signal of chart c's nearest slave
 abbrev pub Takes : File → ℕ → Set → Type 0
 Takes F c κ = κ ≡ callIn (call F) (nearestSlave F c)
 
--- of each chart the call that it takes; outside all slaves the empty set
+-- of each chart the call signal of its nearest slave; outside all slaves the empty set
 abbrev pub InnerIn : File → List ℕ → Type 0
 InnerIn F l = (c : ℕ) → c < F .charts → Takes F c (getD l c 0)
 

@@ -15,11 +15,11 @@ use Rattle.meaning.specs.File.{File}
 use Rattle.meaning.specs.Rewriting.{isOf, count, callsOf, newName, inTurn}
 pub mod Laws
 
--- one for each of `states` in a slave, where the chart takes the call κ; outside all slaves, where κ is empty, none
+-- one for each of `states` in a slave, where the chart has the call signal κ; outside all slaves, where κ is empty, none
 unfoldable pub idleCount : Set → ℕ → ℕ
 idleCount κ states = cond (same κ 0) 0 states
 
--- an own transition, with the calls that it adds
+-- an own transition, with the call signals that it also outputs
 unfoldable pub calledWith : Set → Set → Transition → Transition
 calledWith κ added t =
     record { from = t .from; to = t .to; needed = t .needed ∪ κ; barred = t .barred; action = t .action ∪ added }

@@ -74,7 +74,7 @@ pub fn used(n: Shape, body: &[u8]) -> u64
     used_by_charts(n, body) | used_by_nodes(n, body)
 }
 
-// Of each slave the set of its call alone, if there are enough free signals.
+// Of each slave the set of its call signal alone, if there are enough free signals.
 pub struct Calls {
     pub enough: bool,
     pub sets: [u64; 8],
@@ -105,7 +105,7 @@ pub fn given(slaves: usize, used: u64) -> Calls
     }
 }
 
-// The call of slave i; none for a number that is no slave's.
+// The call signal of slave i; none for a number that is no slave's.
 fn call_of(calls: &[u64; 8], slaves: usize, i: u8) -> u64
     requires { ⌜ slaves ≤ mostSlaves ⌝ }
     ensures { λ r. ⌜ r ≡ cond (ltb i slaves) (getD (now (calls .entry)) i 0) 0 ⌝ }
@@ -114,7 +114,7 @@ fn call_of(calls: &[u64; 8], slaves: usize, i: u8) -> u64
     if at < slaves { calls[at] } else { 0 }
 }
 
-// Of each chart the call that it takes, that of its nearest enclosing slave.
+// Of each chart the call signal of its nearest slave (RULES 9.3).
 pub fn inner(n: Shape, body: &[u8], calls: &[u64; 8]) -> [u64; 8]
     requires { ⌜ Checked n (now body) × CallsIn (fileAt n (now body)) (now calls) × Upward (fileAt n (now body)) ⌝ }
     ensures { λ r. ⌜ InnerIn (fileAt n (now (body .entry))) r ⌝ }

@@ -45,7 +45,7 @@ fn heads(n: Shape, body: &[u8], inner: &[u64; 8], out: &mut [u8], at: usize) -> 
     p
 }
 
-// The calls that a transition of chart c adds: of each slave of c whose state it leaves or enters.
+// The call signals that a transition of chart c also outputs: of each slave of c whose state it leaves or enters (RULES 9.3).
 fn calls_by(n: Shape, body: &[u8], calls: &[u64; 8], c: usize, t: Transition) -> u64
     requires { ⌜ Checked n (now body) × CallsIn (fileAt n (now body)) (now calls) ⌝ }
     ensures { λ r. ⌜ r ≡ callsBy (fileAt n (now (body .entry))) c t ⌝ }
@@ -63,7 +63,7 @@ fn calls_by(n: Shape, body: &[u8], calls: &[u64; 8], c: usize, t: Transition) ->
     all
 }
 
-// All calls of chart c.
+// The call signals of all slaves of chart c (RULES 9.4).
 fn calls_of(n: Shape, body: &[u8], calls: &[u64; 8], c: usize) -> u64
     requires { ⌜ Checked n (now body) × CallsIn (fileAt n (now body)) (now calls) ⌝ }
     ensures { λ r. ⌜ r ≡ callsOf (fileAt n (now (body .entry))) c ⌝ }

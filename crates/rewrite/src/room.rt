@@ -12,7 +12,7 @@ ghost use Rattle.rewrite.specs.Records.{idleCount};
 use layout::body::Shape;
 use layout::record::Head;
 
-// How many idle transitions there are for `states` of a chart that takes the call `inner`.
+// How many idle transitions there are for `states` of a chart with the call signal `inner`.
 pub fn idle_count(inner: u64, states: usize) -> usize
     ensures { λ r. ⌜ r ≡ idleCount inner states ⌝ }
 {

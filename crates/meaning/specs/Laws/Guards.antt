@@ -1,7 +1,7 @@
 -- Laws of the test of a guard, in both editions. In this order: what the lowest signal of a set is (`lowest-in`, `lowest-first`); a guard is met
--- exactly if all needed signals and no barred one are there (`guard-is`, `met-is`); a guard that is met is met between wider bounds (`met-wider`),
--- and looks at its own signals alone (`met-cut`); the same of a chart that nothing triggers (`quiet-wider`, `quiet-cut`), and that this is what it
--- says (`quiet-out`, `quiet-in`).
+-- exactly if no needed signal is missing and no barred one is there (`guard-is`, `met-is`); a guard that is met is met between wider bounds
+-- (`met-wider`), and looks at its own signals alone (`met-cut`); the same of a chart that nothing triggers (`quiet-wider`, `quiet-cut`), and that
+-- this is what it says (`quiet-out`, `quiet-in`).
 use mathlib.Core.Path.{_≡_, refl, sym, _∙_, ap, ap₂}
 use mathlib.Core.Bool.{Bool, true, false, _&&_, not, cond, true≢false, false≢true}
 use mathlib.Core.List.{List, [], _∷_, List·Memᴰ, List·Memᴰ·head, List·Memᴰ·tail, List·Memᴰ·cases-cons, List·Memᴰ·not-nil}

@@ -90,7 +90,7 @@ module _ (sig : ℕ → ℕ) where
   length-with none T C = places-none sig T C ∙ omega (arith, count-none (C .states))
   length-with (some i) T C = places sig i T C ∙ omega (arith, count-some i (C .states))
 
--- κ is the call that chart c takes
+-- κ is the call signal of the nearest slave of chart c
 module _ (F : File) (c : ℕ) (κ : Set) (is : κ ≡ callIn (call F) (nearestSlave F c)) where
   pub leaving-is : (s : ℕ) → s < F .chart c .states
       → leavingIn (rewrittenChart F c .transitions) s ≡ leavingIn (F .chart c .transitions) s + idleCount κ 1

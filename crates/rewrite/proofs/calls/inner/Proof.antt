@@ -1,5 +1,5 @@
--- `calls::inner` meets its contract. A chart takes the call of the slave that the node which holds it stands in. The loop's invariant: the charts
--- of the nodes passed have theirs. Assumes nothing.
+-- `calls::inner` meets its contract. A chart has the call signal of the slave that the node which holds it stands in. The loop's invariant: the
+-- charts of the nodes passed have theirs. Assumes nothing.
 use mathlib.Core.Path.{_≡_, refl, sym, ap, _∙_}
 use mathlib.Core.Bool.{cond}
 use mathlib.Core.List.{List}
@@ -27,12 +27,12 @@ use Rattle.rewrite.specs.Known.{Checked, CallsIn, InnerIn, Upward}
 use Rattle.rewrite.proofs.calls.inner.Statement.{statement}
 use Rattle.rewrite.proofs.calls.inner.Tie as tie
 
--- chart c's entry is the call of its nearest slave
+-- chart c's entry is the call signal of its nearest slave
 abbrev Has : File → List ℕ → ℕ → Type 0
 Has F l c = getD l c 0 ≡ callIn (call F) (kap F c)
 
 module _ (F : File) (s : Sound F) where
-  -- the call of the slave that node j stands in, by its number
+  -- the call signal of the slave that node j stands in, by its number
   call-is : (calls : List ℕ) → CallsIn F calls → F .slaves ≤ mostSlaves → (j i : ℕ) → i ≡ numberOf (enc F j)
       → cond (ltb i (F .slaves)) (getD calls i 0) 0 ≡ callIn (call F) (enc F j)
   unfolding numberOf callIn

@@ -1,4 +1,5 @@
--- `lay::calls_by` meets its contract. The loop's invariant: of the slaves passed the calls that the transition adds are joined. Assumes nothing.
+-- `lay::calls_by` meets its contract. The loop's invariant: of the slaves passed the call signals that the transition also outputs are joined.
+-- Assumes nothing.
 use mathlib.Core.Path.{_≡_, sym, ap, _∙_}
 use mathlib.Core.Bool.{Bool, _&&_, _||_, cond}
 use mathlib.Core.List.{List}
@@ -19,7 +20,7 @@ use Rattle.meaning.specs.Rewriting.Laws.{union-none, union-taken, union-left}
 use Rattle.rewrite.proofs.lay.calls_by.Statement.{statement}
 use Rattle.rewrite.proofs.lay.calls_by.Tie as tie
 
--- the call of slave i, if t adds it
+-- the call signal of slave i, if t outputs it
 abbrev part : File → ℕ → Transition → ℕ → Set
 part F c t i = cond (isOf F c i && touches F t i) (single (call F i)) ∅
 

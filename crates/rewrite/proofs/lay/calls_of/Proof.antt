@@ -1,4 +1,4 @@
--- `lay::calls_of` meets its contract. The loop's invariant: of the slaves passed the chart's calls are joined. Assumes nothing.
+-- `lay::calls_of` meets its contract. The loop's invariant: of the slaves passed the chart's call signals are joined. Assumes nothing.
 use mathlib.Core.Path.{_≡_, sym, ap, _∙_}
 use mathlib.Core.Bool.{Bool, cond}
 use mathlib.Core.Logic.{⊎-elim}
@@ -14,7 +14,7 @@ use Rattle.rewrite.proofs.Laws.{is-of, is-not}
 use Rattle.rewrite.proofs.lay.calls_of.Statement.{statement}
 use Rattle.rewrite.proofs.lay.calls_of.Tie as tie
 
--- the call of slave i, if it is one of c
+-- the call signal of slave i, if it is one of c
 abbrev part : File → ℕ → ℕ → Set
 part F c i = cond (isOf F c i) (single (call F i)) ∅
 
