@@ -4,66 +4,70 @@ use std::error::Error;
 use std::fmt::{self, Display, Formatter};
 use std::num::NonZeroU8;
 
-/// The refusal of a call. It prints as its number and words for it.
+/// The refusal of a call. It prints as its number and why the call was refused.
 #[derive(Clone, Copy, PartialEq, Eq, PartialOrd, Ord, Hash, Debug)]
 pub struct Refusal(NonZeroU8);
 
-/// The refusals of docs/RULES.md, section 3, without the day program's, which no call gives.
+/// Why a call is refused, by number (RULES 3). The day program's numbers are not here: no call gives them.
 const WORDS: [(u8, &str); 22] = [
-    (1, "fewer than 12 bytes"),
-    (2, "edition not 1 or 2"),
+    (1, "fewer than 12 bytes, so there is no trailer"),
+    (2, "the edition is neither 1 nor 2"),
     (
         3,
-        "charts not 1 to 8, slaves over 7, nodes not 1 to 64, transitions over 512",
+        "a count in the trailer is out of range: 1 to 8 charts, up to 7 slaves, 1 to 64 \
+         nodes, up to 512 transitions",
     ),
     (
         4,
-        "distance is not the body size made by the counts, or exceeds length less 12",
+        "the distance in the trailer is not the size of the body, or the file is too short for it",
     ),
-    (5, "a byte laid down as zero byte isn't zero"),
+    (5, "a byte that has to be zero is not"),
     (
         6,
-        "states not 1 to 16, initial not below states, over 64 transitions in a chart, \
-         or the charts' numbers don't sum to the trailer's",
+        "a chart needs 1 to 16 states, an initial state among them and at most 64 \
+         transitions, and all transitions have to add up to the trailer's number",
     ),
     (
         7,
-        "from or to not below the chart's states, or over 8 transitions from one state",
+        "a transition leaves or enters a state that its chart does not have, or more than 8 \
+         leave one state",
     ),
     (
         8,
-        "slave's chart, state or node out of range, \
-         or slaves not strictly rising by chart, then state",
+        "a slave names a chart, a state or a node that does not exist, or the slaves are not \
+         in order of chart and state",
     ),
     (
         9,
-        "kind over 2, kind 0 with a no chart, kinds 1 and 2 naming a node that isn't lower \
-         than their own, or an unused field of a node not zero",
+        "a node has a kind above 2, holds a chart that does not exist, names a node that is \
+         not lower, or fills a field that its kind does not use",
     ),
     (
         10,
-        "a chart not held by exactly one node; a node but the last not named exactly once by \
-         nodes and slaves together; the last named; a slave's node not lower than the node \
-         holding its master",
+        "the nodes do not make one tree: every chart is in one node, every node but the last \
+         has one name, and a slave's node is lower than its master's",
     ),
     (
         11,
-        "a chart inside a slave not numbered above that slave's master",
+        "a chart inside a slave has a number that is not above that of the slave's master",
     ),
-    (20, "configuration length is not the number of charts"),
-    (21, "a state in it not below its chart's states"),
+    (20, "there is not exactly one state for each chart"),
+    (21, "a state is not one of its chart's"),
+    (22, "the buffer is shorter than a configuration"),
+    (23, "no choice is permitted"),
+    (27, "run: the buffer is shorter than a row for each input"),
+    (40, "rewriting: there are fewer free signals than slaves"),
     (
-        22,
-        "buffer for a configuration shorter than the number of charts",
+        41,
+        "rewriting: more than 8 transitions would leave one state",
     ),
-    (23, "no permitted step"),
-    (27, "run: buffer shorter than one row per input"),
-    (40, "rewriting: fewer free signal numbers than slaves"),
-    (41, "rewriting: a state would have over 8 transitions out"),
-    (42, "rewriting: a chart would have over 64"),
-    (44, "rewriting: over 64 nodes"),
-    (45, "rewriting: buffer shorter than the result"),
-    (46, "rewriting: the file is edition 2"),
+    (42, "rewriting: a chart would have more than 64 transitions"),
+    (44, "rewriting: there would be more than 64 nodes"),
+    (45, "rewriting: the buffer is shorter than the result"),
+    (
+        46,
+        "rewriting: edition 2, in which charts may stay; only edition 1 can be rewritten",
+    ),
 ];
 
 impl Refusal {
@@ -85,7 +89,7 @@ impl Refusal {
         self.0.get()
     }
 
-    /// What it means, in words.
+    /// Why the call was refused.
     pub fn words(self) -> &'static str {
         let found = WORDS.iter().find(|(number, _)| *number == self.number());
         found.map_or("no refusal of a call", |(_, words)| words)

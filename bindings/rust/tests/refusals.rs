@@ -108,14 +108,20 @@ fn first_and_rewriting() {
 }
 
 #[test]
-fn a_refusal_prints_its_number_and_the_documents_words() {
+fn a_refusal_prints_its_number_and_why() {
     let refusal = check(&[]).unwrap_err();
-    assert_eq!(refusal.to_string(), "refused 1: fewer than 12 bytes");
+    assert_eq!(
+        refusal.to_string(),
+        "refused 1: fewer than 12 bytes, so there is no trailer"
+    );
     let refusal: Box<dyn std::error::Error> = Box::new(Refusal::of(23).unwrap());
-    assert_eq!(refusal.to_string(), "refused 23: no permitted step");
+    assert_eq!(refusal.to_string(), "refused 23: no choice is permitted");
     let words = |number| Refusal::of(number).unwrap().words();
-    assert_eq!(words(2), "edition not 1 or 2");
-    assert_eq!(words(46), "rewriting: the file is edition 2");
+    assert_eq!(words(2), "the edition is neither 1 nor 2");
+    assert_eq!(
+        words(46),
+        "rewriting: edition 2, in which charts may stay; only edition 1 can be rewritten"
+    );
     assert_eq!(Refusal::of(0), None);
     let unknown = Refusal::of(99).unwrap().words();
     for known in (1..=11).chain(20..=23).chain([27]).chain(40..=46) {

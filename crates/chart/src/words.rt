@@ -13,76 +13,111 @@ pub fn complain(text: &[u8]) {
     io::write_all(STDERR_FILENO, text);
 }
 
-// Prints the line of a text that has k lines before it.
-fn say_line(text: &[u8], k: usize) {
-    let mut at: usize = 0;
-    let mut i: usize = 0;
-    while i < k {
-        let e = typed::end(text, at, b'\n');
-        if e == text.len() {
-            return;
-        }
-        at = e + 1;
-        i += 1;
+// Why a file is refused, and what was expected (RULES 3.2).
+fn say_file(refusal: u8) {
+    if refusal == limits::TOO_SHORT {
+        say(b"fewer than 12 bytes, so there is no trailer");
     }
-    let e = typed::end(text, at, b'\n');
-    say(&text[at..e]);
+    if refusal == limits::OTHER_EDITION {
+        say(b"the edition is neither 1 nor 2");
+    }
+    if refusal == limits::BAD_COUNTS {
+        say(
+            b"a count in the trailer is out of range: 1 to 8 charts, up to 7 slaves, 1 to 64 \
+              nodes, up to 512 transitions",
+        );
+    }
+    if refusal == limits::BAD_DISTANCE {
+        say(
+            b"the distance in the trailer is not the size of the body, or the file is too short \
+              for it",
+        );
+    }
+    if refusal == limits::NOT_ZERO {
+        say(b"a byte that has to be zero is not");
+    }
+    if refusal == limits::BAD_CHART {
+        say(
+            b"a chart needs 1 to 16 states, an initial state among them and at most 64 \
+              transitions, and all transitions have to add up to the trailer's number",
+        );
+    }
+    if refusal == limits::BAD_TRANSITION {
+        say(
+            b"a transition leaves or enters a state that its chart does not have, or more than 8 \
+              leave one state",
+        );
+    }
+    if refusal == limits::BAD_SLAVE {
+        say(
+            b"a slave names a chart, a state or a node that does not exist, or the slaves are not \
+              in order of chart and state",
+        );
+    }
+    if refusal == limits::BAD_NODE {
+        say(
+            b"a node has a kind above 2, holds a chart that does not exist, names a node that is \
+              not lower, or fills a field that its kind does not use",
+        );
+    }
+    if refusal == limits::BAD_NAMING {
+        say(
+            b"the nodes do not make one tree: every chart is in one node, every node but the last \
+              has one name, and a slave's node is lower than its master's",
+        );
+    }
+    if refusal == limits::BAD_INSIDE {
+        say(b"a chart inside a slave has a number that is not above that of the slave's master");
+    }
 }
 
-// Which line of the words a refusal has: 1 to 11, 20 to 23, 27, 40 to 42, 44 to 46.
-fn line_of(refusal: u8) -> u8 {
-    if refusal < limits::WRONG_LENGTH {
-        return refusal;
+// Why a configuration, a step or a run is refused (RULES 3.3).
+fn say_step(refusal: u8) {
+    if refusal == limits::WRONG_LENGTH {
+        say(b"there is not exactly one state for each chart");
     }
-    if refusal < limits::SHORT_ROWS {
-        return 12 + (refusal - limits::WRONG_LENGTH);
+    if refusal == limits::BAD_STATE {
+        say(b"a state is not one of its chart's");
     }
-    if refusal < limits::NO_FREE_SIGNAL {
-        return 16 + (refusal - limits::SHORT_ROWS);
+    if refusal == limits::SHORT_BUFFER {
+        say(b"the buffer is shorter than a configuration");
     }
-    if refusal < limits::MANY_NODES {
-        return 17 + (refusal - limits::NO_FREE_SIGNAL);
+    if refusal == limits::NO_STEP {
+        say(b"no choice is permitted");
     }
-    20 + (refusal - limits::MANY_NODES)
+    if refusal == limits::SHORT_ROWS {
+        say(b"the buffer is shorter than a row for each input");
+    }
 }
 
-// What a refusal says (RULES 3.2 to 3.5), a line for each, in the order of their numbers.
-fn say_words(refusal: u8) {
-    say_line(
-        b"accepted\n\
-          fewer than 12 bytes\n\
-          edition neither 1 nor 2\n\
-          charts not 1 to 8, slaves over 7, nodes not 1 to 64, transitions over 512\n\
-          distance is not the body size made by the counts, or exceeds length less 12\n\
-          a byte laid down as zero byte isn't zero\n\
-          states not 1 to 16, initial not below states, over 64 transitions in a chart, \
-          or the charts' numbers don't sum to the trailer's\n\
-          from or to not below the chart's states, or over 8 transitions from one state\n\
-          slave's chart, state or node out of range, or slaves not strictly rising by chart, then state\n\
-          kind over 2, kind 0 with a no chart, kinds 1 and 2 naming a node that isn't lower than their own, \
-          or an unused field of a node not zero\n\
-          a chart not held by exactly one node; a node but the last not named exactly once by nodes and slaves together; \
-          the last named; a slave's node not lower than the node holding its master\n\
-          a chart inside a slave not numbered above that slave's master\n\
-          configuration length is not the number of charts\n\
-          a state in it not below its chart's states\n\
-          buffer for a configuration shorter than the number of charts\n\
-          no permitted step\n\
-          buffer shorter than one row per input\n\
-          fewer free signal numbers than slaves\n\
-          a state would have over 8 transitions out\n\
-          a chart would have over 64\n\
-          over 64 nodes\n\
-          buffer shorter than the result\n\
-          edition 2, in which charts may stay; only edition 1 can be rewritten\n",
-        line_of(refusal) as usize,
-    );
+// Why a rewriting is refused (RULES 3.5).
+fn say_rewriting(refusal: u8) {
+    if refusal == limits::NO_FREE_SIGNAL {
+        say(b"there are fewer free signals than slaves");
+    }
+    if refusal == limits::MANY_FROM_STATE {
+        say(b"more than 8 transitions would leave one state");
+    }
+    if refusal == limits::MANY_IN_CHART {
+        say(b"a chart would have more than 64 transitions");
+    }
+    if refusal == limits::MANY_NODES {
+        say(b"there would be more than 64 nodes");
+    }
+    if refusal == limits::SHORT_OUT {
+        say(b"the buffer is shorter than the result");
+    }
+    if refusal == limits::MAY_STAY {
+        say(b"edition 2, in which charts may stay; only edition 1 can be rewritten");
+    }
 }
 
 // A refusal's words, to the line's end.
 pub fn end_refused(refusal: u8) {
     say(b": ");
-    say_words(refusal);
+    say_file(refusal);
+    say_step(refusal);
+    say_rewriting(refusal);
     say(b"\n");
 }
 
