@@ -1,5 +1,6 @@
 // Whether a file is plain, so that no step of it can be marked no (RULES 8).
 ghost use mathlib.Core.Path.{_≡_};
+ghost use mathlib.Core.Bool.{false};
 ghost use Rattle.meaning.specs.Check.{refusalOf};
 ghost use Rattle.meaning.specs.Plain.{plainOf};
 use checks::limits;
@@ -9,23 +10,26 @@ pub struct Plainness {
     pub plain: bool,
 }
 
+fn not_plain(refusal: u8) -> Plainness
+    ensures { λ r. ⌜ r ≡ record { refusal = refusal; plain = false } ⌝ }
+{
+    Plainness {
+        refusal: refusal,
+        plain: false,
+    }
+}
+
 pub fn plain(file: &[u8]) -> Plainness
     ensures { λ r. ⌜ r ≡ record { refusal = refusalOf (now (file .entry)); plain = plainOf (now (file .entry)) } ⌝ }
 {
     let o = checks::opening::opened(file);
     let r = o.refusal;
     if r != limits::ACCEPTED {
-        return Plainness {
-            refusal: r,
-            plain: false,
-        };
+        return not_plain(r);
     }
     let n = o.shape;
     if n.edition != limits::FIRST_EDITION as usize {
-        return Plainness {
-            refusal: limits::ACCEPTED,
-            plain: false,
-        };
+        return not_plain(limits::ACCEPTED);
     }
     let start = o.start;
     let end = o.end;

@@ -46,13 +46,13 @@ accepted : (c : tie.Else1) → refusalOf (c .before .before .before .args .file 
 accepted c = sym (c .before .opened .ensures .refusal) ∙ c .if1 .left
 
 returns : tie.Need-returns
-returns c = refused _ _ (c .if1 .taken) (c .before .opened .ensures .refusal)
+returns c = c .not-plain .ensures ∙ refused _ _ (c .before .if1 .taken) (c .before .before .opened .ensures .refusal)
 
 is-plain-requires : tie.Need-is-plain-requires
 is-plain-requires c κs = let w = stands (c .before .before .before .before) in (rw (w .body) (w .sized), rw (w .body) (w .summed))
 
 returns-2 : tie.Need-returns-2
-returns-2 c = let e = c .before .before .before in second _ (accepted e) _ (stands e .shape) (c .if2 .taken)
+returns-2 c = let e = c .before .before .before .before in c .not-plain2 .ensures ∙ second _ (accepted e) _ (stands e .shape) (c .before .if2 .taken)
 
 returns-3 : tie.Need-returns-3
 returns-3 c =
@@ -66,8 +66,10 @@ plain-spec =
     tie.close
     (tie.spec
     (λ c κs. search needs)
+    (λ c κs. search needs)
     returns
     (λ c. search needs)
+    (λ c κs. search needs)
     returns-2
     (λ c. stands (c .before .before .before) .order)
     (λ c. stands (c .before .before .before) .order)
