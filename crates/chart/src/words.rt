@@ -156,19 +156,19 @@ pub fn failed(path: &[u8]) {
 pub fn help(fd: i32) {
     io::write_all(
         fd,
-        b"chart: asks about a chart file, or the chart at the back of a longer file.\n\
+        b"chart: answers questions about a chart file, or about the chart at the end of a longer file.\n\
           \n  \
           chart check FILE               whether the file is in order\n  \
           chart first FILE               the first configuration\n  \
-          chart interface FILE           the signals that it takes in, and those that it puts out\n  \
-          chart plain FILE               whether it is plain: then no step of it can ever be marked n\n  \
+          chart interface FILE           the signals that it looks at, and those that it can output\n  \
+          chart plain FILE               whether it is plain: no step of a plain file is marked n\n  \
           chart step FILE CONFIG SET     one step from a configuration, and what each chart did\n  \
-          chart run FILE CONFIG SET..    a step for each set in turn\n  \
+          chart run FILE CONFIG SET..    one step for each set, in order\n  \
           chart rewrite FILE OUT         writes the same chart without slaves to the file OUT\n\
           \n\
-          A CONFIG is the state of each chart, as 0.1. A SET is signals, as s0,s3; or a number in hex, as 0x9; or - for none.\n\
-          A step is shown as its number, what it puts out, the configuration after it, y if all permitted choices agree, else n,\n\
-          and what it puts out as signals; or as its number and why it is refused. A run joins the signals of a refused step to the\n\
-          next set, and says which are carried after the last. A transition's number is its place in its chart's own list, from 0 on.\n",
+          CONFIG is the state of each chart, such as 0.1. SET is a list of signals, such as s0,s3; a number in hex, such as 0x9; or - for none.\n\
+          A step is shown as its number, its output in hex, the configuration after it, y if all permitted choices agree or else n, and its\n\
+          output as signals; or as its number and why it is refused. A run adds the signals of a refused step to the next set, and shows what\n\
+          is carried after the last. A transition's number is its place in its chart's list, counted from 0. docs/RULES.md has the exact rules.\n",
     );
 }
