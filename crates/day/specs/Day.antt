@@ -1,4 +1,4 @@
--- What the check of the day program's input tells it.
+-- What the day program promises of what it prints, and what the check of its input tells it.
 use mathlib.Core.Path.{_≡_}
 use mathlib.Core.List.{List}
 use Prim.Native.Nat.{ℕ, _*_, _/_, _≤_}
@@ -6,9 +6,14 @@ use lib.ListN.{length}
 use Rattle.meaning.specs.File.{fileOf}
 use Rattle.meaning.specs.Check.{refusalOf}
 use Rattle.meaning.specs.Laws.Runs.{Leads}
-use Rattle.line.specs.Line.{frontOf, dayRefusal}
+use Rattle.meaning.specs.Calls.{laidOver}
+use Rattle.line.specs.Line.{frontOf, dayRefusal, dayFrom}
 use Rattle.day.specs.declared.Front.{Front}
 pub mod Laws
+
+-- the program's contract: what it prints for the first bytes s of its input and so many behind them, over the front of a buffer b, which becomes c
+abbrev pub DaySays : List ℕ → ℕ → List ℕ → ℕ → List ℕ → Type 0
+DaySays s behind b r c = (r ≡ length (dayFrom s behind)) × (c ≡ laidOver (dayFrom s behind) b)
 
 -- a file of this many charts that passed 1 to 11, with room for n inputs in front
 pub record Accepted (f : List ℕ) (charts n : ℕ) : Type 0 where

@@ -6,7 +6,7 @@ ghost use Rattle.meaning.specs.File.{fileOf};
 ghost use Rattle.meaning.specs.Meaning.{∅};
 ghost use Rattle.meaning.specs.Calls.{laidOver, initials, rowsOf};
 ghost use Rattle.line.specs.Line.{inputsOf, linesOf, dayOf};
-ghost use Rattle.day.specs.Day.{Opened, Accepted};
+ghost use Rattle.day.specs.Day.{Opened, Accepted, DaySays};
 use checks::limits;
 
 // What the check of an input found: its refusal, and, if there is none, how many charts it has and how many inputs stand in front of them.
@@ -113,7 +113,7 @@ fn put_lines(rows: &[u8], w: usize, n: usize, out: &mut [u8]) -> usize
 }
 
 // What is printed for an input that is not too long, at the front of `out`; returns its length.
-fn day(input: &[u8], out: &mut [u8]) -> usize
+fn lines_for(input: &[u8], out: &mut [u8]) -> usize
     requires { ⌜ (length (now input) ≤ 65536) × (1048576 ≤ length (now out)) ⌝ }
     ensures { λ r. ⌜ (r ≡ length (dayOf (now (input .entry)))) × (now (out .exit) ≡ laidOver (dayOf (now (input .entry))) (now (out .entry))) ⌝ }
 {
@@ -129,16 +129,23 @@ fn day(input: &[u8], out: &mut [u8]) -> usize
     put_lines(&rows, 10 + charts, n, out)
 }
 
+// The same for any input: its first bytes, at most 65,536, and how many of the byte behind them came.
+fn day(input: &[u8], behind: usize, out: &mut [u8]) -> usize
+    requires { ⌜ (length (now input) ≤ 65536) × (1048576 ≤ length (now out)) ⌝ }
+    ensures { λ r. ⌜ DaySays (now (input .entry)) behind (now (out .entry)) r (now (out .exit)) ⌝ }
+{
+    if behind > 0 {
+        return line::refused_file(limits::TOO_LONG, out);
+    }
+    lines_for(input, out)
+}
+
 fn main() {
     let mut input = [0u8; limits::MOST_INPUT];
     let n = io::read_full(0, &mut input);
     let mut more = [0u8; 1];
+    let behind = io::read_full(0, &mut more);
     let mut out = line_room();
-    if io::read_full(0, &mut more) != 0 {
-        let len = line::refused_file(limits::TOO_LONG, &mut out);
-        io::write_all(1, &out[..len]);
-        return;
-    }
-    let len = day(&input[..n], &mut out);
+    let len = day(&input[..n], behind, &mut out);
     io::write_all(1, &out[..len]);
 }

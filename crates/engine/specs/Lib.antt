@@ -1,7 +1,7 @@
--- What the contracts of engine cite beyond the crate meaning: the charts' own interfaces (Faces), what the functions of a step (Step), of a run (Run)
--- and of the rewriting (Rewriting) ask and leave; and that each public contract determines its result (Determined).
+-- What engine's functions promise. Contracts has the public calls' contracts, and in its Laws that each determines its result. The rest is of internal
+-- functions: the charts' own interfaces (Faces), and what the functions of a step (Step), of a run (Run) and of the rewriting (Rewriting) ask and leave.
+pub mod Contracts
 pub mod Faces
 pub mod Step
 pub mod Run
 pub mod Rewriting
-pub mod Determined

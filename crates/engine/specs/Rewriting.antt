@@ -1,4 +1,5 @@
 -- What the rewriting of a file that passed 1 to 11 answers: what the list of RULES 3.6 goes on with. Laws are in Rewriting/Laws.antt.
+use mathlib.Core.Path.{_≡_}
 use mathlib.Core.Bool.{cond}
 use mathlib.Core.List.{List, [], _∷_, _++_}
 use Prim.Native.Nat.{ℕ}
@@ -10,6 +11,7 @@ use Rattle.meaning.specs.File.{File}
 use Rattle.meaning.specs.Check.{Test, firstOf}
 use Rattle.meaning.specs.Calls.{laidOver}
 use Rattle.meaning.specs.Rewriting.{rewrite, fromState?, inChart?, rewriteTests, encode}
+use Rattle.engine.specs.declared.rewriting.Rewritten.{Rewritten}
 pub mod Laws
 
 -- 41 to 44
@@ -29,3 +31,8 @@ lengthAfter F room = cond (same (rewriteAfter F room) 0) (length (encode (rewrit
 
 unfoldable pub outAfter : File → List ℕ → List ℕ
 outAfter F buffer = cond (same (rewriteAfter F (length buffer)) 0) (laidOver (encode (rewrite F)) buffer) buffer
+
+-- what such a rewriting answers, and what it leaves of a buffer b
+abbrev pub BodyRewrites : File → List ℕ → Rewritten → List ℕ → Type 0
+BodyRewrites F b r c =
+    (r ≡ record { refusal = rewriteAfter F (length b); length = lengthAfter F (length b) }) × (c ≡ outAfter F b)

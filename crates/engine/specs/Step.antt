@@ -13,7 +13,7 @@ use Rattle.meaning.specs.Meaning.{Set, same, Answer, refused}
 use Rattle.meaning.specs.File.{File, fileAt}
 use Rattle.meaning.specs.Check.{Test, firstOf, differ, notBelow, charts?, transitions?}
 use Rattle.meaning.specs.Check.Nodes.{Sound}
-use Rattle.meaning.specs.Calls.{stepIn, allPlaces, placesIn, refusalIn, outputIn, markIn}
+use Rattle.meaning.specs.Calls.{stepIn, allPlaces, placesIn, nextIn}
 use Rattle.search.specs.Trail.{beginning}
 use Rattle.search.specs.Hunt.{over, nothing}
 use Rattle.search.specs.Stays.{huntsBoth}
@@ -23,12 +23,9 @@ use Rattle.checks.specs.Known.{Sized, Summed}
 use Rattle.plan.specs.Wired.{Wired}
 use Rattle.candidates.specs.Candidates.{Tabled}
 use Rattle.staying.specs.Staying.{Stays}
+use Rattle.engine.specs.Contracts.{steppedOf}
 use Rattle.engine.specs.declared.step.Stepped.{Stepped}
 pub mod Laws
-
--- an answer in numbers, and the places of its transitions
-abbrev pub steppedOf : Answer → List ℕ → Stepped
-steppedOf r places = record { refusal = refusalIn r; output = outputIn r; mark = markIn r; places = places }
 
 -- 20 and 21
 unfoldable pub configTestsIn : File → List ℕ → List Test
@@ -46,6 +43,11 @@ stepAfter F config i room = cond (same (refusalAfter F config room) 0) (stepIn F
 
 unfoldable pub placesAfter : File → List ℕ → Set → ℕ → List ℕ
 placesAfter F config i room = cond (same (refusalAfter F config room) 0) (placesIn F config i) (allPlaces [])
+
+-- what a step of a body that passed 1 to 11 answers, and what it leaves of a buffer b
+abbrev pub BodySteps : File → List ℕ → Set → List ℕ → Stepped → List ℕ → Type 0
+BodySteps F config i b r c =
+    (r ≡ steppedOf (stepAfter F config i (length b)) (placesAfter F config i (length b))) × (c ≡ nextIn (stepAfter F config i (length b)) b)
 
 -- a body that passed 1 to 11
 pub record Checked (n : Shape) (b : List ℕ) : Type 0 where

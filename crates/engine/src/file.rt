@@ -3,14 +3,14 @@ ghost use mathlib.Core.Path.{_≡_};
 ghost use Prim.Native.Nat.{_≤_};
 ghost use lib.ListN.{length};
 ghost use Rattle.layout.specs.Body.{Holds, headAt};
-ghost use Rattle.meaning.specs.Check.{refusalOf};
-ghost use Rattle.meaning.specs.Calls.{made, laidOver, firstRefusal, firstBytes};
+ghost use Rattle.meaning.specs.Calls.{made, laidOver};
+ghost use Rattle.engine.specs.Contracts.{CheckSays, FirstSays};
 use checks::limits;
 use layout::body::Shape;
 
 // Whether the file is in order: 0, or the first refusal that applies.
 pub fn check(file: &[u8]) -> u8
-    ensures { λ r. ⌜ r ≡ refusalOf (now (file .entry)) ⌝ }
+    ensures { λ r. ⌜ CheckSays (now (file .entry)) r ⌝ }
 {
     checks::opening::opened(file).refusal
 }
@@ -30,8 +30,7 @@ fn put_initials(n: Shape, body: &[u8], config: &mut [u8])
 
 // The first configuration, one byte for each chart.
 pub fn first(file: &[u8], config: &mut [u8]) -> u8
-    ensures { λ r. ⌜ (r ≡ firstRefusal (now (file .entry)) (length (now (config .entry))))
-        × (now (config .exit) ≡ firstBytes (now (file .entry)) (now (config .entry))) ⌝ }
+    ensures { λ r. ⌜ FirstSays (now (file .entry)) (now (config .entry)) r (now (config .exit)) ⌝ }
 {
     let o = checks::opening::opened(file);
     let r = o.refusal;

@@ -5,10 +5,9 @@ ghost use Rattle.signals.specs.Mask.{_∪_};
 ghost use Rattle.layout.specs.Body.{from, transitionAt};
 ghost use Rattle.meaning.specs.Meaning.{guards, actions, inFace, outFace};
 ghost use Rattle.meaning.specs.File.{fileAt, wholeOf};
-ghost use Rattle.meaning.specs.Check.{refusalOf};
-ghost use Rattle.meaning.specs.Calls.{inputOf, outputOf};
 ghost use Rattle.meaning.specs.Check.Nodes.{Treed};
 ghost use Rattle.checks.specs.Known.{Sized, Summed};
+ghost use Rattle.engine.specs.Contracts.{InterfaceSays};
 ghost use Rattle.engine.specs.Faces.{OwnOf};
 use checks::limits;
 use checks::limits::MOST_CHARTS;
@@ -98,11 +97,7 @@ fn of_body(n: Shape, body: &[u8]) -> Faces
 }
 
 pub fn interface(file: &[u8]) -> Faces
-    ensures { λ r. ⌜ r ≡ record {
-      refusal = refusalOf (now (file .entry));
-      input = inputOf (now (file .entry));
-      output = outputOf (now (file .entry));
-    } ⌝ }
+    ensures { λ r. ⌜ InterfaceSays (now (file .entry)) r ⌝ }
 {
     let o = checks::opening::opened(file);
     let r = o.refusal;

@@ -1,8 +1,7 @@
 // Whether a file is plain, so that no step of it can be marked no (RULES 8).
 ghost use mathlib.Core.Path.{_≡_};
 ghost use mathlib.Core.Bool.{false};
-ghost use Rattle.meaning.specs.Check.{refusalOf};
-ghost use Rattle.meaning.specs.Plain.{plainOf};
+ghost use Rattle.engine.specs.Contracts.{PlainSays};
 use checks::limits;
 
 pub struct Plainness {
@@ -20,7 +19,7 @@ fn not_plain(refusal: u8) -> Plainness
 }
 
 pub fn plain(file: &[u8]) -> Plainness
-    ensures { λ r. ⌜ r ≡ record { refusal = refusalOf (now (file .entry)); plain = plainOf (now (file .entry)) } ⌝ }
+    ensures { λ r. ⌜ PlainSays (now (file .entry)) r ⌝ }
 {
     let o = checks::opening::opened(file);
     let r = o.refusal;

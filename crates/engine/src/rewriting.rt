@@ -3,9 +3,10 @@ ghost use mathlib.Core.Path.{_≡_};
 ghost use lib.ListN.{length};
 ghost use Rattle.meaning.specs.File.{fileAt};
 ghost use Rattle.meaning.specs.Check.{firstOf};
-ghost use Rattle.meaning.specs.Rewriting.{rewrite, shapeIn, rewriteRefusal, rewriteLength, rewriteOut};
+ghost use Rattle.meaning.specs.Rewriting.{rewrite, shapeIn};
 ghost use Rattle.rewrite.specs.Known.{Checked, InnerIn, Upward};
-ghost use Rattle.engine.specs.Rewriting.{limitTests, rewriteAfter, lengthAfter, outAfter};
+ghost use Rattle.engine.specs.Contracts.{RewritingSays};
+ghost use Rattle.engine.specs.Rewriting.{limitTests, BodyRewrites};
 use checks::limits;
 use layout::body::Shape;
 
@@ -44,7 +45,7 @@ fn limit_refusal(n: Shape, body: &[u8], inner: &[u64; 8], m: Shape) -> u8
 // The rewriting of a body that passed 1 to 11.
 fn of_body(n: Shape, body: &[u8], out: &mut [u8]) -> Rewritten
     requires { ⌜ Checked n (now body) × Upward (fileAt n (now body)) ⌝ }
-    ensures { λ r. ⌜ (r ≡ record { refusal = rewriteAfter (fileAt n (now (body .entry))) (length (now (out .entry))); length = lengthAfter (fileAt n (now (body .entry))) (length (now (out .entry))) }) × (now (out .exit) ≡ outAfter (fileAt n (now (body .entry))) (now (out .entry))) ⌝ }
+    ensures { λ r. ⌜ BodyRewrites (fileAt n (now (body .entry))) (now (out .entry)) r (now (out .exit)) ⌝ }
 {
     let calls = rewrite::calls::given(n.slaves, rewrite::calls::used(n, body));
     if !calls.enough {
@@ -70,7 +71,7 @@ fn of_body(n: Shape, body: &[u8], out: &mut [u8]) -> Rewritten
 
 // The file without slaves that steps as the file does, over the front of `out`, and its length.
 pub fn rewriting(file: &[u8], out: &mut [u8]) -> Rewritten
-    ensures { λ r. ⌜ (r ≡ record { refusal = rewriteRefusal (now (file .entry)) (length (now (out .entry))); length = rewriteLength (now (file .entry)) (length (now (out .entry))) }) × (now (out .exit) ≡ rewriteOut (now (file .entry)) (now (out .entry))) ⌝ }
+    ensures { λ r. ⌜ RewritingSays (now (file .entry)) (now (out .entry)) r (now (out .exit)) ⌝ }
 {
     let o = checks::opening::opened(file);
     let r = o.refusal;

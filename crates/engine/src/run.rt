@@ -6,11 +6,12 @@ ghost use lib.ListN.{length, take};
 ghost use Rattle.layout.specs.Le.{bytes};
 ghost use Rattle.meaning.specs.Count.{one};
 ghost use Rattle.meaning.specs.File.{fileAt};
-ghost use Rattle.meaning.specs.Calls.{laidOver, afterStep, carriedAfter, rowOf, rowsOf, carriedOf, runRefusal, runBytes, runCarried};
+ghost use Rattle.meaning.specs.Calls.{laidOver, afterStep, carriedAfter, rowOf, rowsOf, carriedOf};
 ghost use Rattle.meaning.specs.Laws.Runs.{Valid};
 ghost use Rattle.tables.specs.Filled.{answerOf};
+ghost use Rattle.engine.specs.Contracts.{RunSays};
 ghost use Rattle.engine.specs.Step.{Checked, Prepared};
-ghost use Rattle.engine.specs.Run.{runRefusalAfter, runAfter, carriedRun};
+ghost use Rattle.engine.specs.Run.{BodyRuns};
 use checks::limits;
 use layout::body::Shape;
 use search::Found;
@@ -158,7 +159,7 @@ fn of_body(
     rows: &mut [u8],
 ) -> Ran
     requires { ⌜ Checked n (now body) ⌝ }
-    ensures { λ r. ⌜ (r ≡ record { refusal = runRefusalAfter (fileAt n (now (body .entry))) (now (config .entry)) (length (now (inputs .entry))) (length (now (rows .entry))); carried = carriedRun (fileAt n (now (body .entry))) (now (config .entry)) carried (now (inputs .entry)) (length (now (rows .entry))) }) × (now (rows .exit) ≡ runAfter (fileAt n (now (body .entry))) (now (config .entry)) carried (now (inputs .entry)) (now (rows .entry))) ⌝ }
+    ensures { λ r. ⌜ BodyRuns (fileAt n (now (body .entry))) (now (config .entry)) carried (now (inputs .entry)) (now (rows .entry)) r (now (rows .exit)) ⌝ }
 {
     let r = crate::step::config_refusal(n, body, config);
     if r != limits::ACCEPTED {
@@ -190,7 +191,7 @@ fn of_body(
 
 // A run from a configuration, with what is carried there: a row for each input, at the front of `rows`, and what is carried after the last.
 pub fn run(file: &[u8], config: &[u8], carried: u64, inputs: &[u64], rows: &mut [u8]) -> Ran
-    ensures { λ r. ⌜ (r ≡ record { refusal = runRefusal (now (file .entry)) (now (config .entry)) (length (now (inputs .entry))) (length (now (rows .entry))); carried = runCarried (now (file .entry)) (now (config .entry)) carried (now (inputs .entry)) (length (now (rows .entry))) }) × (now (rows .exit) ≡ runBytes (now (file .entry)) (now (config .entry)) carried (now (inputs .entry)) (now (rows .entry))) ⌝ }
+    ensures { λ r. ⌜ RunSays (now (file .entry)) (now (config .entry)) carried (now (inputs .entry)) (now (rows .entry)) r (now (rows .exit)) ⌝ }
 {
     let o = checks::opening::opened(file);
     let r = o.refusal;

@@ -9,12 +9,13 @@ ghost use Rattle.layout.specs.Body.{Holds, headAt};
 ghost use Rattle.meaning.specs.Count.{anyUpTo};
 ghost use Rattle.meaning.specs.File.{fileAt};
 ghost use Rattle.meaning.specs.Check.{notBelow, firstOf};
-ghost use Rattle.meaning.specs.Calls.{laidOver, stepOf, allPlaces, placesOf, nextIn};
+ghost use Rattle.meaning.specs.Calls.{laidOver, allPlaces};
 ghost use Rattle.search.specs.Table.{masksFor, Tables, Row};
 ghost use Rattle.search.specs.Stays.{Guards};
 ghost use Rattle.plan.specs.Wire.{Blank};
 ghost use Rattle.candidates.specs.Candidates.{Ready, Mays};
-ghost use Rattle.engine.specs.Step.{steppedOf, configTestsIn, stepAfter, placesAfter, Checked, Prepared, searchedOf, Searched, Finds};
+ghost use Rattle.engine.specs.Contracts.{StepSays};
+ghost use Rattle.engine.specs.Step.{configTestsIn, BodySteps, Checked, Prepared, searchedOf, Searched, Finds};
 use candidates::Sides;
 use checks::limits;
 use layout::body::Shape;
@@ -57,7 +58,7 @@ fn bad_states(n: Shape, body: &[u8], config: &[u8]) -> bool
 }
 
 // 20 and 21.
-pub fn config_refusal(n: Shape, body: &[u8], config: &[u8]) -> u8
+pub(crate) fn config_refusal(n: Shape, body: &[u8], config: &[u8]) -> u8
     requires { ⌜ Holds n (now body) ⌝ }
     ensures { λ r. ⌜ r ≡ firstOf (configTestsIn (fileAt n (now (body .entry))) (now (config .entry))) ⌝ }
 {
@@ -121,7 +122,7 @@ fn found_staying(
 }
 
 // One step of a wired body from a configuration. The tables are ready for another. Where no chart may stay there is no trigger to make room for.
-pub fn found(
+pub(crate) fn found(
     n: Shape,
     body: &[u8],
     config: &[u8],
@@ -168,7 +169,7 @@ fn found_new(n: Shape, body: &[u8], config: &[u8], input: u64) -> Found
 }
 
 // The first n states, over the front of the caller's buffer.
-pub fn put_states(buffer: &mut [u8], states: [u8; 8], n: usize)
+pub(crate) fn put_states(buffer: &mut [u8], states: [u8; 8], n: usize)
     requires { ⌜ (n ≤ 8) × (n ≤ length (now buffer)) ⌝ }
     ensures { λ _. ⌜ now (buffer .exit) ≡ laidOver (take n states) (now (buffer .entry)) ⌝ }
 {
@@ -182,7 +183,7 @@ pub fn put_states(buffer: &mut [u8], states: [u8; 8], n: usize)
 // A step of a body that passed 1 to 11.
 fn of_body(n: Shape, body: &[u8], config: &[u8], input: u64, next: &mut [u8]) -> Stepped
     requires { ⌜ Checked n (now body) ⌝ }
-    ensures { λ r. ⌜ (r ≡ steppedOf (stepAfter (fileAt n (now (body .entry))) (now (config .entry)) input (length (now (next .entry)))) (placesAfter (fileAt n (now (body .entry))) (now (config .entry)) input (length (now (next .entry))))) × (now (next .exit) ≡ nextIn (stepAfter (fileAt n (now (body .entry))) (now (config .entry)) input (length (now (next .entry)))) (now (next .entry))) ⌝ }
+    ensures { λ r. ⌜ BodySteps (fileAt n (now (body .entry))) (now (config .entry)) input (now (next .entry)) r (now (next .exit)) ⌝ }
 {
     let r = config_refusal(n, body, config);
     if r != limits::ACCEPTED {
@@ -208,7 +209,7 @@ fn of_body(n: Shape, body: &[u8], config: &[u8], input: u64, next: &mut [u8]) ->
 
 // One step from a configuration under an input: the output, the mark and the places, and the next configuration in `next`.
 pub fn step(file: &[u8], config: &[u8], input: u64, next: &mut [u8]) -> Stepped
-    ensures { λ r. ⌜ (r ≡ steppedOf (stepOf (now (file .entry)) (now (config .entry)) input (length (now (next .entry)))) (placesOf (now (file .entry)) (now (config .entry)) input (length (now (next .entry))))) × (now (next .exit) ≡ nextIn (stepOf (now (file .entry)) (now (config .entry)) input (length (now (next .entry)))) (now (next .entry))) ⌝ }
+    ensures { λ r. ⌜ StepSays (now (file .entry)) (now (config .entry)) input (now (next .entry)) r (now (next .exit)) ⌝ }
 {
     let o = checks::opening::opened(file);
     let r = o.refusal;

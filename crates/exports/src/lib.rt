@@ -1,32 +1,27 @@
 // The engine for programs in C and Rust (include/mestecur.h). A slice passes as a pointer and a length. Each function returns 0 or the refusal;
 // a single number behind a pointer is an answer, and is 0 where the call is refused; so are places, and they are 255 then.
 ghost use mathlib.Core.Path.{_≡_};
-ghost use lib.ListN.{length};
 ghost use Rattle.meaning.specs.Count.{one};
-ghost use Rattle.meaning.specs.Check.{refusalOf};
-ghost use Rattle.meaning.specs.Plain.{plainOf};
-ghost use Rattle.meaning.specs.Rewriting.{rewriteRefusal, rewriteLength, rewriteOut};
-ghost use Rattle.meaning.specs.Calls.{firstRefusal, firstBytes, inputOf, outputOf, stepOf, placesOf, refusalIn, outputIn, markIn, nextIn, runRefusal, runBytes, runCarried};
+ghost use Rattle.exports.specs.Contracts.{CheckReturns, FirstReturns, InterfaceReturns, PlainReturns, StepReturns};
+ghost use Rattle.exports.specs.Contracts.{RunReturns, RewriteReturns};
 
 #[no_mangle]
 pub extern "C" fn mestecur_check(file: &[u8]) -> u8
-    ensures { λ r. ⌜ r ≡ refusalOf (now (file .entry)) ⌝ }
+    ensures { λ r. ⌜ CheckReturns (now (file .entry)) r ⌝ }
 {
     engine::file::check(file)
 }
 
 #[no_mangle]
 pub extern "C" fn mestecur_first(file: &[u8], config: &mut [u8]) -> u8
-    ensures { λ r. ⌜ r ≡ firstRefusal (now (file .entry)) (length (now (config .entry))) ⌝ }
-    ensures { λ r. ⌜ now (config .exit) ≡ firstBytes (now (file .entry)) (now (config .entry)) ⌝ }
+    ensures { λ r. ⌜ FirstReturns (now (file .entry)) (now (config .entry)) r (now (config .exit)) ⌝ }
 {
     engine::file::first(file, config)
 }
 
 #[no_mangle]
 pub extern "C" fn mestecur_interface(file: &[u8], input: &mut u64, output: &mut u64) -> u8
-    ensures { λ r. ⌜ r ≡ refusalOf (now (file .entry)) ⌝ }
-    ensures { λ r. ⌜ (now (input .exit) ≡ inputOf (now (file .entry))) × (now (output .exit) ≡ outputOf (now (file .entry))) ⌝ }
+    ensures { λ r. ⌜ InterfaceReturns (now (file .entry)) r (now (input .exit)) (now (output .exit)) ⌝ }
 {
     let faces = engine::interface::interface(file);
     *input = faces.input;
@@ -36,8 +31,7 @@ pub extern "C" fn mestecur_interface(file: &[u8], input: &mut u64, output: &mut 
 
 #[no_mangle]
 pub extern "C" fn mestecur_plain(file: &[u8], plain: &mut u8) -> u8
-    ensures { λ r. ⌜ r ≡ refusalOf (now (file .entry)) ⌝ }
-    ensures { λ r. ⌜ now (plain .exit) ≡ one (plainOf (now (file .entry))) ⌝ }
+    ensures { λ r. ⌜ PlainReturns (now (file .entry)) r (now (plain .exit)) ⌝ }
 {
     let p = engine::plainness::plain(file);
     *plain = number(p.plain);
@@ -54,12 +48,8 @@ pub extern "C" fn mestecur_step(
     mark: &mut u8,
     places: &mut [u8; 8],
 ) -> u8
-    ensures { λ r. ⌜ r ≡ refusalIn (stepOf (now (file .entry)) (now (config .entry)) input (length (now (next .entry)))) ⌝ }
-    ensures { λ r. ⌜ now (next .exit)
-        ≡ nextIn (stepOf (now (file .entry)) (now (config .entry)) input (length (now (next .entry)))) (now (next .entry)) ⌝ }
-    ensures { λ r. ⌜ now (output .exit) ≡ outputIn (stepOf (now (file .entry)) (now (config .entry)) input (length (now (next .entry)))) ⌝ }
-    ensures { λ r. ⌜ now (mark .exit) ≡ one (markIn (stepOf (now (file .entry)) (now (config .entry)) input (length (now (next .entry))))) ⌝ }
-    ensures { λ r. ⌜ now (places .exit) ≡ placesOf (now (file .entry)) (now (config .entry)) input (length (now (next .entry))) ⌝ }
+    ensures { λ r. ⌜ StepReturns (now (file .entry)) (now (config .entry)) input (now (next .entry)) r (now (next .exit))
+        (now (output .exit)) (now (mark .exit)) (now (places .exit)) ⌝ }
 {
     let s = engine::step::step(file, config, input, next);
     *output = s.output;
@@ -85,10 +75,8 @@ pub extern "C" fn mestecur_run(
     rows: &mut [u8],
     carried_on: &mut u64,
 ) -> u8
-    ensures { λ r. ⌜ r ≡ runRefusal (now (file .entry)) (now (config .entry)) (length (now (inputs .entry))) (length (now (rows .entry))) ⌝ }
-    ensures { λ r. ⌜ now (rows .exit) ≡ runBytes (now (file .entry)) (now (config .entry)) carried (now (inputs .entry)) (now (rows .entry)) ⌝ }
-    ensures { λ r. ⌜ now («carried_on» .exit)
-        ≡ runCarried (now (file .entry)) (now (config .entry)) carried (now (inputs .entry)) (length (now (rows .entry))) ⌝ }
+    ensures { λ r. ⌜ RunReturns (now (file .entry)) (now (config .entry)) carried (now (inputs .entry)) (now (rows .entry)) r
+        (now (rows .exit)) (now («carried_on» .exit)) ⌝ }
 {
     let a = engine::run::run(file, config, carried, inputs, rows);
     *carried_on = a.carried;
@@ -97,9 +85,7 @@ pub extern "C" fn mestecur_run(
 
 #[no_mangle]
 pub extern "C" fn mestecur_rewrite(file: &[u8], out: &mut [u8], size: &mut usize) -> u8
-    ensures { λ r. ⌜ r ≡ rewriteRefusal (now (file .entry)) (length (now (out .entry))) ⌝ }
-    ensures { λ r. ⌜ now (out .exit) ≡ rewriteOut (now (file .entry)) (now (out .entry)) ⌝ }
-    ensures { λ r. ⌜ now (size .exit) ≡ rewriteLength (now (file .entry)) (length (now (out .entry))) ⌝ }
+    ensures { λ r. ⌜ RewriteReturns (now (file .entry)) (now (out .entry)) r (now (out .exit)) (now (size .exit)) ⌝ }
 {
     let w = engine::rewriting::rewriting(file, out);
     *size = w.length;

@@ -142,3 +142,7 @@ dayLines f n = linesOf (10 + fileOf f .charts) 1 n (rowsOf (fileOf f) (initials 
 -- what is printed for the bytes on standard input (RULES 10.2, 10.3)
 unfoldable pub dayOf : List ℕ → List ℕ
 dayOf f = cond (same (dayRefusal f) 0) (dayLines f (frontOf f / 8)) (fileRefused (dayRefusal f))
+
+-- the same, by the first 65,536 bytes, or all if there are fewer, and by how many come behind them (RULES 10.1)
+unfoldable pub dayFrom : List ℕ → ℕ → List ℕ
+dayFrom s behind = cond (ltb 0 behind) (fileRefused tooLong) (dayOf s)

@@ -1,16 +1,17 @@
 -- Laws of the day program, in this order: what is laid over the front of a part of a buffer; lines of rows, one more, and the last; the refusals 1
--- to 11 and 30; the first configuration; the whole output.
+-- to 11 and 30; the first configuration; the whole output; that the contract determines it, and that it is the output for all of the input.
 use mathlib.Core.Path.{_≡_, refl, sym, ap, _∙_}
 use mathlib.Core.Bool.{not}
 use mathlib.Core.List.{List, [], _∷_, _++_, append-assoc}
 use Prim.Native.Nat.{ℕ, zero, suc, _+_, _*_, _-_, _/_, _%_, _≤_, _<_}
 use native.Mathlib.Nat.{suc-mul, mul-le-mul-right}
 use native.Mathlib.Numerals.{add-one}
+use native.Mathlib.Decide.{decLt}
 use native.Mathlib.Omega.{arith}
 use borrow.Author.Tests.{eq-eqb, ne-eqb, lt-ltb, le-ltb}
 use lib.Dec.{ltb}
 use lib.ListN.{length, getD, take, drop, length-append, length-take, length-drop, take-append-drop}
-use lib.Seq.{take-at, drop-at, drop-drop, length-take-le, drop-append-le, take-append-le}
+use lib.Seq.{take-at, take-all, drop-at, drop-drop, length-take-le, drop-append-le, take-append-le}
 use Rattle.layout.specs.Body.{sizeOf}
 use Rattle.meaning.specs.Numbers.{mostInput, tooLong, oddFront}
 use Rattle.meaning.specs.Meaning.{∅, same}
@@ -23,13 +24,19 @@ use Rattle.meaning.specs.Calls.Laws.{length-made, getD-made}
 use Rattle.meaning.specs.Laws.Runs.{Leads, Valid, rows-all}
 use Rattle.checks.specs.Open.{Stands}
 use Rattle.checks.specs.declared.opening.Opening.{Opening}
+use Rattle.engine.specs.Contracts.Laws.{both}
 use Rattle.engine.specs.Step.{configTestsIn}
 use Rattle.engine.specs.Step.Laws.{checked}
 use Rattle.engine.specs.Run.Laws.{leads, bytes-passed, after-rows}
-use Rattle.line.specs.Line.{lineOf, fileRefused, frontOf, dayRefusal, inputsOf, linesOf, dayLines, dayOf}
-use Rattle.day.specs.Day.{Accepted}
+use Rattle.line.specs.Line.{lineOf, fileRefused, frontOf, dayRefusal, inputsOf, linesOf, dayLines, dayOf, dayFrom}
+use Rattle.day.specs.Day.{Accepted, DaySays}
 
 -- ── a text laid over the front of the bytes from `at` up to e ──
+
+-- a text that is the output, laid over a buffer
+pub printed : (text out out₀ : List ℕ) (r : ℕ) (whole : List ℕ) → whole ≡ text → (r ≡ length text) × (out ≡ laidOver text out₀)
+    → (r ≡ length whole) × (out ≡ laidOver whole out₀)
+printed text out out₀ r whole e p = rw e p
 
 module _ (l text part : List ℕ) (at e : ℕ) (order : at ≤ e) (to : e ≤ length l) (p : part ≡ laidOver text (take (e - at) (drop at l))) (kept : length part ≡ e - at) where
   pub text-fits : length text ≤ e - at
@@ -169,3 +176,36 @@ module _ (f : List ℕ) where
       let R = rowsOf (fileOf f) (initials f) ∅ (inputsOf n f) in
       let l : length R ≡ n * (10 + fileOf f .charts) = rows-all (fileOf f) (a .leads) (record { config = initials f; carried = ∅ }) (inputsOf n f) (initials-valid f (a .passes)) ∙ rw (length-inputs n f) in
       rw (← e, ← i, a .charts-is, p) (sym (lines-front (10 + fileOf f .charts) 1 n R (drop (length R) rows₀) (omega arith)))
+
+-- ── the contract ──
+
+-- any two results that the contract allows are equal
+pub day-determined : (s : List ℕ) (behind : ℕ) (b : List ℕ) (r r′ : ℕ) (c c′ : List ℕ) → DaySays s behind b r c
+    → DaySays s behind b r′ c′ → (r ≡ r′) × (c ≡ c′)
+day-determined s behind b = both
+
+pub from-more : (s : List ℕ) (behind : ℕ) → 0 < behind → dayFrom s behind ≡ fileRefused tooLong
+unfolding dayFrom
+from-more s behind h = rw (lt-ltb 0 behind h)
+
+pub from-all : (s : List ℕ) (behind : ℕ) → behind ≤ 0 → dayFrom s behind ≡ dayOf s
+unfolding dayFrom
+from-all s behind h = rw (le-ltb 0 behind h)
+
+-- what is printed is the output for the whole input f, of which 65,536 bytes are read, and one more is asked for
+module _ (f : List ℕ) where
+  too-long : mostInput < length f → dayOf f ≡ fileRefused tooLong
+  unfolding dayRefusal
+  too-long h =
+      day-refused f tooLong
+      (sym (firstOf-here (record { number = tooLong; applies = ltb mostInput (length f) }) _ (lt-ltb mostInput (length f) h)))
+      (λ e. omega arith)
+
+  pub day-whole : dayFrom (take mostInput f) (length (take 1 (drop mostInput f))) ≡ dayOf f
+  day-whole = go (decLt mostInput (length f))
+    where
+      go : Dec (mostInput < length f) → dayFrom (take mostInput f) (length (take 1 (drop mostInput f))) ≡ dayOf f
+      go (yes h) = from-more _ _ (rw (length-take, length-drop) (omega arith)) ∙ sym (too-long h)
+      go (no h) =
+          from-all (take mostInput f) _ (rw (length-take, length-drop) (omega arith))
+          ∙ ap dayOf (take-all mostInput f (omega arith))

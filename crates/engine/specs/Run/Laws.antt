@@ -20,7 +20,7 @@ use Rattle.meaning.specs.Calls.{laidOver, rowOf, rowsOf, carriedOf, runRefusal,
 use Rattle.meaning.specs.Laws.Runs.{Leads, body-leads, Valid, Stand, stepFrom, standAfter, rowsFrom, carriedFrom, rows-next, carried-next}
 use Rattle.engine.specs.Step.{configTestsIn, Checked}
 use Rattle.engine.specs.Step.Laws.{behind-refused, behind-passed, config-passes, config-long, config-valid}
-use Rattle.engine.specs.Run.{runRefusalAfter, runAfter, carriedRun}
+use Rattle.engine.specs.Run.{runRefusalAfter, runAfter, carriedRun, BodyRuns}
 use Rattle.engine.specs.declared.run.Ran.{Ran}
 
 -- ── behind 1 to 11 ──
@@ -57,15 +57,9 @@ module _ (F : File) (config : List ℕ) (carried : Set) (inputs : List Set) (row
   abbrev rows-test : Test
   rows-test = record { number = shortRows; applies = ltb (length rows) (length inputs * (10 + F .charts)) }
 
-  -- a call returns a, and leaves rows′ in the buffer for rows
-  abbrev pub Ends : Ran → List ℕ → Type 0
-  Ends a rows′ =
-      (a ≡ record { refusal = runRefusalAfter F config (length inputs) (length rows); carried = carriedRun F config carried inputs (length rows) })
-      × (rows′ ≡ runAfter F config carried inputs rows)
-
   -- the refusal is r, and the rows are left
   abbrev pub Refuses : ℕ → Type 0
-  Refuses r = (a : Ran) → a ≡ record { refusal = r; carried = ∅ } → Ends a rows
+  Refuses r = (a : Ran) → a ≡ record { refusal = r; carried = ∅ } → BodyRuns F config carried inputs rows a rows
 
   refuses : (r : ℕ) → (r ≡ 0 → ⊥) → runRefusalAfter F config (length inputs) (length rows) ≡ r → Refuses r
   unfolding runAfter carriedRun same
@@ -91,7 +85,7 @@ module _ (F : File) (config : List ℕ) (carried : Set) (inputs : List Set) (row
           ∙ firstOf-[]
 
       pub after-rows : (rows′ : List ℕ) (c : Set) → rows′ ≡ laidOver (rowsOf F config carried inputs) rows → c ≡ carriedOf F config carried inputs
-          → Ends (record { refusal = 0; carried = c }) rows′
+          → BodyRuns F config carried inputs rows (record { refusal = 0; carried = c }) rows′
       unfolding runAfter carriedRun same
       after-rows rows′ c e q = (rw (after-none, q), rw (after-none, e))
 

@@ -37,7 +37,8 @@ use Rattle.candidates.specs.Candidates.{Ready, Chooses}
 use Rattle.candidates.specs.Candidates.Laws.{length-from, actions-small}
 use Rattle.staying.specs.Staying.{Stays}
 use Rattle.engine.specs.declared.step.Stepped.{Stepped}
-use Rattle.engine.specs.Step.{steppedOf, configTestsIn, refusalAfter, stepAfter, placesAfter, Checked, Prepared, searchedOf, Finds}
+use Rattle.engine.specs.Contracts.{steppedOf}
+use Rattle.engine.specs.Step.{configTestsIn, refusalAfter, stepAfter, placesAfter, Checked, Prepared, searchedOf, Finds}
 
 -- ── behind 1 to 11 ──
 

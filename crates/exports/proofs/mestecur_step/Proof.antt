@@ -11,13 +11,10 @@ returns c =
     let n = c .before in
     let e = n .before .before .before .step .ensures in (
       ap (λ (s : Stepped). s .refusal) (e .0),
-      (
-        e .1,
-        (
-          ap (λ (s : Stepped). s .output) (e .0),
-          (n .number .ensures ∙ ap (λ (s : Stepped). one (s .mark)) (e .0), ap (λ (s : Stepped). s .places) (e .0)),
-        ),
-      ),
+      e .1,
+      ap (λ (s : Stepped). s .output) (e .0),
+      n .number .ensures ∙ ap (λ (s : Stepped). one (s .mark)) (e .0),
+      ap (λ (s : Stepped). s .places) (e .0),
     )
 
 pub mestecur-step-spec : {M : Type 1} → statement M

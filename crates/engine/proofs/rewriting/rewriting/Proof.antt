@@ -16,25 +16,23 @@ use Rattle.meaning.specs.Laws.Editions.{edition-left}
 use Rattle.meaning.specs.File.{trailer, shapeOf, bodyOf, fileAt, fileOf}
 use Rattle.meaning.specs.Check.{refusalOf}
 use Rattle.meaning.specs.Check.Laws.{passed}
-use Rattle.meaning.specs.Rewriting.{rewriteRefusal, rewriteLength, rewriteOut}
+use Rattle.meaning.specs.Rewriting.{rewriteLength, rewriteOut}
 use Rattle.agreement.specs.Passed.{ready}
 use Rattle.agreement.specs.Step.{nearest-is}
 use Rattle.checks.specs.Open.{Stands}
 use Rattle.checks.specs.Known.{Sized, Summed}
 use Rattle.rewrite.specs.Known.{Checked, Upward}
 use Rattle.engine.specs.Step.Laws.{checked, file-is}
-use Rattle.engine.specs.Rewriting.{rewriteAfter, lengthAfter, outAfter}
+use Rattle.engine.specs.Contracts.{RewritingSays}
+use Rattle.engine.specs.Rewriting.{BodyRewrites}
 use Rattle.engine.specs.Rewriting.Laws.{file-refused, stay-refused, refusal-is, length-is, out-is}
 use Rattle.engine.specs.declared.rewriting.Rewritten.{Rewritten}
 use Rattle.engine.proofs.rewriting.rewriting.Statement.{statement}
 use Rattle.engine.proofs.rewriting.rewriting.Tie as tie
 
-abbrev answerOf : List ℕ → ℕ → Rewritten
-answerOf f room = record { refusal = rewriteRefusal f room; length = rewriteLength f room }
-
 -- a file that is refused leaves the buffer as it was
 by-file : (f out : List ℕ) (r : ℕ) (s : Rewritten) → r ≡ refusalOf f → (r ≡ 0 → ⊥) → s ≡ record { refusal = r; length = 0 }
-    → (s ≡ answerOf f (length out)) × (out ≡ rewriteOut f out)
+    → RewritingSays f out s out
 unfolding rewriteLength rewriteOut same
 by-file f out r s e h q = rw (file-refused f (λ z. h (e ∙ z)) (length out), ← e, ne-eqb r 0 h) (q, refl)
 
@@ -44,7 +42,7 @@ edition-is f n en = sym (ap (λ (s : Shape). s .edition) en)
 
 -- so does one whose charts may stay
 by-edition : (f out : List ℕ) (s : Rewritten) → refusalOf f ≡ 0 → trailer f .edition ≡ stayEdition → s ≡ record { refusal = mayStay; length = 0 }
-    → (s ≡ answerOf f (length out)) × (out ≡ rewriteOut f out)
+    → RewritingSays f out s out
 unfolding rewriteLength rewriteOut same
 by-edition f out s h two q = rw (stay-refused f h two (length out)) (q, refl)
 
@@ -54,9 +52,7 @@ module _ (f : List ℕ) (h : refusalOf f ≡ 0) (n : Shape) (en : n ≡ shapeOf 
   not-two e = one (sym (edition-is f n en) ∙ e)
 
   by-body : (out out′ : List ℕ) (r : Rewritten)
-      → (r ≡ record { refusal = rewriteAfter (fileAt n b) (length out); length = lengthAfter (fileAt n b) (length out) })
-      × (out′ ≡ outAfter (fileAt n b) out)
-      → (r ≡ answerOf f (length out)) × (out′ ≡ rewriteOut f out)
+      → BodyRewrites (fileAt n b) out r out′ → RewritingSays f out r out′
   by-body out out′ r q = rw (refusal-is f h not-two (length out), length-is f h not-two (length out), out-is f h not-two out, file-is f n b en eb) q
 
   body-checked : Sized n b → Summed n b → Checked n b

@@ -11,7 +11,8 @@ use Rattle.meaning.specs.Check.{firstOf}
 use Rattle.meaning.specs.Calls.{laidOver, rowsOf, carriedOf}
 use Rattle.meaning.specs.Laws.Runs.{Valid}
 use Rattle.engine.specs.Step.{configTestsIn}
-use Rattle.engine.specs.Run.Laws.{Ends, Refuses, after-config, after-room, after-rows, config-is, room, no-room}
+use Rattle.engine.specs.Run.{BodyRuns}
+use Rattle.engine.specs.Run.Laws.{Refuses, after-config, after-room, after-rows, config-is, room, no-room}
 use Rattle.engine.proofs.run.of_body.Statement.{statement}
 use Rattle.engine.proofs.run.of_body.Tie as tie
 
@@ -40,7 +41,7 @@ module _ (n : Shape) (b config : List ℕ) (carried : ℕ) (inputs rows : List �
 
       by-rows : length inputs ≤ length rows / (10 + n .charts) → (rows′ : List ℕ) (c : ℕ)
           → (rows′ ≡ laidOver (rowsOf (fileAt n b) (take (n .charts) s) carried inputs) rows) × (c ≡ carriedOf (fileAt n b) (take (n .charts) s) carried inputs)
-          → Ends (fileAt n b) config carried inputs rows (record { refusal = 0; carried = c }) rows′
+          → BodyRuns (fileAt n b) config carried inputs rows (record { refusal = 0; carried = c }) rows′
       unfolding fileAt
       by-rows l rows′ c p =
           let q = rw begins at p in

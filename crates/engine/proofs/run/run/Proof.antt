@@ -8,29 +8,25 @@ use lib.ListN.{length}
 use Rattle.layout.specs.declared.body.Shape.{Shape}
 use Rattle.meaning.specs.File.{trailer, shapeOf, bodyOf, fileAt}
 use Rattle.meaning.specs.Check.{refusalOf}
-use Rattle.meaning.specs.Calls.{runRefusal, runBytes, runCarried}
 use Rattle.checks.specs.Open.{Stands}
 use Rattle.engine.specs.Step.Laws.{checked, file-is}
 use Rattle.engine.specs.declared.run.Ran.{Ran}
-use Rattle.engine.specs.Run.Laws.{run-refused, bytes-refused, none-carried, run-passed, bytes-passed, carried-passed, Ends}
+use Rattle.engine.specs.Contracts.{RunSays}
+use Rattle.engine.specs.Run.{BodyRuns}
+use Rattle.engine.specs.Run.Laws.{run-refused, bytes-refused, none-carried, run-passed, bytes-passed, carried-passed}
 use Rattle.engine.proofs.run.run.Statement.{statement}
 use Rattle.engine.proofs.run.run.Tie as tie
 
--- the call's answer, and what it leaves in the rows
-abbrev Runs : List ℕ → List ℕ → ℕ → List ℕ → List ℕ → List ℕ → Ran → Type 0
-Runs f config carried inputs rows rows′ a =
-    (a ≡ record { refusal = runRefusal f config (length inputs) (length rows); carried = runCarried f config carried inputs (length rows) })
-    × (rows′ ≡ runBytes f config carried inputs rows)
-
 module _ (f config : List ℕ) (carried : ℕ) (inputs rows : List ℕ) where
-  by-file : (r : ℕ) → r ≡ refusalOf f → (r ≡ 0 → ⊥) → (a : Ran) → a ≡ record { refusal = r; carried = 0 } → Runs f config carried inputs rows rows a
+  by-file : (r : ℕ) → r ≡ refusalOf f → (r ≡ 0 → ⊥) → (a : Ran) → a ≡ record { refusal = r; carried = 0 }
+      → RunSays f config carried inputs rows a rows
   by-file r e h a q =
       let z : refusalOf f ≡ 0 → ⊥ = λ q. h (e ∙ q) in
       rw (run-refused f config carried inputs rows z, none-carried f config carried inputs rows z, bytes-refused f config carried inputs rows z, ← e) (q, refl)
 
   -- the run of the body that the file is opened to is the file's
   by-body : refusalOf f ≡ 0 → (n : Shape) → n ≡ shapeOf (trailer f) → (b : List ℕ) → b ≡ bodyOf f → (rows′ : List ℕ) (a : Ran)
-      → Ends (fileAt n b) config carried inputs rows a rows′ → Runs f config carried inputs rows rows′ a
+      → BodyRuns (fileAt n b) config carried inputs rows a rows′ → RunSays f config carried inputs rows a rows′
   by-body h n en b eb rows′ a q =
       rw (run-passed f config carried inputs rows h, carried-passed f config carried inputs rows h, bytes-passed f config carried inputs rows h, file-is f n b en eb) q
 

@@ -15,7 +15,8 @@ use Rattle.meaning.specs.Check.{firstOf}
 use Rattle.meaning.specs.Calls.{laidOver, nextIn}
 use Rattle.search.specs.declared.Found.{Found}
 use Rattle.candidates.specs.Candidates.{Ready}
-use Rattle.engine.specs.Step.{steppedOf, configTestsIn, stepAfter, placesAfter, Checked, Finds}
+use Rattle.engine.specs.Contracts.{steppedOf}
+use Rattle.engine.specs.Step.{configTestsIn, stepAfter, placesAfter, Checked, Finds}
 use Rattle.engine.specs.Step.Laws.{config-long, config-valid, after-config, after-room, after-step, after-places, after-refused, ready, answer-none, answer-given, refuses}
 use Rattle.engine.specs.declared.step.Stepped.{Stepped}
 use Rattle.engine.proofs.step.of_body.Statement.{statement}

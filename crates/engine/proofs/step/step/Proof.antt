@@ -9,10 +9,11 @@ use Rattle.layout.specs.declared.body.Shape.{Shape}
 use Rattle.meaning.specs.Meaning.{Set, refused}
 use Rattle.meaning.specs.File.{trailer, shapeOf, bodyOf, fileAt}
 use Rattle.meaning.specs.Check.{refusalOf}
-use Rattle.meaning.specs.Calls.{stepOf, placesOf, nextIn}
+use Rattle.meaning.specs.Calls.{stepOf}
 use Rattle.meaning.specs.Calls.Laws.{of-refused}
 use Rattle.checks.specs.Open.{Stands}
-use Rattle.engine.specs.Step.{steppedOf, stepAfter, placesAfter}
+use Rattle.engine.specs.Contracts.{StepSays}
+use Rattle.engine.specs.Step.{BodySteps}
 use Rattle.engine.specs.Step.Laws.{step-refused, step-passed, places-passed, checked, file-is, refuses}
 use Rattle.engine.specs.declared.step.Stepped.{Stepped}
 use Rattle.engine.proofs.step.step.Statement.{statement}
@@ -25,8 +26,7 @@ by-file f config i room r e h = rw e (step-refused f config i room (λ z. h (e �
 module _ (f : List ℕ) (h : refusalOf f ≡ 0) (n : Shape) (en : n ≡ shapeOf (trailer f)) (b : List ℕ) (eb : b ≡ bodyOf f) (config : List ℕ)
     (i : Set) where
   by-body : (next next′ : List ℕ) (r : Stepped)
-      → (r ≡ steppedOf (stepAfter (fileAt n b) config i (length next)) (placesAfter (fileAt n b) config i (length next))) × (next′ ≡ nextIn (stepAfter (fileAt n b) config i (length next)) next)
-      → (r ≡ steppedOf (stepOf f config i (length next)) (placesOf f config i (length next))) × (next′ ≡ nextIn (stepOf f config i (length next)) next)
+      → BodySteps (fileAt n b) config i next r next′ → StepSays f config i next r next′
   by-body next next′ r q = rw (step-passed f config i (length next) h, places-passed f config i (length next) h, file-is f n b en eb) q
 
 -- a file that is not refused, and its body

@@ -1,0 +1,42 @@
+-- What each call for C and Rust promises, one definition for each contract: what it returns and what it leaves behind each pointer. f has the bytes of
+-- the file and r is what is returned; b is what a buffer holds before the call, and c what it holds after it. A mark and a yes are numbers: 1 for yes.
+use mathlib.Core.Path.{_≡_}
+use mathlib.Core.List.{List}
+use Prim.Native.Nat.{ℕ}
+use lib.ListN.{length}
+use Rattle.meaning.specs.Count.{one}
+use Rattle.meaning.specs.Meaning.{Set}
+use Rattle.meaning.specs.Check.{refusalOf}
+use Rattle.meaning.specs.Calls.{firstRefusal, firstBytes, inputOf, outputOf, stepOf, placesOf, nextIn, refusalIn, outputIn, markIn, runRefusal}
+use Rattle.meaning.specs.Calls.{runBytes, runCarried}
+use Rattle.meaning.specs.Rewriting.{rewriteRefusal, rewriteLength, rewriteOut}
+use Rattle.meaning.specs.Plain.{plainOf}
+pub mod Laws
+
+abbrev pub CheckReturns : List ℕ → ℕ → Type 0
+CheckReturns f r = r ≡ refusalOf f
+
+abbrev pub FirstReturns : List ℕ → List ℕ → ℕ → List ℕ → Type 0
+FirstReturns f b r c = (r ≡ firstRefusal f (length b)) × (c ≡ firstBytes f b)
+
+abbrev pub InterfaceReturns : List ℕ → ℕ → Set → Set → Type 0
+InterfaceReturns f r input output = (r ≡ refusalOf f) × (input ≡ inputOf f) × (output ≡ outputOf f)
+
+abbrev pub PlainReturns : List ℕ → ℕ → ℕ → Type 0
+PlainReturns f r plain = (r ≡ refusalOf f) × (plain ≡ one (plainOf f))
+
+abbrev pub StepReturns : List ℕ → List ℕ → Set → List ℕ → ℕ → List ℕ → Set → ℕ → List ℕ → Type 0
+StepReturns f config i b r c output mark places =
+    let a = stepOf f config i (length b) in
+    (r ≡ refusalIn a) × (c ≡ nextIn a b) × (output ≡ outputIn a) × (mark ≡ one (markIn a))
+    × (places ≡ placesOf f config i (length b))
+
+abbrev pub RunReturns : List ℕ → List ℕ → Set → List Set → List ℕ → ℕ → List ℕ → Set → Type 0
+RunReturns f config carried inputs b r c left =
+    (r ≡ runRefusal f config (length inputs) (length b))
+    × (c ≡ runBytes f config carried inputs b)
+    × (left ≡ runCarried f config carried inputs (length b))
+
+abbrev pub RewriteReturns : List ℕ → List ℕ → ℕ → List ℕ → ℕ → Type 0
+RewriteReturns f b r c size =
+    (r ≡ rewriteRefusal f (length b)) × (c ≡ rewriteOut f b) × (size ≡ rewriteLength f (length b))
