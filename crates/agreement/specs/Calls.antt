@@ -22,11 +22,12 @@ use Rattle.meaning.specs.Check.{Test, firstOf, differ, notBelow, fileTests, ref
 use Rattle.meaning.specs.Calls.{made, laidOver, firstRefusal, initials, firstBytes, inputOf, outputOf, configTests, stepRefusal, stepIn, stepOf, allPlaces, placesIn, placesOf, runRefusal, rowsOf, carriedOf, runBytes, runCarried}
 use Rattle.meaning.specs.Calls.Laws.{made-cong, call-allowed}
 use Rattle.meaning.specs.Rewriting.{free, call, LowestLeft, noFree?, chartWith, rewrittenChart, rewriteTests, rewriteBytes, stayTest, rewriteRefusal, rewrite, rewriteLength, shapeIn}
+use Rattle.meaning.specs.Words.{PlacesAgree}
 use Rattle.meaning.specs.Laws.Bools.{same-refl, same→≡}
 use Rattle.meaning.specs.Laws.Runs.{Valid}
 use Rattle.meaning.specs.Laws.Editions.{edition-left}
 use Rattle.agreement.specs.Step.{Rewritten, step-is}
-use Rattle.agreement.specs.Taken.{PlacesAgree, taken-agree}
+use Rattle.agreement.specs.Taken.{taken-agree}
 use Rattle.agreement.specs.Run.{run-is, carried-is}
 use Rattle.agreement.specs.Faces.{input-is, output-is}
 use Rattle.agreement.specs.Passed.{ended, smalls, body-bytes, ready}

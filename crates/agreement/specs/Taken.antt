@@ -1,5 +1,4 @@
--- Which transitions a step of the rewritten file takes (RULES 9.8): the definition of what agrees (`PlacesAgree`), and that it holds of two steps
--- (`taken-agree`).
+-- Which transitions a step of the rewritten file takes (RULES 9.8): the places of the two steps agree (`taken-agree`).
 use mathlib.Core.Path.{_≡_, refl, sym, _∙_, ap, subst}
 use mathlib.Core.Bool.{true, false}
 use mathlib.Core.Logic.{_⊎_, inl, inr, ⊎-elim, _≢_}
@@ -18,6 +17,7 @@ use Rattle.meaning.specs.File.{File, wholeOf}
 use Rattle.meaning.specs.Calls.{outcomesIn, stepIn, placesIn, refusalIn}
 use Rattle.meaning.specs.Calls.Laws.{getD-all}
 use Rattle.meaning.specs.Rewriting.{call, chartWith, idle}
+use Rattle.meaning.specs.Words.{IdleStands, PlacesAgree}
 use Rattle.meaning.specs.Laws.Choices.{place-own, length-places, getD-places}
 use Rattle.meaning.specs.Laws.Editions.{places-one}
 use Rattle.meaning.specs.Laws.Names.{kap}
@@ -29,23 +29,6 @@ use Rattle.agreement.specs.Charts.{nth-idle, places, places-none}
 use Rattle.agreement.specs.Active.{Live, live}
 use Rattle.agreement.specs.Places.{turnedPlace, turned-or-idle, turnedPlaces, length-turned}
 use Rattle.agreement.specs.Step.{Ready, Rewritten, has, whole-is, chart-is, step-is, places-are}
-
--- F: the file; F′: the rewritten one; config: the configuration; a: what a step of either answers; ps and ps′: the places of both
-module _ (F F′ : File) (config : List ℕ) (a : Answer) (ps ps′ : List ℕ) where
-  -- the exception (RULES 9.8): the step is given, chart c of the file took none, and in the rewritten file it takes an idle transition
-  pub record IdleStands (c : ℕ) : Type 0 where
-    pub is-given : refusalIn a ≡ 0
-    pub one-of-its : c < F .charts
-    pub none-taken : getD ps c noPlace ≡ noPlace
-    pub slave : ℕ
-    pub is-idle : nth noMove (F′ .chart c .transitions) (getD ps′ c noPlace) ≡ takes (idle (call F) slave (getD config c 0))
-
-  -- apart from that, the places are the same (RULES 9.8)
-  pub record PlacesAgree : Type 0 where
-    pub long : length ps′ ≡ length ps
-    pub each : (c : ℕ) → (getD ps′ c noPlace ≡ getD ps c noPlace) ⊎ IdleStands c
-    -- every chart of the rewritten file takes a transition in a step that is given: so where the file has 255, it is an idle one
-    pub taken : refusalIn a ≡ 0 → (c : ℕ) → c < F .charts → getD ps′ c noPlace ≢ noPlace
 
 -- ── places, one by one ──
 

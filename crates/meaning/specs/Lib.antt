@@ -1,6 +1,6 @@
 -- The meaning of chart files. What a reader must believe: the numbers that have names (Numbers, Count), what a step means (Meaning), the file (File),
--- its check (Check), the public calls (Calls), what is active in a step (Active), the rewriting (Rewriting), plain files (Plain). The theorems are
--- under Laws.
+-- its check (Check), the public calls (Calls), what is active in a step (Active), the rewriting (Rewriting), plain files (Plain); and the words by which
+-- the promises are read (Words). The theorems are under Laws.
 pub mod Numbers
 pub mod Count
 pub mod Meaning
@@ -10,4 +10,5 @@ pub mod Calls
 pub mod Active
 pub mod Rewriting
 pub mod Plain
+pub mod Words
 pub mod Laws

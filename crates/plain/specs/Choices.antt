@@ -12,7 +12,8 @@ use Rattle.meaning.specs.Meaning.{Set, same, Chart, Tree, Slaves, leaf, comp, h
 use Rattle.meaning.specs.File.{Has, HasS}
 use Rattle.meaning.specs.Plain.{anyDoubtful}
 use Rattle.meaning.specs.Laws.Bools.{or-elim, and-l, and-r, same→≡}
-use Rattle.meaning.specs.Laws.Demand2.{Choice, Permitted, given-first, mark-no}
+use Rattle.meaning.specs.Words.{Choice, Permitted}
+use Rattle.meaning.specs.Laws.Demand2.{given-first, mark-no}
 use Rattle.meaning.specs.Laws.Editions.{ok-one}
 use Rattle.plain.specs.Moves.{same-fed, one-move}
 

@@ -1,5 +1,5 @@
 -- A step of a plain file (RULES 8.3), from a valid configuration and with room for the next, has the mark yes or is refused with 23 (`plain-sure`),
--- and so is every step of a run (`row-sure`). In this order: an answer that is sure (Sure); the tree of a plain file is plain, and so its steps are
+-- and so is every step of a run (`row-sure`). In this order: an answer that is sure; the tree of a plain file is plain, and so its steps are
 -- sure (`step-sure`); the same of bytes.
 use mathlib.Core.Path.{_≡_, refl, _∙_, ap}
 use mathlib.Core.Bool.{Bool, true, false, _&&_, cond, false≢true}
@@ -27,6 +27,7 @@ use Rattle.meaning.specs.Calls.Laws.{step-open}
 use Rattle.meaning.specs.Rewriting.{unionUpTo}
 use Rattle.meaning.specs.Rewriting.Laws.{union-in}
 use Rattle.meaning.specs.Plain.{fedBack, anyDoubtful, plainIn, plainOf}
+use Rattle.meaning.specs.Words.{Sure, SureRow}
 use Rattle.meaning.specs.Laws.Bools.{and-l, and-r, same-refl, same→≡}
 use Rattle.meaning.specs.Laws.Editions.{one-stays}
 use Rattle.meaning.specs.Laws.Names.{joined}
@@ -34,11 +35,6 @@ use Rattle.meaning.specs.Laws.Trees.{tree₀, tree₁, tree₂, all-there}
 use Rattle.meaning.specs.Laws.Runs.{Valid}
 use Rattle.meaning.specs.Laws.Files.{run-valid, run-row}
 use Rattle.plain.specs.Choices.{PlainChart, PlainTree, PlainSlaves, never-no}
-
--- an answer that is sure: the mark is yes, or no choice is permitted
-abbrev pub Sure : Answer → Type 0
-Sure (refused r) = r ≡ noStep
-Sure (given o n m) = m ≡ true
 
 -- an answer that never is a step with mark no
 sure-answer : (l : List Outcome) → ((o : Set) (n : List ℕ) → answer l ≡ given o n false → ⊥) → Sure (answer l)
@@ -145,10 +141,6 @@ module _ (f : List ℕ) (p : plainOf f ≡ true) where
 -- behind the output
 behind : (o : Set) (l : List ℕ) (n : ℕ) → getD (bytes 8 o ++ l) (8 + n) 0 ≡ getD l n 0
 behind o l n = rw (length-bytes 8 o) at (getD-append-add (bytes 8 o) l n 0)
-
--- a row's mark and refusal: 1 and 0, or 0 and 23
-abbrev pub SureRow : List ℕ → Type 0
-SureRow row = ((getD row 8 0 ≡ 1) × (getD row 9 0 ≡ 0)) ⊎ ((getD row 8 0 ≡ 0) × (getD row 9 0 ≡ noStep))
 
 sure-row : (r : Answer) (config : List ℕ) → Sure r → SureRow (rowOf r config)
 unfolding rowOf

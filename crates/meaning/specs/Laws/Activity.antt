@@ -29,7 +29,8 @@ use Rattle.meaning.specs.Active.Laws.{some?, some-none, ok-active, slave
 use Rattle.meaning.specs.Laws.Choices.{length-nexts, getD-nexts, getD-places}
 use Rattle.meaning.specs.Laws.Trees.{Joined, all-there}
 use Rattle.meaning.specs.Laws.Names.{joined}
-use Rattle.meaning.specs.Laws.Demand2.{Given, given-first, inactive}
+use Rattle.meaning.specs.Words.{Given}
+use Rattle.meaning.specs.Laws.Demand2.{given-first, inactive}
 
 -- a step that is given
 module _ (f config : List ℕ) (i : Set) (room : ℕ) (o : Set) (n : List ℕ) (m : Bool)

@@ -16,6 +16,8 @@ use Rattle.signals.specs.Mask.{_∩_, _∖_}
 use Rattle.meaning.specs.Numbers.{noStep}
 use Rattle.meaning.specs.Meaning.{Set, same, Chart, Tree, Slaves, leaf, comp, hide, dec, nil, snoc, Move, noMove, takes, stay, nth, pick, behind, lastPlace, after, out, okChart, ok, oks, permitted, inFace, upd, moves, nexts, placesFrom, Outcome, outcomeOf, firstPlaces, upto, outcome, search, outcomes, Answer, refused, given, eqList, agree, answer}
 use Rattle.meaning.specs.File.{Has, HasS}
+use Rattle.meaning.specs.Words.{Before, outputBy, nextBy, placesBy, Given}
+use Rattle.meaning.specs.Words as words
 use Rattle.meaning.specs.Laws.Bools.{or-elim, same-refl, same→≡, and-l, and-r}
 use Rattle.meaning.specs.Laws.Choices.{upd-at, upd-other, upd-off, Below, length-nexts, getD-nexts, eqList→≡, eqList-refl}
 
@@ -82,32 +84,20 @@ module _ {A : Type 0} where
 -- ── choices ──
 
 module _ (E : ℕ → Chart) (state : ℕ → ℕ) (cfg : ℕ → ℕ) (t : Tree) (inp : Set) (N : ℕ) where
-  -- places of N charts: none, one of the chart's transitions, or, in edition 2, staying
-  pub record Choice (ch : ℕ → ℕ) : Type 0 where
-    pub places : (c : ℕ) → c < N → ch c ≤ lastPlace (E c)
-    pub others : (c : ℕ) → N ≤ c → ch c ≡ 0
+  abbrev Choice : (ℕ → ℕ) → Type 0
+  Choice = words.Choice E state cfg t inp N
 
-  -- a choice is permitted; what it puts out; where it leads; both
-  abbrev pub Permitted : (ℕ → ℕ) → Type 0
-  Permitted ch = permitted E state cfg (moves E ch) t inp ≡ true
+  abbrev Permitted : (ℕ → ℕ) → Type 0
+  Permitted = words.Permitted E state cfg t inp N
 
-  abbrev pub outputBy : (ℕ → ℕ) → Set
-  outputBy ch = out (moves E ch) t
-
-  abbrev pub nextBy : (ℕ → ℕ) → List ℕ
-  nextBy ch = nexts cfg (moves E ch) zero N
-
-  abbrev pub placesBy : (ℕ → ℕ) → List ℕ
-  placesBy ch = placesFrom E ch zero N
-
+  -- a choice's outcome
   abbrev by : (ℕ → ℕ) → Outcome
-  by ch = record { output = outputBy ch; next = nextBy ch; places = placesBy ch }
-
-  -- one choice comes before another (RULES 5.8): the first chart with different moves decides
-  pub record Before (ch ch₂ : ℕ → ℕ) : Type 0 where
-    pub at : ℕ
-    pub lower : ch at < ch₂ at
-    pub equal : (c : ℕ) → c < at → ch c ≡ ch₂ c
+  by ch =
+      record {
+        output = outputBy E state cfg t inp N ch;
+        next = nextBy E state cfg t inp N ch;
+        places = placesBy E state cfg t inp N ch;
+      }
 
   -- ch settles the charts below k alone
   abbrev Begun : ℕ → (ℕ → ℕ) → Type 0
@@ -258,14 +248,6 @@ module _ (E : ℕ → Chart) (state : ℕ → ℕ) (cfg : ℕ → ℕ) (t : Tree
           absurd (none-there (r .choice) (r .chosen) (r .permits))
 
   -- ── it is the first in the order ──
-  pub record Given (o : Set) (n : List ℕ) : Type 0 where
-    pub choice : ℕ → ℕ
-    pub chosen : Choice choice
-    pub permits : Permitted choice
-    pub output : o ≡ outputBy choice
-    pub next : n ≡ nextBy choice
-    pub places : firstPlaces (outcomes E state cfg t inp N) ≡ placesBy choice
-    pub first : (ch : ℕ → ℕ) → Choice ch → Permitted ch → Before ch choice → ⊥
 
   -- an answer that gives a step, as the list of outcomes that it stands for
   pub record Listed (l : List Outcome) (o : Set) (n : List ℕ) (m : Bool) : Type 0 where
@@ -281,7 +263,7 @@ module _ (E : ℕ → Chart) (state : ℕ → ℕ) (cfg : ℕ → ℕ) (t : Tree
   listed [] o n m e = absurd (let z : _≡_ {A = ℕ} 0 1 = cc in omega arith)
   listed (x ∷ xs) o n m e = record { head = x; rest = xs; is = refl; output = cc; next = cc; mark = cc }
 
-  pub given-first : (o : Set) (n : List ℕ) (m : Bool) → the-answer ≡ given o n m → Given o n
+  pub given-first : (o : Set) (n : List ℕ) (m : Bool) → the-answer ≡ given o n m → Given E state cfg t inp N o n
   unfolding outcomes firstPlaces
   given-first o n m e =
       let l = listed (outcomes E state cfg t inp N) o n m e in
