@@ -1,7 +1,7 @@
 // Sets of 64 signals as masks.
 ghost use mathlib.Core.Path.{_≡_};
 ghost use Prim.Native.Nat.{_<_};
-ghost use Rattle.signals.specs.Mask.{_∪_, _∩_, _∖_, bit, single, within, apart};
+ghost use Rattle.signals.specs.Mask.{_∪_, _∖_, bit, single, within, apart};
 ghost use Rattle.signals.specs.Lowest.{IsLowest, IsLowestFree};
 
 // The set of all signals.
@@ -10,18 +10,6 @@ pub const ALL: u64 = 18446744073709551615;
 pub enum Found {
     At(u32),
     Nothing,
-}
-
-pub fn union(a: u64, b: u64) -> u64
-    ensures { λ r. ⌜ r ≡ a ∪ b ⌝ }
-{
-    a | b
-}
-
-pub fn cut(a: u64, b: u64) -> u64
-    ensures { λ r. ⌜ r ≡ a ∩ b ⌝ }
-{
-    a & b
 }
 
 // a without b
