@@ -169,8 +169,9 @@ behind-is n x z e = ap (λ b. cond b x z) (ap (λ k. same k 0) e ∙ same-refl 0
 
 -- ── a step that is given ──
 
--- its file is accepted, its configuration valid, and answer and places are those that the file's records give
+-- none of its tests applies, its file is accepted, its configuration valid, and answer and places are those that the file's records give
 pub record Answered (f config : List ℕ) (i : Set) (room : ℕ) (o : Set) (n : List ℕ) (m : Bool) : Type 0 where
+  pub passes : stepRefusal f config room ≡ 0
   pub accepted : refusalOf f ≡ 0
   pub valid : Valid (fileOf f) config
   pub answer-is : stepIn (fileOf f) config i ≡ given o n m
@@ -181,6 +182,7 @@ pub answered : (f config : List ℕ) (i : Set) (room : ℕ) (o : Set) (n : List 
 unfolding stepOf placesOf
 answered f config i room o n m e =
     record {
+      passes = passes;
       accepted = step-allowed f config room passes .0;
       valid = step-allowed f config room passes .1;
       answer-is = sym (behind-is (stepRefusal f config room) _ _ passes) ∙ e;
