@@ -75,6 +75,9 @@ impl Numbers {
     }
 }
 
+/// How an engine makes a call: with a buffer, giving the refusal and the numbers.
+pub type Call = fn(&Command, &mut [u8]) -> (u8, Numbers);
+
 /// The answer of a call: the refusal, and the line that is printed for it.
 #[derive(Clone, PartialEq, Eq, Debug)]
 pub struct Answer {
@@ -195,10 +198,15 @@ impl Command {
         bytes
     }
 
-    /// The answer of the call, made with a buffer of its own.
+    /// The answer of the call, made here with a buffer of its own.
     pub fn answer(&self) -> Answer {
+        self.answer_by(Command::call)
+    }
+
+    /// The answer of the call as an engine makes it, with a buffer of its own.
+    pub fn answer_by(&self, call: Call) -> Answer {
         let mut lent = vec![FILL; self.room];
-        let (refusal, numbers) = self.call(&mut lent);
+        let (refusal, numbers) = call(self, &mut lent);
         let mut line = format!("{} {}", self.name, word(self.op));
         let fields = self.fields(numbers, &lent);
         for field in [vec![refusal.to_string()], fields].concat() {

@@ -6,9 +6,10 @@ use crate::check::accept;
 use crate::command::{Command, Op, OPS};
 use crate::generate::*;
 use crate::limits::*;
-use crate::model::{Edition, Model};
+use crate::model::Edition;
 use crate::record::{named, KINDS};
 use crate::set::Set;
+use crate::walk::from_any_state;
 
 /// The most choices of one call, those of all inputs of a run together.
 const CHOICES: usize = 5_000;
@@ -80,16 +81,6 @@ pub fn choices(command: &Command) -> usize {
         Ok(model) => steps * most_choices(&model, &command.configuration),
         Err(_) => 0,
     }
-}
-
-/// How many choices there are at most, each chart being in the state with the most transitions.
-fn from_any_state(model: &Model) -> usize {
-    let charts = model.charts.iter();
-    let most = charts.map(|chart| {
-        let places = |state| most_places(model.edition, chart, state);
-        (0..chart.states).map(places).max().unwrap_or(1)
-    });
-    most.product()
 }
 
 /// A step with many choices: many charts, many transitions, few signals.

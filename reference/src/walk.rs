@@ -1,7 +1,7 @@
 //! Random files with slaves that are small enough to be walked through all their configurations, and
 //! what is offered to them on the way.
 
-use crate::generate::{any, input, Random, Shape};
+use crate::generate::{any, input, most_places, Random, Shape};
 use crate::interface::node_input;
 use crate::limits::CHARTS;
 use crate::model::{Model, Node, Slave};
@@ -23,6 +23,16 @@ pub fn with_slaves(random: &mut Random, most: usize) -> (Shape, Model) {
 pub fn configurations(model: &Model) -> Vec<Vec<u8>> {
     let states = model.charts.iter().map(|chart| 0..chart.states);
     every(states.map(Iterator::collect).collect())
+}
+
+/// How many choices there are at most, each chart being in the state with the most transitions.
+pub fn from_any_state(model: &Model) -> usize {
+    let charts = model.charts.iter();
+    let most = charts.map(|chart| {
+        let places = |state| most_places(model.edition, chart, state);
+        (0..chart.states).map(places).max().unwrap_or(1)
+    });
+    most.product()
 }
 
 /// Every list that has one of each list's values, in order.

@@ -1,12 +1,12 @@
 //! The proved engine compared with this one: random calls are made in both, and what each tells is
 //! compared, refusal, answers and every byte of the buffer.
 
-mod engine;
+pub mod engine;
 pub mod same;
 
 use crate::cases::charts::whole_case;
 use crate::cases::run::rows_bytes;
-use crate::command::{hex, Command, Numbers};
+use crate::command::{hex, Call, Command, Numbers};
 use crate::draw::Draw;
 use crate::generate::Random;
 use crate::Set;
@@ -60,9 +60,6 @@ fn compare(command: &Command) -> Result<(), String> {
     }
     Ok(())
 }
-
-/// How a call is made: with a buffer, giving the refusal and the numbers.
-type Call = fn(&Command, &mut [u8]) -> (u8, Numbers);
 
 /// Makes a call with a buffer that has a pattern in it and around it.
 fn tell(command: &Command, call: Call) -> Told {
