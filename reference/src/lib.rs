@@ -22,9 +22,9 @@
 //! What the comparison needs: [`command`] (one call as bytes, its answer as a line), [`cases`]
 //! (calls with a name and an answer written by hand), [`generate`] (random calls from fixed seeds),
 //! [`record`] (what is recorded of each kind), [`draw`] (random calls of every kind) and [`walk`]
-//! (random files with slaves, and all their configurations). With the feature `engine` also `fuzz`,
-//! which compares the proved engine with this one. [`words`] is what a program does with its
-//! command line.
+//! (random files with slaves, and all their configurations). [`laws`] tries two laws of composed
+//! nodes on random files (RULES 5.13, 5.14). With the feature `engine` also `fuzz`, which compares
+//! the proved engine with this one. [`words`] is what a program does with its command line.
 
 pub mod agreement;
 pub mod cases;
@@ -39,6 +39,7 @@ pub mod first;
 pub mod fuzz;
 pub mod generate;
 pub mod interface;
+pub mod laws;
 pub mod limits;
 pub mod model;
 pub mod plain;

@@ -12,8 +12,11 @@
 //! - `reference same SEED COUNT`, with the feature `engine`, rewrites so many random files with slaves
 //!   here and in the proved engine, and compares the engine's steps of old and new file from every
 //!   configuration; prints how many of each kind were compared.
+//! - `reference laws SEED COUNT` tries two laws of composed nodes on so many random files of both
+//!   editions, from every configuration; with the feature `engine`, also in the proved engine.
 
 use reference::command::decode_all;
+use reference::laws::{hold, Engine, REFERENCE};
 use reference::record::{commands, encode, lines, named, Kind, KINDS};
 use reference::words;
 use std::io::{Read, Write};
@@ -22,7 +25,7 @@ use std::process::ExitCode;
 /// What can be said on the command line.
 const USE: &str =
     "use: reference record KIND COMMANDS LINES | file NAME | show | day | chart WORDS.. \
-    | fuzz SEED COUNT | same SEED COUNT";
+    | laws SEED COUNT | fuzz SEED COUNT | same SEED COUNT";
 
 fn main() -> ExitCode {
     words::done(|words| match *words {
@@ -32,6 +35,7 @@ fn main() -> ExitCode {
         ["day"] => day(),
         ["chart", "rewrite", file, out] => rewrite(file, out),
         ["chart", command, file, ref words @ ..] => chart(command, file, words),
+        ["laws", seed, count] => laws(seed, count),
         [command @ ("fuzz" | "same"), seed, count] => hold_engine(command, seed, count),
         _ => Err(USE.to_string()),
     })
@@ -80,11 +84,32 @@ fn rewrite(file: &str, out: &str) -> Result<(), String> {
     chart("rewrite", file, &[])
 }
 
+/// The engines that the laws are asked of.
+#[cfg(feature = "engine")]
+const ENGINES: &[Engine] = &[REFERENCE, ("engine", reference::fuzz::engine::raw)];
+#[cfg(not(feature = "engine"))]
+const ENGINES: &[Engine] = &[REFERENCE];
+
+/// Tries the laws of composed nodes on so many random files.
+fn laws(seed: &str, count: &str) -> Result<(), String> {
+    let (seed, count) = numbers(seed, count)?;
+    let tried = hold(seed, count, ENGINES).map_err(|what| format!("laws: {what}"))?;
+    let names: Vec<&str> = ENGINES.iter().map(|(name, _)| *name).collect();
+    let line = format!("laws: {tried} (seed {seed}; {})\n", names.join(", "));
+    print(line.as_bytes())
+}
+
+/// A seed and a number of calls or files.
+fn numbers(seed: &str, count: &str) -> Result<(u64, usize), String> {
+    let seed = seed.parse().map_err(|_| USE)?;
+    let count = count.parse().map_err(|_| USE)?;
+    Ok((seed, count))
+}
+
 /// Compares the proved engine with this one on so many random calls or files.
 #[cfg(feature = "engine")]
 fn hold_engine(command: &str, seed: &str, count: &str) -> Result<(), String> {
-    let seed: u64 = seed.parse().map_err(|_| USE)?;
-    let count: usize = count.parse().map_err(|_| USE)?;
+    let (seed, count) = numbers(seed, count)?;
     let what = match command {
         "fuzz" => {
             reference::fuzz::agree(seed, count)?;

@@ -309,7 +309,7 @@ fn steps(after: &str, edition: u8) -> usize {
 fn every_file_of_the_page_is_accepted() {
     let blocks = PAGE.split("```\nfile ").skip(1);
     let names: Vec<&str> = blocks.map(|block| block.lines().next().unwrap()).collect();
-    assert_eq!(names.len(), 15);
+    assert_eq!(names.len(), 16);
     for name in names {
         assert_eq!(checked(&file(name).bytes()), refusal::SUCCESS, "{name}");
     }
@@ -325,6 +325,14 @@ fn steps_in_edition_2() {
     assert_eq!(table("## 4 Steps in edition 2").len(), 17);
     if reads(2) {
         steps("## 4 Steps in edition 2", 2);
+    }
+}
+
+#[test]
+fn a_fed_back_signal_as_input_in_both_editions() {
+    let section = "## 7 A fed-back signal given as input";
+    for edition in [1, 2] {
+        assert_eq!(steps(section, edition), 2);
     }
 }
 
