@@ -17,6 +17,8 @@ ghost use Rattle.tables.specs.Filled.{mayAt};
 ghost use Rattle.tables.specs.Fill.{lastsBy, othersAt, sureAt, isAt, isAgain, putMasks, putSmall, AheadRow, aheadBy, AheadFrom, stuck};
 ghost use Rattle.candidates.specs.Candidates.{Ready, Tabled, Left, filling, consideredBy, listingBy, fromStart, withOne, Mays, Sided, NextChart, UntilChart, Stated, Chooses};
 use layout::body::Shape;
+use layout::limits::HEAD_BYTES;
+use layout::limits::TRANSITION_BYTES;
 use layout::record::Transition;
 
 // The chart whose candidates are chosen, its present state, and what it may be offered: surely, of its own action, and of all others'.
@@ -45,7 +47,7 @@ pub fn from_at(n: Shape, body: &[u8], t: usize) -> u8
     requires { ⌜ Holds n (now body) × (t < n .transitions) ⌝ }
     ensures { λ r. ⌜ r ≡ transitionAt n (now (body .entry)) t .from ⌝ }
 {
-    body[24 * n.charts + 28 * t]
+    body[HEAD_BYTES * n.charts + TRANSITION_BYTES * t]
 }
 
 // One transition more, if it is from the state.

@@ -1,34 +1,35 @@
-// The numbers of the rules that have a name: limits (RULES 2.8), bytes of a record (RULES 2), and refusals (RULES 3). Each is written here once.
+// The numbers of the rules that have a name: editions (RULES 7.1), limits and bytes of a record, whose values stand in the crate layout, and
+// refusals (RULES 3). Each of the rest is written here once.
 
 pub const FIRST_EDITION: u8 = 1;
 
 pub const STAY_EDITION: u8 = 2;
 
-pub const MOST_CHARTS: u8 = 8;
+pub const MOST_CHARTS: u8 = layout::limits::MOST_CHARTS;
 
-pub const MOST_SLAVES: u8 = 7;
+pub const MOST_SLAVES: u8 = layout::limits::MOST_SLAVES;
 
-pub const MOST_NODES: u8 = 64;
+pub const MOST_NODES: u8 = layout::limits::MOST_NODES;
 
-pub const MOST_TRANSITIONS: u16 = 512;
+pub const MOST_TRANSITIONS: u16 = layout::limits::MOST_TRANSITIONS;
 // In a chart.
-pub const MOST_STATES: u8 = 16;
+pub const MOST_STATES: u8 = layout::limits::MOST_STATES;
 
-pub const MOST_IN_CHART: u8 = 64;
+pub const MOST_IN_CHART: u8 = layout::limits::MOST_IN_CHART;
 // Transitions from one state.
-pub const MOST_FROM_STATE: u8 = 8;
+pub const MOST_FROM_STATE: u8 = layout::limits::MOST_FROM_STATE;
 // Bytes on the day program's standard input.
 pub const MOST_INPUT: usize = 65536;
 
-pub const HEAD_BYTES: usize = 24;
+pub const HEAD_BYTES: usize = layout::limits::HEAD_BYTES;
 
-pub const TRANSITION_BYTES: usize = 28;
+pub const TRANSITION_BYTES: usize = layout::limits::TRANSITION_BYTES;
 
-pub const SLAVE_BYTES: usize = 4;
+pub const SLAVE_BYTES: usize = layout::limits::SLAVE_BYTES;
 
-pub const NODE_BYTES: usize = 20;
+pub const NODE_BYTES: usize = layout::limits::NODE_BYTES;
 
-pub const TRAILER_BYTES: usize = 12;
+pub const TRAILER_BYTES: usize = layout::limits::TRAILER_BYTES;
 
 // No refusal.
 pub const ACCEPTED: u8 = 0;

@@ -2,6 +2,10 @@
 ghost use mathlib.Core.Path.{_≡_};
 ghost use Prim.Native.Nat.{_+_, _*_, _<_};
 ghost use Rattle.layout.specs.Body.{Holds, sizeOf, headAt, transitionAt, slaveAt, nodeAt};
+use crate::limits::HEAD_BYTES;
+use crate::limits::NODE_BYTES;
+use crate::limits::SLAVE_BYTES;
+use crate::limits::TRANSITION_BYTES;
 use crate::record::Head;
 use crate::record::Node;
 use crate::record::Slave;
@@ -21,14 +25,17 @@ pub fn size(n: Shape) -> usize
     requires { ⌜ (n .charts < 256) × (n .transitions < 65536) × (n .slaves < 256) × (n .nodes < 256) ⌝ }
     ensures { λ r. ⌜ r ≡ sizeOf n ⌝ }
 {
-    24 * n.charts + 28 * n.transitions + 4 * n.slaves + 20 * n.nodes
+    HEAD_BYTES * n.charts
+        + TRANSITION_BYTES * n.transitions
+        + SLAVE_BYTES * n.slaves
+        + NODE_BYTES * n.nodes
 }
 
 pub fn head_at(n: Shape, body: &[u8], c: usize) -> Head
     requires { ⌜ Holds n (now body) × (c < n .charts) ⌝ }
     ensures { λ r. ⌜ r ≡ headAt n (now (body .entry)) c ⌝ }
 {
-    crate::record::read_head(body, 24 * c)
+    crate::record::read_head(body, HEAD_BYTES * c)
 }
 
 // Transition t, counted through all charts.
@@ -36,14 +43,17 @@ pub fn transition_at(n: Shape, body: &[u8], t: usize) -> Transition
     requires { ⌜ Holds n (now body) × (t < n .transitions) ⌝ }
     ensures { λ r. ⌜ r ≡ transitionAt n (now (body .entry)) t ⌝ }
 {
-    crate::record::read_transition(body, 24 * n.charts + 28 * t)
+    crate::record::read_transition(body, HEAD_BYTES * n.charts + TRANSITION_BYTES * t)
 }
 
 pub fn slave_at(n: Shape, body: &[u8], i: usize) -> Slave
     requires { ⌜ Holds n (now body) × (i < n .slaves) ⌝ }
     ensures { λ r. ⌜ r ≡ slaveAt n (now (body .entry)) i ⌝ }
 {
-    crate::record::read_slave(body, 24 * n.charts + 28 * n.transitions + 4 * i)
+    crate::record::read_slave(
+        body,
+        HEAD_BYTES * n.charts + TRANSITION_BYTES * n.transitions + SLAVE_BYTES * i,
+    )
 }
 
 pub fn node_at(n: Shape, body: &[u8], j: usize) -> Node
@@ -52,6 +62,9 @@ pub fn node_at(n: Shape, body: &[u8], j: usize) -> Node
 {
     crate::record::read_node(
         body,
-        24 * n.charts + 28 * n.transitions + 4 * n.slaves + 20 * j,
+        HEAD_BYTES * n.charts
+            + TRANSITION_BYTES * n.transitions
+            + SLAVE_BYTES * n.slaves
+            + NODE_BYTES * j,
     )
 }
