@@ -22,7 +22,8 @@ fn try_day(input: &[u8]) -> Result<String, u8> {
     refuse_if(input.len() > DAY_INPUT, refusal::DAY_INPUT)?;
     let model = accept(input)?;
     let front = front(input, &model);
-    refuse_if(front.len() % SET_BYTES != 0, refusal::DAY_FRONT)?;
+    let odd = front.chunks_exact(SET_BYTES).remainder();
+    refuse_if(!odd.is_empty(), refusal::DAY_FRONT)?;
     let first = first_configuration(&model);
     let (rows, _) = run_model(&model, &first, Set::EMPTY, &inputs(front));
     let lines = rows.iter().zip(1..).map(|(row, number)| line(number, row));

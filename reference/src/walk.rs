@@ -39,7 +39,7 @@ pub fn from_any_state(model: &Model) -> usize {
 pub fn every<T: Clone>(lists: Vec<Vec<T>>) -> Vec<Vec<T>> {
     let longer = |all: Vec<Vec<T>>, list: Vec<T>| {
         let one = |begun: Vec<T>| {
-            let with = |value: &T| [&begun[..], &[value.clone()]].concat();
+            let with = |value: &T| [&begun[..], std::slice::from_ref(value)].concat();
             list.iter().map(with).collect::<Vec<Vec<T>>>()
         };
         all.into_iter().flat_map(one).collect()
