@@ -1,7 +1,8 @@
 // The answers, printed on standard output.
 ghost use mathlib.Core.Path.{_≡_};
-ghost use Prim.Native.Nat.{_*_, _≤_};
+ghost use Prim.Native.Nat.{_+_, _*_, _≤_};
 ghost use lib.ListN.{length};
+ghost use Rattle.meaning.specs.Numbers.{mostCharts};
 use crate::ask;
 use crate::words;
 use crate::words::say;
@@ -11,28 +12,23 @@ use libc::STDOUT_FILENO;
 // The most sets of one run.
 const MOST_SETS: usize = 1024;
 
-// Where a row has the refusal, and the configuration.
-const REFUSAL: usize = 9;
-
-const STATES: usize = 10;
-
-// Room for a line or a set as signals, for the sets of a run, for their rows of at most 18 bytes, and for a rewritten file.
+// Room for a line or a set as signals, for the sets of a run, for their rows, and for a rewritten file.
 fn text_room() -> [u8; 256]
     ensures { λ r. ⌜ 256 ≡ length r ⌝ }
 {
     [0; 256]
 }
 
-fn set_room() -> [u64; 1024]
+fn set_room() -> [u64; MOST_SETS]
     ensures { λ r. ⌜ 1024 ≡ length r ⌝ }
 {
-    [0; 1024]
+    [0; MOST_SETS]
 }
 
-fn row_room() -> [u8; 18432]
-    ensures { λ r. ⌜ 18432 ≡ length r ⌝ }
+fn row_room() -> [u8; MOST_SETS * layout::row::MOST_BYTES]
+    ensures { λ r. ⌜ 1024 * (10 + mostCharts) ≡ length r ⌝ }
 {
-    [0; 18432]
+    [0; MOST_SETS * layout::row::MOST_BYTES]
 }
 
 fn out_room() -> [u8; 65536]
@@ -52,7 +48,7 @@ pub fn check(file: &[u8]) {
 
 // How many charts a file has; none if it is refused, and then the refusal is printed.
 fn charts(file: &[u8]) -> usize
-    ensures { λ r. ⌜ r ≤ 8 ⌝ }
+    ensures { λ r. ⌜ r ≤ mostCharts ⌝ }
 {
     let o = checks::opening::opened(file);
     let r = o.refusal;
@@ -66,7 +62,7 @@ fn charts(file: &[u8]) -> usize
 
 // A configuration's states, with dots between.
 fn states(config: &[u8])
-    requires { ⌜ length (now config) ≤ 8 ⌝ }
+    requires { ⌜ length (now config) ≤ mostCharts ⌝ }
 {
     let mut out = text_room();
     let n = line::put_states(&mut out, 0, config);
@@ -79,7 +75,7 @@ pub fn first(file: &[u8]) {
     if n == 0 {
         return;
     }
-    let mut config = [0u8; 8];
+    let mut config = [0u8; layout::limits::CHARTS];
     engine::file::first(file, &mut config);
     states(&config[..n]);
 }
@@ -130,7 +126,7 @@ fn row(number: u64, row: &[u8])
     let n = line::line(number, row, &mut out);
     let end = n - 1;
     say(&out[..end]);
-    let refusal = row[REFUSAL];
+    let refusal = row[layout::row::REFUSAL];
     if refusal == limits::ACCEPTED {
         signals(layout::number::le64(row, 0));
     } else {
@@ -140,7 +136,7 @@ fn row(number: u64, row: &[u8])
 
 // n rows of w bytes each.
 fn rows(rows: &[u8], w: usize, n: usize)
-    requires { ⌜ (10 ≤ w) × (w ≤ 18) × (18 * n ≤ length (now rows)) ⌝ }
+    requires { ⌜ (10 ≤ w) × (w ≤ 10 + mostCharts) × ((10 + mostCharts) * n ≤ length (now rows)) ⌝ }
 {
     let mut at: usize = 0;
     let mut i: usize = 0;
@@ -154,7 +150,7 @@ fn rows(rows: &[u8], w: usize, n: usize)
 
 // A run of a file with so many charts, with nothing carried into it. Returns what is carried after it.
 fn run_of(file: &[u8], charts: usize, config: &[u8], inputs: &[u64]) -> u64
-    requires { ⌜ (charts ≤ 8) × (length (now inputs) ≤ 1024) ⌝ }
+    requires { ⌜ (charts ≤ mostCharts) × (length (now inputs) ≤ 1024) ⌝ }
 {
     let mut space = row_room();
     let a = engine::run::run(file, config, 0, inputs, &mut space);
@@ -163,7 +159,7 @@ fn run_of(file: &[u8], charts: usize, config: &[u8], inputs: &[u64]) -> u64
         words::refusal(r);
         return 0;
     }
-    rows(&space, STATES + charts, inputs.len());
+    rows(&space, layout::row::STATES + charts, inputs.len());
     a.carried
 }
 
@@ -194,9 +190,9 @@ fn took(chart: usize, place: u8) {
 
 // What each of so many charts did in a step that is given, a line each.
 fn taken(file: &[u8], charts: usize, config: &[u8], input: u64)
-    requires { ⌜ charts ≤ 8 ⌝ }
+    requires { ⌜ charts ≤ mostCharts ⌝ }
 {
-    let mut next = [0u8; 8];
+    let mut next = [0u8; layout::limits::CHARTS];
     let s = engine::step::step(file, config, input, &mut next);
     if s.refusal != limits::ACCEPTED {
         return;
@@ -211,7 +207,7 @@ fn taken(file: &[u8], charts: usize, config: &[u8], input: u64)
 
 // A run of the sets that were typed, as many as there is room for. It also says what is left to carry; a step says what each chart took.
 fn run_typed(file: &[u8], charts: usize, config: &[u8], inputs: &mut [u64], is_step: bool)
-    requires { ⌜ (charts ≤ 8) × (length (now inputs) ≤ 1024) ⌝ }
+    requires { ⌜ (charts ≤ mostCharts) × (length (now inputs) ≤ 1024) ⌝ }
 {
     if !ask::sets(inputs) {
         return;

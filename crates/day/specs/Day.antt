@@ -3,6 +3,7 @@ use mathlib.Core.Path.{_≡_}
 use mathlib.Core.List.{List}
 use Prim.Native.Nat.{ℕ, _*_, _/_, _≤_}
 use lib.ListN.{length}
+use Rattle.meaning.specs.Numbers.{mostCharts}
 use Rattle.meaning.specs.File.{fileOf}
 use Rattle.meaning.specs.Check.{refusalOf}
 use Rattle.meaning.specs.Laws.Runs.{Leads}
@@ -19,7 +20,7 @@ DaySays s behind b r c = (r ≡ length (dayFrom s behind)) × (c ≡ laidOver (d
 pub record Accepted (f : List ℕ) (charts n : ℕ) : Type 0 where
   pub passes : refusalOf f ≡ 0
   pub charts-is : charts ≡ fileOf f .charts
-  pub few : charts ≤ 8
+  pub few : charts ≤ mostCharts
   pub within : 8 * n ≤ length f
   pub leads : Leads (fileOf f)
 

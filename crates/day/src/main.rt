@@ -2,6 +2,7 @@
 ghost use mathlib.Core.Path.{_≡_};
 ghost use Prim.Native.Nat.{_+_, _*_, _≤_};
 ghost use lib.ListN.{length};
+ghost use Rattle.meaning.specs.Numbers.{mostCharts};
 ghost use Rattle.meaning.specs.File.{fileOf};
 ghost use Rattle.meaning.specs.Meaning.{∅};
 ghost use Rattle.meaning.specs.Calls.{laidOver, initials, rowsOf};
@@ -48,18 +49,21 @@ fn opened(input: &[u8]) -> Front
     }
 }
 
-// Room for what an input of 65,536 bytes can ask for: the inputs, their rows of at most 18 bytes, their lines of at most 128. Only the lengths are
+// The most inputs: 8 bytes each.
+const MOST_INPUTS: usize = limits::MOST_INPUT / 8;
+
+// Room for what an input of 65,536 bytes can ask for: the inputs, their rows, their lines of at most 128 bytes. Only the lengths are
 // promised, so that no proof looks at so many zeros.
-fn input_room() -> [u64; 8192]
+fn input_room() -> [u64; MOST_INPUTS]
     ensures { λ r. ⌜ 8192 ≡ length r ⌝ }
 {
-    [0; 8192]
+    [0; MOST_INPUTS]
 }
 
-fn row_room() -> [u8; 147456]
-    ensures { λ r. ⌜ 147456 ≡ length r ⌝ }
+fn row_room() -> [u8; MOST_INPUTS * layout::row::MOST_BYTES]
+    ensures { λ r. ⌜ 8192 * (10 + mostCharts) ≡ length r ⌝ }
 {
-    [0; 147456]
+    [0; MOST_INPUTS * layout::row::MOST_BYTES]
 }
 
 fn line_room() -> [u8; 1048576]
@@ -86,7 +90,7 @@ fn put_rows(input: &[u8], charts: usize, n: usize, rows: &mut [u8])
     requires { ⌜ Accepted (now input) charts n × (n ≤ 8192) × (n * (10 + charts) ≤ length (now rows)) ⌝ }
     ensures { λ _. ⌜ now (rows .exit) ≡ laidOver (rowsOf (fileOf (now (input .entry))) (initials (now (input .entry))) ∅ (inputsOf n (now (input .entry)))) (now (rows .entry)) ⌝ }
 {
-    let mut config = [0u8; 8];
+    let mut config = [0u8; layout::limits::CHARTS];
     engine::file::first(input, &mut config);
     let mut inputs = input_room();
     read_inputs(input, &mut inputs[..n]);
@@ -126,7 +130,7 @@ fn lines_for(input: &[u8], out: &mut [u8]) -> usize
     let n = o.inputs;
     let mut rows = row_room();
     put_rows(input, charts, n, &mut rows);
-    put_lines(&rows, 10 + charts, n, out)
+    put_lines(&rows, layout::row::STATES + charts, n, out)
 }
 
 // The same for any input: its first bytes, at most 65,536, and how many of the byte behind them came.

@@ -14,14 +14,11 @@ ghost use Rattle.engine.specs.Step.{Checked, Prepared};
 ghost use Rattle.engine.specs.Run.{BodyRuns};
 use checks::limits;
 use layout::body::Shape;
+use layout::limits::CHARTS;
+use layout::row::MARK;
+use layout::row::REFUSAL;
+use layout::row::STATES;
 use search::Found;
-
-// Where a row has the mark, the refusal and the configuration; the output stands before them.
-const MARK: usize = 8;
-
-const REFUSAL: usize = 9;
-
-const STATES: usize = 10;
 
 // What a run answers, its rows aside: 0 or the refusal, and what is carried after the last input, nothing if the run is refused (RULES 1.4, 6.4).
 pub struct Ran {
@@ -46,7 +43,14 @@ fn mark(yes: bool) -> u8
 }
 
 // A whole row.
-fn put_fields(row: &mut [u8], output: u64, mark: u8, refusal: u8, states: [u8; 8], charts: usize)
+fn put_fields(
+    row: &mut [u8],
+    output: u64,
+    mark: u8,
+    refusal: u8,
+    states: [u8; CHARTS],
+    charts: usize,
+)
     requires { ⌜ (charts ≤ 8) × (length (now row) ≡ 10 + charts) ⌝ }
     ensures { λ _. ⌜ now (row .exit) ≡ bytes 8 output ++ (mark ∷ refusal ∷ take charts states) ⌝ }
 {
@@ -57,7 +61,7 @@ fn put_fields(row: &mut [u8], output: u64, mark: u8, refusal: u8, states: [u8; 8
 }
 
 // The row of a step from a configuration.
-fn put_row(row: &mut [u8], f: Found, states: [u8; 8], charts: usize)
+fn put_row(row: &mut [u8], f: Found, states: [u8; CHARTS], charts: usize)
     requires { ⌜ (charts ≤ 8) × (length (now row) ≡ 10 + charts) ⌝ }
     ensures { λ _. ⌜ now (row .exit) ≡ rowOf (answerOf charts f) (take charts states) ⌝ }
 {
@@ -71,12 +75,12 @@ fn put_row(row: &mut [u8], f: Found, states: [u8; 8], charts: usize)
 
 // Where a run stands: the present states, what is carried, and how many inputs are left.
 struct Stand {
-    states: [u8; 8],
+    states: [u8; CHARTS],
     carried: u64,
     left: usize,
 }
 
-fn present(states: [u8; 8], carried: u64, left: usize) -> Stand
+fn present(states: [u8; CHARTS], carried: u64, left: usize) -> Stand
     ensures { λ r. ⌜ (r .states ≡ states) × (r .carried ≡ carried) × (r .left ≡ left) ⌝ }
 {
     Stand {
@@ -87,7 +91,7 @@ fn present(states: [u8; 8], carried: u64, left: usize) -> Stand
 }
 
 // Where it stands after a step that was offered a set. A refused one keeps the states, and what it was offered is carried; the run goes on.
-fn after(f: Found, states: [u8; 8], offered: u64, left: usize) -> Stand
+fn after(f: Found, states: [u8; CHARTS], offered: u64, left: usize) -> Stand
     requires { ⌜ 0 < left ⌝ }
     ensures { λ r. ⌜ (r .left + 1 ≡ left) × ((n : ℕ) → (take n (r .states) ≡ afterStep (answerOf n f) (take n states)) × (r .carried ≡ carriedAfter (answerOf n f) offered)) ⌝ }
 {
@@ -103,10 +107,10 @@ fn after(f: Found, states: [u8; 8], offered: u64, left: usize) -> Stand
 fn put_rows(
     n: Shape,
     body: &[u8],
-    start: [u8; 8],
+    start: [u8; CHARTS],
     carried: u64,
     inputs: &[u64],
-    down: [u64; 8],
+    down: [u64; CHARTS],
     masks: &mut [u64],
     small: &mut [u8],
     rows: &mut [u8],
@@ -136,11 +140,11 @@ fn put_rows(
 }
 
 // A configuration at the front of an array.
-fn states_of(config: &[u8]) -> [u8; 8]
+fn states_of(config: &[u8]) -> [u8; CHARTS]
     requires { ⌜ length (now config) ≤ 8 ⌝ }
     ensures { λ r. ⌜ take (length (now (config .entry))) r ≡ now (config .entry) ⌝ }
 {
-    let mut states = [0u8; 8];
+    let mut states = [0u8; CHARTS];
     let mut c: usize = 0;
     while c < config.len() {
         states[c] = config[c];

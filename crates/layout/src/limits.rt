@@ -14,6 +14,11 @@ pub const MOST_IN_CHART: u8 = 64;
 // Transitions from one state.
 pub const MOST_FROM_STATE: u8 = 8;
 
+// As sizes of arrays: one entry for each chart, which is room for each slave too, and one for each node.
+pub const CHARTS: usize = MOST_CHARTS as usize;
+
+pub const NODES: usize = MOST_NODES as usize;
+
 pub const HEAD_BYTES: usize = 24;
 
 pub const TRANSITION_BYTES: usize = 28;

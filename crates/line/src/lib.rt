@@ -146,8 +146,8 @@ fn put_given(out: &mut [u8], at: usize, row: &[u8]) -> usize
     ensures { λ r. ⌜ Put (now (out .entry)) at (closing (givenFields (now (row .entry)))) (now (out .exit)) r ⌝ }
 {
     let states = put_output(out, at, layout::number::le64(row, 0));
-    let mark = put_states(out, states, &row[10..]);
-    put_mark(out, mark, row[8])
+    let mark = put_states(out, states, &row[layout::row::STATES..]);
+    put_mark(out, mark, row[layout::row::MARK])
 }
 
 // What follows the first field in the line of a refusal, to the line's end.
@@ -166,7 +166,7 @@ pub fn line(number: u64, row: &[u8], out: &mut [u8]) -> usize
     ensures { λ r. ⌜ (r ≡ length (lineOf number (now (row .entry)))) × (now (out .exit) ≡ laidOver (lineOf number (now (row .entry))) (now (out .entry))) ⌝ }
 {
     let next = put_decimal(out, 0, number);
-    let refusal = row[9];
+    let refusal = row[layout::row::REFUSAL];
     if refusal == 0 {
         put_given(out, next, row)
     } else {

@@ -7,6 +7,7 @@ ghost use Rattle.meaning.specs.Laws.Names.{enc};
 ghost use Rattle.nesting.specs.Known.{Wirable};
 ghost use Rattle.nesting.specs.Nearest.{masterBy, stateBy, Right, Enclosers, Seeds, Seeded, Hands};
 use layout::body::Shape;
+use layout::limits;
 use layout::record::Slave;
 
 // The number of no slave and of no chart.
@@ -57,11 +58,11 @@ fn hand_down(n: Shape, body: &[u8], near: &mut [u8])
 }
 
 // Of each node the number of its nearest enclosing slave, 255 for none.
-pub fn enclosers(n: Shape, body: &[u8]) -> [u8; 64]
+pub fn enclosers(n: Shape, body: &[u8]) -> [u8; limits::NODES]
     requires { ⌜ Wirable n (now body) ⌝ }
     ensures { λ r. ⌜ Enclosers (fileAt n (now (body .entry))) r ⌝ }
 {
-    let mut near = [NONE; 64];
+    let mut near = [NONE; limits::NODES];
     seed(n, body, &mut near);
     hand_down(n, body, &mut near);
     near

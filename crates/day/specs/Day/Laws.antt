@@ -13,7 +13,7 @@ use lib.Dec.{ltb}
 use lib.ListN.{length, getD, take, drop, length-append, length-take, length-drop, take-append-drop}
 use lib.Seq.{take-at, take-all, drop-at, drop-drop, length-take-le, drop-append-le, take-append-le}
 use Rattle.layout.specs.Body.{sizeOf}
-use Rattle.meaning.specs.Numbers.{mostInput, tooLong, oddFront}
+use Rattle.meaning.specs.Numbers.{mostCharts, mostInput, tooLong, oddFront}
 use Rattle.meaning.specs.Meaning.{∅, same}
 use Rattle.meaning.specs.File.{trailer, shapeOf, bodyOf, chartOf, fileAt, fileOf}
 use Rattle.meaning.specs.Check.{Test, firstOf, fileTests, refusalOf, differ, distance?}
@@ -158,7 +158,7 @@ lines-front w k (suc n) rows rest l =
     let h : n * w + w ≤ length rows = rw suc-mul at l in
     rw (take-append-le w rows rest (omega arith), drop-append-le w rows rest (omega arith), lines-front w (suc k) n (drop w rows) rest (rw length-drop (omega arith)))
 
-pub rows-fit : (n c : ℕ) → n ≤ 8192 → c ≤ 8 → n * (10 + c) ≤ 147456
+pub rows-fit : (n c : ℕ) → n ≤ 8192 → c ≤ mostCharts → n * (10 + c) ≤ 8192 * (10 + mostCharts)
 rows-fit n c h k =
     let l : n * (10 + c) ≤ 8192 * (10 + c) = mul-le-mul-right (10 + c) h in
     omega arith

@@ -6,6 +6,7 @@ use native.Mathlib.Numerals.{add-one}
 use native.Mathlib.Omega.{arith}
 use lib.ListN.{length, getD, take, set, length-set}
 use lib.Seq.{take-suc, take-suc-set, take-length}
+use Rattle.meaning.specs.Numbers.{mostCharts}
 use Rattle.engine.proofs.run.states_of.Statement.{statement}
 use Rattle.engine.proofs.run.states_of.Tie as tie
 
@@ -14,7 +15,7 @@ take-next : (s config : List ℕ) (c : ℕ) → c < length s → c < length conf
 take-next s config c h k e = rw (add-one, take-suc-set s c (getD config c 0) h, take-suc config c 0 k, e)
 
 abbrev Inv-loop : tie.InvT-loop
-Inv-loop config states₀ c₀ states c = (c ≤ length config) × (length states ≡ 8) × (take c states ≡ take c config)
+Inv-loop config states₀ c₀ states c = (c ≤ length config) × (length states ≡ mostCharts) × (take c states ≡ take c config)
 
 abbrev μ-loop : tie.MeasureT-loop
 μ-loop config states₀ c₀ states c = length config - c
