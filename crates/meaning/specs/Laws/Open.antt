@@ -2,7 +2,7 @@
 -- would be permitted, whatever the input, if no guard stood against them (`open-unguarded`); a step searches the very
 -- choices that are counted (`outcomes-choices`); how many are open, as sums over the places of one chart after another
 -- (`howMany-next`), and one of them where there are any (`howMany-find`); where none is open, none is permitted
--- (`none-open`).
+-- (`none-open`); and a small file counted by the definition (`open-one`, `open-two`).
 use mathlib.Core.Path.{_≡_, refl, sym, _∙_, ap, ap₂}
 use mathlib.Core.Bool.{Bool, true, false, _&&_, cond, false≢true}
 use mathlib.Core.List.{List, [], _∷_, _++_, append-assoc, append-nil}
@@ -16,7 +16,8 @@ use Rattle.layout.specs.declared.record.Transition.{Transition}
 use Rattle.meaning.specs.Count.{tally, one}
 use Rattle.meaning.specs.Count.Laws.{tally-find}
 use Rattle.meaning.specs.Meaning.{Set, ∅, same, Chart, Tree, Slaves, leaf, comp, hide, dec, nil, snoc, Move}
-use Rattle.meaning.specs.Meaning.{noMove, takes, stay, lastPlace, after, met?, untriggered, okChart, meets, ok}
+use Rattle.meaning.specs.Meaning.{noMove, takes, stay, nth, pick, lastPlace, after, met?, untriggered, okChart}
+use Rattle.meaning.specs.Meaning.{meets, ok}
 use Rattle.meaning.specs.Meaning.{oks, permitted, upd, moves, upto, outcomeOf, outcome, search, outcomes}
 use Rattle.meaning.specs.File.{File}
 use Rattle.meaning.specs.Calls.{outcomesIn}
@@ -235,3 +236,39 @@ module _ (E : ℕ → Chart) (state : ℕ → ℕ) (cfg : ℕ → ℕ) (t : Tree
 -- a file from whose configuration no choice is open has no step from it
 pub none-open-in : (F : File) (config : List ℕ) (i : Set) → openIn F config ≡ 0 → outcomesIn F config i ≡ []
 none-open-in F config i h = none-open (F .chart) (F .state) (λ c. getD config c 0) _ i (F .charts) h
+
+-- ── an example, counted by the definition ──
+
+-- a master with two transitions from state 0 and one from state 1, and a slave of state 1 that has one from each of 0
+-- and 1, and none from 2
+abbrev between : ℕ → ℕ → Transition
+between s u = record { from = s; to = u; needed = 0; barred = 0; action = 0 }
+
+abbrev listed : ℕ → List Transition
+listed zero = between 0 1 ∷ between 0 0 ∷ between 1 0 ∷ []
+listed (suc c) = between 0 1 ∷ between 1 1 ∷ []
+
+abbrev charted : Bool → ℕ → Chart
+charted b c = record { states = 3; initial = 0; transitions = listed c; feedback = 0; extra = 0; stays = b }
+
+abbrev standing : ℕ → ℕ → ℕ → ℕ
+standing a b zero = a
+standing a b (suc c) = b
+
+abbrev openFrom : Bool → ℕ → ℕ → ℕ
+openFrom b s u = openChoices (charted b) (λ i. 1) (standing s u) (dec 0 (snoc nil 0 (leaf 1))) 2
+
+-- from four configurations
+abbrev openHere : Bool → List ℕ
+openHere b = openFrom b 0 0 ∷ openFrom b 1 1 ∷ openFrom b 1 2 ∷ openFrom b 0 2 ∷ []
+
+-- edition 1: entering state 1 lets the slave take its transition, staying away does not; none where the active slave
+-- has no transition
+pub open-one : openHere false ≡ (2 ∷ 1 ∷ 0 ∷ 1 ∷ [])
+unfolding same nth pick lastPlace after meets openChart openTree isOpen upd moves upto choices howMany openChoices
+open-one = refl
+
+-- edition 2: either may also stay while it is active
+pub open-two : openHere true ≡ (4 ∷ 4 ∷ 2 ∷ 3 ∷ [])
+unfolding same nth pick lastPlace after meets openChart openTree isOpen upd moves upto choices howMany openChoices
+open-two = refl
