@@ -12,3 +12,4 @@ pub mod Bounded
 pub mod Hunt
 pub mod Filter
 pub mod Rows
+pub mod Product

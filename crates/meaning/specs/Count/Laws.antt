@@ -1,11 +1,11 @@
 -- Laws of `anyUpTo` and `tally`, grouped under each: first the forms that a loop which counts up uses, none passed, one more passed, one found, all
 -- passed; then, of sums, those of the same, of nothing, of sums, in another order, from the front, of one place only, of fewer, of no
--- more than so much each, of two places.
+-- more than so much each, of two places, of multiples, of no more at each place.
 use mathlib.Core.Path.{_≡_, refl, sym, _∙_, ap, ap₂}
 use mathlib.Core.Bool.{Bool, true, false, _||_, false≢true}
 use mathlib.Core.Logic.{_≢_, _⊎_, inl, inr, ⊎-elim}
 use Prim.Native.Nat.{ℕ, zero, suc, _+_, _*_, _≤_, _<_}
-use native.Mathlib.Nat.{le-refl, eq-or-lt-of-le, mul-suc}
+use native.Mathlib.Nat.{le-refl, eq-or-lt-of-le, mul-suc, mul-add}
 use native.Mathlib.Numerals.{add-one}
 use native.Mathlib.Omega.{arith}
 use Rattle.meaning.specs.Count.{anyUpTo, tally}
@@ -150,3 +150,15 @@ tally-find (suc n) f h = go (f n) refl (λ p. tally-find n f p)
     go : (x : ℕ) → f n ≡ x → (0 < tally n f → (i : ℕ) × (i < n) × (0 < f i)) → (i : ℕ) × (i < suc n) × (0 < f i)
     go zero e r = let u = r (omega arith) in (u .0, (let h = u .1 in omega arith), u .2)
     go (suc x) e r = (n, omega arith, omega arith)
+
+-- so many times as much
+pub tally-scale : (n a : ℕ) (f : ℕ → ℕ) → tally n (λ i. a * f i) ≡ a * tally n f
+unfolding tally
+tally-scale zero a f = omega arith
+tally-scale (suc n) a f = ap (λ z. a * f n + z) (tally-scale n a f) ∙ sym (mul-add a (f n) (tally n f))
+
+-- no more at each place
+pub tally-le : (n : ℕ) (f g : ℕ → ℕ) → ((i : ℕ) → i < n → f i ≤ g i) → tally n f ≤ tally n g
+unfolding tally
+tally-le zero f g h = omega arith
+tally-le (suc n) f g h = let a = h n (omega arith) in let b = tally-le n f g (λ i l. h i (omega arith)) in omega arith
