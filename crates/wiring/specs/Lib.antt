@@ -13,3 +13,6 @@ pub mod Hunt
 pub mod Filter
 pub mod Rows
 pub mod Product
+pub mod Counted
+pub mod Fits
+pub mod Opened
