@@ -16,3 +16,5 @@ pub mod Product
 pub mod Counted
 pub mod Fits
 pub mod Opened
+pub mod Entries
+pub mod Few
