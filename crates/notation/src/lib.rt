@@ -1,0 +1,1 @@
+// A theory: the typed notation of charts, as definitions and theorems in specs/, and no function.
