@@ -1,5 +1,5 @@
--- A reader of the notation, as a function: it takes one byte after the other and keeps what it has read, and so what can
--- come. Laws/Theorems has what it answers; to believe the notation, nobody has to read this.
+-- A reader of the notation, as a function: it takes one byte after the other and keeps what it has read, and so what
+-- can come. Laws/Theorems has what it answers; to believe the notation, nobody has to read this.
 use mathlib.Core.Bool.{Bool, _&&_, cond}
 use mathlib.Core.Option.{Option, none, some}
 use mathlib.Core.List.{List, [], _∷_}

@@ -1,6 +1,6 @@
--- The same grammar with the last token first, over which the proofs go: lists grow at their end, so that every form only
--- puts tokens in front (`put..`) and no law about appending is needed. It is the grammar of Spelling (`spells-laid`,
--- `laid-spells`).
+-- The same grammar with the last token first, over which the proofs go: lists grow at their end, so that every form
+-- only puts tokens in front (`put..`) and no law about appending is needed. It is the grammar of Spelling
+-- (`spells-laid`, `laid-spells`).
 use mathlib.Core.Path.{_≡_, refl, sym, ap, _∙_, subst}
 use mathlib.Core.Bool.{true}
 use mathlib.Core.Option.{Option, none, some}

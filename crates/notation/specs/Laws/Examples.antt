@@ -1,5 +1,5 @@
--- Texts and the reader's answers, by computation, as one table and one claim (`examples`): what is a text, and the place
--- of the first wrong byte of what is none.
+-- Texts and the reader's answers, by computation, as one table and one claim (`examples`): what is a text, and the
+-- place of the first wrong byte of what is none.
 use mathlib.Core.Path.{_≡_, refl}
 use mathlib.Core.Option.{Option, none, some}
 use mathlib.Core.List.{List, [], _∷_, _++_, map}

@@ -1,0 +1,16 @@
+-- `levels::named` meets its contract.
+use mathlib.Core.Path.{refl}
+use borrow.Author.Needs.{needs}
+use Rattle.scan.specs.Laws.Levels.{slaveOf}
+use Rattle.recogniser.specs.Laws.Ring.{ring-first-at}
+use Rattle.recogniser.proofs.levels.named.Statement.{statement}
+use Rattle.recogniser.proofs.levels.named.Tie as tie
+
+returns : tie.Need-returns
+returns c =
+    let d = c .before .before in
+    (refl, λ ls r. ring-first-at _ _ _ ls r _ (d .slot .ensures .0) slaveOf _ (c .slave-of .ensures))
+
+pub named-spec : {M : Type 1} → statement M
+named-spec =
+    tie.close (tie.spec (λ c κs. search needs) (λ c. search needs) (λ c κs. search needs) (λ c. search needs) returns)

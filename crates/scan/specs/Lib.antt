@@ -1,0 +1,6 @@
+-- Reading without a stack: looking back over the text (Look), the states by number with what can come in each (Table),
+-- the reading itself (Scan), and that it answers as the reader does (Laws).
+pub mod Look
+pub mod Table
+pub mod Scan
+pub mod Laws

@@ -1,0 +1,1 @@
+// A theory: reading the notation of charts without a stack, as definitions and theorems in specs/, and no function.
