@@ -1,0 +1,4 @@
+-- Theorems on reading a text: a file that is read passes 1 to 11, and what a refusal says (Read); texts by computation
+-- (Examples).
+pub mod Read
+pub mod Examples
