@@ -1,0 +1,31 @@
+-- `open_choices` meets its contract: the table's total is the number of open choices.
+use mathlib.Core.Path.{sym, _∙_}
+use native.Mathlib.Omega.{arith}
+use borrow.Author.Needs.{needs}
+use Rattle.counting.specs.Counting.Laws.{total-small, total-is}
+use Rattle.counting.proofs.open_choices.Statement.{statement}
+use Rattle.counting.proofs.open_choices.Tie as tie
+
+total-requires : tie.Need-total-requires
+total-requires c κs =
+    let s = c .before .before .before .before .before .before .before .before in
+    let a = s .args in
+    let f = c .before .before .fill in
+    let few = s .pre .sized .charts in (
+      s .pre .masters,
+      omega (arith, f .ensures .long),
+      total-small (a .n) (a .body .now) (a .config .now) (a .masters .now) (a .states .now) (s .pre)
+          (f .last .1 .1 .1 .1 .1 .0) (f .ensures .right),
+    )
+
+returns : tie.Need-returns
+returns c =
+    let s = c .before .before .before .before .before .before .before .before .before in
+    let a = s .args in
+    let f = c .before .before .before .fill in
+    (c .total .ensures) ∙ sym (total-is (a .n) (a .body .now) (a .config .now) (a .masters .now) (a .states .now)
+    (s .pre) (f .last .1 .1 .1 .1 .1 .0) (f .ensures .right))
+
+pub open-choices-spec : {M : Type 1} → statement M
+open-choices-spec =
+    tie.close (tie.spec (λ c. search needs) (λ c κs. search needs) (λ c. search needs) total-requires returns)

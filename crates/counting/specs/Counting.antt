@@ -1,0 +1,134 @@
+-- The count of open choices over rows of bytes and a table: wiring's Entries, over lists. In this order: what the count
+-- asks of a file (Countable); a product (`branchIn`), a chart's sum (`sumIn`) and the total (`totalIn`), with what each
+-- needs so as not to overflow; the table while it is filled (CountsOn, Stored, Filled).
+use mathlib.Core.Path.{_≡_}
+use mathlib.Core.Bool.{false, cond}
+use mathlib.Core.List.{List}
+use Prim.Native.Nat.{ℕ, _+_, _≤_, _<_}
+use lib.Dec.{ltb}
+use lib.ListN.{length, getD}
+use Rattle.layout.specs.Body.{headAt, transitionAt, startOf}
+use Rattle.layout.specs.declared.body.Shape.{Shape}
+use Rattle.layout.specs.declared.record.Transition.{Transition}
+use Rattle.meaning.specs.Numbers.{stayEdition}
+use Rattle.meaning.specs.Meaning.{same}
+use Rattle.meaning.specs.File.{File, chartOf, fileAt}
+use Rattle.meaning.specs.Check.{transitions?}
+use Rattle.meaning.specs.Check.Nodes.{Sound}
+use Rattle.meaning.specs.Calls.{Valid}
+use Rattle.meaning.specs.Laws.Names.{kap}
+use Rattle.wiring.specs.Product.{times}
+use Rattle.wiring.specs.Counted.{countBy}
+use Rattle.wiring.specs.Opened.{lastOf, ruleOf, hitsOf}
+use Rattle.wiring.specs.Entries.{factorAt, branchAt, sumAt, totalAt}
+use Rattle.checks.specs.Known.{Sized, Summed}
+use Rattle.nesting.specs.Nearest.{masterBy, stateBy}
+pub mod Laws
+
+-- the charts that the count has room for; in the row of masters, this or more says that there is none
+abbrev pub room : ℕ
+room = 16
+
+-- 9 ^ 16: no number on the way is larger
+abbrev pub mostCount : ℕ
+mostCount = 1853020188851841
+
+-- an entry of a row
+abbrev pub at : List ℕ → ℕ → ℕ
+at l d = getD l d 0
+
+-- ── what the count asks ──
+
+-- m and s have, of each chart, the master and the state of its nearest slave
+abbrev pub NearestIn : File → List ℕ → List ℕ → Type 0
+NearestIn F m s =
+    (c : ℕ) → c < F .charts → (at m c ≡ masterBy F (kap F c)) × (at s c ≡ stateBy F (kap F c))
+
+-- a body that passed the file check, a configuration of it, and the two rows
+pub record Countable (n : Shape) (b config m s : List ℕ) : Type 0 where
+  pub sized : Sized n b
+  pub summed : Summed n b
+  pub transitions : transitions? n b ≡ false
+  pub sound : Sound (fileAt n b)
+  pub valid : Valid (fileAt n b) config
+  pub nearest : NearestIn (fileAt n b) m s
+  pub masters : n .charts ≤ length m
+  pub states : n .charts ≤ length s
+
+-- ── products ──
+
+-- rows with room for n charts
+pub record Roomy (n : ℕ) (m s t : List ℕ) : Type 0 where
+  pub masters : n ≤ length m
+  pub states : n ≤ length s
+  pub counts : n ≤ length t
+
+-- chart d's count in t, if chart c activates it by going from state q to state u
+abbrev pub factorIn : List ℕ → List ℕ → List ℕ → ℕ → ℕ → ℕ → ℕ → ℕ
+factorIn m s t c q u d = factorAt (at m) (at s) (at t) c q u d
+
+abbrev pub branchIn : ℕ → List ℕ → List ℕ → List ℕ → ℕ → ℕ → ℕ → ℕ
+branchIn n m s t c q u = branchAt n (at m) (at s) (at t) c q u
+
+-- the product is small as far as it is made
+abbrev pub Small : ℕ → List ℕ → List ℕ → List ℕ → ℕ → ℕ → ℕ → Type 0
+Small n m s t c q u = (j : ℕ) → j ≤ n → times j (factorIn m s t c q u) ≤ mostCount
+
+-- ── sums ──
+
+-- what staying adds to the entry of chart c in state q, by the edition
+abbrev pub stayingIn : Shape → List ℕ → List ℕ → List ℕ → ℕ → ℕ → ℕ
+stayingIn n m s t c q = cond (same (n .edition) stayEdition) (branchIn (n .charts) m s t c q q) 0
+
+-- what a transition adds
+abbrev pub addedIn : ℕ → List ℕ → List ℕ → List ℕ → ℕ → ℕ → Transition → ℕ
+addedIn n m s t c q u = cond (same (u .from) q) (branchIn n m s t c q (u .to)) 0
+
+-- staying and the first p transitions of chart c, in state q
+abbrev pub sumIn : Shape → List ℕ → List ℕ → List ℕ → List ℕ → ℕ → ℕ → ℕ → ℕ
+sumIn n b m s t c q p = sumAt (n .charts) (at m) (at s) (at t) (chartOf n b c) c q p
+
+-- each product and each sum on the way to the entry of chart c is small
+pub record Smalls (n : Shape) (b m s t : List ℕ) (c q : ℕ) : Type 0 where
+  pub staying : Small (n .charts) m s t c q q
+  pub products : (p : ℕ) → p < headAt n b c .transitions
+      → Small (n .charts) m s t c q (transitionAt n b (startOf n b c + p) .to)
+  pub sums : (p : ℕ) → p ≤ headAt n b c .transitions → sumIn n b m s t c q p ≤ mostCount
+
+-- ── the total ──
+
+-- the product over the charts outside all slaves
+abbrev pub totalIn : Shape → List ℕ → List ℕ → ℕ
+totalIn n m t = totalAt (n .charts) room (at m) (at t)
+
+-- one factor of it
+abbrev pub outsideIn : List ℕ → List ℕ → ℕ → ℕ
+outsideIn m t d = cond (ltb (at m d) room) 1 (at t d)
+
+-- it is small as far as it is made
+abbrev pub TotalSmall : Shape → List ℕ → List ℕ → Type 0
+TotalSmall n m t = (j : ℕ) → j ≤ n .charts → times j (outsideIn m t) ≤ mostCount
+
+-- ── the table ──
+
+-- the entry that chart c should have, by the entries of t above it
+abbrev pub rightAt : File → List ℕ → List ℕ → ℕ → ℕ
+rightAt F config t c =
+    countBy (F .charts) (kap F) (F .master) (hitsOf (F .chart) (at config) (F .state) (F .master)) (at t)
+    (lastOf (F .chart)) (ruleOf (F .chart) (at config)) c
+
+-- the entries of t from k on are right
+abbrev pub CountsOn : Shape → List ℕ → List ℕ → ℕ → List ℕ → Type 0
+CountsOn n b config k t =
+    (c : ℕ) → k ≤ c → c < fileAt n b .charts → at t c ≡ rightAt (fileAt n b) config t c
+
+-- chart k's entry is stored
+pub record Stored (n : Shape) (b config : List ℕ) (k : ℕ) (t₀ t : List ℕ) (start : ℕ) : Type 0 where
+  pub long : length t ≡ length t₀
+  pub starts : start ≡ startOf n b k
+  pub right : CountsOn n b config k t
+
+-- all entries are
+pub record Filled (n : Shape) (b config t₀ t : List ℕ) : Type 0 where
+  pub long : length t ≡ length t₀
+  pub right : CountsOn n b config 0 t

@@ -1,0 +1,206 @@
+// How many choices of a step are open, in both editions: counted from the highest chart down, and not one by one. What
+// is open is said in the crate meaning (Open); that this is its number, in the crate wiring (Counted to Few).
+ghost use mathlib.Core.Path.{_≡_};
+ghost use Prim.Native.Nat.{_+_, _≤_, _<_};
+ghost use lib.ListN.{length};
+ghost use Rattle.layout.specs.Body.{Holds, headAt, transitionAt, startOf};
+ghost use Rattle.meaning.specs.File.{fileAt};
+ghost use Rattle.meaning.specs.Open.{openIn};
+ghost use Rattle.counting.specs.Counting.{Countable, Roomy, factorIn, branchIn, Small, stayingIn, addedIn, sumIn};
+ghost use Rattle.counting.specs.Counting.{Smalls, totalIn};
+ghost use Rattle.counting.specs.Counting.{outsideIn, TotalSmall, CountsOn, Stored, Filled};
+use layout::body::Shape;
+
+// The charts that the count has room for; in a row of masters, this or more says that there is none.
+pub const ROOM: usize = 16;
+
+fn wide(x: u8) -> usize
+    ensures { λ r. ⌜ r ≡ x ⌝ }
+{
+    x as usize
+}
+
+// Chart d's count, if d is nearest in a slave of chart c that going from state q to state u activates; else 1.
+fn factor(masters: &[u8], states: &[u8], counts: &[u64], d: usize, c: usize, q: u8, u: u8) -> u64
+    requires { ⌜ Roomy (d + 1) (now masters) (now states) (now counts) ⌝ }
+    ensures { λ r. ⌜ r ≡ factorIn (now (masters .entry)) (now (states .entry)) (now (counts .entry)) c q u d ⌝ }
+{
+    if wide(masters[d]) != c {
+        return 1;
+    }
+    let s = states[d];
+    if s == q {
+        return counts[d];
+    }
+    if s == u {
+        return counts[d];
+    }
+    1
+}
+
+// The product over the charts that chart c activates by going from state q to state u.
+fn branch(
+    charts: usize,
+    masters: &[u8],
+    states: &[u8],
+    counts: &[u64],
+    c: usize,
+    q: u8,
+    u: u8,
+) -> u64
+    requires { ⌜ Roomy charts (now masters) (now states) (now counts)
+        × Small charts (now masters) (now states) (now counts) c q u ⌝ }
+    ensures { λ r. ⌜ r ≡ branchIn charts (now (masters .entry)) (now (states .entry)) (now (counts .entry)) c q u ⌝ }
+{
+    let mut product: u64 = 1;
+    let mut d: usize = 0;
+    while d < charts {
+        product = factor(masters, states, counts, d, c, q, u) * product;
+        d += 1;
+    }
+    product
+}
+
+// What staying adds to the entry of chart c in state q: only in the edition in which charts may stay.
+fn staying(n: Shape, masters: &[u8], states: &[u8], counts: &[u64], c: usize, q: u8) -> u64
+    requires { ⌜ Roomy (n .charts) (now masters) (now states) (now counts)
+        × Small (n .charts) (now masters) (now states) (now counts) c q q ⌝ }
+    ensures { λ r. ⌜ r ≡ stayingIn n (now (masters .entry)) (now (states .entry)) (now (counts .entry)) c q ⌝ }
+{
+    if n.edition != checks::limits::STAY_EDITION as usize {
+        return 0;
+    }
+    let charts = n.charts;
+    branch(charts, masters, states, counts, c, q, q)
+}
+
+// What transition t adds to the entry of chart c in state q: nothing, if it leaves another state.
+fn added(
+    n: Shape,
+    body: &[u8],
+    t: usize,
+    masters: &[u8],
+    states: &[u8],
+    counts: &[u64],
+    c: usize,
+    q: u8,
+) -> u64
+    requires { ⌜ Holds n (now body) × (t < n .transitions) × Roomy (n .charts) (now masters) (now states) (now counts)
+        × Small (n .charts) (now masters) (now states) (now counts) c q (transitionAt n (now body) t .to) ⌝ }
+    ensures { λ r. ⌜ r ≡ addedIn (n .charts) (now (masters .entry)) (now (states .entry)) (now (counts .entry)) c q
+        (transitionAt n (now (body .entry)) t) ⌝ }
+{
+    let r = layout::body::transition_at(n, body, t);
+    let from = r.from;
+    let to = r.to;
+    if from != q {
+        return 0;
+    }
+    let charts = n.charts;
+    branch(charts, masters, states, counts, c, q, to)
+}
+
+// The entry of chart c in state q: the sum over staying and its transitions, `count` from `start` on.
+fn entry(
+    n: Shape,
+    body: &[u8],
+    start: usize,
+    count: usize,
+    masters: &[u8],
+    states: &[u8],
+    counts: &[u64],
+    c: usize,
+    q: u8,
+) -> u64
+    requires { ⌜ Holds n (now body) × (start ≡ startOf n (now body) c) × (count ≡ headAt n (now body) c .transitions)
+        × (start + count ≤ n .transitions) × Roomy (n .charts) (now masters) (now states) (now counts)
+        × Smalls n (now body) (now masters) (now states) (now counts) c q ⌝ }
+    ensures { λ r. ⌜ r ≡ sumIn n (now (body .entry)) (now (masters .entry)) (now (states .entry))
+        (now (counts .entry)) c q count ⌝ }
+{
+    let mut total = staying(n, masters, states, counts, c, q);
+    let mut p: usize = 0;
+    while p < count {
+        total = added(n, body, start + p, masters, states, counts, c, q) + total;
+        p += 1;
+    }
+    total
+}
+
+// Stores chart k's entry, made of those above it. Answers where its transitions start; `end` is where the next chart's
+// do.
+fn store(
+    n: Shape,
+    body: &[u8],
+    config: &[u8],
+    masters: &[u8],
+    states: &[u8],
+    counts: &mut [u64],
+    k: usize,
+    end: usize,
+) -> usize
+    requires { ⌜ Countable n (now body) (now config) (now masters) (now states) × (k < n .charts)
+        × (n .charts ≤ length (now counts)) × (end ≡ startOf n (now body) (k + 1))
+        × CountsOn n (now body) (now config) (k + 1) (now counts) ⌝ }
+    ensures { λ r. ⌜ Stored n (now (body .entry)) (now (config .entry)) k (now (counts .entry))
+        (now (counts .exit)) r ⌝ }
+{
+    let head = layout::body::head_at(n, body, k);
+    let count = wide(head.transitions);
+    let start = end - count;
+    let q = config[k];
+    let sum = entry(n, body, start, count, masters, states, counts, k, q);
+    counts[k] = sum;
+    start
+}
+
+// Stores each chart's entry, from the highest down.
+fn fill(n: Shape, body: &[u8], config: &[u8], masters: &[u8], states: &[u8], counts: &mut [u64])
+    requires { ⌜ Countable n (now body) (now config) (now masters) (now states) × (n .charts ≤ length (now counts)) ⌝ }
+    ensures { λ _. ⌜ Filled n (now (body .entry)) (now (config .entry)) (now (counts .entry)) (now (counts .exit)) ⌝ }
+{
+    let mut k = n.charts;
+    let mut start = n.transitions;
+    while 0 < k {
+        k -= 1;
+        start = store(n, body, config, masters, states, counts, k, start);
+    }
+}
+
+// Chart d's count, if d is outside all slaves; else 1.
+fn outside(masters: &[u8], counts: &[u64], d: usize) -> u64
+    requires { ⌜ (d < length (now masters)) × (d < length (now counts)) ⌝ }
+    ensures { λ r. ⌜ r ≡ outsideIn (now (masters .entry)) (now (counts .entry)) d ⌝ }
+{
+    if wide(masters[d]) < ROOM {
+        return 1;
+    }
+    counts[d]
+}
+
+// The product over the charts outside all slaves.
+fn total(n: Shape, masters: &[u8], counts: &[u64]) -> u64
+    requires { ⌜ (n .charts ≤ length (now masters)) × (n .charts ≤ length (now counts))
+        × TotalSmall n (now masters) (now counts) ⌝ }
+    ensures { λ r. ⌜ r ≡ totalIn n (now (masters .entry)) (now (counts .entry)) ⌝ }
+{
+    let charts = n.charts;
+    let mut product: u64 = 1;
+    let mut d: usize = 0;
+    while d < charts {
+        product = outside(masters, counts, d) * product;
+        d += 1;
+    }
+    product
+}
+
+// How many choices are open, from a configuration: those that keep the present states and the rules of activity, guards
+// aside.
+pub fn open_choices(n: Shape, body: &[u8], config: &[u8], masters: &[u8], states: &[u8]) -> u64
+    requires { ⌜ Countable n (now body) (now config) (now masters) (now states) ⌝ }
+    ensures { λ r. ⌜ r ≡ openIn (fileAt n (now (body .entry))) (now (config .entry)) ⌝ }
+{
+    let mut counts = [0u64; ROOM];
+    fill(n, body, config, masters, states, &mut counts);
+    total(n, masters, &counts)
+}
