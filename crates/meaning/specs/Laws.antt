@@ -2,7 +2,7 @@
 -- tree of a file by node kind (Trees), values of its nodes (Folds), the sets of a chart (Faces), and what test 10 gives, that each node has one place
 -- in the whole (Names); what the editions do not share (Editions); open choices (Open); files that step alike are answered alike (Alike). Then the
 -- promises: the step in words (Demand2), the rows of a run (Runs), both of files as calls answer them (Files), what is inactive in a step (Activity),
--- the table (Thirteen).
+-- the table (Thirteen). And of two files, that their runs agree until a step is refused with a number, if their steps do (Until).
 pub mod Bools
 pub mod Guards
 pub mod Choices
@@ -19,3 +19,4 @@ pub mod Runs
 pub mod Files
 pub mod Activity
 pub mod Thirteen
+pub mod Until

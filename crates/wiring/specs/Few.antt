@@ -110,7 +110,7 @@ few-from n b h c s l m =
 
 -- the moves of an active chart at most, in edition 2 and so in both
 abbrev pub mostMoves : ℕ
-mostMoves = 9
+mostMoves = 1 + mostFromState
 
 module _ (F : File) (so : Sound F) (some-node : 0 < F .nodes) where
   pub file-stands : Stands (F .charts) (kap F) (F .master) (wholeOf F)
