@@ -13,7 +13,7 @@ use Rattle.meaning.specs.Meaning.{Set}
 use Rattle.meaning.specs.File.{chartOf}
 use Rattle.meaning.specs.Check.{leaving}
 use Rattle.wiring.specs.Hunt.{mayOf}
-use Rattle.search.specs.Table.{masksFor, stateAt}
+use Rattle.cells.specs.Table.{backFrom, aheadFrom, masksFor, masterFrom, stateFrom, smallSize, stateAt}
 use Rattle.tables.specs.Fill.{Filling, considered, listing, Raised, Until, Chosen}
 use Rattle.checks.specs.Known.{Sized, Summed}
 use Rattle.candidates.specs.declared.Around.{Around}
@@ -30,7 +30,7 @@ pub record Ready (n : Shape) (b config : List ℕ) : Type 0 where
 -- tables with room for N charts
 pub record Tabled (N : ℕ) (m s : List ℕ) : Type 0 where
   pub masks : masksFor N ≤ length m
-  pub small : length s ≡ 160
+  pub small : length s ≡ smallSize
 
 -- what a filling leaves in the tables
 pub record Left (f : Filling) (m s : List ℕ) (k : ℕ) : Type 0 where
@@ -77,14 +77,14 @@ NextChart n b config lows c m s m′ s′ = (m₀ s₀ : List ℕ) → UntilChar
 -- the states of the first k charts are in the table, the rest as it was
 pub record Stated (config : List ℕ) (k : ℕ) (s₀ s : List ℕ) : Type 0 where
   pub states : (c : ℕ) → c < k → stateAt s c ≡ getD config c 0
-  pub below : (i : ℕ) → i < 88 → getD s i 0 ≡ getD s₀ i 0
+  pub below : (i : ℕ) → i < stateFrom → getD s i 0 ≡ getD s₀ i 0
   pub small : length s ≡ length s₀
 
 -- all charts have theirs, and the rest of the tables m₀ and s₀ is as it was: the wiring, the masters and their states
 pub record Chooses (n : Shape) (b config base lows m₀ s₀ m s : List ℕ) : Type 0 where
   pub chosen : Chosen (chartOf n b) (λ c. getD config c 0) (n .charts) lows m s
   pub raised : Raised (chartOf n b) (λ c. getD config c 0) (n .charts) m s base lows
-  pub wires : (i : ℕ) → 8 ≤ i → i < 72 → getD m i 0 ≡ getD m₀ i 0
-  pub ups : (i : ℕ) → i < 8 → getD m i 0 ≡ getD m₀ i 0
-  pub masters : (i : ℕ) → 72 ≤ i → i < 88 → getD s i 0 ≡ getD s₀ i 0
+  pub wires : (i : ℕ) → backFrom ≤ i → i < aheadFrom → getD m i 0 ≡ getD m₀ i 0
+  pub ups : (i : ℕ) → i < backFrom → getD m i 0 ≡ getD m₀ i 0
+  pub masters : (i : ℕ) → masterFrom ≤ i → i < stateFrom → getD s i 0 ≡ getD s₀ i 0
   pub tabled : Tabled (n .charts) m s

@@ -9,13 +9,18 @@ ghost use Rattle.layout.specs.Body.{from as fromOn};
 ghost use Rattle.meaning.specs.Count.{tally, one};
 ghost use Rattle.meaning.specs.Meaning.{same};
 ghost use Rattle.signals.specs.Mask.{_∪_, _∩_};
+ghost use Rattle.cells.specs.Triggers.{triggers, staysSize};
 ghost use Rattle.wiring.specs.Sure.{sureOf, sureIn};
-ghost use Rattle.meaning.specs.Numbers.{stayEdition};
+ghost use Rattle.meaning.specs.Numbers.{mostCharts, mostFromState, stayEdition};
 ghost use Rattle.wiring.specs.Hunt.{mayOf};
-ghost use Rattle.search.specs.Table.{masksFor, backAt, countAt, Row};
+ghost use Rattle.cells.specs.Table.{masksFor, backAt, putMasks, Row, smallSize, countAt, putSmall};
 ghost use Rattle.tables.specs.Filled.{mayAt};
-ghost use Rattle.tables.specs.Fill.{lastsBy, othersAt, sureAt, isAt, isAgain, putMasks, putSmall, AheadRow, aheadBy, AheadFrom, stuck};
+ghost use Rattle.tables.specs.Fill.{lastsBy, othersAt, sureAt, isAt, isAgain, AheadRow, aheadBy, AheadFrom, stuck};
 ghost use Rattle.candidates.specs.Candidates.{Ready, Tabled, Left, filling, consideredBy, listingBy, fromStart, withOne, Mays, Sided, NextChart, UntilChart, Stated, Chooses};
+use cells::CHARTS;
+use cells::masks;
+use cells::small;
+use cells::triggers;
 use layout::body::Shape;
 use layout::limits::HEAD_BYTES;
 use layout::limits::TRANSITION_BYTES;
@@ -38,8 +43,8 @@ pub struct Puts {
 
 // What each chart might put out, and what each is surely offered.
 pub struct Sides {
-    pub may: [u64; 8],
-    pub low: [u64; 8],
+    pub may: [u64; CHARTS],
+    pub low: [u64; CHARTS],
 }
 
 // Where transition t starts.
@@ -84,22 +89,22 @@ fn puts_of(n: Shape, body: &[u8], start: usize, count: usize, state: u8) -> Puts
 
 // Each chart is surely offered what it gets of u, which chart c puts out.
 fn raise_all(masks: &[u64], low: &mut [u64], c: usize, u: u64)
-    requires { ⌜ (masksFor 0 ≤ length (now masks)) × (length (now low) ≡ 8) × (c < 8) ⌝ }
+    requires { ⌜ (masksFor 0 ≤ length (now masks)) × (length (now low) ≡ mostCharts) × (c < mostCharts) ⌝ }
     ensures { λ _. ⌜ Row (now (low .exit)) (λ d. getD (now (low .entry)) d 0 ∪ u ∩ backAt (now (masks .entry)) d c) ⌝ }
 {
     let mut d: usize = 0;
-    while d < 8 {
-        low[d] = low[d] | u & masks[search::BACK + (8 * c + d)];
+    while d < CHARTS {
+        low[d] = low[d] | u & masks::back(masks, d, c);
         d += 1;
     }
 }
 
 // The same where u is what chart c puts out if it is active: in a slave it need not be.
 fn raise(masks: &[u64], small: &[u8], low: &mut [u64], c: usize, u: u64)
-    requires { ⌜ Tabled 0 (now masks) (now small) × (length (now low) ≡ 8) × (c < 8) ⌝ }
+    requires { ⌜ Tabled 0 (now masks) (now small) × (length (now low) ≡ mostCharts) × (c < mostCharts) ⌝ }
     ensures { λ _. ⌜ Row (now (low .exit)) (λ d. getD (now (low .entry)) d 0 ∪ sureAt (now (small .entry)) c u ∩ backAt (now (masks .entry)) d c) ⌝ }
 {
-    if small[search::MASTER + c] < 8 {
+    if small::master(small, c) < CHARTS {
         return;
     }
     if u != 0 {
@@ -122,14 +127,14 @@ fn sides_of(
     n: Shape,
     body: &[u8],
     config: &[u8],
-    base: [u64; 8],
+    base: [u64; CHARTS],
     masks: &[u64],
     small: &[u8],
 ) -> Sides
     requires { ⌜ Ready n (now body) (now config) × Tabled 0 (now masks) (now small) ⌝ }
     ensures { λ r. ⌜ Sided n (now (body .entry)) (now (config .entry)) base (now (masks .entry)) (now (small .entry)) (n .charts) (r .may) (r .low) ⌝ }
 {
-    let mut may = [0u64; 8];
+    let mut may = [0u64; CHARTS];
     let mut low = base;
     let mut start: usize = 0;
     let mut c: usize = 0;
@@ -147,8 +152,8 @@ fn sides_of(
 }
 
 // What the charts other than c might put in for it.
-pub fn others(masks: &[u64], charts: usize, may: [u64; 8], c: usize) -> u64
-    requires { ⌜ (masksFor 0 ≤ length (now masks)) × (charts ≤ 8) × (c < charts) ⌝ }
+pub fn others(masks: &[u64], charts: usize, may: [u64; CHARTS], c: usize) -> u64
+    requires { ⌜ (masksFor 0 ≤ length (now masks)) × (charts ≤ mostCharts) × (c < charts) ⌝ }
     ensures { λ r. ⌜ r ≡ othersAt (now (masks .entry)) charts (λ e. getD may e 0) c ⌝ }
 {
     let mut rest = may;
@@ -156,7 +161,7 @@ pub fn others(masks: &[u64], charts: usize, may: [u64; 8], c: usize) -> u64
     let mut u: u64 = 0;
     let mut e: usize = 0;
     while e < charts {
-        u = u | rest[e] & masks[search::BACK + (8 * e + c)];
+        u = u | rest[e] & masks::back(masks, c, e);
         e += 1;
     }
     u
@@ -171,18 +176,17 @@ fn lasts(t: Transition, low: u64, own: u64, others: u64) -> bool
 }
 
 fn is_at(masks: &[u64], small: &[u8], c: usize, v: usize, t: Transition) -> bool
-    requires { ⌜ Tabled (c + 1) (now masks) (now small) × (c < 8) × (v < 8) ⌝ }
+    requires { ⌜ Tabled (c + 1) (now masks) (now small) × (c < mostCharts) × (v < mostFromState) ⌝ }
     ensures { λ r. ⌜ r ≡ isAt (now (masks .entry)) (now (small .entry)) c v t ⌝ }
 {
-    let at = search::SPAN * c + v;
-    (masks[search::NEEDED + at] == t.needed)
-        & ((masks[search::BARRED + at] == t.barred)
-            & ((masks[search::ACTION + at] == t.action) & (small[8 * c + v] == t.to)))
+    (masks::needed(masks, c, v) == t.needed)
+        & ((masks::barred(masks, c, v) == t.barred)
+            & ((masks::action(masks, c, v) == t.action) & (small::to(small, c, v) == t.to)))
 }
 
 // Whether one of chart c's first n candidates is the transition.
 fn is_again(masks: &[u64], small: &[u8], c: usize, n: usize, t: Transition) -> bool
-    requires { ⌜ Tabled (c + 1) (now masks) (now small) × (c < 8) × (n ≤ 8) ⌝ }
+    requires { ⌜ Tabled (c + 1) (now masks) (now small) × (c < mostCharts) × (n ≤ mostFromState) ⌝ }
     ensures { λ r. ⌜ r ≡ isAgain (now (masks .entry)) (now (small .entry)) c n t ⌝ }
 {
     let mut v: usize = 0;
@@ -196,15 +200,11 @@ fn is_again(masks: &[u64], small: &[u8], c: usize, n: usize, t: Transition) -> b
 }
 
 fn put(masks: &mut [u64], small: &mut [u8], c: usize, v: usize, place: u8, t: Transition)
-    requires { ⌜ Tabled (c + 1) (now masks) (now small) × (c < 8) × (v < 8) ⌝ }
+    requires { ⌜ Tabled (c + 1) (now masks) (now small) × (c < mostCharts) × (v < mostFromState) ⌝ }
     ensures { λ _. ⌜ (now (masks .exit) ≡ putMasks (now (masks .entry)) c v t) × (now (small .exit) ≡ putSmall (now (small .entry)) c v place t) ⌝ }
 {
-    let at = search::SPAN * c + v;
-    masks[search::NEEDED + at] = t.needed;
-    masks[search::BARRED + at] = t.barred;
-    masks[search::ACTION + at] = t.action;
-    small[8 * c + v] = t.to;
-    small[search::PLACE + (8 * c + v)] = place;
+    masks::put_candidate(masks, c, v, t);
+    small::put_candidate(small, c, v, place, t);
 }
 
 // One transition more, at its place in its chart's list: a candidate if it is from the chart's state, lasts, and is none yet.
@@ -218,7 +218,7 @@ fn consider(
     a: Around,
     have: usize,
 ) -> usize
-    requires { ⌜ Holds n (now body) × (t < n .transitions) × Tabled (a .chart + 1) (now masks) (now small) × (a .chart < 8) × (have ≤ 8) × (transitionAt n (now body) t .from ≡ a .state → have < 8) ⌝ }
+    requires { ⌜ Holds n (now body) × (t < n .transitions) × Tabled (a .chart + 1) (now masks) (now small) × (a .chart < mostCharts) × (have ≤ mostFromState) × (transitionAt n (now body) t .from ≡ a .state → have < mostFromState) ⌝ }
     ensures { λ r. ⌜ Left (consideredBy a place (transitionAt n (now (body .entry)) t) (filling (now (masks .entry)) (now (small .entry)) have)) (now (masks .exit)) (now (small .exit)) r ⌝ }
 {
     if from_at(n, body, t) != a.state {
@@ -245,8 +245,8 @@ fn list(
     small: &mut [u8],
     a: Around,
 ) -> usize
-    requires { ⌜ Holds n (now body) × (start + count ≤ n .transitions) × (count < 256) × Tabled (a .chart + 1) (now masks) (now small) × (a .chart < 8) × (tally count (λ u. one (same (fromStart n (now body) start u .from) (a .state))) ≤ 8) ⌝ }
-    ensures { λ r. ⌜ Left (listingBy a (fromStart n (now (body .entry)) start) count (filling (now (masks .entry)) (now (small .entry)) 0)) (now (masks .exit)) (now (small .exit)) r × (r ≤ 8) ⌝ }
+    requires { ⌜ Holds n (now body) × (start + count ≤ n .transitions) × (count < 256) × Tabled (a .chart + 1) (now masks) (now small) × (a .chart < mostCharts) × (tally count (λ u. one (same (fromStart n (now body) start u .from) (a .state))) ≤ mostFromState) ⌝ }
+    ensures { λ r. ⌜ Left (listingBy a (fromStart n (now (body .entry)) start) count (filling (now (masks .entry)) (now (small .entry)) 0)) (now (masks .exit)) (now (small .exit)) r × (r ≤ mostFromState) ⌝ }
 {
     let mut have: usize = 0;
     let mut p: usize = 0;
@@ -262,8 +262,8 @@ fn list_chart(
     n: Shape,
     body: &[u8],
     config: &[u8],
-    lows: [u64; 8],
-    may: [u64; 8],
+    lows: [u64; CHARTS],
+    may: [u64; CHARTS],
     masks: &mut [u64],
     small: &mut [u8],
     c: usize,
@@ -274,7 +274,7 @@ fn list_chart(
 {
     let head = layout::body::head_at(n, body, c);
     let count = head.transitions as usize;
-    let own = masks[search::BACK + (8 * c + c)];
+    let own = masks::back(masks, c, c);
     let rest = others(masks, n.charts, may, c);
     let a = Around {
         chart: c,
@@ -284,7 +284,7 @@ fn list_chart(
         others: rest,
     };
     let have = list(n, body, start, count, masks, small, a);
-    small[search::COUNT + c] = have as u8;
+    small::put_count(small, c, have as u8);
     start + count
 }
 
@@ -292,8 +292,8 @@ fn list_all(
     n: Shape,
     body: &[u8],
     config: &[u8],
-    lows: [u64; 8],
-    may: [u64; 8],
+    lows: [u64; CHARTS],
+    may: [u64; CHARTS],
     masks: &mut [u64],
     small: &mut [u8],
 )
@@ -310,14 +310,14 @@ fn list_all(
 
 // What chart c's candidates put out, all together.
 fn puts_out(masks: &[u64], small: &[u8], c: usize) -> u64
-    requires { ⌜ Tabled (c + 1) (now masks) (now small) × (c < 8) × (countAt (now small) c ≤ 8) ⌝ }
+    requires { ⌜ Tabled (c + 1) (now masks) (now small) × (c < mostCharts) × (countAt (now small) c ≤ mostFromState) ⌝ }
     ensures { λ r. ⌜ r ≡ mayAt (now (masks .entry)) (now (small .entry)) c ⌝ }
 {
-    let count = small[search::COUNT + c] as usize;
+    let count = small::count(small, c);
     let mut u: u64 = 0;
     let mut v: usize = 0;
     while v < count {
-        u = u | masks[search::ACTION + (search::SPAN * c + v)];
+        u = u | masks::action(masks, c, v);
         v += 1;
     }
     u
@@ -325,31 +325,32 @@ fn puts_out(masks: &[u64], small: &[u8], c: usize) -> u64
 
 // Nothing is left to put out after the last chart.
 fn clear_row(masks: &mut [u64], charts: usize)
-    requires { ⌜ (masksFor 0 ≤ length (now masks)) × (charts ≤ 8) ⌝ }
+    requires { ⌜ (masksFor 0 ≤ length (now masks)) × (charts ≤ mostCharts) ⌝ }
     ensures { λ _. ⌜ AheadRow charts (λ c. 0) charts (now (masks .entry)) (now (masks .exit)) ⌝ }
 {
     let mut c: usize = 0;
     while c < charts {
-        masks[search::AHEAD + (8 * charts + c)] = 0;
+        masks::put_ahead(masks, charts, c, 0);
         c += 1;
     }
 }
 
 // What chart k, whose candidates put out u, and the later ones may put in for each chart.
 fn ahead_row(masks: &mut [u64], charts: usize, k: usize, u: u64)
-    requires { ⌜ (masksFor 0 ≤ length (now masks)) × (charts ≤ 8) × (k < 8) ⌝ }
+    requires { ⌜ (masksFor 0 ≤ length (now masks)) × (charts ≤ mostCharts) × (k < mostCharts) ⌝ }
     ensures { λ _. ⌜ AheadRow k (aheadBy (now (masks .entry)) k u) charts (now (masks .entry)) (now (masks .exit)) ⌝ }
 {
     let mut c: usize = 0;
     while c < charts {
-        masks[search::AHEAD + (8 * k + c)] = u & masks[search::BACK + (8 * k + c)]
-            | masks[search::AHEAD + (8 * (k + 1) + c)];
+        let later = masks::ahead(masks, k + 1, c);
+        let offered = u & masks::back(masks, c, k) | later;
+        masks::put_ahead(masks, k, c, offered);
         c += 1;
     }
 }
 
 fn ahead_all(masks: &mut [u64], small: &[u8], charts: usize)
-    requires { ⌜ Tabled charts (now masks) (now small) × (charts ≤ 8) × ((c : ℕ) → c < charts → countAt (now small) c ≤ 8) ⌝ }
+    requires { ⌜ Tabled charts (now masks) (now small) × (charts ≤ mostCharts) × ((c : ℕ) → c < charts → countAt (now small) c ≤ mostFromState) ⌝ }
     ensures { λ _. ⌜ AheadFrom charts (now (small .entry)) 0 (now (masks .entry)) (now (masks .exit)) ⌝ }
 {
     clear_row(masks, charts);
@@ -363,12 +364,12 @@ fn ahead_all(masks: &mut [u64], small: &[u8], charts: usize)
 
 // The present states.
 fn put_states(small: &mut [u8], config: &[u8], charts: usize)
-    requires { ⌜ (length (now small) ≡ 160) × (charts ≤ 8) × (charts ≤ length (now config)) ⌝ }
+    requires { ⌜ (length (now small) ≡ smallSize) × (charts ≤ mostCharts) × (charts ≤ length (now config)) ⌝ }
     ensures { λ _. ⌜ Stated (now (config .entry)) charts (now (small .entry)) (now (small .exit)) ⌝ }
 {
     let mut c: usize = 0;
     while c < charts {
-        small[search::STATE + c] = config[c];
+        small::put_state(small, c, config[c]);
         c += 1;
     }
 }
@@ -379,7 +380,7 @@ pub fn choose(
     n: Shape,
     body: &[u8],
     config: &[u8],
-    base: [u64; 8],
+    base: [u64; CHARTS],
     masks: &mut [u64],
     small: &mut [u8],
 ) -> Sides
@@ -398,12 +399,14 @@ pub fn choose(
 
 // Whether a chart that is surely active has no candidate, and cannot stay.
 pub fn is_stuck(small: &[u8], stays: &[u8], charts: usize) -> bool
-    requires { ⌜ (length (now small) ≡ 160) × (length (now stays) ≡ 9) × (charts ≤ 8) ⌝ }
+    requires { ⌜ (length (now small) ≡ smallSize) × (length (now stays) ≡ staysSize) × (charts ≤ mostCharts) ⌝ }
     ensures { λ r. ⌜ ((g : List ℕ) → r ≡ stuck (now (small .entry)) g (now (stays .entry)) charts) ⌝ }
 {
     let mut c: usize = 0;
     while c < charts {
-        if (small[search::COUNT + c] == 0) & (!(small[search::MASTER + c] < 8) & !(stays[c] != 0)) {
+        if (small::count(small, c) == 0)
+            & (!(small::master(small, c) < CHARTS) & !(triggers::told(stays, c) != 0))
+        {
             return true;
         }
         c += 1;

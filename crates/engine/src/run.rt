@@ -4,6 +4,7 @@ ghost use mathlib.Core.List.{_∷_, _++_};
 ghost use Prim.Native.Nat.{ℕ, _+_, _*_, _≤_, _<_};
 ghost use lib.ListN.{length, take};
 ghost use Rattle.layout.specs.Le.{bytes};
+ghost use Rattle.meaning.specs.Numbers.{mostCharts};
 ghost use Rattle.meaning.specs.Count.{one};
 ghost use Rattle.meaning.specs.File.{fileAt};
 ghost use Rattle.meaning.specs.Calls.{laidOver, afterStep, carriedAfter, rowOf, rowsOf, carriedOf};
@@ -12,9 +13,11 @@ ghost use Rattle.tables.specs.Filled.{answerOf};
 ghost use Rattle.engine.specs.Contracts.{RunSays};
 ghost use Rattle.engine.specs.Step.{Checked, Prepared};
 ghost use Rattle.engine.specs.Run.{BodyRuns};
+use cells::CHARTS;
+use cells::masks;
+use cells::small;
 use checks::limits;
 use layout::body::Shape;
-use layout::limits::CHARTS;
 use layout::row::MARK;
 use layout::row::REFUSAL;
 use layout::row::STATES;
@@ -51,7 +54,7 @@ fn put_fields(
     states: [u8; CHARTS],
     charts: usize,
 )
-    requires { ⌜ (charts ≤ 8) × (length (now row) ≡ 10 + charts) ⌝ }
+    requires { ⌜ (charts ≤ mostCharts) × (length (now row) ≡ 10 + charts) ⌝ }
     ensures { λ _. ⌜ now (row .exit) ≡ bytes 8 output ++ (mark ∷ refusal ∷ take charts states) ⌝ }
 {
     layout::number::put64(row, 0, output);
@@ -62,7 +65,7 @@ fn put_fields(
 
 // The row of a step from a configuration.
 fn put_row(row: &mut [u8], f: Found, states: [u8; CHARTS], charts: usize)
-    requires { ⌜ (charts ≤ 8) × (length (now row) ≡ 10 + charts) ⌝ }
+    requires { ⌜ (charts ≤ mostCharts) × (length (now row) ≡ 10 + charts) ⌝ }
     ensures { λ _. ⌜ now (row .exit) ≡ rowOf (answerOf charts f) (take charts states) ⌝ }
 {
     if f.has {
@@ -141,7 +144,7 @@ fn put_rows(
 
 // A configuration at the front of an array.
 fn states_of(config: &[u8]) -> [u8; CHARTS]
-    requires { ⌜ length (now config) ≤ 8 ⌝ }
+    requires { ⌜ length (now config) ≤ mostCharts ⌝ }
     ensures { λ r. ⌜ take (length (now (config .entry))) r ≡ now (config .entry) ⌝ }
 {
     let mut states = [0u8; CHARTS];
@@ -173,8 +176,8 @@ fn of_body(
         return refused(limits::SHORT_ROWS);
     }
     let start = states_of(config);
-    let mut masks = [0u64; search::MASKS];
-    let mut small = [0u8; search::SMALL];
+    let mut masks = [0u64; masks::SIZE];
+    let mut small = [0u8; small::SIZE];
     let down = plan::wire::wired(n, body, &mut masks, &mut small);
     let left = put_rows(
         n,

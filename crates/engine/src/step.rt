@@ -6,17 +6,22 @@ ghost use Prim.Native.Nat.{_≤_, _<_};
 ghost use lib.ListN.{length, take, getD};
 ghost use Rattle.signals.specs.Mask.{_∩_};
 ghost use Rattle.layout.specs.Body.{Holds, headAt};
+ghost use Rattle.meaning.specs.Numbers.{mostCharts};
 ghost use Rattle.meaning.specs.Count.{anyUpTo};
 ghost use Rattle.meaning.specs.File.{fileAt};
 ghost use Rattle.meaning.specs.Check.{notBelow, firstOf};
 ghost use Rattle.meaning.specs.Calls.{laidOver, allPlaces};
-ghost use Rattle.search.specs.Table.{masksFor, Tables, Row};
-ghost use Rattle.search.specs.Stays.{Guards};
+ghost use Rattle.cells.specs.Table.{masksFor, Row, Tables};
+ghost use Rattle.cells.specs.Triggers.{triggers, Guards};
 ghost use Rattle.plan.specs.Wire.{Blank};
 ghost use Rattle.candidates.specs.Candidates.{Ready, Mays};
 ghost use Rattle.engine.specs.Contracts.{StepSays};
 ghost use Rattle.engine.specs.Step.{configTestsIn, BodySteps, Checked, Prepared, searchedOf, Searched, Finds};
 use candidates::Sides;
+use cells::CHARTS;
+use cells::masks;
+use cells::small;
+use cells::triggers;
 use checks::limits;
 use layout::body::Shape;
 use search::Found;
@@ -27,7 +32,7 @@ pub struct Stepped {
     pub refusal: u8,
     pub output: u64,
     pub mark: bool,
-    pub places: [u8; 8],
+    pub places: [u8; CHARTS],
 }
 
 fn refused(r: u8) -> Stepped
@@ -37,7 +42,7 @@ fn refused(r: u8) -> Stepped
         refusal: r,
         output: 0,
         mark: false,
-        places: [search::NO_PLACE; 8],
+        places: [search::NO_PLACE; CHARTS],
     }
 }
 
@@ -72,12 +77,12 @@ pub(crate) fn config_refusal(n: Shape, body: &[u8], config: &[u8]) -> u8
 }
 
 // What of the input is offered to each chart.
-fn lows(down: [u64; 8], input: u64) -> [u64; 8]
+fn lows(down: [u64; CHARTS], input: u64) -> [u64; CHARTS]
     ensures { λ r. ⌜ Row r (λ c. input ∩ getD down c 0) ⌝ }
 {
     let mut low = down;
     let mut c: usize = 0;
-    while c < 8 {
+    while c < CHARTS {
         low[c] = input & down[c];
         c += 1;
     }
@@ -91,9 +96,9 @@ fn searched(
     guards: &[u64],
     stays: &[u8],
     charts: usize,
-    low: [u64; 8],
+    low: [u64; CHARTS],
 ) -> Found
-    requires { ⌜ Tables charts (now masks) (now small) × (charts ≤ 8) × Guards (now guards) (now stays) ⌝ }
+    requires { ⌜ Tables charts (now masks) (now small) × (charts ≤ mostCharts) × Guards (now guards) (now stays) ⌝ }
     ensures { λ r. ⌜ r ≡ searchedOf charts low (now (masks .entry)) (now (small .entry)) (now (guards .entry)) (now (stays .entry)) ⌝ }
 {
     if candidates::is_stuck(small, stays, charts) {
@@ -116,7 +121,7 @@ fn found_staying(
 {
     let low = sides.low;
     let may = sides.may;
-    let mut guards = [0u64; search::GUARDS];
+    let mut guards = [0u64; triggers::SIZE];
     let stays = staying::stays(n, body, config, low, may, masks, &mut guards);
     searched(masks, small, &guards, &stays, n.charts, low)
 }
@@ -127,7 +132,7 @@ pub(crate) fn found(
     body: &[u8],
     config: &[u8],
     input: u64,
-    down: [u64; 8],
+    down: [u64; CHARTS],
     masks: &mut [u64],
     small: &mut [u8],
 ) -> Found
@@ -141,16 +146,16 @@ pub(crate) fn found(
     }
     let low = sides.low;
     let guards = [0u64; 0];
-    let stays = [0u8; search::STAYS];
+    let stays = [0u8; triggers::STAYS];
     searched(masks, small, &guards, &stays, n.charts, low)
 }
 
 // One step of a body, wired for it into masks that are new.
 fn found_in(n: Shape, body: &[u8], config: &[u8], input: u64, masks: &mut [u64]) -> Found
-    requires { ⌜ Checked n (now body) × Ready n (now body) (now config) × (masksFor (n .charts) ≤ length (now masks)) × Blank (masksFor 0) (now masks) ⌝ }
+    requires { ⌜ Checked n (now body) × Ready n (now body) (now config) × (masksFor (n .charts) ≤ length (now masks)) × Blank (now masks) ⌝ }
     ensures { λ r. ⌜ Finds n (now (body .entry)) (now (config .entry)) input r ⌝ }
 {
-    let mut small = [0u8; search::SMALL];
+    let mut small = [0u8; small::SIZE];
     let down = plan::wire::wired(n, body, masks, &mut small);
     found(n, body, config, input, down, masks, &mut small)
 }
@@ -160,17 +165,17 @@ fn found_new(n: Shape, body: &[u8], config: &[u8], input: u64) -> Found
     requires { ⌜ Checked n (now body) × Ready n (now body) (now config) ⌝ }
     ensures { λ r. ⌜ Finds n (now (body .entry)) (now (config .entry)) input r ⌝ }
 {
-    if n.charts <= search::FEW {
-        let mut masks = [0u64; search::FEW_MASKS];
+    if n.charts <= masks::FEW {
+        let mut masks = [0u64; masks::FEW_SIZE];
         return found_in(n, body, config, input, &mut masks);
     }
-    let mut masks = [0u64; search::MASKS];
+    let mut masks = [0u64; masks::SIZE];
     found_in(n, body, config, input, &mut masks)
 }
 
 // The first n states, over the front of the caller's buffer.
-pub(crate) fn put_states(buffer: &mut [u8], states: [u8; 8], n: usize)
-    requires { ⌜ (n ≤ 8) × (n ≤ length (now buffer)) ⌝ }
+pub(crate) fn put_states(buffer: &mut [u8], states: [u8; CHARTS], n: usize)
+    requires { ⌜ (n ≤ mostCharts) × (n ≤ length (now buffer)) ⌝ }
     ensures { λ _. ⌜ now (buffer .exit) ≡ laidOver (take n states) (now (buffer .entry)) ⌝ }
 {
     let mut i: usize = 0;

@@ -1,16 +1,16 @@
--- Lists that a loop fills, one place in each turn. In order: a row in a list, and a square of rows (row, joined); a part that was lent and is back
--- (put).
+-- Lists that a loop fills, one place in each turn. In order: a row in a list (row), and rows of feedback (joined).
 -- Assumes nothing.
-use mathlib.Core.Path.{_≡_, refl, sym, ap, ap₂, _∙_}
-use mathlib.Core.List.{List, [], _∷_, _++_}
+use mathlib.Core.Path.{_≡_, refl, ap, ap₂, _∙_}
+use mathlib.Core.List.{List, [], _∷_}
 use Prim.Native.Nat.{ℕ, _+_, _*_, _≤_, _<_}
 use native.Mathlib.Omega.{arith}
 use borrow.Author.Count.{below-more}
-use borrow.Rule.Slice.PartMut.{postOf, putMid}
-use lib.ListN.{length, getD, take, set, length-set, List·getD-append}
-use lib.Seq.{length-take-le, getD-append-add, getD-take, getD-set-same, getD-set-other}
+use lib.ListN.{length, getD, set, length-set}
+use lib.Seq.{getD-set-same, getD-set-other}
 use Rattle.signals.specs.Mask.{_∪_, _∩_}
 use Rattle.signals.specs.Decide.{sets, A, B, C, D, ∅ₑ, _∪ₑ_, _∩ₑ_, _≐_}
+use Rattle.meaning.specs.Numbers.{mostCharts}
+use Rattle.cells.specs.Table.{backRow, backCell, backAt}
 use Rattle.plan.specs.Wire.{RowAt, downIn, upIn}
 
 -- ── a row in a list ──
@@ -45,38 +45,26 @@ module _ (at : ℕ) (g : ℕ → ℕ) (l : List ℕ) where
         long = refl;
       }
 
--- ── a square, row by row ──
+-- ── feedback, row by row ──
 
--- the square m is l with f joined to its first n rows
+-- the masks m are l with f joined to the first n rows
 pub record Joined (n : ℕ) (l m : List ℕ) (f : ℕ → ℕ → ℕ) : Type 0 where
-  pub in-rows : (c d : ℕ) → c < 8 → d < n → getD m (8 * d + c) 0 ≡ getD l (8 * d + c) 0 ∪ f c d
-  pub rest : (k : ℕ) → 8 * n ≤ k → getD m k 0 ≡ getD l k 0
+  pub in-rows : (c d : ℕ) → c < mostCharts → d < n → backAt m c d ≡ backAt l c d ∪ f c d
+  pub rest : (k : ℕ) → backRow n ≤ k → getD m k 0 ≡ getD l k 0
 
 pub joined-none : (l : List ℕ) (f : ℕ → ℕ → ℕ) → Joined 0 l l f
 joined-none l f = record { in-rows = λ c d p q. absurd (omega arith); rest = λ k p. refl }
 
 -- one row more, of feedback in x over the rows p
 pub joined-more : (n x : ℕ) (p l m m′ : List ℕ) → Joined n l m (λ c d. downIn p c ∩ upIn p d ∩ x)
-    → RowAt (8 * n) 8 (λ c. getD m (8 * n + c) 0 ∪ (upIn p n ∩ x ∩ downIn p c)) m m′ → Joined (n + 1) l m′ (λ c d. downIn p c ∩ upIn p d ∩ x)
+    → RowAt (backRow n) mostCharts (λ c. backAt m c n ∪ (upIn p n ∩ x ∩ downIn p c)) m m′ → Joined (n + 1) l m′ (λ c d. downIn p c ∩ upIn p d ∩ x)
 joined-more n x p l m m′ h f =
     record {
       in-rows = λ c d u v.
-          below-more (λ (d : ℕ). getD m′ (8 * d + c) 0 ≡ getD l (8 * d + c) 0 ∪ downIn p c ∩ upIn p d ∩ x) n
-          (λ k z. f .below (8 * k + c) (omega arith) ∙ h .in-rows c k u z)
-          (f .in-row c u ∙ ap (λ (y : ℕ). y ∪ (upIn p n ∩ x ∩ downIn p c)) (h .rest (8 * n + c) (omega arith))
-          ∙ sets (getD l (8 * n + c) 0 ∷ downIn p c ∷ upIn p n ∷ x ∷ []) [] (A ∪ₑ (C ∩ₑ D ∩ₑ B) ≐ A ∪ₑ B ∩ₑ C ∩ₑ D) tt)
+          below-more (λ (d : ℕ). backAt m′ c d ≡ backAt l c d ∪ downIn p c ∩ upIn p d ∩ x) n
+          (λ k z. f .below (backCell c k) (omega arith) ∙ h .in-rows c k u z)
+          (f .in-row c u ∙ ap (λ (y : ℕ). y ∪ (upIn p n ∩ x ∩ downIn p c)) (h .rest (backCell c n) (omega arith))
+          ∙ sets (backAt l c n ∷ downIn p c ∷ upIn p n ∷ x ∷ []) [] (A ∪ₑ (C ∩ₑ D ∩ₑ B) ≐ A ∪ₑ B ∩ₑ C ∩ₑ D) tt)
           d v;
       rest = λ k u. f .above k (omega arith) ∙ h .rest k (omega arith);
     }
-
--- ── a part that was lent and is back ──
-
-module _ (a k : ℕ) (xs ys : List ℕ) (h : a ≤ length xs) where
-  pub put-in : (i : ℕ) → i < length ys → getD (putMid a k xs ys) (a + i) 0 ≡ getD ys i 0
-  put-in i p =
-      ap (λ (j : ℕ). getD (putMid a k xs ys) (j + i) 0) (sym (length-take-le a xs h))
-      ∙ getD-append-add (take a xs) (ys ++ postOf a k xs) i 0
-      ∙ List·getD-append ys (postOf a k xs) 0 i p
-
-  pub put-below : (i : ℕ) → i < a → getD (putMid a k xs ys) i 0 ≡ getD xs i 0
-  put-below i p = List·getD-append (take a xs) (ys ++ postOf a k xs) 0 i (rw (length-take-le a xs h) p) ∙ getD-take a xs i 0 p

@@ -16,17 +16,19 @@ use Rattle.layout.specs.declared.body.Shape.{Shape}
 use Rattle.layout.specs.declared.record.Head.{Head}
 use Rattle.layout.specs.declared.record.Slave.{Slave}
 use Rattle.layout.specs.declared.record.Node.{Node}
+use Rattle.meaning.specs.Numbers.{mostCharts}
 use Rattle.meaning.specs.Count.{anyUpTo}
 use Rattle.meaning.specs.Count.Laws.{or-left, or-right}
 use Rattle.meaning.specs.Meaning.{same, Set, Tree, Slaves, Chart, nil}
 use Rattle.meaning.specs.File.{File, gather, treeOf, wholeOf, chartOf, fileAt}
 use Rattle.meaning.specs.Laws.Bools.{same→≢}
 use Rattle.meaning.specs.Laws.Trees.{Ordered}
+use Rattle.cells.specs.Table.{backCell, backAt}
 use Rattle.wiring.specs.Wire.{own, down, downs, up, ups, back, backs}
 use Rattle.wiring.specs.Rows.{down₀, down₁, down₂, up₀, up₁, up₂, back₀, back₁, back₂, slaves-out, downs-step, ups-step, backs-step}
 use Rattle.nesting.specs.Known.{Wirable}
 use Rattle.nesting.proofs.Records.{Is, IsSlave, is-node, is-slave, lower-a, lower-b}
-use Rattle.plan.specs.Wire.{Blank, Joins, RowAt, downIn, upIn, AreRows, JoinsRows, Feeds, Wires, Whole}
+use Rattle.plan.specs.Wire.{Blank, Joins, RowAt, rowsSize, downIn, upIn, AreRows, JoinsRows, Feeds, Wires, Whole}
 
 -- ── a record that was read ──
 
@@ -65,7 +67,7 @@ pub rows-as : {l : List ℕ} {f f′ g g′ : ℕ → Set} → AreRows l f g →
 rows-as h e e′ = record { down-is = λ c u. h .down-is c u ∙ e c; up-is = λ c u. h .up-is c u ∙ e′ c; long = h .long }
 
 -- the two rows put one after the other
-pub rows-put : {l m m′ : List ℕ} {f g : ℕ → Set} → length l ≡ 16 → RowAt 0 8 f l m → RowAt 8 8 g m m′ → AreRows m′ f g
+pub rows-put : {l m m′ : List ℕ} {f g : ℕ → Set} → length l ≡ rowsSize → RowAt 0 mostCharts f l m → RowAt mostCharts mostCharts g m m′ → AreRows m′ f g
 rows-put {l} {m} n h h′ =
     record {
       down-is = λ c u. h′ .below c u ∙ ap (λ (k : ℕ). getD m k 0) (sym (zero-add c)) ∙ h .in-row c u;
@@ -74,27 +76,27 @@ rows-put {l} {m} n h h′ =
     }
 
 -- the rows q less x and y, joined one after the other
-pub rows-join : (l q : List ℕ) (x y : Set) {m m′ : List ℕ} → length l ≡ 16 → RowAt 0 8 (λ c. getD l (0 + c) 0 ∪ (getD q (0 + c) 0 ∖ x)) l m
-    → RowAt 8 8 (λ c. getD m (8 + c) 0 ∪ (getD q (8 + c) 0 ∖ y)) m m′ → JoinsRows l m′ (λ c. downIn q c ∖ x) (λ c. upIn q c ∖ y)
+pub rows-join : (l q : List ℕ) (x y : Set) {m m′ : List ℕ} → length l ≡ rowsSize → RowAt 0 mostCharts (λ c. getD l (0 + c) 0 ∪ (getD q (0 + c) 0 ∖ x)) l m
+    → RowAt mostCharts mostCharts (λ c. getD m (mostCharts + c) 0 ∪ (getD q (mostCharts + c) 0 ∖ y)) m m′ → JoinsRows l m′ (λ c. downIn q c ∖ x) (λ c. upIn q c ∖ y)
 rows-join l q x y n h h′ =
     let r = rows-put n h h′ in
     record {
       down-is = λ c u. r .down-is c u ∙ ap (λ (k : ℕ). getD l k 0 ∪ (getD q k 0 ∖ x)) (zero-add c);
-      up-is = λ c u. r .up-is c u ∙ ap (λ (s : Set). s ∪ (upIn q c ∖ y)) (h .above (8 + c) (omega arith));
+      up-is = λ c u. r .up-is c u ∙ ap (λ (s : Set). s ∪ (upIn q c ∖ y)) (h .above (mostCharts + c) (omega arith));
       long = r .long;
     }
 
 -- joined to empty rows
-pub rows-first : {m : List ℕ} {f g : ℕ → Set} → JoinsRows (replicate 16 0) m f g → AreRows m f g
+pub rows-first : {m : List ℕ} {f g : ℕ → Set} → JoinsRows (replicate rowsSize 0) m f g → AreRows m f g
 rows-first {m} {f} {g} h =
     record {
       down-is = λ c u. h .down-is c u ∙ first c (f c) (omega arith);
-      up-is = λ c u. h .up-is c u ∙ first (8 + c) (g c) (omega arith);
+      up-is = λ c u. h .up-is c u ∙ first (mostCharts + c) (g c) (omega arith);
       long = h .long;
     }
   where
-    first : (k : ℕ) (s : Set) → k < 16 → getD (replicate 16 0) k 0 ∪ s ≡ s
-    first k s u = ap (λ (z : Set). z ∪ s) (getD-replicate 16 k 0 0 u) ∙ sets (s ∷ []) [] (∅ₑ ∪ₑ A ≐ A) tt
+    first : (k : ℕ) (s : Set) → k < rowsSize → getD (replicate rowsSize 0) k 0 ∪ s ≡ s
+    first k s u = ap (λ (z : Set). z ∪ s) (getD-replicate rowsSize k 0 0 u) ∙ sets (s ∷ []) [] (∅ₑ ∪ₑ A ≐ A) tt
 
 -- rows joined whole, which is less nothing
 rows-whole : (l q : List ℕ) {m : List ℕ} {f g : ℕ → Set} → AreRows q f g → JoinsRows l m (λ c. downIn q c ∖ 0) (λ c. upIn q c ∖ 0) → JoinsRows l m f g
@@ -120,7 +122,7 @@ module _ {n : Shape} {b : List ℕ} (w : Wirable n b) {j : ℕ} (p : j < n .node
 
   -- ── hidden ──
 
-  pub wires-hide : r .kind ≡ 2 → {l m q o o′ : List ℕ} → Wires F (treeOf F (r .a)) l m (replicate 16 0) q
+  pub wires-hide : r .kind ≡ 2 → {l m q o o′ : List ℕ} → Wires F (treeOf F (r .a)) l m (replicate rowsSize 0) q
       → JoinsRows o o′ (λ c. downIn q c ∖ r .x) (λ c. upIn q c ∖ r .y) → Wires F t l m o o′
   unfolding fileAt
   wires-hide e₂ {l} {m} {q} {o} h g =
@@ -136,7 +138,7 @@ module _ {n : Shape} {b : List ℕ} (w : Wirable n b) {j : ℕ} (p : j < n .node
         };
         back-is = λ c d u v.
             h .back-is c d u v
-            ∙ ap (λ (s : Set). getD l (8 * d + c) 0 ∪ s) (ap (λ (k : ℕ). back (F .chart) (treeOf F k) c d) (is .a) ∙ sym (back₂ F (w .sound .ordered) j c d p k));
+            ∙ ap (λ (s : Set). backAt l c d ∪ s) (ap (λ (k : ℕ). back (F .chart) (treeOf F k) c d) (is .a) ∙ sym (back₂ F (w .sound .ordered) j c d p k));
       }
     where
       k : F .kind j ≡ 2
@@ -147,13 +149,13 @@ module _ {n : Shape} {b : List ℕ} (w : Wirable n b) {j : ℕ} (p : j < n .node
 
   -- ── composed ──
 
-  pub wires-comp : r .kind ≡ 1 → {l l′ m m′ q q′ o o′ : List ℕ} → Wires F (treeOf F (r .a)) l l′ (replicate 16 0) q → Wires F (treeOf F (r .b)) l′ m q q′
-      → Feeds m m′ q′ (r .x) → JoinsRows o o′ (λ c. downIn q′ c ∖ 0) (λ c. upIn q′ c ∖ 0) → Wires F t l m′ o o′
+  pub wires-comp : r .kind ≡ 1 → {l l′ m m′ q q′ o o′ : List ℕ} → Wires F (treeOf F (r .a)) l l′ (replicate rowsSize 0) q → Wires F (treeOf F (r .b)) l′ m q q′
+      → Feeds (n .charts) m m′ q′ (r .x) → JoinsRows o o′ (λ c. downIn q′ c ∖ 0) (λ c. upIn q′ c ∖ 0) → Wires F t l m′ o o′
   unfolding fileAt
   wires-comp e₁ {l} {l′} {m} {m′} {q} {q′} {o} h h′ f g =
       record {
         rows-are = rows-whole o q′ both g;
-        back-is = λ c d u v. f c d u v ∙ rejoin c d u v ∙ ap (λ (s : Set). getD l (8 * d + c) 0 ∪ s) (sym (back₁ F (w .sound .ordered) j c d p k));
+        back-is = λ c d u v. f c d u v ∙ rejoin c d u v ∙ ap (λ (s : Set). backAt l c d ∪ s) (sym (back₁ F (w .sound .ordered) j c d p k));
       }
     where
       k : F .kind j ≡ 1
@@ -177,13 +179,13 @@ module _ {n : Shape} {b : List ℕ} (w : Wirable n b) {j : ℕ} (p : j < n .node
           }
 
       -- first the left part's, then the right part's, then that between them
-      rejoin : (c d : ℕ) → c < 8 → d < 8 → getD m (8 * d + c) 0 ∪ downIn q′ c ∩ upIn q′ d ∩ r .x
-          ≡ getD l (8 * d + c) 0 ∪ ((back (F .chart) (treeOf F (F .a j)) c d ∪ back (F .chart) (treeOf F (F .b j)) c d) ∪ down t c ∩ up t d ∩ F .x j)
+      rejoin : (c d : ℕ) → c < mostCharts → d < F .charts → backAt m c d ∪ downIn q′ c ∩ upIn q′ d ∩ r .x
+          ≡ backAt l c d ∪ ((back (F .chart) (treeOf F (F .a j)) c d ∪ back (F .chart) (treeOf F (F .b j)) c d) ∪ down t c ∩ up t d ∩ F .x j)
       rejoin c d u v =
           ap₂ _∪_
-          (h′ .back-is c d u v ∙ ap₂ _∪_ (h .back-is c d u v ∙ ap (λ (k : ℕ). getD l (8 * d + c) 0 ∪ back (F .chart) (treeOf F k) c d) (is .a)) (ap (λ (k : ℕ). back (F .chart) (treeOf F k) c d) (is .b)))
-          (ap₂ _∩_ (ap₂ _∩_ (both .down-is c u) (both .up-is d v)) (is .x))
-          ∙ sets (getD l (8 * d + c) 0 ∷ back (F .chart) (treeOf F (F .a j)) c d ∷ back (F .chart) (treeOf F (F .b j)) c d ∷ (down t c ∩ up t d ∩ F .x j) ∷ []) []
+          (h′ .back-is c d u v ∙ ap₂ _∪_ (h .back-is c d u v ∙ ap (λ (k : ℕ). backAt l c d ∪ back (F .chart) (treeOf F k) c d) (is .a)) (ap (λ (k : ℕ). back (F .chart) (treeOf F k) c d) (is .b)))
+          (ap₂ _∩_ (ap₂ _∩_ (both .down-is c u) (both .up-is d (omega (arith, v, w .sized .charts)))) (is .x))
+          ∙ sets (backAt l c d ∷ back (F .chart) (treeOf F (F .a j)) c d ∷ back (F .chart) (treeOf F (F .b j)) c d ∷ (down t c ∩ up t d ∩ F .x j) ∷ []) []
           (A ∪ₑ B ∪ₑ C ∪ₑ D ≐ A ∪ₑ (B ∪ₑ C ∪ₑ D)) tt
 
 -- ── a chart and its slaves ──
@@ -195,14 +197,14 @@ mine F d k = gather (F .master) (λ i. treeOf F (F .node i)) d k
 -- the rows q are chart d's with those of its slaves among the first k, and m is l with these slaves' feedback joined to it
 pub record Gathers (F : File) (d k : ℕ) (l m q : List ℕ) : Type 0 where
   pub rows-are : AreRows q (λ c. own d c ∪ downs (mine F d k) c) (λ c. own d c ∪ ups (mine F d k) c)
-  pub back-is : Joins l m (backs (F .chart) (mine F d k))
+  pub back-is : Joins (F .charts) l m (backs (F .chart) (mine F d k))
 
 pub gathers-none : (F : File) (d : ℕ) (l : List ℕ) {q : List ℕ} → AreRows q (own d) (own d) → Gathers F d 0 l l q
 unfolding gather down up back
 gathers-none F d l h =
     record {
       rows-are = rows-as h (λ c. with-none (own d c)) (λ c. with-none (own d c));
-      back-is = λ c e u v. with-none (getD l (8 * e + c) 0);
+      back-is = λ c e u v. with-none (backAt l c e);
     }
   where
     with-none : (s : Set) → s ≡ s ∪ 0
@@ -221,7 +223,7 @@ module _ {n : Shape} {b : List ℕ} (w : Wirable n b) {d i : ℕ} {l m q : List 
       rw add-one
       (record {
         rows-are = rows-as (h .rows-are) (λ c. ap (λ (ss : Slaves). own d c ∪ downs ss c) z) (λ c. ap (λ (ss : Slaves). own d c ∪ ups ss c) z);
-        back-is = λ c e u v. h .back-is c e u v ∙ ap (λ (ss : Slaves). getD l (8 * e + c) 0 ∪ backs (G .chart) ss c e) z;
+        back-is = λ c e u v. h .back-is c e u v ∙ ap (λ (ss : Slaves). backAt l c e ∪ backs (G .chart) ss c e) z;
       })
     where
       z : mine G d i ≡ mine G d (suc i)
@@ -247,8 +249,8 @@ module _ {n : Shape} {b : List ℕ} (w : Wirable n b) {d i : ℕ} {l m q : List 
         back-is = λ c e u v.
             g .back-is c e u v
             ∙ ap₂ _∪_ (h .back-is c e u v) (ap (λ (k : ℕ). back (G .chart) (treeOf G k) c e) (it .node))
-            ∙ assoc (getD l (8 * e + c) 0) (backs (G .chart) (mine G d i) c e) (back (G .chart) (treeOf G (G .node i)) c e)
-            ∙ ap (λ (s : Set). getD l (8 * e + c) 0 ∪ s) (sym (backs-step G (w .sound .ordered) d i c e z));
+            ∙ assoc (backAt l c e) (backs (G .chart) (mine G d i) c e) (back (G .chart) (treeOf G (G .node i)) c e)
+            ∙ ap (λ (s : Set). backAt l c e ∪ s) (sym (backs-step G (w .sound .ordered) d i c e z));
       })
     where
       z : G .master i ≡ d
@@ -284,7 +286,7 @@ module _ {n : Shape} {b : List ℕ} (w : Wirable n b) {j : ℕ} (p : j < n .node
   abbrev H : File
   H = fileAt n b
 
-  pub wires-chart : {i : ℕ} {l m m′ q o o′ : List ℕ} {h : Head} → i ≡ n .slaves → Gathers H (r .a) i l m q → h ≡ headAt n b (r .a) → Feeds m m′ q (h .feedback)
+  pub wires-chart : {i : ℕ} {l m m′ q o o′ : List ℕ} {h : Head} → i ≡ n .slaves → Gathers H (r .a) i l m q → h ≡ headAt n b (r .a) → Feeds (n .charts) m m′ q (h .feedback)
       → JoinsRows o o′ (λ c. downIn q c ∖ 0) (λ c. upIn q c ∖ 0) → Wires H (treeOf H j) l m′ o o′
   unfolding fileAt
   wires-chart {i} {l} {m} {m′} {q} {o} {o′} {h} last g₀ y f z =
@@ -292,11 +294,11 @@ module _ {n : Shape} {b : List ℕ} (w : Wirable n b) {j : ℕ} (p : j < n .node
         rows-are = rows-whole o q all z;
         back-is = λ c d u v.
             f c d u v
-            ∙ ap₂ _∪_ (g .back-is c d u v ∙ ap (λ (k : ℕ). getD l (8 * d + c) 0 ∪ backs (H .chart) (mine H k (n .slaves)) c d) (is-node n b j e .a))
-            (ap₂ _∩_ (ap₂ _∩_ (all .down-is c u) (all .up-is d v)) (is-feedback n b (r .a) y ∙ ap (λ (k : ℕ). H .chart k .feedback) (is-node n b j e .a)))
-            ∙ sets (getD l (8 * d + c) 0 ∷ backs (H .chart) (mine H (H .a j) (n .slaves)) c d ∷ (down (treeOf H j) c ∩ up (treeOf H j) d ∩ H .chart (H .a j) .feedback) ∷ []) []
+            ∙ ap₂ _∪_ (g .back-is c d u v ∙ ap (λ (k : ℕ). backAt l c d ∪ backs (H .chart) (mine H k (n .slaves)) c d) (is-node n b j e .a))
+            (ap₂ _∩_ (ap₂ _∩_ (all .down-is c u) (all .up-is d (omega (arith, v, w .sized .charts)))) (is-feedback n b (r .a) y ∙ ap (λ (k : ℕ). H .chart k .feedback) (is-node n b j e .a)))
+            ∙ sets (backAt l c d ∷ backs (H .chart) (mine H (H .a j) (n .slaves)) c d ∷ (down (treeOf H j) c ∩ up (treeOf H j) d ∩ H .chart (H .a j) .feedback) ∷ []) []
             (A ∪ₑ B ∪ₑ C ≐ A ∪ₑ (B ∪ₑ C)) tt
-            ∙ ap (λ (s : Set). getD l (8 * d + c) 0 ∪ s) (sym (back₀ H (w .sound .ordered) j c d p k));
+            ∙ ap (λ (s : Set). backAt l c d ∪ s) (sym (back₀ H (w .sound .ordered) j c d p k));
       }
     where
       k : H .kind j ≡ 0
@@ -313,7 +315,7 @@ module _ {n : Shape} {b : List ℕ} (w : Wirable n b) {j : ℕ} (p : j < n .node
 
   -- a chart without slaves
   pub wires-lone : anyUpTo (n .slaves) (λ i. same (slaveAt n b i .chart) (r .a)) ≡ false → {l m o o′ : List ℕ} → JoinsRows o o′ (own (r .a)) (own (r .a))
-      × Joins l m (λ c d. own (r .a) c ∩ own (r .a) d ∩ headAt n b (r .a) .feedback) → Wires H (treeOf H j) l m o o′
+      × Joins (n .charts) l m (λ c d. own (r .a) c ∩ own (r .a) d ∩ headAt n b (r .a) .feedback) → Wires H (treeOf H j) l m o o′
   unfolding fileAt
   wires-lone none {l} {m} {o} {o′} g =
       record {
@@ -324,7 +326,7 @@ module _ {n : Shape} {b : List ℕ} (w : Wirable n b) {j : ℕ} (p : j < n .node
         };
         back-is = λ c d u v.
             g .1 c d u v
-            ∙ ap (λ (s : Set). getD l (8 * d + c) 0 ∪ s)
+            ∙ ap (λ (s : Set). backAt l c d ∪ s)
             (ap₂ _∩_ (ap₂ _∩_ (own-down c) (own-up d)) (is-feedback n b (r .a) refl ∙ ap (λ (k : ℕ). H .chart k .feedback) (is-node n b j e .a))
             ∙ no-slaves (backs (H .chart) (mine H (H .a j) (n .slaves)) c d) _ (backs-none c d) ∙ sym (back₀ H (w .sound .ordered) j c d p k));
       }
@@ -349,12 +351,12 @@ module _ {n : Shape} {b : List ℕ} (w : Wirable n b) {j : ℕ} (p : j < n .node
       backs-none : (c d : ℕ) → backs (H .chart) (mine H (H .a j) (n .slaves)) c d ≡ 0
       backs-none c d = ap (λ (ss : Slaves). backs (H .chart) ss c d) none-there ∙ backs-nil (H .chart) c d
 
--- ── the whole, from an empty square ──
+-- ── the whole, from empty masks ──
 
-pub wires-whole : (F : File) (l m r : List ℕ) → Blank 64 l → Wires F (wholeOf F) l m (replicate 16 0) r → Whole F m r
+pub wires-whole : (F : File) (l m r : List ℕ) → Blank l → Wires F (wholeOf F) l m (replicate rowsSize 0) r → Whole F m r
 wires-whole F l m r e h =
     record {
       rows-are = rows-first (h .rows-are);
-      back-is = λ c d u v. h .back-is c d u v ∙ ap (λ (s : Set). s ∪ back (F .chart) (wholeOf F) c d) (e (8 * d + c) (omega arith))
+      back-is = λ c d u v. h .back-is c d u v ∙ ap (λ (s : Set). s ∪ back (F .chart) (wholeOf F) c d) (e (backCell c d))
           ∙ sets (back (F .chart) (wholeOf F) c d ∷ []) [] (∅ₑ ∪ₑ A ≐ A) tt;
     }

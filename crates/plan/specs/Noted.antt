@@ -4,7 +4,7 @@ use mathlib.Core.List.{List}
 use Prim.Native.Nat.{ℕ, _<_}
 use Rattle.meaning.specs.File.{File}
 use Rattle.meaning.specs.Laws.Names.{kap}
-use Rattle.search.specs.Table.{masterAt, slaveStateAt}
+use Rattle.cells.specs.Table.{masterAt, slaveStateAt}
 use Rattle.nesting.specs.Nearest.{masterBy, stateBy}
 
 module _ (F : File) where

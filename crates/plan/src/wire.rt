@@ -1,29 +1,33 @@
-// The wiring of a file: its tree folded into masks, once, so that a step looks at no tree. A row has a mask for each chart, a square one for
-// each two charts, what chart c gets of chart d at 8 * d + c. What the masks are is in the crate wiring (Wire), and that a step may go by them too.
+// The wiring of a file: its tree folded into masks, once, so that a step looks at no tree. What the masks are is in the crate wiring (Wire), and that a
+// step may go by them too.
 ghost use mathlib.Core.Path.{_≡_};
 ghost use Prim.Native.Nat.{_+_, _*_, _≤_, _<_};
 ghost use lib.ListN.{length, getD};
 ghost use Rattle.signals.specs.Mask.{_∪_, _∩_, _∖_};
 ghost use Rattle.layout.specs.Body.{Holds, headAt, slaveAt};
+ghost use Rattle.meaning.specs.Numbers.{mostCharts};
 ghost use Rattle.meaning.specs.Count.{anyUpTo};
 ghost use Rattle.meaning.specs.Meaning.{same};
 ghost use Rattle.meaning.specs.File.{treeOf, fileAt};
 ghost use Rattle.wiring.specs.Wire.{own};
-ghost use Rattle.search.specs.Table.{masksFor, Row};
+ghost use Rattle.cells.specs.Table.{backRow, masksFor, backAt, Row, smallSize};
 ghost use Rattle.nesting.specs.Known.{Wirable};
 ghost use Rattle.nesting.specs.Nearest.{Right};
-ghost use Rattle.plan.specs.Wire.{Blank, Joins, downIn, upIn, RowAt, AreRows, JoinsRows, Feeds, Wires, Whole};
+ghost use Rattle.plan.specs.Wire.{Blank, Joins, rowsSize, downIn, upIn, RowAt, AreRows, JoinsRows, Feeds, Wires, Whole, UpPut};
 ghost use Rattle.plan.specs.Noted.{Notes, NotedNone, NearestIn};
 ghost use Rattle.plan.specs.Wired.{Wired};
+use cells::CHARTS;
+use cells::masks;
+use cells::small;
 use layout::body::Shape;
 use nesting::NONE;
 
-// Where a search's masks have what comes out of the whole of each chart's action.
-const UP: usize = 0;
-
 // Where the rows of a part have what of each chart's action gets up to its output. Before it stands what of a set offered to the part gets down to
 // each chart.
-const UP_ROW: usize = 8;
+const UP_ROW: usize = CHARTS;
+
+// How many masks the rows have.
+const ROWS: usize = 2 * CHARTS;
 
 fn own(d: usize, c: usize) -> u64
     ensures { λ r. ⌜ r ≡ own d c ⌝ }
@@ -31,74 +35,76 @@ fn own(d: usize, c: usize) -> u64
     if c == d { signals::ALL } else { 0 }
 }
 
-// Chart d's own row, the eight masks from `at` on. Each mask is tested for, since a single store at d would be waited for.
-fn own_row(part: &mut [u64; 16], at: usize, d: usize)
-    requires { ⌜ (length (now part) ≡ 16) × (at ≤ 8) ⌝ }
-    ensures { λ _. ⌜ RowAt at 8 (own d) (now (part .entry)) (now (part .exit)) ⌝ }
+// Chart d's own row, the masks from `at` on. Each mask is tested for, since a single store at d would be waited for.
+fn own_row(part: &mut [u64; ROWS], at: usize, d: usize)
+    requires { ⌜ (length (now part) ≡ rowsSize) × (at ≤ mostCharts) ⌝ }
+    ensures { λ _. ⌜ RowAt at mostCharts (own d) (now (part .entry)) (now (part .exit)) ⌝ }
 {
     let mut c: usize = 0;
-    while c < 8 {
+    while c < CHARTS {
         part[at + c] = own(d, c);
         c += 1;
     }
 }
 
 // A chart by itself: everything gets down to it, and up from it.
-fn alone(part: &mut [u64; 16], d: usize)
-    requires { ⌜ length (now part) ≡ 16 ⌝ }
+fn alone(part: &mut [u64; ROWS], d: usize)
+    requires { ⌜ length (now part) ≡ rowsSize ⌝ }
     ensures { λ _. ⌜ AreRows (now (part .exit)) (own d) (own d) ⌝ }
 {
     own_row(part, 0, d);
     own_row(part, UP_ROW, d);
 }
 
-// Joins a part's row less x to the same row, the eight masks from `at` on.
-fn join_row(rows: &mut [u64; 16], part: &[u64; 16], at: usize, x: u64)
-    requires { ⌜ (length (now rows) ≡ 16) × (at ≤ 8) ⌝ }
-    ensures { λ _. ⌜ RowAt at 8 (λ c. getD (now (rows .entry)) (at + c) 0 ∪ (getD (now (part .entry)) (at + c) 0 ∖ x)) (now (rows .entry)) (now (rows .exit)) ⌝ }
+// Joins a part's row less x to the same row, the masks from `at` on.
+fn join_row(rows: &mut [u64; ROWS], part: &[u64; ROWS], at: usize, x: u64)
+    requires { ⌜ (length (now rows) ≡ rowsSize) × (at ≤ mostCharts) ⌝ }
+    ensures { λ _. ⌜ RowAt at mostCharts (λ c. getD (now (rows .entry)) (at + c) 0 ∪ (getD (now (part .entry)) (at + c) 0 ∖ x)) (now (rows .entry)) (now (rows .exit)) ⌝ }
 {
     let mut c: usize = 0;
-    while c < 8 {
+    while c < CHARTS {
         rows[at + c] = rows[at + c] | signals::less(part[at + c], x);
         c += 1;
     }
 }
 
 // Joins a part's rows to those of what it stands in, without x on the way in and without y on the way out.
-fn join(rows: &mut [u64; 16], part: &[u64; 16], x: u64, y: u64)
-    requires { ⌜ length (now rows) ≡ 16 ⌝ }
+fn join(rows: &mut [u64; ROWS], part: &[u64; ROWS], x: u64, y: u64)
+    requires { ⌜ length (now rows) ≡ rowsSize ⌝ }
     ensures { λ _. ⌜ JoinsRows (now (rows .entry)) (now (rows .exit)) (λ c. downIn (now (part .entry)) c ∖ x) (λ c. upIn (now (part .entry)) c ∖ y) ⌝ }
 {
     join_row(rows, part, 0, x);
     join_row(rows, part, UP_ROW, y);
 }
 
-// Joins what is in m and gets down to a chart to that chart's mask, in the eight masks from `at` on. Most rows have nothing to feed.
-fn feed_row(back: &mut [u64], at: usize, m: u64, part: &[u64; 16])
-    requires { ⌜ at + 8 ≤ length (now back) ⌝ }
-    ensures { λ _. ⌜ RowAt at 8 (λ c. getD (now (back .entry)) (at + c) 0 ∪ (m ∩ downIn (now (part .entry)) c)) (now (back .entry)) (now (back .exit)) ⌝ }
+// Each chart is offered of chart d's action what is in m and gets down to it. Most rows have nothing to feed.
+fn feed_row(masks: &mut [u64], d: usize, m: u64, part: &[u64; ROWS])
+    requires { ⌜ (masksFor (d + 1) ≤ length (now masks)) × (d < mostCharts) ⌝ }
+    ensures { λ _. ⌜ RowAt (backRow d) mostCharts (λ c. backAt (now (masks .entry)) c d ∪ (m ∩ downIn (now (part .entry)) c))
+        (now (masks .entry)) (now (masks .exit)) ⌝ }
 {
     if m == 0 {
         return;
     }
     let mut c: usize = 0;
-    while c < 8 {
-        back[at + c] = back[at + c] | (m & part[c]);
+    while c < CHARTS {
+        let offered = masks::back(masks, c, d) | (m & part[c]);
+        masks::put_back(masks, c, d, offered);
         c += 1;
     }
 }
 
 // Feedback of x over a part: what gets up from d, is in x and gets down to c. Many parts have none.
-fn feed(back: &mut [u64], part: &[u64; 16], x: u64)
-    requires { ⌜ length (now back) ≡ 64 ⌝ }
-    ensures { λ _. ⌜ Feeds (now (back .entry)) (now (back .exit)) (now (part .entry)) x ⌝ }
+fn feed(masks: &mut [u64], charts: usize, part: &[u64; ROWS], x: u64)
+    requires { ⌜ (masksFor charts ≤ length (now masks)) × (charts ≤ mostCharts) ⌝ }
+    ensures { λ _. ⌜ Feeds charts (now (masks .entry)) (now (masks .exit)) (now (part .entry)) x ⌝ }
 {
     if x == 0 {
         return;
     }
     let mut d: usize = 0;
-    while d < 8 {
-        feed_row(back, 8 * d, part[UP_ROW + d] & x, part);
+    while d < charts {
+        feed_row(masks, d, part[UP_ROW + d] & x, part);
         d += 1;
     }
 }
@@ -119,40 +125,41 @@ fn is_master(n: Shape, body: &[u8], c: u8) -> bool
 }
 
 // A chart that has no slaves: of each of its rows a single mask is not empty, and of its feedback too. Most charts have none.
-fn lone(n: Shape, body: &[u8], d: usize, back: &mut [u64], rows: &mut [u64; 16])
-    requires { ⌜ Holds n (now body) × (d < n .charts) × (d < 8) × (length (now back) ≡ 64) × (length (now rows) ≡ 16) ⌝ }
+fn lone(n: Shape, body: &[u8], d: usize, masks: &mut [u64], rows: &mut [u64; ROWS])
+    requires { ⌜ Holds n (now body) × (d < n .charts) × (n .charts ≤ mostCharts) × (masksFor (n .charts) ≤ length (now masks)) × (length (now rows) ≡ rowsSize) ⌝ }
     ensures { λ _. ⌜ JoinsRows (now (rows .entry)) (now (rows .exit)) (own d) (own d)
-        × Joins (now (back .entry)) (now (back .exit)) (λ c e. own d c ∩ own d e ∩ headAt n (now (body .entry)) d .feedback) ⌝ }
+        × Joins (n .charts) (now (masks .entry)) (now (masks .exit)) (λ c e. own d c ∩ own d e ∩ headAt n (now (body .entry)) d .feedback) ⌝ }
 {
     let head = layout::body::head_at(n, body, d);
     rows[d] = rows[d] | signals::ALL;
     rows[UP_ROW + d] = rows[UP_ROW + d] | signals::ALL;
-    back[8 * d + d] = back[8 * d + d] | signals::ALL & head.feedback;
+    let offered = masks::back(masks, d, d) | signals::ALL & head.feedback;
+    masks::put_back(masks, d, d, offered);
 }
 
-// Joins the rows of node j's part to `rows`, and its feedback to the square `back`. Both are lent, so that a frame has the rows of one part alone.
-pub fn wire(n: Shape, body: &[u8], j: usize, back: &mut [u64], rows: &mut [u64; 16])
-    requires { ⌜ Wirable n (now body) × (j < n .nodes) × (length (now back) ≡ 64) × (length (now rows) ≡ 16) ⌝ }
-    ensures { λ _. ⌜ Wires (fileAt n (now (body .entry))) (treeOf (fileAt n (now (body .entry))) j) (now (back .entry)) (now (back .exit)) (now (rows .entry)) (now (rows .exit)) ⌝ }
+// Joins the rows of node j's part to `rows`, and its feedback to a search's masks. Both are lent, so that a frame has the rows of one part alone.
+pub fn wire(n: Shape, body: &[u8], j: usize, masks: &mut [u64], rows: &mut [u64; ROWS])
+    requires { ⌜ Wirable n (now body) × (j < n .nodes) × (masksFor (n .charts) ≤ length (now masks)) × (length (now rows) ≡ rowsSize) ⌝ }
+    ensures { λ _. ⌜ Wires (fileAt n (now (body .entry))) (treeOf (fileAt n (now (body .entry))) j) (now (masks .entry)) (now (masks .exit)) (now (rows .entry)) (now (rows .exit)) ⌝ }
 {
     let node = layout::body::node_at(n, body, j);
     let a = node.a as usize;
-    let mut part = [0u64; 16];
+    let mut part = [0u64; ROWS];
     if node.kind == 2 {
-        wire(n, body, a, back, &mut part);
+        wire(n, body, a, masks, &mut part);
         join(rows, &part, node.x, node.y);
         return;
     }
     if node.kind == 1 {
         let b = node.b as usize;
-        wire(n, body, a, back, &mut part);
-        wire(n, body, b, back, &mut part);
-        feed(back, &part, node.x);
+        wire(n, body, a, masks, &mut part);
+        wire(n, body, b, masks, &mut part);
+        feed(masks, n.charts, &part, node.x);
         join(rows, &part, 0, 0);
         return;
     }
     if !is_master(n, body, node.a) {
-        lone(n, body, a, back, rows);
+        lone(n, body, a, masks, rows);
         return;
     }
     alone(&mut part, a);
@@ -160,81 +167,79 @@ pub fn wire(n: Shape, body: &[u8], j: usize, back: &mut [u64], rows: &mut [u64; 
     while i < n.slaves {
         let slave = layout::body::slave_at(n, body, i);
         if slave.chart == node.a {
-            wire(n, body, slave.node as usize, back, &mut part);
+            wire(n, body, slave.node as usize, masks, &mut part);
         }
         i += 1;
     }
     let head = layout::body::head_at(n, body, a);
-    feed(back, &part, head.feedback);
+    feed(masks, n.charts, &part, head.feedback);
     join(rows, &part, 0, 0);
 }
 
 // What of each chart's action gets up out of the whole, among a search's masks.
-fn put_up(masks: &mut [u64], rows: &[u64; 16])
-    requires { ⌜ 8 ≤ length (now masks) ⌝ }
-    ensures { λ _. ⌜ RowAt 0 8 (upIn (now (rows .entry))) (now (masks .entry)) (now (masks .exit)) ⌝ }
+fn put_up(masks: &mut [u64], charts: usize, rows: &[u64; ROWS])
+    requires { ⌜ (masksFor charts ≤ length (now masks)) × (charts ≤ mostCharts) ⌝ }
+    ensures { λ _. ⌜ UpPut charts (now (rows .entry)) (now (masks .entry)) (now (masks .exit)) ⌝ }
 {
     let mut c: usize = 0;
-    while c < 8 {
-        masks[UP + c] = rows[UP_ROW + c];
+    while c < charts {
+        masks::put_up(masks, c, rows[UP_ROW + c]);
         c += 1;
     }
 }
 
 // What of a set offered to the whole gets down to each chart.
-fn down_row(rows: &[u64; 16]) -> [u64; 8]
+fn down_row(rows: &[u64; ROWS]) -> [u64; CHARTS]
     ensures { λ r. ⌜ Row r (downIn (now (rows .entry))) ⌝ }
 {
-    let mut row = [0u64; 8];
+    let mut row = [0u64; CHARTS];
     let mut c: usize = 0;
-    while c < 8 {
+    while c < CHARTS {
         row[c] = rows[c];
         c += 1;
     }
     row
 }
 
-// The rows of the whole; `back` has its feedback.
-fn whole(n: Shape, body: &[u8], back: &mut [u64]) -> [u64; 16]
-    requires { ⌜ Wirable n (now body) × (length (now back) ≡ 64) × Blank 64 (now back) ⌝ }
-    ensures { λ r. ⌜ Whole (fileAt n (now (body .entry))) (now (back .exit)) r ⌝ }
+// The rows of the whole; the masks have its feedback.
+fn whole(n: Shape, body: &[u8], masks: &mut [u64]) -> [u64; ROWS]
+    requires { ⌜ Wirable n (now body) × (masksFor (n .charts) ≤ length (now masks)) × Blank (now masks) ⌝ }
+    ensures { λ r. ⌜ Whole (fileAt n (now (body .entry))) (now (masks .exit)) r ⌝ }
 {
-    let mut rows = [0u64; 16];
+    let mut rows = [0u64; ROWS];
     let last = n.nodes - 1;
-    wire(n, body, last, back, &mut rows);
+    wire(n, body, last, masks, &mut rows);
     rows
 }
 
 // A chart stands in the slave that its node stands in: its master and state are noted in a search's small numbers.
 fn note(n: Shape, body: &[u8], j: usize, near: &[u8], small: &mut [u8])
-    requires { ⌜ Wirable n (now body) × (j < n .nodes) × (length (now near) ≡ 64) × Right (fileAt n (now body)) (now near) j × (length (now small) ≡ 160) ⌝ }
+    requires { ⌜ Wirable n (now body) × (j < n .nodes) × (length (now near) ≡ 64) × Right (fileAt n (now body)) (now near) j × (length (now small) ≡ smallSize) ⌝ }
     ensures { λ _. ⌜ Notes (fileAt n (now (body .entry))) j (now (small .entry)) (now (small .exit)) ⌝ }
 {
     let node = layout::body::node_at(n, body, j);
     if node.kind == 0 {
         let slave = nesting::enclosing(n, body, j, near);
         let c = node.a as usize;
-        small[search::MASTER + c] = slave.chart;
-        small[search::SLAVE_STATE + c] = slave.state;
+        small::put_nearest(small, c, slave.chart, slave.state);
     }
 }
 
 // Every chart stands outside all slaves.
 fn note_none(small: &mut [u8])
-    requires { ⌜ length (now small) ≡ 160 ⌝ }
-    ensures { λ _. ⌜ NotedNone 8 (now (small .exit)) ⌝ }
+    requires { ⌜ length (now small) ≡ smallSize ⌝ }
+    ensures { λ _. ⌜ NotedNone mostCharts (now (small .exit)) ⌝ }
 {
     let mut c: usize = 0;
-    while c < 8 {
-        small[search::MASTER + c] = NONE;
-        small[search::SLAVE_STATE + c] = 0;
+    while c < CHARTS {
+        small::put_nearest(small, c, NONE, 0);
         c += 1;
     }
 }
 
 // Of each chart the master and the state of its nearest enclosing slave, in a search's small numbers. Many files have no slave.
 pub fn nearest(n: Shape, body: &[u8], small: &mut [u8])
-    requires { ⌜ Wirable n (now body) × (length (now small) ≡ 160) ⌝ }
+    requires { ⌜ Wirable n (now body) × (length (now small) ≡ smallSize) ⌝ }
     ensures { λ _. ⌜ NearestIn (fileAt n (now (body .entry))) (now (small .exit)) ⌝ }
 {
     if n.slaves == 0 {
@@ -252,12 +257,12 @@ pub fn nearest(n: Shape, body: &[u8], small: &mut [u8])
 
 // Wires a file that passed its check, into tables that are new: the feedback and `up` go into a search's masks, the nearest slaves into its small
 // numbers. The result is what of the input gets down to each chart.
-pub fn wired(n: Shape, body: &[u8], masks: &mut [u64], small: &mut [u8]) -> [u64; 8]
-    requires { ⌜ Wirable n (now body) × (masksFor 0 ≤ length (now masks)) × Blank (masksFor 0) (now masks) × (length (now small) ≡ 160) ⌝ }
+pub fn wired(n: Shape, body: &[u8], masks: &mut [u64], small: &mut [u8]) -> [u64; CHARTS]
+    requires { ⌜ Wirable n (now body) × (masksFor (n .charts) ≤ length (now masks)) × Blank (now masks) × (length (now small) ≡ smallSize) ⌝ }
     ensures { λ r. ⌜ Wired (fileAt n (now (body .entry))) r (now (masks .exit)) (now (small .exit)) ⌝ }
 {
-    let rows = whole(n, body, &mut masks[search::BACK..search::AHEAD]);
-    put_up(masks, &rows);
+    let rows = whole(n, body, masks);
+    put_up(masks, n.charts, &rows);
     nearest(n, body, small);
     down_row(&rows)
 }

@@ -7,6 +7,7 @@ use native.Mathlib.Nat.{eq-or-lt-of-le}
 use native.Mathlib.Omega.{arith}
 use lib.ListN.{length, getD, set, length-set}
 use lib.Seq.{getD-set-same, getD-set-other}
+use Rattle.meaning.specs.Numbers.{mostCharts}
 use Rattle.search.specs.Hunt.{BytesPut}
 
 module _ (at : ℕ) (r l : List ℕ) where
@@ -14,13 +15,13 @@ module _ (at : ℕ) (r l : List ℕ) where
   pub record Below (c : ℕ) (m : List ℕ) : Type 0 where
     pub row : (d : ℕ) → d < c → getD m (at + d) 0 ≡ getD r d 0
     pub below : (i : ℕ) → i < at → getD m i 0 ≡ getD l i 0
-    pub above : (i : ℕ) → at + 8 ≤ i → getD m i 0 ≡ getD l i 0
+    pub above : (i : ℕ) → at + mostCharts ≤ i → getD m i 0 ≡ getD l i 0
     pub long : length m ≡ length l
 
   pub below-none : Below 0 l
   below-none = record { row = λ d i. absurd (omega arith); below = λ i q. refl; above = λ i q. refl; long = refl }
 
-  pub below-more : (c : ℕ) (m : List ℕ) (x : ℕ) → c < 8 → at + c < length m → x ≡ getD r c 0 → Below c m → Below (c + 1) (set m (at + c) x)
+  pub below-more : (c : ℕ) (m : List ℕ) (x : ℕ) → c < mostCharts → at + c < length m → x ≡ getD r c 0 → Below c m → Below (c + 1) (set m (at + c) x)
   below-more c m x p n e h =
       record {
         row = λ d i.
@@ -32,5 +33,5 @@ module _ (at : ℕ) (r l : List ℕ) where
         long = length-set m (at + c) x ∙ h .long;
       }
 
-  pub below-all : (c : ℕ) (m : List ℕ) → c ≡ 8 → Below c m → BytesPut at r l m
+  pub below-all : (c : ℕ) (m : List ℕ) → c ≡ mostCharts → Below c m → BytesPut at r l m
   below-all c m e h = record { row = rw e at (h .row); below = h .below; above = h .above; long = h .long }

@@ -5,8 +5,8 @@ use Prim.Native.Nat.{ℕ, _+_}
 use Rattle.signals.specs.Mask.{_∪_, _∩_, _∖_}
 use Rattle.wiring.specs.Wire.{join}
 use Rattle.search.specs.declared.Guard.{Guard}
-use Rattle.search.specs.Table.{backAt, aheadAt}
-use Rattle.search.specs.Trail.{lowIn, neededIn, barredIn}
+use Rattle.cells.specs.Table.{backAt, aheadAt}
+use Rattle.cells.specs.Trail.{lowIn, neededIn, barredIn}
 pub mod Laws
 
 -- a chart that needs n and bars r, is surely offered l and may be offered h by charts after the next, and gets b of the next one's action

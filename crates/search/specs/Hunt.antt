@@ -3,16 +3,17 @@
 use mathlib.Core.Path.{_≡_}
 use mathlib.Core.Bool.{Bool, true, false, _&&_, _||_, cond}
 use mathlib.Core.List.{List, [], _∷_, _++_}
-use Prim.Native.Nat.{ℕ, zero, suc, _+_, _-_, _≤_, _<_}
+use Prim.Native.Nat.{ℕ, zero, suc, _+_, _-_, _*_, _≤_, _<_}
 use lib.Dec.{ltb}
 use lib.ListN.{length, getD, replicate}
 use Rattle.signals.specs.Mask.{_∪_, _∩_, within, apart}
-use Rattle.meaning.specs.Numbers.{noStep, noPlace}
+use Rattle.meaning.specs.Numbers.{mostCharts, noStep, noPlace}
 use Rattle.meaning.specs.Meaning.{same, Outcome, eqList, Answer, refused, given}
 use Rattle.meaning.specs.Calls.{made}
 use Rattle.meaning.specs.Laws.Bools.{every}
-use Rattle.search.specs.Table.{neededAt, barredAt, actionAt, backAt, aheadAt, upAt, toAt, countAt, masterAt, slaveStateAt, stateAt, placeAt}
-use Rattle.search.specs.Trail.{Trail, nextIn, placeIn, trailIn, Keeps}
+use Rattle.cells.specs.Table.{neededAt, barredAt, actionAt, backAt, aheadAt, upAt, toAt, countAt, masterAt, slaveStateAt, stateAt, placeAt}
+use Rattle.cells.specs.Trail.{nextIn, placeIn}
+use Rattle.search.specs.Trail.{Trail, trailIn, Keeps}
 use Rattle.search.specs.declared.Found.{Found}
 pub mod Laws
 
@@ -39,7 +40,7 @@ module _ (m s : List ℕ) where
   unfoldable pub taken : Trail → ℕ → ℕ → Trail
   taken t k v =
       record {
-        low = made 8 (λ c. getD (t .low) c 0 ∪ actionAt m k v ∩ backAt m c k);
+        low = made mostCharts (λ c. getD (t .low) c 0 ∪ actionAt m k v ∩ backAt m c k);
         needed = t .needed ++ (neededAt m k v ∷ []);
         barred = t .barred ++ (barredAt m k v ∷ []);
         next = t .next ++ (toAt s k v ∷ []);
@@ -78,7 +79,7 @@ module _ (m s : List ℕ) where
 -- the outcome of N charts that are all settled, o coming out of the whole
 abbrev pub outcomeIn : List ℕ → ℕ → ℕ → Outcome
 outcomeIn b N o =
-    record { output = o; next = made N (nextIn b) ++ replicate (8 - N) 0; places = made N (placeIn b) ++ replicate (8 - N) noPlace }
+    record { output = o; next = made N (nextIn b) ++ replicate (mostCharts - N) 0; places = made N (placeIn b) ++ replicate (mostCharts - N) noPlace }
 
 -- ── what is kept of the outcomes ──
 
@@ -104,7 +105,7 @@ over (o ∷ os) f = over os (settleOf o f)
 
 -- nothing found yet
 abbrev pub nothing : Found
-nothing = record { has = false; agree = false; output = 0; next = replicate 8 0; places = replicate 8 noPlace }
+nothing = record { has = false; agree = false; output = 0; next = replicate mostCharts 0; places = replicate mostCharts noPlace }
 
 -- what was found, as the step's answer
 abbrev pub answerIn : Found → Answer
@@ -112,27 +113,39 @@ answerIn f = cond (f .has) (given (f .output) (f .next) (f .agree)) (refused noS
 
 -- ── what is lent ──
 
--- What was found, where it stands: in 18 bytes the next states, the places, 1 if something was found and 1 if all agree with it; the output beside them.
+-- What was found, where it stands: in bytes the next states, the places, 1 if something was found and 1 if all agree with it; the output beside them.
+abbrev pub placesCell : ℕ
+placesCell = mostCharts
+
+abbrev pub hasCell : ℕ
+hasCell = 2 * mostCharts
+
+abbrev pub agreeCell : ℕ
+agreeCell = 2 * mostCharts + 1
+
+abbrev pub foundSize : ℕ
+foundSize = 2 * mostCharts + 2
+
 abbrev pub foundIn : List ℕ → List ℕ → Found
 foundIn f g =
     record {
-      has = same (getD f 16 0) 1;
-      agree = same (getD f 17 0) 1;
+      has = same (getD f hasCell 0) 1;
+      agree = same (getD f agreeCell 0) 1;
       output = getD g 0 0;
-      next = made 8 (λ c. getD f (0 + c) 0);
-      places = made 8 (λ c. getD f (8 + c) 0);
+      next = made mostCharts (λ c. getD f (0 + c) 0);
+      places = made mostCharts (λ c. getD f (placesCell + c) 0);
     }
 
 -- the room that is lent for it
 pub record Held (f g : List ℕ) : Type 0 where
-  pub bytes : length f ≡ 18
+  pub bytes : length f ≡ foundSize
   pub output : length g ≡ 1
 
 -- l′ is l with the row r from `at` on
 pub record BytesPut (at : ℕ) (r l l′ : List ℕ) : Type 0 where
-  pub row : (c : ℕ) → c < 8 → getD l′ (at + c) 0 ≡ getD r c 0
+  pub row : (c : ℕ) → c < mostCharts → getD l′ (at + c) 0 ≡ getD r c 0
   pub below : (i : ℕ) → i < at → getD l′ i 0 ≡ getD l i 0
-  pub above : (i : ℕ) → at + 8 ≤ i → getD l′ i 0 ≡ getD l i 0
+  pub above : (i : ℕ) → at + mostCharts ≤ i → getD l′ i 0 ≡ getD l i 0
   pub long : length l′ ≡ length l
 
 -- chart k takes its candidate v: the beginning of k charts that stands in w and b stays, and in w′ and b′ stands that of one chart more

@@ -4,55 +4,41 @@
 use mathlib.Core.Path.{_≡_}
 use mathlib.Core.Bool.{Bool, true, false, _&&_, not, cond}
 use mathlib.Core.List.{List, [], _∷_, _++_}
-use mathlib.Core.Logic.{_≢_}
-use Prim.Native.Nat.{ℕ, zero, suc, _+_, _-_, _*_, _≤_, _<_}
-use lib.ListN.{length, getD, replicate}
+use Prim.Native.Nat.{ℕ, zero, suc, _-_}
+use lib.ListN.{getD, replicate}
 use Rattle.signals.specs.Mask.{_∪_}
-use Rattle.meaning.specs.Numbers.{noPlace, stayPlace}
+use Rattle.meaning.specs.Numbers.{mostCharts, noPlace, stayPlace}
 use Rattle.meaning.specs.Meaning.{Set, same, guard, isMet, Outcome}
 use Rattle.meaning.specs.Count.{anyUpTo}
 use Rattle.meaning.specs.Laws.Bools.{every}
-use Rattle.search.specs.Table.{aheadAt, countAt}
+use Rattle.cells.specs.Table.{aheadAt, countAt}
+use Rattle.cells.specs.Triggers.{triggerNeeded, triggerBarred, toldAt}
 use Rattle.search.specs.Trail.{Trail, trailIn, Keeps}
 use Rattle.search.specs.Hunt.{each, wakes, taken, idled, rested, fineAt, over, foundIn, Held}
 pub mod Laws
 
 -- ── what triggers a chart: all transitions from its present state, also those that are no candidates ──
 
--- g: sixteen masks for each chart, what its triggers need and then what they bar
 module _ (g : List ℕ) where
-  abbrev pub triggerNeeded : ℕ → ℕ → Set
-  triggerNeeded c v = getD g (16 * c + v) 0
-
-  abbrev pub triggerBarred : ℕ → ℕ → Set
-  triggerBarred c v = getD g (16 * c + (8 + v)) 0
-
   -- one of the first n triggers of chart c holds, needed signals being looked up in low and barred ones in high
   unfoldable pub trips : ℕ → ℕ → Set → Set → Bool
-  trips c n low high = anyUpTo n (λ v. isMet (guard (triggerNeeded c v) (triggerBarred c v) low high))
+  trips c n low high = anyUpTo n (λ v. isMet (guard (triggerNeeded g c v) (triggerBarred g c v) low high))
 
--- y: for each chart 0 if it cannot stay, else how many triggers it has and 1; behind them 0 if none can
+-- y: what is told of each chart (crate cells, Triggers)
 module _ (g y : List ℕ) where
   -- chart c's staying is still open
   unfoldable pub staysAt : ℕ → Bool
-  staysAt c = not (same (getD y c 0) 0)
+  staysAt c = not (same (toldAt y c) 0)
 
   -- no trigger of chart c holds
   unfoldable pub calm : ℕ → Set → Set → Bool
-  calm c low high = not (trips g c (getD y c 0 - 1) low high)
+  calm c low high = not (trips g c (toldAt y c - 1) low high)
 
 -- ── a chart that stays ──
 
 -- chart k stays: it takes no transition, and is active
 abbrev pub stayed : List ℕ → List ℕ → Trail → ℕ → Trail
 stayed m s t k = idled m s 1 stayPlace t k
-
--- the room that the triggers have; none is needed where no chart may stay
-pub record Guards (g y : List ℕ) : Type 0 where
-  pub masks : (c : ℕ) → c < 8 → getD y c 0 ≢ 0 → 16 * (c + 1) ≤ length g
-  pub small : length y ≡ 9
-  pub counts : (c : ℕ) → c < 8 → getD y c 0 ≤ 9
-  pub none-may : getD y 8 0 ≡ 0 → (c : ℕ) → c < 8 → getD y c 0 ≡ 0
 
 module _ (m s g y : List ℕ) where
   -- Settled chart d, if it stays, is not surely triggered, charts from k on being left: no trigger has all that it needs in what the chart surely is
@@ -69,7 +55,7 @@ module _ (m s g y : List ℕ) where
 
   -- n charts are left, k is the next; staying comes behind its candidates
   unfoldable pub huntsBoth : ℕ → ℕ → Trail → List Outcome
-  huntsBoth zero k t = record { output = t .output; next = t .next ++ replicate (8 - k) 0; places = t .places ++ replicate (8 - k) noPlace } ∷ []
+  huntsBoth zero k t = record { output = t .output; next = t .next ++ replicate (mostCharts - k) 0; places = t .places ++ replicate (mostCharts - k) noPlace } ∷ []
   huntsBoth (suc n) k t =
       cond (wakes m s t k)
       (each (countAt s k) (λ v. cond (fineAt m s (taken m s t k v) k && quietAt (taken m s t k v) k) (huntsBoth n (suc k) (taken m s t k v)) [])

@@ -10,18 +10,15 @@ use Rattle.layout.specs.Body.{transitionsOf}
 use Rattle.layout.specs.Body.{from as fromOn}
 use Rattle.layout.specs.declared.body.Shape.{Shape}
 use Rattle.layout.specs.declared.record.Transition.{Transition}
+use Rattle.meaning.specs.Numbers.{mostCharts, mostFromState}
 use Rattle.meaning.specs.Count.{tally, one}
 use Rattle.meaning.specs.Meaning.{Set, same, untriggered}
 use Rattle.meaning.specs.File.{chartOf}
-use Rattle.search.specs.Stays.{Guards}
+use Rattle.cells.specs.Triggers.{triggersFor, putTrigger, staysSize, someStay, Guards}
 use Rattle.tables.specs.Filled.{Stayers}
 use Rattle.tables.specs.Fill.{othersAt, keepAt}
 use Rattle.tables.specs.Triggers.{Noted, SameTriggers, Told}
 pub mod Laws
-
--- the table with transition t as trigger v of chart c
-unfoldable pub putTrigger : List ℕ → ℕ → ℕ → Transition → List ℕ
-putTrigger g c v t = set (set g (16 * c + v) (t .needed)) (16 * c + (8 + v)) (t .barred)
 
 -- one transition more, of chart c at q, which had k triggers and has k′
 pub record Notes (t : Transition) (q c k : ℕ) (g g′ : List ℕ) (k′ : ℕ) : Type 0 where
@@ -30,7 +27,7 @@ pub record Notes (t : Transition) (q c k : ℕ) (g g′ : List ℕ) (k′ : ℕ)
 
 -- the other charts have in g what they had in g₀
 pub record Beside (c : ℕ) (g₀ g : List ℕ) : Type 0 where
-  pub others : (d : ℕ) → d < 8 → d ≢ c → SameTriggers g₀ g d 8
+  pub others : (d : ℕ) → d < mostCharts → d ≢ c → SameTriggers g₀ g d mostFromState
   pub size : length g ≡ length g₀
 
 -- of the `count` transitions from `start` on, the first p of which were looked at, k are triggers of chart c
@@ -42,7 +39,7 @@ pub record Noting (f : ℕ → Transition) (start count q c p : ℕ) (g₀ g : L
 -- what a search is told of chart c, whose transitions are ts, between bounds on what it is offered
 pub record Tells (ts : List Transition) (q c : ℕ) (low high : Set) (g₀ g : List ℕ) (k : ℕ) : Type 0 where
   pub told : Told g c ts q (untriggered ts q low high) k
-  pub few : k ≤ 9
+  pub few : k ≤ mostFromState + 1
   pub beside : Beside c g₀ g
 
 module _ (n : Shape) (b config lows may m : List ℕ) where
@@ -53,11 +50,11 @@ module _ (n : Shape) (b config lows may m : List ℕ) where
   -- what it is told of the first k charts
   pub record Telling (k : ℕ) (g y : List ℕ) : Type 0 where
     pub told : (c : ℕ) → c < k → Told g c (transitionsOf n b c) (getD config c 0) (quiet c) (getD y c 0)
-    pub few : (c : ℕ) → c < 8 → getD y c 0 ≤ 9
-    pub rest : (c : ℕ) → k ≤ c → c < 8 → getD y c 0 ≡ 0
-    pub size : 16 * n .charts ≤ length g
-    pub small : length y ≡ 9
-    pub some-may : getD y 8 0 ≡ 1
+    pub few : (c : ℕ) → c < mostCharts → getD y c 0 ≤ mostFromState + 1
+    pub rest : (c : ℕ) → k ≤ c → c < mostCharts → getD y c 0 ≡ 0
+    pub size : triggersFor (n .charts) ≤ length g
+    pub small : length y ≡ staysSize
+    pub some-may : someStay y ≡ 1
 
 -- what it is told of all: g and y are as the search asks for
 pub record Stays (n : Shape) (b config lows m g y : List ℕ) : Type 0 where

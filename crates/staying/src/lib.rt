@@ -8,10 +8,13 @@ ghost use Rattle.layout.specs.Body.{Holds, transitionAt, startOf};
 ghost use Rattle.layout.specs.Body.{from as fromOn};
 ghost use Rattle.meaning.specs.Count.{tally, one};
 ghost use Rattle.meaning.specs.Meaning.{same};
-ghost use Rattle.meaning.specs.Numbers.{stayEdition};
-ghost use Rattle.search.specs.Table.{masksFor};
+ghost use Rattle.meaning.specs.Numbers.{mostCharts, mostFromState, stayEdition};
+ghost use Rattle.cells.specs.Triggers.{triggers, triggersFor};
+ghost use Rattle.cells.specs.Table.{masksFor};
 ghost use Rattle.candidates.specs.Candidates.{Ready, Mays};
 ghost use Rattle.staying.specs.Staying.{Notes, Noting, Tells, Telling, Stays};
+use cells::CHARTS;
+use cells::triggers;
 use layout::body::Shape;
 
 // One transition more: a trigger of chart c, if it is from the chart's state. How many there are then.
@@ -24,16 +27,15 @@ fn note(
     c: usize,
     have: usize,
 ) -> usize
-    requires { ⌜ Holds n (now body) × (t < n .transitions) × (16 * (c + 1) ≤ length (now guards)) × (c < 8)
-        × (have ≤ 8) × (transitionAt n (now body) t .from ≡ state → have < 8) ⌝ }
+    requires { ⌜ Holds n (now body) × (t < n .transitions) × (triggersFor (c + 1) ≤ length (now guards)) × (c < mostCharts)
+        × (have ≤ mostFromState) × (transitionAt n (now body) t .from ≡ state → have < mostFromState) ⌝ }
     ensures { λ r. ⌜ Notes (transitionAt n (now (body .entry)) t) state c have (now (guards .entry)) (now (guards .exit)) r ⌝ }
 {
     if candidates::from_at(n, body, t) != state {
         return have;
     }
     let r = layout::body::transition_at(n, body, t);
-    guards[search::TRIGGERS * c + have] = r.needed;
-    guards[search::TRIGGERS * c + (search::TRIGGER_BARS + have)] = r.barred;
+    triggers::put(guards, c, have, r);
     have + 1
 }
 
@@ -47,9 +49,9 @@ fn note_chart(
     guards: &mut [u64],
     c: usize,
 ) -> usize
-    requires { ⌜ Holds n (now body) × (start + count ≤ n .transitions) × (16 * (c + 1) ≤ length (now guards)) × (c < 8)
-        × (tally count (λ u. one (same (transitionAt n (now body) (start + u) .from) state)) ≤ 8) ⌝ }
-    ensures { λ r. ⌜ Noting (transitionAt n (now (body .entry))) start count state c count (now (guards .entry)) (now (guards .exit)) r × (r ≤ 8) ⌝ }
+    requires { ⌜ Holds n (now body) × (start + count ≤ n .transitions) × (triggersFor (c + 1) ≤ length (now guards)) × (c < mostCharts)
+        × (tally count (λ u. one (same (transitionAt n (now body) (start + u) .from) state)) ≤ mostFromState) ⌝ }
+    ensures { λ r. ⌜ Noting (transitionAt n (now (body .entry))) start count state c count (now (guards .entry)) (now (guards .exit)) r × (r ≤ mostFromState) ⌝ }
 {
     let mut have: usize = 0;
     let mut p: usize = 0;
@@ -72,8 +74,8 @@ fn tell(
     low: u64,
     high: u64,
 ) -> u8
-    requires { ⌜ Holds n (now body) × (start + count ≤ n .transitions) × (16 * (c + 1) ≤ length (now guards)) × (c < 8)
-        × (tally count (λ u. one (same (transitionAt n (now body) (start + u) .from) state)) ≤ 8) ⌝ }
+    requires { ⌜ Holds n (now body) × (start + count ≤ n .transitions) × (triggersFor (c + 1) ≤ length (now guards)) × (c < mostCharts)
+        × (tally count (λ u. one (same (transitionAt n (now body) (start + u) .from) state)) ≤ mostFromState) ⌝ }
     ensures { λ r. ⌜ Tells (fromOn (transitionAt n (now (body .entry))) start count) state c low high (now (guards .entry)) (now (guards .exit)) r ⌝ }
 {
     let have = note_chart(n, body, start, count, state, guards, c);
@@ -88,16 +90,16 @@ fn tell_all(
     n: Shape,
     body: &[u8],
     config: &[u8],
-    low: [u64; 8],
-    may: [u64; 8],
+    low: [u64; CHARTS],
+    may: [u64; CHARTS],
     masks: &[u64],
     guards: &mut [u64],
-) -> [u8; 9]
-    requires { ⌜ Ready n (now body) (now config) × (masksFor 0 ≤ length (now masks)) × (16 * n .charts ≤ length (now guards)) ⌝ }
+) -> [u8; triggers::STAYS]
+    requires { ⌜ Ready n (now body) (now config) × (masksFor 0 ≤ length (now masks)) × (triggersFor (n .charts) ≤ length (now guards)) ⌝ }
     ensures { λ r. ⌜ Telling n (now (body .entry)) (now (config .entry)) low may (now (masks .entry)) (n .charts) (now (guards .exit)) r ⌝ }
 {
-    let mut stays = [0u8; search::STAYS];
-    stays[search::SOME_STAY] = 1;
+    let mut stays = [0u8; triggers::STAYS];
+    stays[triggers::SOME_STAY] = 1;
     let mut start: usize = 0;
     let mut c: usize = 0;
     while c < n.charts {
@@ -117,17 +119,17 @@ pub fn stays(
     n: Shape,
     body: &[u8],
     config: &[u8],
-    low: [u64; 8],
-    may: [u64; 8],
+    low: [u64; CHARTS],
+    may: [u64; CHARTS],
     masks: &[u64],
     guards: &mut [u64],
-) -> [u8; 9]
+) -> [u8; triggers::STAYS]
     requires { ⌜ Ready n (now body) (now config) × (masksFor 0 ≤ length (now masks)) × Mays n (now body) (now config) (n .charts) may
-        × (n .edition ≡ stayEdition → 16 * n .charts ≤ length (now guards)) ⌝ }
+        × (n .edition ≡ stayEdition → triggersFor (n .charts) ≤ length (now guards)) ⌝ }
     ensures { λ r. ⌜ Stays n (now (body .entry)) (now (config .entry)) low (now (masks .entry)) (now (guards .exit)) r ⌝ }
 {
     if n.edition != checks::limits::STAY_EDITION as usize {
-        return [0u8; search::STAYS];
+        return [0u8; triggers::STAYS];
     }
     tell_all(n, body, config, low, may, masks, guards)
 }

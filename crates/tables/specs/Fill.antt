@@ -8,13 +8,14 @@ use lib.Dec.{ltb}
 use lib.ListN.{length, getD, set}
 use Rattle.signals.specs.Mask.{_∪_, _∩_}
 use Rattle.layout.specs.declared.record.Transition.{Transition}
+use Rattle.meaning.specs.Numbers.{mostCharts, mostFromState}
 use Rattle.meaning.specs.Count.{anyUpTo}
 use Rattle.meaning.specs.Meaning.{Set, same, Chart, Move, met?, pick, actionOf}
 use Rattle.wiring.specs.Wire.{join}
 use Rattle.wiring.specs.Dropped.{ahead, test}
 use Rattle.wiring.specs.Sure.{sureOf, sureIn}
 use Rattle.wiring.specs.Hunt.{mayOf}
-use Rattle.search.specs.Table.{neededAt, barredAt, actionAt, backAt, aheadAt, toAt, countAt, masterAt, stateAt}
+use Rattle.cells.specs.Table.{aheadFrom, listsFrom, aheadCell, neededAt, barredAt, actionAt, backAt, aheadAt, putMasks, placeFrom, countCell, smallSize, toAt, countAt, masterAt, stateAt, putSmall}
 use Rattle.search.specs.Stays.{staysAt}
 use Rattle.tables.specs.Filled.{Listed, mayAt}
 pub mod Laws
@@ -35,7 +36,7 @@ othersAt m N may c = join N (λ e. cond (same e c) 0 (may e) ∩ backAt m c e)
 
 -- what chart e surely puts out: u, if it stands in no slave; of one that may stay, u is nothing (`sureIn`)
 unfoldable pub sureAt : List ℕ → ℕ → Set → Set
-sureAt s e u = cond (ltb (masterAt s e) 8) 0 u
+sureAt s e u = cond (ltb (masterAt s e) mostCharts) 0 u
 
 -- ── one transition more ──
 
@@ -51,13 +52,6 @@ isAt m s c v t = same (neededAt m c v) (t .needed) && (same (barredAt m c v) (t 
 
 unfoldable pub isAgain : List ℕ → List ℕ → ℕ → ℕ → Transition → Bool
 isAgain m s c n t = anyUpTo n (λ v. isAt m s c v t)
-
-unfoldable pub putMasks : List ℕ → ℕ → ℕ → Transition → List ℕ
-putMasks m c v t = set (set (set m (144 + (24 * c + v)) (t .needed)) (152 + (24 * c + v)) (t .barred)) (160 + (24 * c + v)) (t .action)
-
--- where it leads, and its place p
-unfoldable pub putSmall : List ℕ → ℕ → ℕ → ℕ → Transition → List ℕ
-putSmall s c v p t = set (set s (8 * c + v) (t .to)) (96 + (8 * c + v)) p
 
 abbrev pub put : ℕ → ℕ → Transition → Filling → Filling
 put c p t f = record { masks = putMasks (f .masks) c (f .count) t; small = putSmall (f .small) c (f .count) p t; count = f .count + 1 }
@@ -85,7 +79,7 @@ module _ (c q : ℕ) (low own others : Set) where
 module _ (E : ℕ → Chart) (cfg : ℕ → ℕ) where
   -- lows has what base has, and what the first k charts surely put in
   abbrev pub Raised : ℕ → List ℕ → List ℕ → List ℕ → List ℕ → Type 0
-  Raised k m s base lows = (c : ℕ) → c < 8 → getD lows c 0 ≡ getD base c 0 ∪ join k (λ e. sureAt s e (sureIn (E e .stays) (sureOf (E e .transitions) (cfg e))) ∩ backAt m c e)
+  Raised k m s base lows = (c : ℕ) → c < mostCharts → getD lows c 0 ≡ getD base c 0 ∪ join k (λ e. sureAt s e (sureIn (E e .stays) (sureOf (E e .transitions) (cfg e))) ∩ backAt m c e)
 
 module _ (E : ℕ → Chart) (cfg : ℕ → ℕ) (N : ℕ) (lows : List ℕ) where
   -- the move of chart c at place v is kept
@@ -95,16 +89,16 @@ module _ (E : ℕ → Chart) (cfg : ℕ → ℕ) (N : ℕ) (lows : List ℕ) whe
   -- the first k charts have their candidates; of the tables m₀ and s₀ the rest is as it was
   pub record Until (m₀ s₀ : List ℕ) (k : ℕ) (m s : List ℕ) : Type 0 where
     pub listed : (c : ℕ) → c < k → Listed m s c (E c .transitions) (cfg c) (keepAt m₀ c) (length (E c .transitions)) (countAt s c)
-    pub counts : (c : ℕ) → c < k → countAt s c ≤ 8
-    pub wires : (i : ℕ) → i < 144 → getD m i 0 ≡ getD m₀ i 0
-    pub rest : (i : ℕ) → 64 + k ≤ i → i < 96 → getD s i 0 ≡ getD s₀ i 0
+    pub counts : (c : ℕ) → c < k → countAt s c ≤ mostFromState
+    pub wires : (i : ℕ) → i < listsFrom → getD m i 0 ≡ getD m₀ i 0
+    pub rest : (i : ℕ) → countCell k ≤ i → i < placeFrom → getD s i 0 ≡ getD s₀ i 0
     pub masks : length m ≡ length m₀
-    pub small : length s ≡ 160
+    pub small : length s ≡ smallSize
 
   -- all of it
   pub record Chosen (m s : List ℕ) : Type 0 where
     pub listed : (c : ℕ) → c < N → Listed m s c (E c .transitions) (cfg c) (keepAt m c) (length (E c .transitions)) (countAt s c)
-    pub counts : (c : ℕ) → c < N → countAt s c ≤ 8
+    pub counts : (c : ℕ) → c < N → countAt s c ≤ mostFromState
     pub ahead-at : (k c : ℕ) → k ≤ N → c < N → aheadAt m k c ≡ ahead (N - k) k (λ e. mayAt m s e ∩ backAt m c e)
     pub state-at : (c : ℕ) → c < N → stateAt s c ≡ cfg c
 
@@ -113,8 +107,8 @@ module _ (E : ℕ → Chart) (cfg : ℕ → ℕ) (N : ℕ) (lows : List ℕ) whe
 -- row k of the first n charts is w, the rest as it was
 pub record AheadRow (k : ℕ) (w : ℕ → Set) (n : ℕ) (m₀ m : List ℕ) : Type 0 where
   pub row : (c : ℕ) → c < n → aheadAt m k c ≡ w c
-  pub below : (i : ℕ) → i < 72 + 8 * k → getD m i 0 ≡ getD m₀ i 0
-  pub above : (i : ℕ) → 72 + (8 * k + n) ≤ i → getD m i 0 ≡ getD m₀ i 0
+  pub below : (i : ℕ) → i < aheadCell k 0 → getD m i 0 ≡ getD m₀ i 0
+  pub above : (i : ℕ) → aheadCell k n ≤ i → getD m i 0 ≡ getD m₀ i 0
   pub masks : length m ≡ length m₀
 
 -- row k from row k + 1: chart k's candidates put out u
@@ -124,12 +118,12 @@ aheadBy m k u c = u ∩ backAt m c k ∪ aheadAt m (suc k) c
 -- the rows from k on
 pub record AheadFrom (N : ℕ) (s : List ℕ) (k : ℕ) (m₀ m : List ℕ) : Type 0 where
   pub rows : (j c : ℕ) → k ≤ j → j ≤ N → c < N → aheadAt m j c ≡ ahead (N - j) j (λ e. mayAt m₀ s e ∩ backAt m₀ c e)
-  pub below : (i : ℕ) → i < 72 → getD m i 0 ≡ getD m₀ i 0
-  pub above : (i : ℕ) → 144 ≤ i → getD m i 0 ≡ getD m₀ i 0
+  pub below : (i : ℕ) → i < aheadFrom → getD m i 0 ≡ getD m₀ i 0
+  pub above : (i : ℕ) → listsFrom ≤ i → getD m i 0 ≡ getD m₀ i 0
   pub masks : length m ≡ length m₀
 
 -- ── no search is needed ──
 
 -- a chart that stands in no slave has no candidate, and cannot stay
 unfoldable pub stuck : List ℕ → List ℕ → List ℕ → ℕ → Bool
-stuck s g y N = anyUpTo N (λ c. same (countAt s c) 0 && (not (ltb (masterAt s c) 8) && not (staysAt g y c)))
+stuck s g y N = anyUpTo N (λ c. same (countAt s c) 0 && (not (ltb (masterAt s c) mostCharts) && not (staysAt g y c)))

@@ -8,11 +8,12 @@ use Prim.Native.Nat.{ℕ, zero, suc, _-_, _≤_, _<_}
 use lib.ListN.{length, getD, take}
 use Rattle.signals.specs.Mask.{_∪_, _∩_}
 use Rattle.layout.specs.declared.record.Transition.{Transition}
+use Rattle.meaning.specs.Numbers.{mostCharts}
 use Rattle.meaning.specs.Meaning.{Set, Chart, Tree, noMove, takes, nth, lastPlace, untriggered, Answer, refused, given}
 use Rattle.wiring.specs.Wire.{join, down, up, back}
 use Rattle.wiring.specs.Sure.{surely}
 use Rattle.wiring.specs.Dropped.{ahead}
-use Rattle.search.specs.Table.{neededAt, barredAt, actionAt, backAt, aheadAt, upAt, toAt, countAt, masterAt, slaveStateAt, stateAt, placeAt}
+use Rattle.cells.specs.Table.{neededAt, barredAt, actionAt, backAt, aheadAt, upAt, toAt, countAt, masterAt, slaveStateAt, stateAt, placeAt}
 use Rattle.search.specs.Hunt.{answerIn}
 use Rattle.search.specs.Stays.{staysAt, calm}
 use Rattle.search.specs.declared.Found.{Found}
@@ -42,10 +43,10 @@ module _ (m s : List ℕ) where
 module _ (E : ℕ → Chart) (state : ℕ → ℕ) (cfg : ℕ → ℕ) (N : ℕ) (enc : ℕ → Option ℕ) (sc : ℕ → ℕ) (t : Tree) where
   -- the wiring of the tree t of N charts; the masters and states of the nearest enclosing slaves; the present states
   pub record Rows (m s : List ℕ) : Type 0 where
-    pub few : N ≤ 8
+    pub few : N ≤ mostCharts
     pub back-at : (c d : ℕ) → c < N → d < N → backAt m c d ≡ back E t c d
     pub up-at : (d : ℕ) → d < N → upAt m d ≡ up t d
-    pub outside : (c : ℕ) → c < N → enc c ≡ none → 8 ≤ masterAt s c
+    pub outside : (c : ℕ) → c < N → enc c ≡ none → mostCharts ≤ masterAt s c
     pub inside : (c i : ℕ) → c < N → enc c ≡ some i → (masterAt s c ≡ sc i) × (slaveStateAt s c ≡ state i)
     pub state-at : (c : ℕ) → c < N → stateAt s c ≡ cfg c
 

@@ -14,7 +14,7 @@ use Rattle.signals.specs.Mask.{_∪_, _∩_, within, apart}
 use Rattle.signals.specs.Decide.{sets, A, B, C, D, ∅ₑ, _∪ₑ_, _∩ₑ_, _≐_, _⊑_, _⊥ₑ_}
 use Rattle.layout.specs.declared.record.Transition.{Transition}
 use Rattle.meaning.specs.Meaning.{Set, ∅, same, Chart, Tree, Move, noMove, takes, stay, pick, lastPlace, actionOf, after, meets, upd, moves, nexts, placeOf, placesFrom, out}
-use Rattle.meaning.specs.Numbers.{noPlace, stayPlace}
+use Rattle.meaning.specs.Numbers.{mostCharts, noPlace, stayPlace}
 use Rattle.meaning.specs.Calls.Laws.{getD-made}
 use Rattle.meaning.specs.Laws.Bools.{same-refl, same→≡, same-≢, and-i, every}
 use Rattle.meaning.specs.Laws.Guards.{met-is}
@@ -24,7 +24,7 @@ use Rattle.wiring.specs.Wire.{join, down, up, back, offered, awakeBy, Small, ou
 use Rattle.wiring.specs.Wired.{awake, awake-by, Stands, offer}
 use Rattle.wiring.specs.Dropped.{ahead, test, sures, low, high, passes, join-cong}
 use Rattle.wiring.specs.Hunt.{awake-below, every-cong}
-use Rattle.search.specs.Table.{neededAt, barredAt, actionAt, backAt, aheadAt, toAt, masterAt, slaveStateAt, stateAt, placeAt}
+use Rattle.cells.specs.Table.{neededAt, barredAt, actionAt, backAt, aheadAt, toAt, masterAt, slaveStateAt, stateAt, placeAt}
 use Rattle.search.specs.Trail.{Trail}
 use Rattle.search.specs.Hunt.{isAwake, wakes, taken, idled, rested, passesAt, fineAt}
 use Rattle.search.specs.Stays.{staysAt, calm, stayed, calmAt, quietAt}
@@ -228,7 +228,7 @@ module _ (E : ℕ → Chart) (state : ℕ → ℕ) (cfg : ℕ → ℕ) (N : ℕ)
         → pick (E k) (suc p) ≡ takes tr → Is m s k v tr → same (placeAt s k v) stayPlace ≡ false → Follows (taken m s t k v) (suc k) (upd ch k (suc p))
     unfolding taken actionOf same
     taken-follows t k ch v p tr f l w e i sp = settled t (taken m s t k v) k ch (suc p) 1 (neededAt m k v) (barredAt m k v) (toAt s k v) (placeAt s k v) f l refl refl refl refl refl
-        (λ c r. let few = ro .few in getD-made 8 (λ c. getD (t .low) c 0 ∪ actionAt m k v ∩ backAt m c k) c (omega arith)
+        (λ c r. let few = ro .few in getD-made mostCharts (λ c. getD (t .low) c 0 ∪ actionAt m k v ∩ backAt m c k) c (omega arith)
         ∙ rw (e, ro .back-at c k r l, i .action))
         (rw (e, ro .up-at k l, i .action)) (sym w) (rw e (i .needed, i .barred, i .to)) (rw e sp)
 

@@ -8,7 +8,7 @@ use Prim.Native.Nat.{ℕ, _-_}
 use native.Mathlib.Omega.{arith}
 use lib.ListN.{length, replicate}
 use lib.Seq.{take-at}
-use Rattle.meaning.specs.Numbers.{noPlace}
+use Rattle.meaning.specs.Numbers.{mostCharts, noPlace}
 use Rattle.meaning.specs.Meaning.{same, Outcome, eqList, agree, given, answer, firstPlaces}
 use Rattle.meaning.specs.Calls.{allPlaces}
 use Rattle.search.specs.Hunt.{over, nothing}
@@ -20,7 +20,7 @@ use Rattle.tables.specs.Filled.{answerOf, trimmed}
 
 module _ (N : ℕ) where
   unfoldable pub pad : Outcome → Outcome
-  pad o = record { output = o .output; next = o .next ++ replicate (8 - N) 0; places = o .places ++ replicate (8 - N) noPlace }
+  pad o = record { output = o .output; next = o .next ++ replicate (mostCharts - N) 0; places = o .places ++ replicate (mostCharts - N) noPlace }
 
   -- padded, ys is like xs; under P the first has the same places too
   pub record Padded (P : Type 0) (xs ys : List Outcome) : Type 0 where
@@ -33,8 +33,8 @@ module _ (N : ℕ) where
     pub padded-none : Padded P [] []
     padded-none = record { alike = alike-refl [] }
 
-    pub padded-one : (a b : Outcome) → a .output ≡ b .output → a .next ≡ b .next ++ replicate (8 - N) 0
-        → (P → a .places ≡ b .places ++ replicate (8 - N) noPlace) → Padded P (a ∷ []) (b ∷ [])
+    pub padded-one : (a b : Outcome) → a .output ≡ b .output → a .next ≡ b .next ++ replicate (mostCharts - N) 0
+        → (P → a .places ≡ b .places ++ replicate (mostCharts - N) noPlace) → Padded P (a ∷ []) (b ∷ [])
     unfolding pad
     padded-one a b p q r = record { alike = alike-one a (pad b) p q r }
 
@@ -71,12 +71,12 @@ module _ (N : ℕ) where
   agree-pad : (a : Outcome) (os : List Outcome) → length (a .next) ≡ N → Sizes os → agree (pad a) (map pad os) ≡ agree a os
   unfolding agree pad
   agree-pad a [] l s = refl
-  agree-pad a (o ∷ os) l s = ap₂ (λ x y. (same (a .output) (o .output) && x) && y) (eqList-behind (a .next) (o .next) (replicate (8 - N) 0) (l ∙ sym (s .0))) (agree-pad a os l (s .2))
+  agree-pad a (o ∷ os) l s = ap₂ (λ x y. (same (a .output) (o .output) && x) && y) (eqList-behind (a .next) (o .next) (replicate (mostCharts - N) 0) (l ∙ sym (s .0))) (agree-pad a os l (s .2))
 
   answer-pad : (os : List Outcome) → Sizes os → trimmed N (answer (map pad os)) ≡ answer os
   unfolding answer trimmed pad
   answer-pad [] s = refl
-  answer-pad (o ∷ os) s = ap₂ (given (o .output)) (take-at (o .next) (replicate (8 - N) 0) N (s .0)) (agree-pad o os (s .0) (s .2))
+  answer-pad (o ∷ os) s = ap₂ (given (o .output)) (take-at (o .next) (replicate (mostCharts - N) 0) N (s .0)) (agree-pad o os (s .0) (s .2))
 
   module _ {P : Type 0} where
     pub found : (xs ys : List Outcome) → Padded P xs ys → Sizes ys → answerOf N (over xs nothing) ≡ answer ys
@@ -88,4 +88,4 @@ module _ (N : ℕ) where
     found-places q [] (y ∷ ys) p s = let h = p .alike .first in cc
     found-places q (x ∷ xs) [] p s = let h = p .alike .first in cc
     found-places q (x ∷ xs) (y ∷ ys) p s = ap (λ f. f .places) (over-first x xs) ∙ p .alike .places q
-        ∙ ap (λ n. y .places ++ replicate (8 - n) noPlace) (sym (s .1))
+        ∙ ap (λ n. y .places ++ replicate (mostCharts - n) noPlace) (sym (s .1))

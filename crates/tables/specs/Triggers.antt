@@ -9,10 +9,12 @@ use Prim.Native.Nat.{ℕ, zero, suc, _+_, _-_, _≤_, _<_}
 use native.Mathlib.Omega.{arith}
 use lib.ListN.{length, getD}
 use Rattle.layout.specs.declared.record.Transition.{Transition}
+use Rattle.meaning.specs.Numbers.{mostFromState}
 use Rattle.meaning.specs.Count.{anyUpTo}
 use Rattle.meaning.specs.Meaning.{Set, same, Chart, Move, noMove, takes, stay, nth, lastPlace, guard, isMet, met?, untriggered}
 use Rattle.meaning.specs.Laws.Bools.{same-refl, same-≢}
-use Rattle.search.specs.Stays.{triggerNeeded, triggerBarred, trips, staysAt, calm}
+use Rattle.cells.specs.Triggers.{triggerNeeded, triggerBarred}
+use Rattle.search.specs.Stays.{trips, staysAt, calm}
 use Rattle.tables.specs.Filled.{Stayers}
 
 -- of the first p of chart c's transitions ts those from state q are triggers: n of them
@@ -88,7 +90,7 @@ module _ (g : List ℕ) (c : ℕ) (ts : List Transition) (q : ℕ) (may : Bool) 
     shut : may ≡ false → k ≡ 0 → Told k
     listed : may ≡ true → (n : ℕ) → k ≡ suc n → Noted g c ts q (length ts) n → Told k
 
-pub told-kept : (g g′ : List ℕ) (c : ℕ) (ts : List Transition) (q : ℕ) (may : Bool) (k : ℕ) → k ≤ 9 → SameTriggers g g′ c 8 → Told g c ts q may k → Told g′ c ts q may k
+pub told-kept : (g g′ : List ℕ) (c : ℕ) (ts : List Transition) (q : ℕ) (may : Bool) (k : ℕ) → k ≤ mostFromState + 1 → SameTriggers g g′ c mostFromState → Told g c ts q may k → Told g′ c ts q may k
 told-kept g g′ c ts q may k few h (shut e z) = shut e z
 told-kept g g′ c ts q may k few h (listed e n z r) = listed e n z (noted-kept g g′ c ts q (λ v l. h v (omega arith)) r)
 

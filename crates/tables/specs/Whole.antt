@@ -13,7 +13,7 @@ use Rattle.signals.specs.Decide.{sets, A, B, C, ∅ₑ, _∪ₑ_, _≐_, _⊑_}
 use Rattle.layout.specs.declared.record.Transition.{Transition}
 use Rattle.meaning.specs.Meaning.{Set, same, Chart, Tree, Move, noMove, takes, stay, nth, behind, pick, lastPlace, actionOf, permitted, upd, moves, placesFrom, upto, Outcome, outcomeOf, outcome, search, outcomes, answer, firstPlaces}
 use Rattle.meaning.specs.Laws.Bools.{same-refl, same→≡, same-≢, every}
-use Rattle.meaning.specs.Numbers.{noPlace, stayPlace}
+use Rattle.meaning.specs.Numbers.{mostCharts, noPlace, stayPlace}
 use Rattle.meaning.specs.Laws.Editions.{places-one, places-two, stay-last}
 use Rattle.meaning.specs.Calls.{allPlaces}
 use Rattle.meaning.specs.File.{File, wholeOf}
@@ -27,7 +27,7 @@ use Rattle.wiring.specs.Dropped.{test, may-bounds, permitted-open, Bounds, sure
 use Rattle.wiring.specs.Hunt.{opens, fine, hunt, hunted-all, mayOf, may-of, behind-empty}
 use Rattle.wiring.specs.Filter.{lasts, kept}
 use Rattle.wiring.specs.Stand.{stands}
-use Rattle.search.specs.Table.{actionAt, countAt, placeAt}
+use Rattle.cells.specs.Table.{actionAt, countAt, placeAt}
 use Rattle.search.specs.Trail.{Trail, beginning}
 use Rattle.search.specs.Hunt.{each, wakes, taken, rested, fineAt, over, nothing}
 use Rattle.search.specs.Stays.{staysAt, stayed, quietAt, huntsBoth}
@@ -278,8 +278,8 @@ module _ (E : ℕ → Chart) (state : ℕ → ℕ) (cfg : ℕ → ℕ) (N : ℕ)
   unfolding huntsBoth hunt outcomeOf
   simulate zero k t ch e f = let q : k ≡ N = omega arith in let g : Follow t N ch = subst (λ z. Follow t z ch) q f in
       padded-one N _ _ (output-is E state cfg N enc sc tree inp m s g₀ y st ro t ch g (sa ch))
-      (ap₂ (λ (x : List ℕ) (z : ℕ). x ++ replicate (8 - z) 0) (next-is E state cfg N enc sc tree inp m s g₀ y st ro t ch g) q)
-      (λ h. ap₂ (λ (x : List ℕ) (z : ℕ). x ++ replicate (8 - z) noPlace) (h ∙ ap (placesFrom E ch zero) q) q)
+      (ap₂ (λ (x : List ℕ) (z : ℕ). x ++ replicate (mostCharts - z) 0) (next-is E state cfg N enc sc tree inp m s g₀ y st ro t ch g) q)
+      (λ h. ap₂ (λ (x : List ℕ) (z : ℕ). x ++ replicate (mostCharts - z) noPlace) (h ∙ ap (placesFrom E ch zero) q) q)
   simulate (suc n) k t ch e f = go (wakes m s t k) refl (simulate n (suc k))
     where
       e′ : n + suc k ≡ N

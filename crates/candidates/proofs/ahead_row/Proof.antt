@@ -1,8 +1,11 @@
 -- `ahead_row` meets its contract. The loop makes row k from row k + 1, chart by chart. Assumes nothing.
-use mathlib.Core.Path.{_≡_, subst}
-use Prim.Native.Nat.{_-_, _≤_}
+use mathlib.Core.Path.{_≡_, ap₂, subst, _∙_}
+use Prim.Native.Nat.{ℕ, _-_, _≤_}
 use native.Mathlib.Omega.{arith}
 use borrow.Author.Needs.{needs}
+use lib.ListN.{length}
+use Rattle.signals.specs.Mask.{_∪_, _∩_}
+use Rattle.cells.specs.Table.{masksFor}
 use Rattle.tables.specs.Fill.{AheadRow, aheadBy}
 use Rattle.tables.specs.Fill.Laws.{row-none, row-next, row-value}
 use Rattle.candidates.proofs.ahead_row.Statement.{statement}
@@ -19,14 +22,25 @@ loop-holds c = (search needs, row-none _ _ _)
 
 loop-again : tie.Need-loop-again Inv-loop μ-loop
 loop-again c =
-    let a = c .before .before .before .before .args in
-    let l = c .before .before .before .loop in
-    (omega arith, row-next (a .k) _ (l .c) _ (l .masks) _ (l .inv .1) (omega arith) (row-value (a .k) _ (l .c) _ (l .masks) (a .u) (l .inv .1) (omega arith) (omega arith)))
+    let p = c .before .before in
+    let b = p .before .before in
+    let h = b .before .before in
+    let t = h .before .before .before in
+    let l = t .loop in
+    let a = t .before .before .args in
+    let e : a .u ∩ b .back .result ∪ h .ahead .result ≡ aheadBy (a .masks .now) (a .k) (a .u) (l .c) =
+    ap₂ (λ (x y : ℕ). a .u ∩ x ∪ y) (b .back .ensures) (h .ahead .ensures)
+    ∙ row-value (a .k) _ (l .c) _ (l .masks) (a .u) (l .inv .1) (omega arith) (omega arith) in
+    (omega arith, rw (p .put-ahead .ensures) (row-next (a .k) _ (l .c) _ (l .masks) _ (l .inv .1) (omega arith) e))
+
+-- the masks are as many as they were
+roomy : (t : tie.At-loop Inv-loop μ-loop) → masksFor 0 ≤ length (t .loop .masks)
+roomy t = rw (t .loop .inv .1 .masks) (t .before .before .pre .0)
 
 returns : tie.Need-returns Inv-loop μ-loop
 returns c =
     let l = c .before .loop in
-    let a = c .before .before .args in
+    let a = c .before .before .before .args in
     let e : l .c ≡ a .charts = omega arith in
     subst (λ n. AheadRow (a .k) (aheadBy (a .masks .now) (a .k) (a .u)) n (a .masks .now) (l .masks)) e (l .inv .1)
 
@@ -38,21 +52,9 @@ ahead-row-spec =
     μ-loop
     loop-holds
     (λ c. omega arith)
-    (λ c. omega arith)
-    (λ c. omega arith)
-    (λ c. omega arith)
-    (λ c. omega (arith, c .before .before .loop .inv .1 .masks))
-    (λ c. omega arith)
-    (λ c. omega arith)
-    (λ c. omega arith)
-    (λ c. omega arith)
-    (λ c. omega arith)
-    (λ c. omega (arith, c .before .before .before .loop .inv .1 .masks))
-    (λ c. omega arith)
-    (λ c. omega arith)
-    (λ c. omega arith)
-    (λ c. omega arith)
-    (λ c. omega (arith, c .before .before .before .loop .inv .1 .masks))
+    (λ c κs. (roomy (c .before .before), omega arith, omega arith))
+    (λ c κs. (roomy (c .before .before .before .before), omega arith, omega arith))
+    (λ c κs. (roomy (c .before .before .before .before .before .before), omega arith, omega arith))
     (λ c. omega arith)
     (λ c. omega arith)
     loop-again

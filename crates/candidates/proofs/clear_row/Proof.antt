@@ -18,14 +18,25 @@ loop-holds : tie.Need-loop-holds Inv-loop μ-loop
 loop-holds c = (search needs, row-none _ _ _)
 
 loop-again : tie.Need-loop-again Inv-loop μ-loop
-loop-again c = (omega arith, row-next _ _ _ _ _ _ (c .before .loop .inv .1) (omega arith) refl)
+loop-again c =
+    let p = c .before .before in
+    let t = p .before .before .before in
+    let l = t .loop in
+    let a = t .before .before .args in
+    (omega arith, rw (p .put-ahead .ensures) (row-next (a .charts) (λ d. 0) (l .c) (a .masks .now) (l .masks) 0 (l .inv .1) (omega arith) refl))
 
 returns : tie.Need-returns Inv-loop μ-loop
 returns c =
     let l = c .before .loop in
-    let a = c .before .before .args in
+    let a = c .before .before .before .args in
     let e : l .c ≡ a .charts = omega arith in
     subst (λ n. AheadRow (a .charts) (λ d. 0) n (a .masks .now) (l .masks)) e (l .inv .1)
+
+put-ahead-requires : tie.Need-put-ahead-requires Inv-loop μ-loop
+put-ahead-requires c κs =
+    let l = c .before .before .loop in
+    let s = c .before .before .before .before in
+    (rw (l .inv .1 .masks) (s .pre .0), s .pre .1, omega arith)
 
 pub clear-row-spec : {M : Type 1} → statement M
 clear-row-spec =
@@ -34,11 +45,7 @@ clear-row-spec =
     Inv-loop
     μ-loop
     loop-holds
-    (λ c. omega arith)
-    (λ c. omega arith)
-    (λ c. omega arith)
-    (λ c. omega arith)
-    (λ c. omega (arith, c .before .loop .inv .1 .masks))
+    put-ahead-requires
     (λ c. omega arith)
     (λ c. omega arith)
     loop-again

@@ -1,12 +1,12 @@
 -- `others` meets its contract. The loop joins what the charts below e might put in, chart c's own left out. Assumes nothing.
-use mathlib.Core.Path.{_≡_, refl, _∙_}
-use Prim.Native.Nat.{_-_, _≤_}
+use mathlib.Core.Path.{_≡_, refl, ap, _∙_}
+use Prim.Native.Nat.{ℕ, _-_, _≤_}
 use native.Mathlib.Omega.{arith}
-use lib.ListN.{getD}
+use lib.ListN.{getD, set}
 use borrow.Author.Needs.{needs}
-use Rattle.signals.specs.Mask.{_∩_}
+use Rattle.signals.specs.Mask.{_∪_, _∩_}
 use Rattle.wiring.specs.Wire.{join}
-use Rattle.search.specs.Table.{backAt}
+use Rattle.cells.specs.Table.{backAt}
 use Rattle.candidates.specs.Candidates.Laws.{join-more, others-done}
 use Rattle.candidates.proofs.others.Statement.{statement}
 use Rattle.candidates.proofs.others.Tie as tie
@@ -22,11 +22,15 @@ unfolding join
 loop-holds c = (search needs, refl)
 
 loop-again : tie.Need-loop-again Inv-loop μ-loop
-loop-again c = (omega arith, join-more _ _ _ (c .before .before .loop .inv .1))
+loop-again c =
+    let l = c .before .before .loop in
+    let a = c .before .before .before .before .args in
+    let x = getD (set (a .may) (a .c) 0) (l .e) 0 in
+    (omega arith, ap (λ (y : ℕ). l .u ∪ x ∩ y) (c .back .ensures) ∙ join-more _ _ _ (l .inv .1))
 
 returns : tie.Need-returns Inv-loop μ-loop
 returns c =
-    let a = c .before .before .args in
+    let a = c .before .before .before .args in
     let e : c .before .loop .e ≡ a .charts = omega arith in
     rw e at (c .before .loop .inv .1) ∙ others-done (a .masks .now) (a .may) (a .charts) (a .c) (search needs)
 
@@ -41,11 +45,7 @@ others-spec =
     loop-holds
     (λ c. search needs)
     (λ c. search needs)
-    (λ c. search needs)
-    (λ c. search needs)
-    (λ c. search needs)
-    (λ c. search needs)
-    (λ c. search needs)
+    (λ c κs. search needs)
     (λ c. search needs)
     (λ c. search needs)
     loop-again

@@ -1,10 +1,11 @@
 -- `puts_out` meets its contract. The loop joins the actions of the first v candidates. Assumes nothing.
-use mathlib.Core.Path.{_≡_, refl}
-use Prim.Native.Nat.{_+_, _-_, _≤_}
+use mathlib.Core.Path.{_≡_, refl, ap, _∙_}
+use Prim.Native.Nat.{ℕ, _-_, _≤_}
 use native.Mathlib.Omega.{arith}
 use borrow.Author.Needs.{needs}
+use Rattle.signals.specs.Mask.{_∪_}
 use Rattle.wiring.specs.Wire.{join}
-use Rattle.search.specs.Table.{actionAt, countAt}
+use Rattle.cells.specs.Table.{actionAt, countCell, countAt}
 use Rattle.tables.specs.Filled.{mayAt}
 use Rattle.candidates.specs.Candidates.Laws.{join-more}
 use Rattle.candidates.proofs.puts_out.Statement.{statement}
@@ -21,12 +22,16 @@ unfolding join
 loop-holds c = (search needs, refl)
 
 loop-again : tie.Need-loop-again Inv-loop μ-loop
-loop-again c = (omega arith, join-more _ _ _ (c .before .before .loop .inv .1))
+loop-again c =
+    let l = c .before .before .loop in
+    (omega arith, ap (λ (x : ℕ). l .u ∪ x) (c .action .ensures) ∙ join-more _ _ _ (l .inv .1))
 
 returns : tie.Need-returns Inv-loop μ-loop
 unfolding mayAt
 returns c =
-    let e : c .before .loop .v ≡ countAt (c .before .before .before .args .small .now) (c .before .before .before .args .c) = omega arith in
+    let n = c .before .before in
+    let a = n .before .before .before .args in
+    let e : c .before .loop .v ≡ countAt (a .small .now) (a .c) = omega (arith, n .count .ensures) in
     rw e at (c .before .loop .inv .1)
 
 pub puts-out-spec : {M : Type 1} → statement M
@@ -35,16 +40,10 @@ puts-out-spec =
     (tie.spec
     Inv-loop
     μ-loop
-    (λ c. search needs)
-    (λ c. search needs)
-    (λ c. omega (arith, c .shared-slice-known .given (64 + c .before .args .c)))
+    (λ c κs. search needs)
     loop-holds
-    (λ c. search needs)
-    (λ c. search needs)
-    (λ c. search needs)
-    (λ c. search needs)
-    (λ c. omega (arith, c .before .before .before .before .pre .0 .masks))
+    (λ c κs. search needs)
     (λ c. omega arith)
-    (λ c. search needs)
+    (λ c. omega arith)
     loop-again
     returns)

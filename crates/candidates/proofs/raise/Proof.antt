@@ -9,19 +9,20 @@ use lib.Dec.{ltb}
 use lib.ListN.{getD}
 use Rattle.signals.specs.Mask.{_∪_, _∩_}
 use Rattle.signals.specs.Decide.{sets, A, B, C, ∅ₑ, _∪ₑ_, _∩ₑ_, _≐_}
-use Rattle.search.specs.Table.{backAt, masterAt, Row}
+use Rattle.meaning.specs.Numbers.{mostCharts}
+use Rattle.cells.specs.Table.{backAt, Row, masterAt}
 use Rattle.tables.specs.Fill.{sureAt}
 use Rattle.candidates.proofs.raise.Statement.{statement}
 use Rattle.candidates.proofs.raise.Tie as tie
 
 module _ (s : List ℕ) (c u : ℕ) where
-  in-slave : masterAt s c < 8 → sureAt s c u ≡ 0
+  in-slave : masterAt s c < mostCharts → sureAt s c u ≡ 0
   unfolding sureAt
-  in-slave h = rw (lt-ltb (masterAt s c) 8 h)
+  in-slave h = rw (lt-ltb (masterAt s c) mostCharts h)
 
   nothing : u ≡ 0 → sureAt s c u ≡ 0
   unfolding sureAt
-  nothing e = go (ltb (masterAt s c) 8)
+  nothing e = go (ltb (masterAt s c) mostCharts)
     where
       go : (b : Bool) → cond b 0 u ≡ 0
       go true = refl
@@ -32,15 +33,21 @@ module _ (s : List ℕ) (c u : ℕ) where
     stays : sureAt s c u ≡ 0 → Row low (λ d. getD low d 0 ∪ sureAt s c u ∩ backAt m d c)
     stays e d l = sets (getD low d 0 ∷ sureAt s c u ∷ backAt m d c ∷ []) (B ≐ ∅ₑ ∷ []) (A ≐ A ∪ₑ B ∩ₑ C) tt e
 
-    outside : (r : List ℕ) → 8 ≤ masterAt s c → Row r (λ d. getD low d 0 ∪ u ∩ backAt m d c) → Row r (λ d. getD low d 0 ∪ sureAt s c u ∩ backAt m d c)
+    outside : (r : List ℕ) → mostCharts ≤ masterAt s c → Row r (λ d. getD low d 0 ∪ u ∩ backAt m d c) → Row r (λ d. getD low d 0 ∪ sureAt s c u ∩ backAt m d c)
     unfolding sureAt
-    outside r h f d l = rw (le-ltb (masterAt s c) 8 h) (f d l)
+    outside r h f d l = rw (le-ltb (masterAt s c) mostCharts h) (f d l)
 
 returns : tie.Need-returns
-returns c = let a = c .before .before .before .before .before .args in stays (a .small .now) (a .c) (a .u) (a .masks .now) (a .low .now) (in-slave (a .small .now) (a .c) (a .u) (c .if1 .taken))
+returns c =
+    let a = c .before .before .before .before .before .args in
+    stays (a .small .now) (a .c) (a .u) (a .masks .now) (a .low .now) (in-slave (a .small .now) (a .c) (a .u) (rw (c .before .master .ensures) at (c .if1 .taken)))
 
 returns-2 : tie.Need-returns-2
-returns-2 c = let a = c .before .before .before .before .before .before .before .before .before .before .args in outside (a .small .now) (a .c) (a .u) (a .masks .now) (a .low .now) (c .before .before .raise-all .last .1 .0) (c .before .before .before .before .before .if1 .left) (c .before .before .raise-all .ensures)
+returns-2 c =
+    let r = c .before .before in
+    let e = r .before .before .before in
+    let a = e .before .before .before .before .before .args in
+    outside (a .small .now) (a .c) (a .u) (a .masks .now) (a .low .now) (r .raise-all .last .1 .0) (rw (e .before .master .ensures) at (e .if1 .left)) (r .raise-all .ensures)
 
 returns-3 : tie.Need-returns-3
 returns-3 c = let a = c .before .before .before .before .before .before .args in stays (a .small .now) (a .c) (a .u) (a .masks .now) (a .low .now) (nothing (a .small .now) (a .c) (a .u) (c .if2 .left))
@@ -49,8 +56,7 @@ pub raise-spec : {M : Type 1} → statement M
 raise-spec =
     tie.close
     (tie.spec
-    (λ c. search needs)
-    (λ c. search needs)
+    (λ c κs. search needs)
     returns
     (λ c κs. search needs)
     (λ c. search needs)

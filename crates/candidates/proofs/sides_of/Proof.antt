@@ -6,6 +6,7 @@ use native.Mathlib.Omega.{arith}
 use borrow.Author.Needs.{needs}
 use lib.ListN.{length, length-set}
 use Rattle.layout.specs.Body.{startOf}
+use Rattle.meaning.specs.Numbers.{mostCharts}
 use Rattle.checks.specs.Known.Laws.{in-all, start-next}
 use Rattle.candidates.specs.Candidates.{Sided}
 use Rattle.candidates.specs.Candidates.Laws.{sided-none, sided-next}
@@ -14,7 +15,7 @@ use Rattle.candidates.proofs.sides_of.Tie as tie
 
 abbrev Inv-loop : tie.InvT-loop
 Inv-loop n body config masks small may₀ low₀ start₀ c₀ may low start c =
-    (c ≤ n .charts) × (start ≡ startOf n body c) × (length may ≡ 8) × (length low ≡ 8) × Sided n body config low₀ masks small c may low
+    (c ≤ n .charts) × (start ≡ startOf n body c) × (length may ≡ mostCharts) × (length low ≡ mostCharts) × Sided n body config low₀ masks small c may low
 
 abbrev μ-loop : tie.MeasureT-loop
 μ-loop n body config masks small may₀ low₀ start₀ c₀ may low start c = n .charts - c

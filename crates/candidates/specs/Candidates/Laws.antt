@@ -25,7 +25,7 @@ use Rattle.layout.specs.declared.record.Transition.{Transition}
 use Rattle.layout.specs.declared.record.Head.{Head}
 use Rattle.meaning.specs.Count.{tally, one}
 use Rattle.meaning.specs.Check.{leaving}
-use Rattle.meaning.specs.Numbers.{stayEdition}
+use Rattle.meaning.specs.Numbers.{mostCharts, mostFromState, stayEdition}
 use Rattle.meaning.specs.Meaning.{Set, same, Move, noMove, takes, stay, nth, pick, actionOf, moves}
 use Rattle.meaning.specs.File.{chartOf, fileAt}
 use Rattle.meaning.specs.Laws.Bools.{same-refl, same→≡, same-≢}
@@ -33,8 +33,8 @@ use Rattle.wiring.specs.Wire.{join, Small, full}
 use Rattle.wiring.specs.Dropped.{join-cong}
 use Rattle.wiring.specs.Sure.{sureOf, sureIn, sure-small}
 use Rattle.wiring.specs.Hunt.{mayOf, behind-empty}
-use Rattle.search.specs.Table.{backAt, Row}
-use Rattle.tables.specs.Fill.{Filling, considered, listing, lastsBy, isAgain, putMasks, putSmall, put, pickFilling, othersAt, sureAt, Raised, Until, AheadFrom}
+use Rattle.cells.specs.Table.{backAt, putMasks, Row, countCell, stateCell, putSmall}
+use Rattle.tables.specs.Fill.{Filling, considered, listing, lastsBy, isAgain, put, pickFilling, othersAt, sureAt, Raised, Until, AheadFrom}
 use Rattle.tables.specs.Fill.Laws.{length-masks, length-small, leave-room, count-few, until-next, chosen, raised-none, raised-next, raised-same}
 use Rattle.candidates.specs.declared.Around.{Around}
 use Rattle.candidates.specs.declared.Puts.{Puts}
@@ -176,11 +176,11 @@ module _ (a : Around) (g : ℕ → Transition) (f : Filling) where
   pub left-tabled : (N p : ℕ) (m s : List ℕ) (k : ℕ) → Left (listingBy a g p f) m s k → Tabled N (f .masks) (f .small) → Tabled N m s
   left-tabled N p m s k h t = record { masks = rw (left-masks p m s k h) (t .masks); small = left-small p m s k h ∙ t .small }
 
-  module _ (z : f .count ≡ 0) (count : ℕ) (few : tally count (λ u. one (same (g u .from) (a .state))) ≤ 8) where
-    pub left-few : (p : ℕ) (m s : List ℕ) (k : ℕ) → Left (listingBy a g p f) m s k → p ≤ count → k ≤ 8
+  module _ (z : f .count ≡ 0) (count : ℕ) (few : tally count (λ u. one (same (g u .from) (a .state))) ≤ mostFromState) where
+    pub left-few : (p : ℕ) (m s : List ℕ) (k : ℕ) → Left (listingBy a g p f) m s k → p ≤ count → k ≤ mostCharts
     left-few p m s k h l = rw (h .count) (count-few (a .chart) (a .state) (a .low) (a .own) (a .others) g p count f z l few)
 
-    pub left-room : (p : ℕ) (m s : List ℕ) (k : ℕ) → Left (listingBy a g p f) m s k → p < count → g p .from ≡ a .state → k < 8
+    pub left-room : (p : ℕ) (m s : List ℕ) (k : ℕ) → Left (listingBy a g p f) m s k → p < count → g p .from ≡ a .state → k < mostCharts
     left-room p m s k h l e = rw (h .count) (leave-room (a .chart) (a .state) (a .low) (a .own) (a .others) g p count f z l few e)
 
 -- ── the charts' transitions ──
@@ -224,22 +224,22 @@ module _ (n : Shape) (b config : List ℕ) where
         })
 
   module _ (r : Ready n b config) (c start : ℕ) (head : Head) (l : c < n .charts) (es : start ≡ startOf n b c) (eh : head ≡ headAt n b c) where
-    pub chart-room : tally (head .transitions) (λ u. one (same (fromStart n b start u .from) (getD config c 0))) ≤ 8
+    pub chart-room : tally (head .transitions) (λ u. one (same (fromStart n b start u .from) (getD config c 0))) ≤ mostFromState
     unfolding leaving
     chart-room = rw (es, eh) (r .room c l)
 
   -- the table of chart c's candidates is made by its transitions
   pub chart-next : Ready n b config → (lows may : List ℕ) → Mays n b config (n .charts) may → (m s : List ℕ) (c start : ℕ) (head : Head) (own others : Set) (m′ s′ : List ℕ) (k : ℕ)
       → Tabled (n .charts) m s → c < n .charts → start ≡ startOf n b c → head ≡ headAt n b c → own ≡ backAt m c c → others ≡ othersAt m (n .charts) (λ e. getD may e 0) c
-      → Left (listing c (getD config c 0) (getD lows c 0) own others (fromStart n b start) (head .transitions) (filling m s 0)) m′ s′ k → NextChart n b config lows c m s m′ (set s′ (64 + c) k)
+      → Left (listing c (getD config c 0) (getD lows c 0) own others (fromStart n b start) (head .transitions) (filling m s 0)) m′ s′ k → NextChart n b config lows c m s m′ (set s′ (countCell c) k)
   unfolding transitionsOf chartOf leaving othersAt
   chart-next r lows may my m s c start head own others m′ s′ k tb l es eh eo et h m₀ s₀ un =
-      subst (λ z. UntilChart n b config lows m₀ s₀ z m′ (set s′ (64 + c) k)) (sym (add-one c))
-      (rw (h .masks, h .small, h .count, es, eh) (subst (λ z. Until (chartOf n b) (λ d. getD config d 0) (n .charts) lows m₀ s₀ (suc c) (made z .masks) (set (made z .small) (64 + c) (made z .count)))
+      subst (λ z. UntilChart n b config lows m₀ s₀ z m′ (set s′ (countCell c) k)) (sym (add-one c))
+      (rw (h .masks, h .small, h .count, es, eh) (subst (λ z. Until (chartOf n b) (λ d. getD config d 0) (n .charts) lows m₀ s₀ (suc c) (made z .masks) (set (made z .small) (countCell c) (made z .count)))
       (length-from (transitionAt n b) (startOf n b c) (headAt n b c .transitions))
       (until-next (chartOf n b) (λ d. getD config d 0) (n .charts) lows m₀ s₀ (r .sized .charts) c l m s (getD lows c 0) own others (fromStart n b (startOf n b c)) (tb .masks) un
       (λ u q. nth-from (transitionAt n b) (startOf n b c) (headAt n b c .transitions) u (subst (λ z. u < z) (length-from (transitionAt n b) (startOf n b c) (headAt n b c .transitions)) q))
-      (subst (λ z. tally z (λ u. one (same (fromStart n b (startOf n b c) u .from) (getD config c 0))) ≤ 8) (sym (length-from (transitionAt n b) (startOf n b c) (headAt n b c .transitions))) (r .room c l))
+      (subst (λ z. tally z (λ u. one (same (fromStart n b (startOf n b c) u .from) (getD config c 0))) ≤ mostFromState) (sym (length-from (transitionAt n b) (startOf n b c) (headAt n b c .transitions))) (r .room c l))
       refl eo (et ∙ join-cong (n .charts) _ _ (λ e q. ap (λ z. cond (same e c) 0 z ∩ backAt m c e) (my e q))))))
     where
       made : ℕ → Filling
@@ -261,17 +261,17 @@ chart-tabled N c q low own others g p m s m′ s′ k d h t =
 pub stated-none : (config s : List ℕ) → Stated config 0 s s
 stated-none config s = record { states = λ c l. absurd (omega arith); below = λ i l. refl; small = refl }
 
-pub stated-next : (config : List ℕ) (c : ℕ) (s₀ s : List ℕ) → Stated config c s₀ s → 88 + c < length s₀ → Stated config (c + 1) s₀ (set s (88 + c) (getD config c 0))
+pub stated-next : (config : List ℕ) (c : ℕ) (s₀ s : List ℕ) → Stated config c s₀ s → stateCell c < length s₀ → Stated config (c + 1) s₀ (set s (stateCell c) (getD config c 0))
 stated-next config c s₀ s h l =
     record {
       states = λ d r. go d r (same d c) refl;
-      below = λ i r. getD-set-other s (88 + c) i (getD config c 0) 0 (λ e. omega arith) ∙ h .below i r;
-      small = length-set s (88 + c) (getD config c 0) ∙ h .small;
+      below = λ i r. getD-set-other s (stateCell c) i (getD config c 0) 0 (λ e. omega arith) ∙ h .below i r;
+      small = length-set s (stateCell c) (getD config c 0) ∙ h .small;
     }
   where
-    go : (d : ℕ) → d < c + 1 → (x : Bool) → same d c ≡ x → getD (set s (88 + c) (getD config c 0)) (88 + d) 0 ≡ getD config d 0
-    go d r true e = rw (same→≡ d c e) (getD-set-same s (88 + c) (getD config c 0) 0 (let k = h .small in omega arith))
-    go d r false e = let z : d ≢ c = λ w. false≢true (sym e ∙ rw w (same-refl c)) in getD-set-other s (88 + c) (88 + d) (getD config c 0) 0 (λ w. omega arith) ∙ h .states d (omega arith)
+    go : (d : ℕ) → d < c + 1 → (x : Bool) → same d c ≡ x → getD (set s (stateCell c) (getD config c 0)) (stateCell d) 0 ≡ getD config d 0
+    go d r true e = rw (same→≡ d c e) (getD-set-same s (stateCell c) (getD config c 0) 0 (let k = h .small in omega arith))
+    go d r false e = let z : d ≢ c = λ w. false≢true (sym e ∙ rw w (same-refl c)) in getD-set-other s (stateCell c) (stateCell d) (getD config c 0) 0 (λ w. omega arith) ∙ h .states d (omega arith)
 
 -- ── all of it ──
 

@@ -13,7 +13,7 @@ use Rattle.signals.specs.All.{cut-all}
 use Rattle.layout.specs.Le.{AllBytes}
 use Rattle.layout.specs.Body.{headAt, startOf, transitionAt, transitionsOf}
 use Rattle.layout.specs.declared.body.Shape.{Shape}
-use Rattle.meaning.specs.Numbers.{stayPlace, shortBuffer, noStep, mostFromState}
+use Rattle.meaning.specs.Numbers.{mostFromState, stayPlace, shortBuffer, noStep}
 use Rattle.meaning.specs.Count.{anyUpTo}
 use Rattle.meaning.specs.Count.Laws.{or-right, any-never}
 use Rattle.meaning.specs.Meaning.{Set, same, Answer, refused, given}
@@ -25,7 +25,7 @@ use Rattle.meaning.specs.Calls.{configTests, stepRefusal, stepIn, stepOf, allPl
 use Rattle.meaning.specs.Calls.Laws.{behind-refused as places-refused}
 use Rattle.meaning.specs.Laws.Names.{kap}
 use Rattle.wiring.specs.Wire.{Small, full, down}
-use Rattle.search.specs.Table.{Row}
+use Rattle.cells.specs.Table.{upCell, backCell, Row, masterCell, slaveStateCell, masterAt}
 use Rattle.search.specs.declared.Found.{Found}
 use Rattle.tables.specs.Filled.{Rows, answerOf, trimmed}
 use Rattle.tables.specs.Step.{step-found, step-places}
@@ -152,10 +152,10 @@ module _ (n : Shape) (b a m s m′ s′ config base lows : List ℕ) (sz : Sized
   wired-again =
       record {
         down-is = p .wired .down-is;
-        up-is = λ d l. ch .ups d l ∙ p .wired .up-is d l;
-        back-is = λ c d l r. ch .wires (8 + (8 * d + c)) (omega arith) (omega arith) ∙ p .wired .back-is c d l r;
+        up-is = λ d l. ch .ups (upCell d) (omega (arith, sz .charts)) ∙ p .wired .up-is d l;
+        back-is = λ c d l r. ch .wires (backCell c d) (omega arith) (omega (arith, sz .charts)) ∙ p .wired .back-is c d l r;
         nearest-is = λ c l. let q = p .wired .nearest-is c l in
-            (ch .masters (72 + c) (omega (arith, sz .charts)) (omega (arith, sz .charts)) ∙ q .0, ch .masters (80 + c) (omega (arith, sz .charts)) (omega (arith, sz .charts)) ∙ q .1);
+            (ch .masters (masterCell c) (omega (arith, sz .charts)) (omega (arith, sz .charts)) ∙ q .0, ch .masters (slaveStateCell c) (omega (arith, sz .charts)) (omega (arith, sz .charts)) ∙ q .1);
       }
 
   pub prepared-again : Prepared n b a m′ s′
@@ -172,9 +172,9 @@ module _ (n : Shape) (b a m s m′ s′ config base lows : List ℕ) (sz : Sized
   rows =
       record {
         few = sz .charts;
-        back-at = λ c d l r. wired-again .back-is c d (omega (arith, sz .charts)) (omega (arith, sz .charts));
-        up-at = λ d l. wired-again .up-is d (omega (arith, sz .charts));
-        outside = λ c l e. let q : getD s′ (72 + c) 0 ≡ 255 = wired-again .nearest-is c l .0 ∙ ap (masterBy F) e in omega arith;
+        back-at = λ c d l r. wired-again .back-is c d (omega (arith, sz .charts)) r;
+        up-at = λ d l. wired-again .up-is d l;
+        outside = λ c l e. let q : masterAt s′ c ≡ 255 = wired-again .nearest-is c l .0 ∙ ap (masterBy F) e in omega arith;
         inside = λ c i l e. let q = wired-again .nearest-is c l in (q .0 ∙ ap (masterBy F) e, q .1 ∙ ap (stateBy F) e);
         state-at = ch .chosen .state-at;
       }

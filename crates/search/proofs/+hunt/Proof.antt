@@ -14,12 +14,14 @@ use borrow.Fn.Kinds.{In}
 use borrow.Fn.PlainCycle.{Measures, is, falls, and}
 use lib.Dec.{eqb}
 use Rattle.signals.specs.Mask.{_∪_, _∩_, apart}
+use Rattle.meaning.specs.Numbers.{mostCharts, mostFromState}
 use Rattle.meaning.specs.Meaning.{Outcome}
 use Rattle.meaning.specs.Laws.Bools.{and-l, and-r, same-refl, same-≢}
 use Rattle.search.specs.declared.Found.{Found}
 use Rattle.search.specs.declared.Guard.{Guard}
-use lib.ListN.{length, getD}
-use Rattle.search.specs.Table.{masksFor, actionAt, upAt, countAt}
+use lib.ListN.{length}
+use Rattle.cells.specs.Table.{masksFor, actionAt, upAt, countAt}
+use Rattle.cells.specs.Triggers.{toldAt}
 use Rattle.search.specs.Trail.{Trail, trailIn, Keeps}
 use Rattle.search.specs.Trail.Laws.{keeps-refl, keeps-trans, keeps-fewer, keeps-room, trail-kept}
 use Rattle.search.specs.Hunt.{each, wakes, taken, rested, fineAt, outcomeIn, settleOf, over, foundIn, Held, Takes}
@@ -33,6 +35,8 @@ use Rattle.search.proofs.hunt.Kinds as hunt-kinds
 use Rattle.search.proofs.+hunt.Lts-hunt as lts
 use Rattle.search.proofs.all_calm.Reads as all-calm-reads
 use Rattle.search.proofs.asks.Reads as asks-reads
+use Rattle.cells.proofs.small.count.Reads as count-reads
+use Rattle.cells.proofs.triggers.told.Reads as told-reads
 use Rattle.search.proofs.disagree.Reads as disagree-reads
 use Rattle.search.proofs.fits.Reads as fits-reads
 use Rattle.search.proofs.rest.Reads as rest-reads
@@ -134,7 +138,7 @@ module _ (m s gs y : List ℕ) (charts left : ℕ) (some : left ≡ 0 → ⊥) (
     leaves fine = drops (taken m s (trailIn w₀ b₀ k o) k v) (ap (λ (u : Trail). fineAt m s u k) (sym here) ∙ sym fine)
 
   -- what the settled charts ask contradicts itself
-  module _ (few : charts ≤ 8) (w b : List ℕ) (o : ℕ) (g : Guard) (is : g ≡ asksOf m w k) where
+  module _ (few : charts ≤ mostCharts) (w b : List ℕ) (o : ℕ) (g : Guard) (is : g ≡ asksOf m w k) where
     -- what an inactive chart's beginning is tested by, and one's that stays
     rest-fine : (z : Bool) → eqb (g .needed) 0 ≡ z → fineAt m s (rested m s (trailIn w b k o) k) k ≡ z
     rest-fine z h = fine-rested m s w b k o (omega arith) ∙ ap (λ (a : Guard). eqb (a .needed) 0) (sym is) ∙ h
@@ -149,7 +153,7 @@ module _ (m s gs y : List ℕ) (charts left : ℕ) (some : left ≡ 0 → ⊥) (
         t : Trail
         t = trailIn w b k o
 
-        few′ : k < 8
+        few′ : k < mostCharts
         few′ = omega arith
 
         h′ : apart (asksOf m w k .needed) (asksOf m w k .barred) ≡ false
@@ -171,13 +175,13 @@ module _ (m s gs y : List ℕ) (charts left : ℕ) (some : left ≡ 0 → ⊥) (
 
 -- staying is not open, or is
 module _ (m s gs y : List ℕ) (left k : ℕ) (t : Trail) (f : Found) where
-  shut-last : getD y k 0 ≡ 0 → over (last m s gs y left k t) f ≡ f
+  shut-last : toldAt y k ≡ 0 → over (last m s gs y left k t) f ≡ f
   unfolding staysAt over
   shut-last h = rw (h, same-refl 0)
 
-  open-last : (getD y k 0 ≡ 0 → ⊥) → over (last m s gs y left k t) f ≡ over (below m s gs y left k (stayed m s t k)) f
+  open-last : (toldAt y k ≡ 0 → ⊥) → over (last m s gs y left k t) f ≡ over (below m s gs y left k (stayed m s t k)) f
   unfolding staysAt
-  open-last h = rw (same-≢ (getD y k 0) 0 h)
+  open-last h = rw (same-≢ (toldAt y k) 0 h)
 
 -- a settled chart that stays is surely triggered
 not-calm : (m s gs y : List ℕ) (left k : ℕ) (t : Trail) (f : Found) → calmAll m s gs y t k ≡ false → f ≡ over (huntsCalm m s gs y left k t) f
@@ -221,6 +225,8 @@ callees t = (
   rest-reads.Learnt,
   and 8 hunt-kinds.ps (falls 8 hunt-kinds.ps _<_ μ-hunt t) hunt.Pre,
   hunt.Post,
+  count-reads.Asked,
+  count-reads.Learnt,
   fits-reads.Asked,
   fits-reads.Learnt,
   take-reads.Asked,
@@ -229,6 +235,8 @@ callees t = (
   shown-by-reads.Learnt,
   disagree-reads.Asked,
   disagree-reads.Learnt,
+  told-reads.Asked,
+  told-reads.Learnt,
   stay-reads.Asked,
   stay-reads.Learnt,
 )
@@ -376,22 +384,22 @@ module _ (t : ℕ) where
         held = c .hunt .ensures .held;
       }
 
-  cast-n : lts.Need-cast-n (callees t) (at t) hunt.Post Inv-loop μ-loop
-  cast-n c =
-      let p = c .before .before .before .before .before in
+  count-requires : lts.Need-count-requires (callees t) (at t) hunt.Post Inv-loop μ-loop
+  count-requires c κs =
+      let p = c .before .before .before .before in
       let b = entry p in
       let some = some-left p in
-      omega (arith, b .pre .1 .0 .counts (b .args .charts - b .args .left) (omega (arith, b .pre .1 .4)))
+      (b .pre .1 .0 .small, omega (arith, b .pre .1 .3, b .pre .1 .4))
 
   loop-holds : lts.Need-loop-holds (callees t) (at t) hunt.Post Inv-loop μ-loop
   unfolding each over
   loop-holds c = let b = entry (c .before .before .before .before .before) in (omega arith, keeps-refl _ _ _, refl, b .pre .1 .2)
 
-  -- from the loop's head: where what is asked was tested; that a candidate's number is below 8
+  -- from the loop's head: where what is asked was tested; that the chart's number is below mostCharts, and a candidate's below mostFromState
   abbrev tested : lts.At-loop (callees t) (at t) hunt.Post Inv-loop μ-loop → lts.After-apart (callees t) (at t) hunt.Post Inv-loop μ-loop
   tested c = c .before .before .before .before .before .before
 
-  few : (c : lts.At-loop (callees t) (at t) hunt.Post Inv-loop μ-loop) → entry (tested c) .args .charts - entry (tested c) .args .left < 8
+  few : (c : lts.At-loop (callees t) (at t) hunt.Post Inv-loop μ-loop) → entry (tested c) .args .charts - entry (tested c) .args .left < mostCharts
   few c = let b = entry (tested c) in let some = some-left (tested c) in omega (arith, b .pre .1 .3, b .pre .1 .4)
 
   roomy : (c : lts.At-loop (callees t) (at t) hunt.Post Inv-loop μ-loop) →
@@ -399,13 +407,11 @@ module _ (t : ℕ) where
       masksFor (a .charts - a .left + 1) ≤ length (a .masks .now)
   roomy c = let b = entry (tested c) in let some = some-left (tested c) in omega (arith, b .pre .1 .0 .masks, b .pre .1 .4)
 
-  counted : (c : lts.At-loop (callees t) (at t) hunt.Post Inv-loop μ-loop) →
-      let a = entry (tested c) .args in
-      countAt (a .small .now) (a .charts - a .left) ≤ 8
+  counted : (c : lts.At-loop (callees t) (at t) hunt.Post Inv-loop μ-loop) → c .before .count .result ≤ mostFromState
   counted c =
       let b = entry (tested c) in
       let some = some-left (tested c) in
-      b .pre .1 .0 .counts (b .args .charts - b .args .left) (omega (arith, b .pre .1 .4))
+      omega (arith, c .before .count .ensures, b .pre .1 .0 .counts (b .args .charts - b .args .left) (omega (arith, b .pre .1 .4)))
 
   -- what the charts left give is what all candidates of chart k give, and then its staying
   whole : (c : lts.At-loop (callees t) (at t) hunt.Post Inv-loop μ-loop) →
@@ -486,10 +492,10 @@ module _ (t : ℕ) where
       let end : Stopped r′ = stopped r′ (sym (c .before .disagree .ensures (h .hunt2 .last .1 .1 .1 .1 .1 .1 .1 .0)) ∙ c .if7 .taken) in
       record {
         found = e ∙ sym (over-each-stopped all (foundIn (a .best .now) (a .shown .now)) (countAt s k) (l .loop .v + 1)
-            (omega (arith, r .before .before .before .before .before .before .loop-test .taken)) (rw e at end))
+            (omega (arith, l .before .count .ensures, r .before .before .before .before .before .before .loop-test .taken)) (rw e at end))
             ∙ sym (over-stopped (last m s gs y (a .left) k (trailIn (a .trail .now) (a .moves .now) k (a .output))) _
             (subst Stopped (e ∙ sym (over-each-stopped all (foundIn (a .best .now) (a .shown .now)) (countAt s k) (l .loop .v + 1)
-            (omega (arith, r .before .before .before .before .before .before .loop-test .taken)) (rw e at end))) end))
+            (omega (arith, l .before .count .ensures, r .before .before .before .before .before .before .loop-test .taken)) (rw e at end))) end))
             ∙ sym (whole l);
         kept = one .0;
         held = h .hunt2 .ensures .held;
@@ -529,8 +535,8 @@ module _ (t : ℕ) where
       (c .if6 .came) in
       (omega arith, e .0, rw (over-each, ← l .loop .inv .2) (e .1), e .2)
 
-  stays-read : lts.Need-shared-slice-read-if8 (callees t) (at t) hunt.Post Inv-loop μ-loop
-  stays-read c = let l = c .before .before in let b = entry (tested l) in omega (arith, few l, b .pre .1 .5 .small)
+  told-requires : lts.Need-told-requires (callees t) (at t) hunt.Post Inv-loop μ-loop
+  told-requires c κs = let l = c .before in let b = entry (tested l) in (b .pre .1 .5 .small, few l)
 
   sub-left-3 : lts.Need-sub-hunt-3 (callees t) (at t) hunt.Post Inv-loop μ-loop
   sub-left-3 c = let some = some-left (tested (c .before .before .before .before .before .before .before .before .before .before .before .before)) in omega arith
@@ -545,7 +551,7 @@ module _ (t : ℕ) where
   tried c =
       let l = c .before in
       let a = entry (tested l) .args in
-      let e : l .loop .v ≡ countAt (a .small .now) (a .charts - a .left) = omega arith in
+      let e : l .loop .v ≡ countAt (a .small .now) (a .charts - a .left) = omega (arith, l .before .count .ensures) in
       rw (← e) (l .loop .inv .2)
 
   returns-7 : lts.Need-returns-7 (callees t) (at t) hunt.Post Inv-loop μ-loop
@@ -560,7 +566,7 @@ module _ (t : ℕ) where
       let k = a .charts - a .left in
       let u = trailIn (a .trail .now) (a .moves .now) k (a .output) in
       record {
-        found = sym (shut-last m s gs y (a .left) k u (foundIn (l .loop .best) (l .loop .shown)) (c .if8 .taken)) ∙ ap (over (last m s gs y (a .left) k u)) (tried (c .before .before)) ∙ sym (whole l);
+        found = sym (shut-last m s gs y (a .left) k u (foundIn (l .loop .best) (l .loop .shown)) (sym (c .before .told .ensures) ∙ c .if8 .taken)) ∙ ap (over (last m s gs y (a .left) k u)) (tried (c .before .before)) ∙ sym (whole l);
         kept = l .loop .inv .1;
         held = l .loop .inv .3;
       }
@@ -582,7 +588,7 @@ module _ (t : ℕ) where
             drops m s gs y (a .charts) (a .left) (some-left (tested l)) (b .pre .1 .4) f (stayed m s u k)
             (stay-fine m s gs y (a .charts) (a .left) (some-left (tested l)) (b .pre .1 .4) f (b .pre .1 .3) (a .trail .now) (a .moves .now)
             (a .output) (tested l .before .asks .result) (tested l .before .asks .ensures) false (ne-eqb _ _ (c .if9 .taken)))
-            ∙ sym (open-last m s gs y (a .left) k u f (c .before .before .if8 .left)) ∙ ap (over (last m s gs y (a .left) k u)) (tried (c .before .before .before .before)) ∙ sym (whole l);
+            ∙ sym (open-last m s gs y (a .left) k u f (λ e. c .before .before .if8 .left (c .before .before .before .told .ensures ∙ e))) ∙ ap (over (last m s gs y (a .left) k u)) (tried (c .before .before .before .before)) ∙ sym (whole l);
         kept = l .loop .inv .1;
         held = l .loop .inv .3;
       }
@@ -627,7 +633,7 @@ module _ (t : ℕ) where
             (r .stay .ensures .grown m (a .output) ∙ ap (λ (x : Trail). stayed m s x k) (trail-kept (l .loop .inv .1) (a .output)))
             (stay-fine m s gs y (a .charts) (a .left) some (b .pre .1 .4) f (b .pre .1 .3) (a .trail .now) (a .moves .now)
             (a .output) (tested l .before .asks .result) (tested l .before .asks .ensures) true (eq-eqb _ _ (e9 .if9 .left)))
-            ∙ sym (open-last m s gs y (a .left) k u f (e8 .if8 .left)) ∙ ap (over (last m s gs y (a .left) k u)) (tried (e8 .before .before)) ∙ sym (whole l);
+            ∙ sym (open-last m s gs y (a .left) k u f (λ e. e8 .if8 .left (e8 .before .told .ensures ∙ e))) ∙ ap (over (last m s gs y (a .left) k u)) (tried (e8 .before .before)) ∙ sym (whole l);
         kept = keeps-trans (l .loop .inv .1) (keeps-trans (r .stay .ensures .kept) (keeps-fewer (a .charts - (a .left - 1)) z (c .hunt3 .ensures .kept)));
         held = c .hunt3 .ensures .held;
       }
@@ -638,6 +644,6 @@ pub +hunt-spec : {M : Type 1} → statement M
     (λ t. lts.spec (callees t) (at t) hunt.Post Inv-loop μ-loop (λ c. omega (arith, c .before .before .before .before .pre .1 .4)) (all-calm-requires t) (returns t)
     (settle-requires t) (returns-2 t)
     (asks-requires t) (λ c κs. search needs) (returns-3 t) (wakes-requires t) (returns-4 t) (rest-requires t) (λ c. omega arith) (hunt-requires t)
-    (returns-5 t) (λ c. omega arith) (λ c. omega arith) (cast-n t) (loop-holds t) (fits-requires t) (take-requires t) (shown-by-requires t)
+    (returns-5 t) (count-requires t) (loop-holds t) (fits-requires t) (take-requires t) (shown-by-requires t)
     (sub-left t) (hunt-requires-2 t) (λ c κs. search needs) (returns-6 t) (add-v t) (λ c. omega arith) (loop-again t)
-    (stays-read t) (returns-7 t) (returns-8 t) (stay-requires t) (sub-left-3 t) (hunt-requires-3 t) (returns-9 t))
+    (told-requires t) (returns-7 t) (returns-8 t) (stay-requires t) (sub-left-3 t) (hunt-requires-3 t) (returns-9 t))

@@ -25,7 +25,7 @@ loop-holds c = (omega arith, λ s o. every-none _)
 returns : tie.Need-returns Inv-loop μ-loop
 returns c s o =
     let e = c .before .before .before .before .before in
-    sym (calm-all _ s _ _ (e .pre .1) (c .if1 .taken) _ (e .args .k) (e .pre .2))
+    sym (calm-all _ s _ _ (e .pre .1) (sym (c .before .some-stay .ensures) ∙ c .if1 .taken) _ (e .args .k) (e .pre .2))
 
 calm-requires : tie.Need-calm-requires Inv-loop μ-loop
 calm-requires c κs = let e = c .before .before .before .before .before .before .before in (e .pre .0, e .pre .1, e .pre .2, omega arith)
@@ -48,4 +48,4 @@ returns-3 c s o =
 
 pub all-calm-spec : {M : Type 1} → statement M
 all-calm-spec =
-    tie.close (tie.spec Inv-loop μ-loop (λ c. omega (arith, c .before .before .before .before .pre .1 .small)) returns loop-holds calm-requires returns-2 (λ c. omega arith) (λ c. omega arith) loop-again returns-3)
+    tie.close (tie.spec Inv-loop μ-loop (λ c κs. c .before .before .before .pre .1 .small) returns loop-holds calm-requires returns-2 (λ c. omega arith) (λ c. omega arith) loop-again returns-3)

@@ -1,12 +1,11 @@
 -- `search::asks` meets its contract: what the charts below d ask is joined.
-use mathlib.Core.Path.{_≡_, refl, ap, ap₂, _∙_}
+use mathlib.Core.Path.{_≡_, refl, ap₂}
 use Prim.Native.Nat.{ℕ, _+_, _-_, _≤_}
 use native.Mathlib.Numerals.{add-one}
 use native.Mathlib.Omega.{arith}
-use Rattle.signals.specs.Mask.{_∪_, _∩_, _∖_}
+use borrow.Author.Needs.{needs}
+use Rattle.signals.specs.Mask.{_∪_}
 use Rattle.wiring.specs.Wire.{join}
-use Rattle.search.specs.Table.{backAt}
-use Rattle.search.specs.Trail.{lowIn, barredIn}
 use Rattle.search.specs.Asks.{wantsIn, bansIn, asksOf}
 use Rattle.search.proofs.asks.Statement.{statement}
 use Rattle.search.proofs.asks.Tie as tie
@@ -29,17 +28,20 @@ loop-holds c = (omega arith, refl, refl)
 
 loop-again : tie.Need-loop-again Inv-loop μ-loop
 loop-again c =
-    let i = c .before .before .before .before .before .before .before .before in
-    let l = i .loop in
-    let a = i .before .before .args in
+    let bars = c .before .barred .ensures in
+    let less = c .before .before .less .ensures in
+    let needs = c .before .before .before .needed .ensures in
+    let t = c .before .before .before .before in
+    let ahead = t .ahead .ensures in
+    let back = t .before .back .ensures in
+    let low = t .before .before .low .ensures in
+    let l = t .before .before .before .before .loop in
+    let a = t .before .before .before .before .before .before .args in
     let m = a .masks .now in
-    let w = a .trail .now in
-    let e = c .before .before .less .ensures in (
+    let w = a .trail .now in (
       omega arith,
-      join-more (l .d) (wantsIn m w (a .k)) _ _ (l .inv .1) (ap (λ (t : ℕ). t ∪ barredIn w (l .d) ∩ lowIn w (a .k) (l .d)) e),
-      join-more (l .d) (bansIn m w (a .k)) _ _ (l .inv .2)
-          (ap (λ (t : ℕ). t ∪ barredIn w (l .d) ∩ (lowIn w (a .k) (l .d) ∪ backAt m (l .d) (a .k)))
-          (c .less2 .ensures ∙ ap (λ (t : ℕ). t ∖ backAt m (l .d) (a .k)) e)),
+      join-more (l .d) (wantsIn m w (a .k)) _ _ (l .inv .1) (rw (less, needs, ahead, bars, low)),
+      join-more (l .d) (bansIn m w (a .k)) _ _ (l .inv .2) (rw (c .less2 .ensures, less, needs, ahead, bars, back, low)),
     )
 
 returns : tie.Need-returns Inv-loop μ-loop
@@ -52,8 +54,5 @@ returns c =
 pub asks-spec : {M : Type 1} → statement M
 asks-spec =
     tie.close
-    (tie.spec Inv-loop μ-loop loop-holds (λ c. omega arith) (λ c. omega arith) (λ c. omega arith) (λ c. omega arith) (λ c. omega arith)
-    (λ c. omega arith) (λ c. omega arith) (λ c. omega arith) (λ c. omega arith) (λ c. omega arith) (λ c. omega arith) (λ c. omega arith)
-    (λ c. omega arith) (λ c. omega arith) (λ c. omega arith) (λ c. omega arith) (λ c. omega arith) (λ c. omega arith) (λ c. omega arith)
-    (λ c κs. omega arith) (λ c. omega arith) (λ c. omega arith) (λ c. omega arith) (λ c. omega arith) (λ c κs. omega arith) (λ c. omega arith)
-    (λ c. omega arith) loop-again returns)
+    (tie.spec Inv-loop μ-loop loop-holds (λ c κs. search needs) (λ c κs. search needs) (λ c. omega arith) (λ c κs. search needs) (λ c κs. search needs)
+    (λ c κs. tt) (λ c κs. search needs) (λ c κs. tt) (λ c. omega arith) (λ c. omega arith) loop-again returns)

@@ -4,15 +4,16 @@ use mathlib.Core.List.{List}
 use Prim.Native.Nat.{ℕ, _+_}
 use borrow.Author.Needs.{needs}
 use lib.ListN.{getD}
+use Rattle.meaning.specs.Numbers.{mostCharts}
 use Rattle.meaning.specs.Meaning.{same}
 use Rattle.meaning.specs.Calls.{made}
 use Rattle.search.specs.declared.Found.{Found}
-use Rattle.search.specs.Hunt.{foundIn}
+use Rattle.search.specs.Hunt.{placesCell, hasCell, agreeCell, foundIn}
 use Rattle.search.proofs.found_in.Statement.{statement}
 use Rattle.search.proofs.found_in.Tie as tie
 
-read : (f g n p : List ℕ) → n ≡ made 8 (λ c. getD f (0 + c) 0) → p ≡ made 8 (λ c. getD f (8 + c) 0)
-    → _≡_ {A = Found} (record { has = same (getD f 16 0) 1; agree = same (getD f 17 0) 1; output = getD g 0 0; next = n; places = p }) (foundIn f g)
+read : (f g n p : List ℕ) → n ≡ made mostCharts (λ c. getD f (0 + c) 0) → p ≡ made mostCharts (λ c. getD f (placesCell + c) 0)
+    → _≡_ {A = Found} (record { has = same (getD f hasCell 0) 1; agree = same (getD f agreeCell 0) 1; output = getD g 0 0; next = n; places = p }) (foundIn f g)
 read f g n p e q = rw (e, q)
 
 returns : tie.Need-returns

@@ -7,51 +7,51 @@ use native.Mathlib.Omega.{arith}
 use borrow.Author.Needs.{needs}
 use lib.ListN.{length, getD, set, replicate, length-set}
 use lib.Seq.{getD-set-same, getD-set-other}
-use Rattle.meaning.specs.Numbers.{noPlace}
+use Rattle.meaning.specs.Numbers.{mostCharts, noPlace}
 use Rattle.meaning.specs.Meaning.{same}
 use Rattle.meaning.specs.Calls.{made}
 use Rattle.meaning.specs.Calls.Laws.{made-cong}
-use Rattle.search.specs.Trail.{nextIn, placeIn, columnIn}
+use Rattle.cells.specs.Trail.{steps, nextIn, placeIn, columnIn}
 use Rattle.search.specs.Trail.Laws.{length-filled, column-next, made-list}
-use Rattle.search.specs.Hunt.{outcomeIn, firstFound, foundIn, Held, BytesPut}
+use Rattle.search.specs.Hunt.{placesCell, hasCell, agreeCell, foundSize, outcomeIn, firstFound, foundIn, Held, BytesPut}
 use Rattle.search.proofs.keep.Statement.{statement}
 use Rattle.search.proofs.keep.Tie as tie
 
 -- f was lent; f₁ has the next states, f₂ the places too
-module _ (f f₁ f₂ g b : List ℕ) (N o : ℕ) (few : N ≤ 8) (held : Held f g)
-    (h₁ : BytesPut 0 (columnIn b N 0 0) f f₁) (h₂ : BytesPut 8 (columnIn b N 2 noPlace) f₁ f₂) where
+module _ (f f₁ f₂ g b : List ℕ) (N o : ℕ) (few : N ≤ mostCharts) (held : Held f g)
+    (h₁ : BytesPut 0 (columnIn b N 0 0) f f₁) (h₂ : BytesPut placesCell (columnIn b N 2 noPlace) f₁ f₂) where
   abbrev f₃ : List ℕ
-  f₃ = set (set f₂ 16 1) 17 1
+  f₃ = set (set f₂ hasCell 1) agreeCell 1
 
-  size : length f₂ ≡ 18
+  size : length f₂ ≡ foundSize
   size = h₂ .long ∙ h₁ .long ∙ held .bytes
 
   pub keeps-held : Held f₃ (set g 0 o)
-  keeps-held = record { bytes = length-set (set f₂ 16 1) 17 1 ∙ length-set f₂ 16 1 ∙ size; output = length-set g 0 o ∙ held .output }
+  keeps-held = record { bytes = length-set (set f₂ hasCell 1) agreeCell 1 ∙ length-set f₂ hasCell 1 ∙ size; output = length-set g 0 o ∙ held .output }
 
   -- what stands before the two bytes
-  before : (i : ℕ) → i < 16 → getD f₃ i 0 ≡ getD f₂ i 0
-  before i l = getD-set-other (set f₂ 16 1) 17 i 1 0 (λ z. omega arith) ∙ getD-set-other f₂ 16 i 1 0 (λ z. omega arith)
+  before : (i : ℕ) → i < hasCell → getD f₃ i 0 ≡ getD f₂ i 0
+  before i l = getD-set-other (set f₂ hasCell 1) agreeCell i 1 0 (λ z. omega arith) ∙ getD-set-other f₂ hasCell i 1 0 (λ z. omega arith)
 
-  has-is : same (getD f₃ 16 0) 1 ≡ true
+  has-is : same (getD f₃ hasCell 0) 1 ≡ true
   unfolding same
-  has-is = let l : 16 < length f₂ = omega (arith, size) in
-      rw (getD-set-other (set f₂ 16 1) 17 16 1 0 (λ z. omega arith), getD-set-same f₂ 16 1 0 l)
+  has-is = let l : hasCell < length f₂ = omega (arith, size) in
+      rw (getD-set-other (set f₂ hasCell 1) agreeCell hasCell 1 0 (λ z. omega arith), getD-set-same f₂ hasCell 1 0 l)
 
-  agree-is : same (getD f₃ 17 0) 1 ≡ true
+  agree-is : same (getD f₃ agreeCell 0) 1 ≡ true
   unfolding same
-  agree-is = let l : 17 < length (set f₂ 16 1) = omega (arith, size, length-set f₂ 16 1) in rw (getD-set-same (set f₂ 16 1) 17 1 0 l)
+  agree-is = let l : agreeCell < length (set f₂ hasCell 1) = omega (arith, size, length-set f₂ hasCell 1) in rw (getD-set-same (set f₂ hasCell 1) agreeCell 1 0 l)
 
-  next-is : made 8 (λ c. getD f₃ (0 + c) 0) ≡ made N (nextIn b) ++ replicate (8 - N) 0
+  next-is : made mostCharts (λ c. getD f₃ (0 + c) 0) ≡ made N (nextIn b) ++ replicate (mostCharts - N) 0
   next-is =
-      made-cong 8 (λ c. getD f₃ (0 + c) 0) (λ c. getD (columnIn b N 0 0) c 0)
+      made-cong mostCharts (λ c. getD f₃ (0 + c) 0) (λ c. getD (columnIn b N 0 0) c 0)
       (λ c l. before (0 + c) (omega arith) ∙ h₂ .below (0 + c) (omega arith) ∙ h₁ .row c l)
-      ∙ made-list 8 (columnIn b N 0 0) (length-filled N (λ d. getD b (3 * d + 0) 0) 0 few) ∙ column-next b N 0
+      ∙ made-list mostCharts (columnIn b N 0 0) (length-filled N (λ d. getD b (steps * d + 0) 0) 0 few) ∙ column-next b N 0
 
-  places-are : made 8 (λ c. getD f₃ (8 + c) 0) ≡ columnIn b N 2 noPlace
+  places-are : made mostCharts (λ c. getD f₃ (placesCell + c) 0) ≡ columnIn b N 2 noPlace
   places-are =
-      made-cong 8 (λ c. getD f₃ (8 + c) 0) (λ c. getD (columnIn b N 2 noPlace) c 0) (λ c l. before (8 + c) (omega arith) ∙ h₂ .row c l)
-      ∙ made-list 8 (columnIn b N 2 noPlace) (length-filled N (placeIn b) noPlace few)
+      made-cong mostCharts (λ c. getD f₃ (placesCell + c) 0) (λ c. getD (columnIn b N 2 noPlace) c 0) (λ c l. before (placesCell + c) (omega arith) ∙ h₂ .row c l)
+      ∙ made-list mostCharts (columnIn b N 2 noPlace) (length-filled N (placeIn b) noPlace few)
 
   pub keeps-first : foundIn f₃ (set g 0 o) ≡ firstFound (outcomeIn b N o)
   keeps-first = let l : 0 < length g = omega (arith, held .output) in

@@ -1,13 +1,14 @@
 -- `search::lower` meets its contract: the row that is put behind chart k's masks is what each chart is offered then.
 use mathlib.Core.Path.{ap, _∙_}
 use mathlib.Core.List.{List}
-use Prim.Native.Nat.{ℕ, _+_, _*_}
+use Prim.Native.Nat.{ℕ, _+_}
 use native.Mathlib.Omega.{arith}
 use borrow.Author.Needs.{needs}
 use lib.ListN.{getD}
 use Rattle.signals.specs.Mask.{_∪_, _∩_}
-use Rattle.search.specs.Table.{backAt}
-use Rattle.search.specs.Trail.{lowIn}
+use Rattle.meaning.specs.Numbers.{mostCharts}
+use Rattle.cells.specs.Table.{backAt}
+use Rattle.cells.specs.Trail.{lowCell, lowIn}
 use Rattle.meaning.specs.Calls.Laws.{getD-made}
 use Rattle.search.specs.Trail.Laws.{same-fewer}
 use Rattle.search.proofs.lower.Statement.{statement}
@@ -18,11 +19,11 @@ returns c =
     let r = c .before .before in
     let a = r .before .before .before .args in
     record {
-      kept = same-fewer (10 * (a .k + 1)) (omega arith) (c .put-row .ensures .kept);
+      kept = same-fewer (lowCell (a .k + 1) 0) (omega arith) (c .put-row .ensures .kept);
       rows =
           λ d l.
           c .put-row .ensures .row d l ∙ ap (λ (x : List ℕ). getD x d 0) (r .lowered .ensures)
-          ∙ getD-made 8 (λ e. lowIn (a .trail .now) (a .k) e ∪ a .action ∩ backAt (a .masks .now) e (a .k)) d l;
+          ∙ getD-made mostCharts (λ e. lowIn (a .trail .now) (a .k) e ∪ a .action ∩ backAt (a .masks .now) e (a .k)) d l;
     }
 
 pub lower-spec : {M : Type 1} → statement M

@@ -3,16 +3,17 @@ use Prim.Native.Nat.{_+_, _-_, _≤_, _<_}
 use native.Mathlib.Omega.{arith}
 use borrow.Author.Needs.{needs}
 use lib.ListN.{length}
-use Rattle.search.specs.Trail.{columnIn}
+use Rattle.meaning.specs.Numbers.{mostCharts}
+use Rattle.cells.specs.Trail.{columnIn}
 use Rattle.search.proofs.Laws.{Below, below-none, below-more, below-all}
 use Rattle.search.proofs.put_column.Statement.{statement}
 use Rattle.search.proofs.put_column.Tie as tie
 
 abbrev Inv-loop : tie.InvT-loop
-Inv-loop best₀ at moves charts column filler c₀ best c = (c ≤ 8) × Below at (columnIn moves charts column filler) best₀ c best
+Inv-loop best₀ at moves charts column filler c₀ best c = (c ≤ mostCharts) × Below at (columnIn moves charts column filler) best₀ c best
 
 abbrev μ-loop : tie.MeasureT-loop
-μ-loop best₀ at moves charts column filler c₀ best c = 8 - c
+μ-loop best₀ at moves charts column filler c₀ best c = mostCharts - c
 
 loop-holds : tie.Need-loop-holds Inv-loop μ-loop
 loop-holds c = (omega arith, below-none _ _ _)

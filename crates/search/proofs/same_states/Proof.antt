@@ -7,11 +7,12 @@ use native.Mathlib.Nat.{zero-add}
 use native.Mathlib.Omega.{arith}
 use borrow.Author.Needs.{needs}
 use lib.ListN.{length, getD, drop, replicate}
+use Rattle.meaning.specs.Numbers.{mostCharts}
 use Rattle.meaning.specs.Meaning.{eqList}
 use Rattle.meaning.specs.Calls.{made}
 use Rattle.meaning.specs.Calls.Laws.{length-made, getD-made}
 use Rattle.meaning.specs.Laws.Choices.{eqList-more, eqList-differ, eqList-end}
-use Rattle.search.specs.Trail.{nextIn, columnIn}
+use Rattle.cells.specs.Trail.{nextIn, columnIn}
 use Rattle.search.specs.Trail.Laws.{length-filled, column-next}
 use Rattle.search.proofs.same_states.Statement.{statement}
 use Rattle.search.proofs.same_states.Tie as tie
@@ -19,32 +20,32 @@ use Rattle.search.proofs.same_states.Tie as tie
 -- the next states of N charts in b, and those of the first outcome in f
 module _ (f b : List ℕ) (N : ℕ) where
   abbrev next : List ℕ
-  next = made N (nextIn b) ++ replicate (8 - N) 0
+  next = made N (nextIn b) ++ replicate (mostCharts - N) 0
 
   abbrev first : List ℕ
-  first = made 8 (λ c. getD f (0 + c) 0)
+  first = made mostCharts (λ c. getD f (0 + c) 0)
 
   -- what is left from c on decides
   abbrev Left : ℕ → Type 0
   Left c = eqList next first ≡ eqList (drop c next) (drop c first)
 
-  next-long : N ≤ 8 → length next ≡ 8
+  next-long : N ≤ mostCharts → length next ≡ mostCharts
   next-long few = length-filled N (nextIn b) 0 few
 
-  first-long : length first ≡ 8
-  first-long = length-made 8 (λ c. getD f (0 + c) 0)
+  first-long : length first ≡ mostCharts
+  first-long = length-made mostCharts (λ c. getD f (0 + c) 0)
 
   -- all were compared
-  none : (c : ℕ) → N ≤ 8 → 8 ≤ c → Left c → eqList next first ≡ true
+  none : (c : ℕ) → N ≤ mostCharts → mostCharts ≤ c → Left c → eqList next first ≡ true
   none c few l h = let n = next-long few in h ∙ eqList-end next first c (omega arith) (omega (arith, first-long))
 
   -- the next one, x, was compared
-  module _ (c : ℕ) (few : N ≤ 8) (l : c < 8) (x : ℕ) (e : x ≡ getD (columnIn b N 0 0) c 0) (h : Left c) where
+  module _ (c : ℕ) (few : N ≤ mostCharts) (l : c < mostCharts) (x : ℕ) (e : x ≡ getD (columnIn b N 0 0) c 0) (h : Left c) where
     next-at : getD next c 0 ≡ x
     next-at = sym (e ∙ ap (λ (r : List ℕ). getD r c 0) (column-next b N 0))
 
     first-at : getD first c 0 ≡ getD f c 0
-    first-at = getD-made 8 (λ d. getD f (0 + d) 0) c l ∙ ap (λ (i : ℕ). getD f i 0) (zero-add c)
+    first-at = getD-made mostCharts (λ d. getD f (0 + d) 0) c l ∙ ap (λ (i : ℕ). getD f i 0) (zero-add c)
 
     more : x ≡ getD f c 0 → Left (c + 1)
     more q = h ∙ eqList-more next first c (omega (arith, next-long few)) (omega (arith, first-long)) (next-at ∙ q ∙ sym first-at)
@@ -53,10 +54,10 @@ module _ (f b : List ℕ) (N : ℕ) where
     differ q = h ∙ eqList-differ next first c (omega (arith, next-long few)) (omega (arith, first-long)) (λ z. q (sym next-at ∙ z ∙ first-at))
 
 abbrev Inv-loop : tie.InvT-loop
-Inv-loop best moves charts c₀ c = (c ≤ 8) × Left best moves charts c
+Inv-loop best moves charts c₀ c = (c ≤ mostCharts) × Left best moves charts c
 
 abbrev μ-loop : tie.MeasureT-loop
-μ-loop best moves charts c₀ c = 8 - c
+μ-loop best moves charts c₀ c = mostCharts - c
 
 loop-holds : tie.Need-loop-holds Inv-loop μ-loop
 loop-holds c = (omega arith, refl)

@@ -5,14 +5,15 @@ use Prim.Native.Nat.{ℕ, _+_, _-_}
 use native.Mathlib.Omega.{arith}
 use borrow.Author.Needs.{needs}
 use lib.ListN.{length, getD, replicate, getD-replicate}
-use Rattle.meaning.specs.Numbers.{noPlace}
+use Rattle.meaning.specs.Numbers.{mostCharts, noPlace}
 use Rattle.meaning.specs.Meaning.{same}
 use Rattle.meaning.specs.Calls.{made}
 use Rattle.meaning.specs.Calls.Laws.{made-cong}
 use Rattle.search.specs.declared.Found.{Found}
-use Rattle.search.specs.Trail.{beginning, placeIn, columnIn, trailIn}
+use Rattle.cells.specs.Trail.{movesSize, placeIn, columnIn}
+use Rattle.search.specs.Trail.{beginning, trailIn}
 use Rattle.search.specs.Trail.Laws.{filled-behind, begun}
-use Rattle.search.specs.Hunt.{over, nothing, foundIn, Held, BytesPut}
+use Rattle.search.specs.Hunt.{over, nothing, placesCell, hasCell, agreeCell, foundSize, foundIn, Held, BytesPut}
 use Rattle.search.specs.Stays.{calmAt, huntsBoth, huntsCalm}
 use Rattle.search.specs.Stays.Laws.{every-none}
 use Rattle.search.proofs.search.Statement.{statement}
@@ -25,7 +26,7 @@ unfolding huntsCalm
 all m s gs y w b low charts f e q = let z : charts - charts ≡ 0 = omega arith in rw (z, e, q, every-none (calmAt m s gs y (beginning low) 0))
 
 -- nothing was found: zeros, but for the places, of no chart
-module _ (b f : List ℕ) (h : BytesPut 8 (columnIn b 0 2 noPlace) (replicate 18 0) f) where
+module _ (b f : List ℕ) (h : BytesPut mostCharts (columnIn b 0 2 noPlace) (replicate foundSize 0) f) where
   pub begun-held : Held f (replicate 1 0)
   begun-held = record { bytes = h .long; output = refl }
 
@@ -33,13 +34,13 @@ module _ (b f : List ℕ) (h : BytesPut 8 (columnIn b 0 2 noPlace) (replicate 18
   unfolding same made
   begun-nothing =
       rw (
-        h .above 16 (omega arith),
-        h .above 17 (omega arith),
-        made-cong 8 (λ c. getD f (0 + c) 0) (λ c. 0) (λ c l. h .below (0 + c) (omega arith) ∙ getD-replicate 18 (0 + c) 0 0 (omega arith)),
-        made-cong 8 (λ c. getD f (8 + c) 0) (λ c. noPlace) (λ c l. h .row c l ∙ filled-behind 0 (placeIn b) noPlace c (omega arith) l),
+        h .above hasCell (omega arith),
+        h .above agreeCell (omega arith),
+        made-cong mostCharts (λ c. getD f (0 + c) 0) (λ c. 0) (λ c l. h .below (0 + c) (omega arith) ∙ getD-replicate foundSize (0 + c) 0 0 (omega arith)),
+        made-cong mostCharts (λ c. getD f (placesCell + c) 0) (λ c. noPlace) (λ c l. h .row c l ∙ filled-behind 0 (placeIn b) noPlace c (omega arith) l),
       )
 
-offered : (s : tie.Start) → length (s .args .low) ≡ 8
+offered : (s : tie.Start) → length (s .args .low) ≡ mostCharts
 offered s = search needs
 
 hunt-requires : tie.Need-hunt-requires
@@ -47,7 +48,7 @@ hunt-requires c κs =
     let b = c .before .before .before .before in
     let r = b .before .before .before in
     let s = r .before .before .before .before .before .before in
-    (s .pre .0, record { masks = r .put-row .ensures .kept .long; small = refl }, begun-held (replicate 24 0) _ (b .put-column .ensures), s .pre .1, omega arith, s .pre .2)
+    (s .pre .0, record { masks = r .put-row .ensures .kept .long; small = refl }, begun-held (replicate movesSize 0) _ (b .put-column .ensures), s .pre .1, omega arith, s .pre .2)
 
 returns : tie.Need-returns
 returns c =
@@ -58,7 +59,7 @@ returns c =
     let n = offered s in
     c .found-in .ensures ∙ h .hunt .ensures .found
     ∙ all (s .args .masks .now) (s .args .small .now) (s .args .guards .now) (s .args .stays .now) _ _ (s .args .low) (s .args .charts) _ (begun _ _ (s .args .low) n (r .put-row .ensures .row))
-    (begun-nothing (replicate 24 0) _ (b .put-column .ensures))
+    (begun-nothing (replicate movesSize 0) _ (b .put-column .ensures))
 
 pub search-spec : {M : Type 1} → statement M
 search-spec = tie.close (tie.spec (λ c κs. search needs) (λ c κs. search needs) hunt-requires (λ c κs. search needs) returns)

@@ -9,10 +9,11 @@ use borrow.Author.Needs.{needs}
 use borrow.Author.Tests.{eq-eqb, ne-eqb}
 use lib.ListN.{length, getD, set, length-set}
 use lib.Seq.{getD-set-same, getD-set-other}
+use Rattle.meaning.specs.Numbers.{mostCharts}
 use Rattle.meaning.specs.Meaning.{same, Outcome, eqList}
 use Rattle.meaning.specs.Calls.Laws.{made-cong}
 use Rattle.search.specs.declared.Found.{Found}
-use Rattle.search.specs.Hunt.{outcomeIn, firstFound, settleOf, foundIn, Held}
+use Rattle.search.specs.Hunt.{placesCell, hasCell, agreeCell, outcomeIn, firstFound, settleOf, foundIn, Held}
 use Rattle.search.proofs.settle.Statement.{statement}
 use Rattle.search.proofs.settle.Tie as tie
 
@@ -38,18 +39,18 @@ module _ (o : Outcome) (acc : Found) where
 
 -- the last byte is written
 module _ (f g : List ℕ) (held : Held f g) where
-  pub written-held : (x : ℕ) → Held (set f 17 x) g
-  written-held x = record { bytes = length-set f 17 x ∙ held .bytes; output = held .output }
+  pub written-held : (x : ℕ) → Held (set f agreeCell x) g
+  written-held x = record { bytes = length-set f agreeCell x ∙ held .bytes; output = held .output }
 
-  off : foundIn (set f 17 0) g
+  off : foundIn (set f agreeCell 0) g
       ≡ record { has = foundIn f g .has; agree = false; output = foundIn f g .output; next = foundIn f g .next; places = foundIn f g .places }
   unfolding same
-  off = let l : 17 < length f = omega (arith, held .bytes) in
+  off = let l : agreeCell < length f = omega (arith, held .bytes) in
       rw (
-        getD-set-same f 17 0 0 l,
-        getD-set-other f 17 16 0 0 (λ z. omega arith),
-        made-cong 8 (λ c. getD (set f 17 0) (0 + c) 0) (λ c. getD f (0 + c) 0) (λ c p. getD-set-other f 17 (0 + c) 0 0 (λ z. omega arith)),
-        made-cong 8 (λ c. getD (set f 17 0) (8 + c) 0) (λ c. getD f (8 + c) 0) (λ c p. getD-set-other f 17 (8 + c) 0 0 (λ z. omega arith)),
+        getD-set-same f agreeCell 0 0 l,
+        getD-set-other f agreeCell hasCell 0 0 (λ z. omega arith),
+        made-cong mostCharts (λ c. getD (set f agreeCell 0) (0 + c) 0) (λ c. getD f (0 + c) 0) (λ c p. getD-set-other f agreeCell (0 + c) 0 0 (λ z. omega arith)),
+        made-cong mostCharts (λ c. getD (set f agreeCell 0) (placesCell + c) 0) (λ c. getD f (placesCell + c) 0) (λ c p. getD-set-other f agreeCell (placesCell + c) 0 0 (λ z. omega arith)),
       )
 
 found-none : (x : ℕ) → (x ≡ 1 → ⊥) → same x 1 ≡ false

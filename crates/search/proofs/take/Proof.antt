@@ -1,81 +1,46 @@
 -- `search::take` meets its contract: what it writes is one chart more.
-use mathlib.Core.Path.{_≡_, _∙_}
+use mathlib.Core.Path.{_≡_, ap, _∙_}
 use mathlib.Core.List.{List}
-use Prim.Native.Nat.{ℕ, _+_, _*_}
-use native.Mathlib.Omega.{arith}
-use lib.ListN.{length, set, length-set}
-use Rattle.search.specs.Table.{neededAt, barredAt}
+use Prim.Native.Nat.{ℕ, _<_}
+use borrow.Author.Needs.{needs}
+use lib.ListN.{length, length-set}
+use Rattle.meaning.specs.Numbers.{mostCharts}
+use Rattle.cells.specs.Table.{neededAt, barredAt, actionAt, toAt, placeAt}
+use Rattle.cells.specs.Trail.{putAsked, putMove, Room}
+use Rattle.search.specs.Trail.{Lowers}
 use Rattle.search.specs.Trail.Laws.{written-keeps, take-in}
-use Rattle.search.proofs.Index.{inside-of, trail-row, needed-in, barred-in, next-in, awake-in, place-in, row, span, cell, slot, needed-at, barred-at, action-at, to-at, place-at}
+use Rattle.search.specs.Hunt.{Takes}
 use Rattle.search.proofs.take.Statement.{statement}
 use Rattle.search.proofs.take.Tie as tie
 
--- two numbers are written
-written : (l : List ℕ) (i j x y : ℕ) → length l ≡ 88 → length (set (set l i x) j y) ≡ 88
-written l i j x y e = length-set (set l i x) j y ∙ length-set l i x ∙ e
+-- what was read is candidate v, and what was written is chart k's
+takes : (m s w b : List ℕ) (k v : ℕ) {w₁ b₁ w′ : List ℕ} {n r x t a : ℕ} → Room w b → k < mostCharts →
+    n ≡ neededAt m k v → r ≡ barredAt m k v → w₁ ≡ putAsked w k n r → x ≡ toAt s k v → t ≡ placeAt s k v → b₁ ≡ putMove b k x 1 t → a ≡ actionAt m k v →
+    Lowers m a k w₁ w′ → Takes m s k v w b w′ b₁
+takes m s w b k v {w′ = w′} room few en er ew ex et eb ea h =
+    let l : Lowers m (actionAt m k v) k (putAsked w k (neededAt m k v) (barredAt m k v)) w′ = rw (ea, ew, en, er) at h in
+    rw (eb, ex, et) (record { kept = written-keeps m w b w′ k _ _ _ _ _ _ room few l; grown = take-in m s w b w′ k v room few l })
 
 lower-requires : tie.Need-lower-requires
 lower-requires c κs =
-    let s = c .before .before .before .before .before .before .before .before in
-    let m = s .args .masks .now in
-    let k = s .args .k in
-    (omega (arith, s .pre .0), written (s .args .trail .now) (10 * k + 8) (10 * k + 9) (neededAt m k (s .args .v)) (barredAt m k (s .args .v)) (s .pre .2 .masks), s .pre .3)
+    let q = c .before .before .before .before .before .before in
+    let e = q .before .before .before .before .before .before in
+    (search needs, ap length (q .put-asked .ensures) ∙ simp length-set (e .pre .2 .masks), e .pre .3)
 
 returns : tie.Need-returns
 returns c =
-    let e = c .before .before .before .before .before .before .before .before .before in
-    let m = e .args .masks .now in
-    let s = e .args .small .now in
-    let w = e .args .trail .now in
-    let b = e .args .moves .now in
-    let k = e .args .k in
-    let l = c .lower .last .1 .0 in
-    record {
-      kept = written-keeps m w b l k _ _ _ _ _ _ (e .pre .2) (e .pre .3) (c .lower .ensures);
-      grown = take-in m s w b l k (e .args .v) (e .pre .2) (e .pre .3) (c .lower .ensures);
-    }
+    let a = c .before .before in
+    let p = a .before in
+    let t = p .before .before in
+    let q = t .before .before in
+    let r = q .before .before in
+    let e = r .before .before .before .before in
+    takes (e .args .masks .now) (e .args .small .now) (e .args .trail .now) (e .args .moves .now) (e .args .k) (e .args .v) (e .pre .2) (e .pre .3)
+    (r .before .needed .ensures) (r .barred .ensures) (q .put-asked .ensures) (t .before .to .ensures) (t .place .ensures) (p .put .ensures) (a .action .ensures)
+    (c .lower .ensures)
 
 pub take-spec : {M : Type 1} → statement M
 take-spec =
     tie.close
-    (tie.spec
-    (λ c. let s = c .before .before in span (s .pre .3))
-    (λ c. let s = c .before .before in slot (s .pre .3) (s .pre .4))
-    (λ c. let s = c .before .before in needed-at (s .pre .3) (s .pre .4) .fits)
-    (λ c. let s = c .before .before in needed-at (s .pre .3) (s .pre .4) .bytes)
-    (λ c. let s = c .before .before .before in inside-of (s .pre .0) (needed-at (s .pre .3) (s .pre .4)))
-    (λ c. let s = c .before .before .before in trail-row (s .pre .3))
-    (λ c. let s = c .before .before .before in needed-in (s .pre .3) .fits)
-    (λ c. let s = c .before .before .before in needed-in (s .pre .3) .bytes)
-    (λ c. let s = c .before .before .before in needed-in (s .pre .3) .inside)
-    (λ c. let s = c .before .before .before in span (s .pre .3))
-    (λ c. let s = c .before .before .before in slot (s .pre .3) (s .pre .4))
-    (λ c. let s = c .before .before .before in barred-at (s .pre .3) (s .pre .4) .fits)
-    (λ c. let s = c .before .before .before in barred-at (s .pre .3) (s .pre .4) .bytes)
-    (λ c. let s = c .before .before .before .before in inside-of (s .pre .0) (barred-at (s .pre .3) (s .pre .4)))
-    (λ c. let s = c .before .before .before .before in trail-row (s .pre .3))
-    (λ c. let s = c .before .before .before .before in barred-in (s .pre .3) .fits)
-    (λ c. let s = c .before .before .before .before in barred-in (s .pre .3) .bytes)
-    (λ c. let s = c .before .before .before .before in barred-in (s .pre .3) .inside)
-    (λ c. let s = c .before .before .before .before in row (s .pre .3))
-    (λ c. let s = c .before .before .before .before in cell (s .pre .3) (s .pre .4))
-    (λ c. let s = c .before .before .before .before .before in inside-of (omega (arith, s .pre .1)) (to-at (s .pre .3) (s .pre .4)))
-    (λ c. let s = c .before .before .before .before .before in next-in (s .pre .3) .fits)
-    (λ c. let s = c .before .before .before .before .before in next-in (s .pre .3) .inside)
-    (λ c. let s = c .before .before .before .before .before in next-in (s .pre .3) .fits)
-    (λ c. let s = c .before .before .before .before .before in awake-in (s .pre .3) .fits)
-    (λ c. let s = c .before .before .before .before .before in awake-in (s .pre .3) .inside)
-    (λ c. let s = c .before .before .before .before .before in row (s .pre .3))
-    (λ c. let s = c .before .before .before .before .before in cell (s .pre .3) (s .pre .4))
-    (λ c. let s = c .before .before .before .before .before in place-at (s .pre .3) (s .pre .4) .fits)
-    (λ c. let s = c .before .before .before .before .before .before in inside-of (omega (arith, s .pre .1)) (place-at (s .pre .3) (s .pre .4)))
-    (λ c. let s = c .before .before .before .before .before .before in next-in (s .pre .3) .fits)
-    (λ c. let s = c .before .before .before .before .before .before in place-in (s .pre .3) .fits)
-    (λ c. let s = c .before .before .before .before .before .before in place-in (s .pre .3) .inside)
-    (λ c. let s = c .before .before .before .before .before .before .before in span (s .pre .3))
-    (λ c. let s = c .before .before .before .before .before .before .before in slot (s .pre .3) (s .pre .4))
-    (λ c. let s = c .before .before .before .before .before .before .before in action-at (s .pre .3) (s .pre .4) .fits)
-    (λ c. let s = c .before .before .before .before .before .before .before in action-at (s .pre .3) (s .pre .4) .bytes)
-    (λ c. let s = c .before .before .before .before .before .before .before .before in inside-of (s .pre .0) (action-at (s .pre .3) (s .pre .4)))
-    lower-requires
-    returns)
+    (tie.spec (λ c κs. search needs) (λ c κs. search needs) (λ c κs. search needs) (λ c κs. search needs) (λ c κs. search needs) (λ c κs. search needs)
+    (λ c κs. search needs) lower-requires returns)

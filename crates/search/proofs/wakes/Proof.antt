@@ -1,14 +1,14 @@
 -- `search::wakes` meets its contract: each way out is decided by the tests that led there.
-use mathlib.Core.Path.{_≡_}
+use mathlib.Core.Path.{_≡_, sym, ap, ap₂, _∙_}
 use mathlib.Core.Bool.{true, false, _&&_, _||_}
 use mathlib.Core.List.{List}
-use native.Mathlib.Omega.{arith}
 use borrow.Author.Needs.{needs}
 use borrow.Author.Tests.{lt-ltb, le-ltb, eq-eqb, ne-eqb}
 use Prim.Native.Nat.{ℕ, _+_, _<_, _≤_}
 use Rattle.meaning.specs.Meaning.{same}
-use Rattle.search.specs.Table.{masterAt, slaveStateAt, stateAt}
-use Rattle.search.specs.Trail.{nextIn, awakeIn, trailIn}
+use Rattle.cells.specs.Table.{masterAt, slaveStateAt, stateAt}
+use Rattle.cells.specs.Trail.{nextIn, awakeIn}
+use Rattle.search.specs.Trail.{trailIn}
 use Rattle.meaning.specs.Calls.Laws.{getD-made}
 use Rattle.search.specs.Hunt.{wakes}
 use Rattle.search.proofs.wakes.Statement.{statement}
@@ -39,27 +39,60 @@ module _ (m s w b : List ℕ) (k o : ℕ) where
     unfolding same
     after e f = rw (inside, eq-eqb _ _ e, ne-eqb _ _ f)
 
-cast-master : tie.Need-cast-master
-cast-master c = omega (arith, c .shared-slice-known .given (72 + c .before .args .k))
+-- what was read is what stands there
+master-is : (c : tie.After-master) → c .master .result ≡ masterAt (c .before .before .args .small .now) (c .before .before .args .k)
+master-is c = c .master .ensures
 
 returns : tie.Need-returns
-returns c m w o = asleep m _ w _ _ o (c .before .before .if1 .taken) (c .if2 .taken)
+returns c m w o =
+    let a = c .before in
+    let r = a .before .before in
+    let z = master-is r in
+    asleep m _ w _ _ o (rw z at (a .before .if1 .taken)) (λ e. c .if2 .taken (a .awake .ensures ∙ ap (awakeIn (r .before .before .args .moves .now)) z ∙ e))
+
+-- the master is active, and where it was and is
+module _ (c : tie.After-next) where
+  abbrev tested : tie.After-master
+  tested = c .before .before .before .before .before .before
+
+  abbrev small : List ℕ
+  small = tested .before .before .args .small .now
+
+  abbrev moves : List ℕ
+  moves = tested .before .before .args .moves .now
+
+  abbrev chart : ℕ
+  chart = tested .before .before .args .k
+
+  lower : masterAt small chart < chart
+  lower = rw (master-is tested) at (c .before .before .before .before .before .if1 .taken)
+
+  active : awakeIn moves (masterAt small chart) ≡ 1
+  active = ap (awakeIn moves) (sym (master-is tested)) ∙ sym (c .before .before .before .before .awake .ensures) ∙ c .before .before .before .if2 .left
+
+  was : c .before .state .result ≡ stateAt small (masterAt small chart)
+  was = c .before .state .ensures ∙ ap (stateAt small) (master-is tested)
+
+  is : c .next .result ≡ nextIn moves (masterAt small chart)
+  is = c .next .ensures ∙ ap (nextIn moves) (master-is tested)
 
 returns-2 : tie.Need-returns-2
 returns-2 c m w o =
-    let d = c .before .before .before .before in before m _ w _ _ o (d .before .before .if1 .taken) (d .if2 .left) (c .if3 .taken)
+    let n = c .before in
+    before m _ w _ _ o (lower n) (active n) (sym (was n) ∙ c .if3 .taken ∙ n .before .before .slave-state .ensures)
 
 returns-3 : tie.Need-returns-3
 unfolding same
 returns-3 c m w o =
-    let d = c .before .before .before .before in after m _ w _ _ o (d .before .before .if1 .taken) (d .if2 .left) (c .if3 .left)
+    let n = c .before in
+    let e = n .before .before .slave-state .ensures in
+    ap₂ same (is n) e ∙ after m _ w _ _ o (lower n) (active n) (λ z. c .if3 .left (was n ∙ z ∙ sym e))
 
 returns-4 : tie.Need-returns-4
-returns-4 c m w o = outside m _ w _ _ o (c .if1 .left)
+returns-4 c m w o = outside m _ w _ _ o (rw (master-is (c .before)) at (c .if1 .left))
 
 pub wakes-spec : {M : Type 1} → statement M
 wakes-spec =
     tie.close
-    (tie.spec (λ c. search needs) (λ c. search needs) cast-master (λ c. search needs) (λ c. search needs) (λ c. search needs) returns
-    (λ c. search needs) (λ c. search needs) (λ c. search needs) (λ c. search needs) (λ c. search needs) (λ c. search needs) returns-2 returns-3
+    (tie.spec (λ c κs. search needs) (λ c κs. search needs) returns (λ c κs. search needs) (λ c κs. search needs) (λ c κs. search needs) returns-2 returns-3
     returns-4)

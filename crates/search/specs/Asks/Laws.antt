@@ -17,8 +17,10 @@ use Rattle.meaning.specs.Laws.Bools.{and-l, and-r, and-i, bool-eq, every}
 use Rattle.wiring.specs.Wire.{join}
 use Rattle.wiring.specs.Dropped.{join-cong}
 use Rattle.wiring.specs.Hunt.{every-cong}
-use Rattle.search.specs.Table.{neededAt, barredAt, actionAt, backAt, aheadAt}
-use Rattle.search.specs.Trail.{lowIn, neededIn, barredIn, trailIn, Keeps}
+use Rattle.meaning.specs.Numbers.{mostCharts}
+use Rattle.cells.specs.Table.{neededAt, barredAt, actionAt, backAt, aheadAt}
+use Rattle.cells.specs.Trail.{lowCell, needsCell, barsCell, lowIn, neededIn, barredIn}
+use Rattle.search.specs.Trail.{trailIn, Keeps}
 use Rattle.meaning.specs.Calls.Laws.{getD-made}
 use Rattle.search.specs.Trail.Laws.{getD-before, getD-last}
 use Rattle.search.specs.Hunt.{taken, idled, rested, passesAt, fineAt}
@@ -128,7 +130,7 @@ asked-some n r h = go (eqb n 0) refl
         e ∙ (sym y ∙ h)
 
 -- what is asked stands in the beginning of k charts
-pub asks-kept : (m : List ℕ) {k : ℕ} {w b w′ b′ : List ℕ} → k < 8 → Keeps k w b w′ b′ → asksOf m w′ k ≡ asksOf m w k
+pub asks-kept : (m : List ℕ) {k : ℕ} {w b w′ b′ : List ℕ} → k < mostCharts → Keeps k w b w′ b′ → asksOf m w′ k ≡ asksOf m w k
 unfolding asksOf
 asks-kept m {k} {w} {b} {w′} {b′} few h =
     ap₂ (λ (x y : ℕ). record { needed = x; barred = y })
@@ -139,7 +141,7 @@ asks-kept m {k} {w} {b} {w′} {b′} few h =
         f (neededIn w′ d) (barredIn w′ d) (lowIn w′ k d) (aheadAt m (k + 1) d) (backAt m d k)
         ≡ f (neededIn w d) (barredIn w d) (lowIn w k d) (aheadAt m (k + 1) d) (backAt m d k)
     five f d l =
-        rw (h .masks .at (10 * d + 8) (omega arith), h .masks .at (10 * d + 9) (omega arith), h .masks .at (10 * k + d) (omega arith))
+        rw (h .masks .at (needsCell d) (omega arith), h .masks .at (barsCell d) (omega arith), h .masks .at (lowCell k d) (omega arith))
 
 -- ── the next chart ──
 
@@ -150,7 +152,7 @@ may-eq p q u v = rw (p, q, u, v)
 abbrev pub ownAt : List ℕ → List ℕ → ℕ → ℕ → Bool
 ownAt m w k v = may (neededAt m k v) (barredAt m k v) (lowIn w k k ∪ actionAt m k v ∩ backAt m k k) (aheadAt m (k + 1) k)
 
-module _ (m s w b : List ℕ) (k o : ℕ) (few : k < 8) where
+module _ (m s w b : List ℕ) (k o : ℕ) (few : k < mostCharts) where
   next-ahead : (d : ℕ) → aheadAt m (suc k) d ≡ aheadAt m (k + 1) d
   next-ahead d = ap (λ (j : ℕ). aheadAt m j d) (sym (add-one k))
 
@@ -163,11 +165,11 @@ module _ (m s w b : List ℕ) (k o : ℕ) (few : k < 8) where
     abbrev offered : ℕ → ℕ
     offered d = lowIn w k d ∪ action ∩ backAt m d k
 
-    offered-is : (d : ℕ) → d < 8 → getD (taken m s (trailIn w b k o) k v .low) d 0 ≡ offered d
+    offered-is : (d : ℕ) → d < mostCharts → getD (taken m s (trailIn w b k o) k v .low) d 0 ≡ offered d
     unfolding taken trailIn
     offered-is d l =
-        getD-made 8 (λ c. getD (made 8 (lowIn w k)) c 0 ∪ action ∩ backAt m c k) d l
-        ∙ ap (λ (x : ℕ). x ∪ action ∩ backAt m d k) (getD-made 8 (lowIn w k) d l)
+        getD-made mostCharts (λ c. getD (made mostCharts (lowIn w k)) c 0 ∪ action ∩ backAt m c k) d l
+        ∙ ap (λ (x : ℕ). x ∪ action ∩ backAt m d k) (getD-made mostCharts (lowIn w k) d l)
 
     pub fine-taken : fineAt m s (taken m s (trailIn w b k o) k v) k ≡ (ownAt m w k v && met (asksOf m w k .needed) (asksOf m w k .barred) action)
     unfolding fineAt every passesAt taken trailIn asksOf
@@ -184,11 +186,11 @@ module _ (m s w b : List ℕ) (k o : ℕ) (few : k < 8) where
   unfolding fineAt every passesAt idled trailIn asksOf
   fine-rested =
       ap₂ _&&_
-      (may-eq {l = getD (made 8 (lowIn w k)) k 0} {h = aheadAt m (suc k) k} (getD-last k (neededIn w) 0) (getD-last k (barredIn w) 0) refl refl
-      ∙ and-i (eq-eqb _ _ (sets (getD (made 8 (lowIn w k)) k 0 ∷ aheadAt m (suc k) k ∷ []) [] (∅ₑ ⊑ A ∪ₑ B) tt))
-      (eq-eqb _ _ (sets (getD (made 8 (lowIn w k)) k 0 ∷ []) [] (∅ₑ ⊥ₑ A) tt)))
+      (may-eq {l = getD (made mostCharts (lowIn w k)) k 0} {h = aheadAt m (suc k) k} (getD-last k (neededIn w) 0) (getD-last k (barredIn w) 0) refl refl
+      ∙ and-i (eq-eqb _ _ (sets (getD (made mostCharts (lowIn w k)) k 0 ∷ aheadAt m (suc k) k ∷ []) [] (∅ₑ ⊑ A ∪ₑ B) tt))
+      (eq-eqb _ _ (sets (getD (made mostCharts (lowIn w k)) k 0 ∷ []) [] (∅ₑ ⊥ₑ A) tt)))
       (every-cong k _ _
       (λ d l. may-eq (getD-before k (neededIn w) 0 d l ∙ getD-made k (neededIn w) d l)
       (getD-before k (barredIn w) 0 d l ∙ getD-made k (barredIn w) d l)
-      (getD-made 8 (lowIn w k) d (omega arith)) (next-ahead d))
+      (getD-made mostCharts (lowIn w k) d (omega arith)) (next-ahead d))
       ∙ asked-none (neededIn w) (barredIn w) (lowIn w k) (aheadAt m (k + 1)) (λ d. backAt m d k) k)

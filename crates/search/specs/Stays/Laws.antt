@@ -9,20 +9,22 @@ use native.Mathlib.Omega.{arith}
 use native.Mathlib.Decide.{decLt}
 use lib.ListN.{getD}
 use Rattle.signals.specs.Mask.{_∪_}
-use Rattle.meaning.specs.Numbers.{stayPlace}
+use Rattle.meaning.specs.Numbers.{mostCharts, stayPlace}
 use Rattle.meaning.specs.Meaning.{same}
 use Rattle.meaning.specs.Count.{anyUpTo}
 use Rattle.meaning.specs.Calls.Laws.{getD-made}
 use Rattle.meaning.specs.Laws.Bools.{every, every-intro, and-i, same-refl, same-≢}
-use Rattle.search.specs.Table.{aheadAt}
-use Rattle.search.specs.Trail.{Trail, trailIn, lowIn, placeIn}
+use Rattle.cells.specs.Table.{aheadAt}
+use Rattle.cells.specs.Trail.{lowIn, placeIn}
+use Rattle.search.specs.Trail.{Trail, trailIn}
 use Rattle.search.specs.Hunt.{idled, rested, passesAt, fineAt}
-use Rattle.search.specs.Stays.{Guards, trips, calm, stayed, calmAt}
+use Rattle.cells.specs.Triggers.{Guards, toldAt, someStay}
+use Rattle.search.specs.Stays.{trips, calm, stayed, calmAt}
 
-module _ (m s g y w b : List ℕ) (k d o : ℕ) (few : k ≤ 8) (l : d < k) where
+module _ (m s g y w b : List ℕ) (k d o : ℕ) (few : k ≤ mostCharts) (l : d < k) where
   calm-by : calmAt m s g y (trailIn w b k o) k d ≡ cond (same (placeIn b d) stayPlace) (calm g y d (lowIn w k d) (lowIn w k d ∪ aheadAt m k d)) true
   unfolding calmAt trailIn
-  calm-by = ap₂ (λ (p x : ℕ). cond (same p stayPlace) (calm g y d x (x ∪ aheadAt m k d)) true) (getD-made k (placeIn b) d l) (getD-made 8 (lowIn w k) d (omega arith))
+  calm-by = ap₂ (λ (p x : ℕ). cond (same p stayPlace) (calm g y d x (x ∪ aheadAt m k d)) true) (getD-made k (placeIn b) d l) (getD-made mostCharts (lowIn w k) d (omega arith))
 
   -- it does not stay
   pub calm-moves : (placeIn b d ≡ stayPlace → ⊥) → true ≡ calmAt m s g y (trailIn w b k o) k d
@@ -39,7 +41,7 @@ module _ (m s g y w b : List ℕ) (k d o : ℕ) (few : k ≤ 8) (l : d < k) wher
   calm-stays e r h = ap not h ∙ sym (calm-by ∙ rw (e, same-refl stayPlace))
 
 -- where no chart may stay, all are calm
-pub calm-all : (m s g y : List ℕ) → Guards g y → getD y 8 0 ≡ 0 → (t : Trail) (k : ℕ) → k ≤ 8 → every k (calmAt m s g y t k) ≡ true
+pub calm-all : (m s g y : List ℕ) → Guards g y → someStay y ≡ 0 → (t : Trail) (k : ℕ) → k ≤ mostCharts → every k (calmAt m s g y t k) ≡ true
 unfolding calmAt calm trips anyUpTo
 calm-all m s g y r e t k few = every-intro k (λ d. calmAt m s g y t k d) (λ d l. either d l (same (getD (t .places) d 0) stayPlace))
   where

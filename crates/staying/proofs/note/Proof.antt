@@ -2,15 +2,15 @@
 use mathlib.Core.Path.{_≡_, sym, _∙_, ap}
 use mathlib.Core.Bool.{true, false}
 use mathlib.Core.List.{List}
-use Prim.Native.Nat.{ℕ, _+_, _*_}
+use Prim.Native.Nat.{ℕ, _+_}
 use native.Mathlib.Omega.{arith}
 use borrow.Author.Needs.{needs}
-use lib.ListN.{set, length-set}
 use Rattle.layout.specs.declared.record.Transition.{Transition}
 use Rattle.meaning.specs.Count.{one}
 use Rattle.meaning.specs.Meaning.{same}
 use Rattle.meaning.specs.Laws.Bools.{same-refl, same-≢}
-use Rattle.staying.specs.Staying.{putTrigger, Notes}
+use Rattle.cells.specs.Triggers.{putTrigger}
+use Rattle.staying.specs.Staying.{Notes}
 use Rattle.staying.proofs.note.Statement.{statement}
 use Rattle.staying.proofs.note.Tie as tie
 
@@ -19,40 +19,27 @@ module _ (t : Transition) (q c k x : ℕ) (e : x ≡ t .from) (g : List ℕ) whe
   from-elsewhere h = let n : same (t .from) q ≡ false = rw (← e) (same-≢ x q h) in
       record { table = rw n; count = let z : one (same (t .from) q) ≡ 0 = ap one n in omega arith }
 
-  from-here : x ≡ q → (r : Transition) → r ≡ t → Notes t q c k g (set (set g (16 * c + k) (r .needed)) (16 * c + (8 + k)) (r .barred)) (k + 1)
-  unfolding putTrigger
-  from-here h r i = let y : same (t .from) q ≡ true = rw (← e, h) (same-refl q) in
-      record { table = rw (y, i); count = ap (λ b. k + one b) (sym y) }
+  from-here : x ≡ q → {r : Transition} {g′ : List ℕ} → r ≡ t → g′ ≡ putTrigger g c k r → Notes t q c k g g′ (k + 1)
+  from-here h i o = let y : same (t .from) q ≡ true = rw (← e, h) (same-refl q) in
+      record { table = rw (o, y, i); count = ap (λ b. k + one b) (sym y) }
 
 returns : tie.Need-returns
 returns c = let s = c .before .before .before .before in from-elsewhere _ (s .args .state) (s .args .c) (s .args .have) _ (c .before .from-at .ensures) (s .args .guards .now) (c .if1 .taken)
 
-room : tie.Need-slice-write-guards-2
-room c =
-    let s = c .before .before .before .before .before in
-    omega (arith, s .pre .2, s .pre .3, s .pre .5 (sym (c .before .before .from-at .ensures) ∙ c .before .if1 .left), length-set (s .args .guards .now) (16 * s .args .c + s .args .have) (c .transition-at .result .needed))
+put-requires : tie.Need-put-requires
+put-requires c κs =
+    let e = c .before .before in
+    let s = e .before .before .before .before in
+    (s .pre .2, s .pre .3, s .pre .5 (sym (e .before .from-at .ensures) ∙ e .if1 .left))
 
 returns-2 : tie.Need-returns-2
 returns-2 c =
-    let s = c .before .before .before .before .before in
-    from-here _ (s .args .state) (s .args .c) (s .args .have) _ (c .before .before .from-at .ensures) (s .args .guards .now) (c .before .if1 .left) _ (c .transition-at .ensures)
+    let p = c .before .before in
+    let t = p .before .before in
+    let e = t .before in
+    let s = e .before .before .before .before in
+    from-here _ (s .args .state) (s .args .c) (s .args .have) _ (e .before .from-at .ensures) (s .args .guards .now) (e .if1 .left) (t .transition-at .ensures) (p .put .ensures)
 
 pub note-spec : {M : Type 1} → statement M
 note-spec =
-    tie.close
-    (tie.spec
-    (λ c κs. search needs)
-    returns
-    (λ c κs. search needs)
-    (λ c. search needs)
-    (λ c. search needs)
-    (λ c. search needs)
-    (λ c. search needs)
-    (λ c. search needs)
-    (λ c. search needs)
-    (λ c. search needs)
-    (λ c. search needs)
-    room
-    (λ c. search needs)
-    (λ c. search needs)
-    returns-2)
+    tie.close (tie.spec (λ c κs. search needs) returns (λ c κs. search needs) put-requires (λ c. search needs) (λ c. search needs) returns-2)

@@ -17,7 +17,7 @@ use Rattle.layout.specs.Body.{from as fromOn}
 use Rattle.layout.specs.declared.body.Shape.{Shape}
 use Rattle.layout.specs.declared.record.Transition.{Transition}
 use Rattle.layout.specs.declared.record.Head.{Head}
-use Rattle.meaning.specs.Numbers.{stayEdition}
+use Rattle.meaning.specs.Numbers.{mostCharts, mostFromState, stayEdition}
 use Rattle.meaning.specs.Count.{tally, one}
 use Rattle.meaning.specs.Count.Laws.{tally-none, tally-more, tally-plus, tally-mono}
 use Rattle.meaning.specs.Meaning.{Set, same, Chart, lastPlace, untriggered}
@@ -25,44 +25,45 @@ use Rattle.meaning.specs.File.{chartOf}
 use Rattle.meaning.specs.Laws.Bools.{same-refl, same→≡, same-≢}
 use Rattle.wiring.specs.Dropped.{join-cong}
 use Rattle.wiring.specs.Hunt.{mayOf}
-use Rattle.search.specs.Table.{backAt}
-use Rattle.search.specs.Stays.{triggerNeeded, triggerBarred, trips, Guards}
+use Rattle.cells.specs.Table.{backAt}
+use Rattle.cells.specs.Triggers.{triggerNeededCell, triggerBarredCell, triggersFor, triggerNeeded, triggerBarred, putTrigger, staysSize}
+use Rattle.search.specs.Stays.{trips}
 use Rattle.tables.specs.Fill.{othersAt, keepAt}
 use Rattle.tables.specs.Fill.Laws.{keep-stay}
 use Rattle.tables.specs.Triggers.{Noted, begun, passed, noted, SameTriggers, noted-kept, noted-trips, Told, shut, listed, told-kept, stayers}
 use Rattle.candidates.specs.Candidates.{Mays}
 use Rattle.candidates.specs.Candidates.Laws.{length-from, nth-from}
-use Rattle.staying.specs.Staying.{putTrigger, Notes, Beside, Noting, Tells, quiet, Telling, Stays}
+use Rattle.staying.specs.Staying.{Notes, Beside, Noting, Tells, quiet, Telling, Stays}
 
 -- ── a trigger that is put down ──
 
-module _ (g : List ℕ) (c k : ℕ) (t : Transition) (l : c < 8) (r : k < 8) (z : 16 * (c + 1) ≤ length g) where
+module _ (g : List ℕ) (c k : ℕ) (t : Transition) (l : c < mostCharts) (r : k < mostCharts) (z : triggersFor (c + 1) ≤ length g) where
   put-needed : triggerNeeded (putTrigger g c k t) c k ≡ t .needed
   unfolding putTrigger
-  put-needed = getD-set-other (set g (16 * c + k) (t .needed)) (16 * c + (8 + k)) (16 * c + k) (t .barred) 0 (λ e. omega arith)
-      ∙ getD-set-same g (16 * c + k) (t .needed) 0 (omega arith)
+  put-needed = getD-set-other (set g (triggerNeededCell c k) (t .needed)) (triggerBarredCell c k) (triggerNeededCell c k) (t .barred) 0 (λ e. omega arith)
+      ∙ getD-set-same g (triggerNeededCell c k) (t .needed) 0 (omega arith)
 
   put-barred : triggerBarred (putTrigger g c k t) c k ≡ t .barred
   unfolding putTrigger
-  put-barred = getD-set-same (set g (16 * c + k) (t .needed)) (16 * c + (8 + k)) (t .barred) 0 (rw (length-set g (16 * c + k) (t .needed)) (omega arith))
+  put-barred = getD-set-same (set g (triggerNeededCell c k) (t .needed)) (triggerBarredCell c k) (t .barred) 0 (rw (length-set g (triggerNeededCell c k) (t .needed)) (omega arith))
 
   -- at any other place
-  put-other : (i : ℕ) → i ≢ 16 * c + k → i ≢ 16 * c + (8 + k) → getD (putTrigger g c k t) i 0 ≡ getD g i 0
+  put-other : (i : ℕ) → i ≢ triggerNeededCell c k → i ≢ triggerBarredCell c k → getD (putTrigger g c k t) i 0 ≡ getD g i 0
   unfolding putTrigger
-  put-other i p q = getD-set-other (set g (16 * c + k) (t .needed)) (16 * c + (8 + k)) i (t .barred) 0 q ∙ getD-set-other g (16 * c + k) i (t .needed) 0 p
+  put-other i p q = getD-set-other (set g (triggerNeededCell c k) (t .needed)) (triggerBarredCell c k) i (t .barred) 0 q ∙ getD-set-other g (triggerNeededCell c k) i (t .needed) 0 p
 
   put-earlier : SameTriggers g (putTrigger g c k t) c k
-  put-earlier v h = (put-other (16 * c + v) (λ e. omega arith) (λ e. omega arith), put-other (16 * c + (8 + v)) (λ e. omega arith) (λ e. omega arith))
+  put-earlier v h = (put-other (triggerNeededCell c v) (λ e. omega arith) (λ e. omega arith), put-other (triggerBarredCell c v) (λ e. omega arith) (λ e. omega arith))
 
   put-size : length (putTrigger g c k t) ≡ length g
   unfolding putTrigger
-  put-size = length-set (set g (16 * c + k) (t .needed)) (16 * c + (8 + k)) (t .barred) ∙ length-set g (16 * c + k) (t .needed)
+  put-size = length-set (set g (triggerNeededCell c k) (t .needed)) (triggerBarredCell c k) (t .barred) ∙ length-set g (triggerNeededCell c k) (t .needed)
 
   beside-put : (g₀ : List ℕ) → Beside c g₀ g → Beside c g₀ (putTrigger g c k t)
   beside-put g₀ b =
       record {
         others = λ d m n v h. let o = b .others d m n v h in
-            (put-other (16 * d + v) (λ e. n (omega arith)) (λ e. n (omega arith)) ∙ o .0, put-other (16 * d + (8 + v)) (λ e. n (omega arith)) (λ e. n (omega arith)) ∙ o .1);
+            (put-other (triggerNeededCell d v) (λ e. n (omega arith)) (λ e. n (omega arith)) ∙ o .0, put-other (triggerBarredCell d v) (λ e. n (omega arith)) (λ e. n (omega arith)) ∙ o .1);
         size = put-size ∙ b .size;
       }
 
@@ -78,14 +79,14 @@ module _ (f : ℕ → Transition) (start count q c : ℕ) (g₀ : List ℕ) wher
   abbrev fromState : ℕ → ℕ
   fromState u = one (same (f (start + u) .from) q)
 
-  module _ (few : tally count fromState ≤ 8) (p : ℕ) (g : List ℕ) (k : ℕ) (h : Noting f start count q c p g₀ g k) where
-    pub noting-few : p ≤ count → k ≤ 8
+  module _ (few : tally count fromState ≤ mostFromState) (p : ℕ) (g : List ℕ) (k : ℕ) (h : Noting f start count q c p g₀ g k) where
+    pub noting-few : p ≤ count → k ≤ mostCharts
     noting-few l = let a = tally-mono p count fromState l in let b = h .counts in omega arith
 
-    pub noting-room : p < count → f (start + p) .from ≡ q → k < 8
+    pub noting-room : p < count → f (start + p) .from ≡ q → k < mostCharts
     noting-room l e = let a = tally-plus count fromState p l in let b = h .counts in let x : same (f (start + p) .from) q ≡ true = rw e (same-refl q) in let d : fromState p ≡ 1 = ap one x in omega arith
 
-    pub noting-next : p < count → c < 8 → 16 * (c + 1) ≤ length g₀ → (g′ : List ℕ) (k′ : ℕ) → Notes (f (start + p)) q c k g g′ k′ → Noting f start count q c (p + 1) g₀ g′ k′
+    pub noting-next : p < count → c < mostCharts → triggersFor (c + 1) ≤ length g₀ → (g′ : List ℕ) (k′ : ℕ) → Notes (f (start + p)) q c k g g′ k′ → Noting f start count q c (p + 1) g₀ g′ k′
     noting-next l m z g′ k′ o = go (same (f (start + p) .from) q) refl
       where
         t : Transition
@@ -95,7 +96,7 @@ module _ (f : ℕ → Transition) (start count q c : ℕ) (g₀ : List ℕ) wher
         counted e = let a = tally-more p fromState in let b = h .counts in let d = ap one e in omega arith
 
         go : (x : Bool) → same (t .from) q ≡ x → Noting f start count q c (p + 1) g₀ g′ k′
-        go true e = let r = noting-room l (same→≡ (t .from) q e) in let z′ : 16 * (c + 1) ≤ length g = rw (h .beside .size) z in
+        go true e = let r = noting-room l (same→≡ (t .from) q e) in let z′ : triggersFor (c + 1) ≤ length g = rw (h .beside .size) z in
             rw (o .table ∙ ap (λ x. cond x (putTrigger g c k t) g) e, o .count ∙ ap (λ x. k + one x) e) (record {
               noted = rw (add-one p, add-one k) (noted (noted-kept g (putTrigger g c k t) c (fromOn f start count) q (put-earlier g c k t m r z′) (h .noted)) t (nth-from f start count p l)
                   (same→≡ (t .from) q e) (put-needed g c k t m r z′) (put-barred g c k t m r z′));
@@ -111,7 +112,7 @@ module _ (f : ℕ → Transition) (start count q c : ℕ) (g₀ : List ℕ) wher
 
   -- ── what a search is told of the chart ──
 
-  module _ (g : List ℕ) (k : ℕ) (h : Noting f start count q c count g₀ g k) (few : k ≤ 8) (low high : Set) where
+  module _ (g : List ℕ) (k : ℕ) (h : Noting f start count q c count g₀ g k) (few : k ≤ mostCharts) (low high : Set) where
     abbrev ts : List Transition
     ts = fromOn f start count
 
@@ -127,13 +128,13 @@ module _ (f : ℕ → Transition) (start count q c : ℕ) (g₀ : List ℕ) wher
 -- ── all charts ──
 
 module _ (n : Shape) (b config lows may m : List ℕ) where
-  pub telling-none : (g : List ℕ) → 16 * n .charts ≤ length g → Telling n b config lows may m 0 g (set (replicate 9 0) 8 1)
+  pub telling-none : (g : List ℕ) → triggersFor (n .charts) ≤ length g → Telling n b config lows may m 0 g (set (replicate staysSize 0) mostCharts 1)
   telling-none g z = record { told = λ c l. absurd (omega arith); few = λ c l. let z = none c l in omega arith; rest = λ c k l. none c l; size = z; small = refl; some-may = refl }
     where
-      none : (c : ℕ) → c < 8 → getD {A = ℕ} (set (replicate 9 0) 8 1) c 0 ≡ 0
-      none c l = getD-set-other (replicate 9 0) 8 c 1 0 (λ e. omega arith) ∙ getD-replicate {A = ℕ} 9 c 0 0 (omega arith)
+      none : (c : ℕ) → c < mostCharts → getD {A = ℕ} (set (replicate staysSize 0) mostCharts 1) c 0 ≡ 0
+      none c l = getD-set-other (replicate staysSize 0) mostCharts c 1 0 (λ e. omega arith) ∙ getD-replicate {A = ℕ} staysSize c 0 0 (omega arith)
 
-  pub telling-next : (c : ℕ) (g y g′ : List ℕ) (start k : ℕ) (head : Head) (others : Set) → Telling n b config lows may m c g y → c < 8 → start ≡ startOf n b c → head ≡ headAt n b c
+  pub telling-next : (c : ℕ) (g y g′ : List ℕ) (start k : ℕ) (head : Head) (others : Set) → Telling n b config lows may m c g y → c < mostCharts → start ≡ startOf n b c → head ≡ headAt n b c
       → others ≡ othersAt m (n .charts) (λ e. getD may e 0) c
       → Tells (fromOn (transitionAt n b) start (head .transitions)) (getD config c 0) c (getD lows c 0) (getD lows c 0 ∪ others) g g′ k
       → Telling n b config lows may m (c + 1) g′ (set y c k)
@@ -145,7 +146,7 @@ module _ (n : Shape) (b config lows may m : List ℕ) where
         rest = λ d p r. getD-set-other y c d k 0 (λ e. omega arith) ∙ h .rest d (omega arith) r;
         size = rw (t .beside .size) (h .size);
         small = length-set y c k ∙ h .small;
-        some-may = getD-set-other y c 8 k 0 (λ e. omega arith) ∙ h .some-may;
+        some-may = getD-set-other y c mostCharts k 0 (λ e. omega arith) ∙ h .some-may;
       }
     where
       apart? : (d : ℕ) → same d c ≡ false → d ≢ c
@@ -162,7 +163,7 @@ module _ (n : Shape) (b config lows may m : List ℕ) where
       go d r false e = let w = apart? d e in rw (off d e)
           (told-kept g g′ d _ (getD config d 0) _ (getD y d 0) (h .few d (omega arith)) (t .beside .others d (omega arith) w) (h .told d (omega arith)))
 
-      less : (d : ℕ) → d < 8 → (x : Bool) → same d c ≡ x → getD (set y c k) d 0 ≤ 9
+      less : (d : ℕ) → d < mostCharts → (x : Bool) → same d c ≡ x → getD (set y c k) d 0 ≤ mostFromState + 1
       less d r true e = rw (same→≡ d c e, at) (t .few)
       less d r false e = rw (off d e) (h .few d r)
 
@@ -182,10 +183,10 @@ module _ (n : Shape) (b config lows may m : List ℕ) where
         guards = record { masks = room; small = h .small; counts = h .few; none-may = λ e. absurd (let z = h .some-may in omega arith) };
       }
     where
-      room : (c : ℕ) → c < 8 → getD y c 0 ≢ 0 → 16 * (c + 1) ≤ length g
+      room : (c : ℕ) → c < mostCharts → getD y c 0 ≢ 0 → triggersFor (c + 1) ≤ length g
       room c l w = go (decLt c (n .charts))
         where
-          go : Dec (c < n .charts) → 16 * (c + 1) ≤ length g
+          go : Dec (c < n .charts) → triggersFor (c + 1) ≤ length g
           go (yes p) = let z = h .size in omega arith
           go (no p) = absurd (w (h .rest c (omega arith) l))
 
@@ -198,14 +199,14 @@ module _ (n : Shape) (b config lows may m : List ℕ) where
           (join-cong (n .charts) _ _ (λ e l. ap (λ z. cond (same e c) 0 z ∩ backAt m c e) (sym (my e l))))
 
   -- no chart may stay
-  pub stays-none : (g : List ℕ) → n .charts ≤ 8 → n .edition ≢ stayEdition → Stays n b config lows m g (replicate 9 0)
+  pub stays-none : (g : List ℕ) → n .charts ≤ mostCharts → n .edition ≢ stayEdition → Stays n b config lows m g (replicate staysSize 0)
   unfolding chartOf
   stays-none g few one =
       record {
-        stayers = stayers E cfg (n .charts) (keepAt E cfg (n .charts) lows m) g (replicate 9 0)
+        stayers = stayers E cfg (n .charts) (keepAt E cfg (n .charts) lows m) g (replicate staysSize 0)
             (λ c l. shut (ap (λ x. x && keepAt E cfg (n .charts) lows m c (lastPlace (E c))) (same-≢ (n .edition) stayEdition one)) (none c (omega arith)));
-        guards = record { masks = λ c l w. absurd (w (none c l)); small = length-replicate {A = ℕ} 9 0; counts = λ c l. let z = none c l in omega arith; none-may = λ e. none };
+        guards = record { masks = λ c l w. absurd (w (none c l)); small = length-replicate {A = ℕ} staysSize 0; counts = λ c l. let z = none c l in omega arith; none-may = λ e. none };
       }
     where
-      none : (c : ℕ) → c < 8 → getD {A = ℕ} (replicate 9 0) c 0 ≡ 0
-      none c l = getD-replicate 9 c 0 0 (omega arith)
+      none : (c : ℕ) → c < mostCharts → getD {A = ℕ} (replicate staysSize 0) c 0 ≡ 0
+      none c l = getD-replicate staysSize c 0 0 (omega arith)

@@ -17,6 +17,7 @@ use borrow.Author.Tests.{not-true as tests-not-true}
 use Rattle.signals.specs.Mask.{_∪_, _∩_}
 use Rattle.signals.specs.Decide.{sets, A, B, C, D, E as Eₑ, F as Fₑ, ∅ₑ, _∪ₑ_, _∩ₑ_, _≐_}
 use Rattle.layout.specs.declared.record.Transition.{Transition}
+use Rattle.meaning.specs.Numbers.{mostCharts, mostFromState}
 use Rattle.meaning.specs.Count.{anyUpTo, tally, one}
 use Rattle.meaning.specs.Count.Laws.{tally-plus, tally-mono}
 use Rattle.meaning.specs.Meaning.{Set, same, Chart, Tree, noMove, takes, nth, behind, pick, lastPlace, actionOf, untriggered, Outcome}
@@ -28,14 +29,14 @@ use Rattle.wiring.specs.Dropped.{ahead, test, join-cong}
 use Rattle.wiring.specs.Hunt.{mayOf}
 use Rattle.wiring.specs.Filter.{lasts}
 use Rattle.wiring.specs.Sure.{sureOf, sureIn, surely, outside}
-use Rattle.search.specs.Table.{masksFor, neededAt, barredAt, actionAt, backAt, aheadAt, toAt, countAt, masterAt, stateAt, placeAt}
+use Rattle.cells.specs.Table.{backFrom, aheadFrom, listsFrom, backCell, aheadCell, neededCell, barredCell, actionCell, masksFor, neededAt, barredAt, actionAt, backAt, aheadAt, putMasks, countFrom, masterFrom, stateFrom, placeFrom, toCell, countCell, masterCell, stateCell, placeCell, smallSize, toAt, countAt, masterAt, stateAt, placeAt, putSmall}
 use Rattle.search.specs.Trail.{Trail}
 use Rattle.search.specs.Hunt.{each, wakes, taken, rested, fineAt}
 use Rattle.search.specs.Stays.{staysAt, stayed, quietAt, huntsBoth}
 use Rattle.search.specs.Hunt.Laws.{each-none}
 use Rattle.tables.specs.Filled.{Is, Listed, start, other, fails, again, fresh, mayAt, Rows, Candidates, Stayers, Lows}
 use Rattle.tables.specs.Whole.{nth-takes}
-use Rattle.tables.specs.Fill.{keptBy, lastsBy, othersAt, sureAt, Raised, Filling, isAt, isAgain, putMasks, putSmall, put, pickFilling, considered, listing, keepAt, Until, Chosen, AheadRow, aheadBy, AheadFrom, stuck}
+use Rattle.tables.specs.Fill.{keptBy, lastsBy, othersAt, sureAt, Raised, Filling, isAt, isAgain, put, pickFilling, considered, listing, keepAt, Until, Chosen, AheadRow, aheadBy, AheadFrom, stuck}
 
 -- ── candidates that stay ──
 
@@ -68,14 +69,14 @@ stays-trans m₀ s₀ m₁ s₁ m s d v a b = record { needed = b .needed ∙ a 
 -- ── put ──
 
 -- at other places of the masks nothing changes
-put-masks-off : (m : List ℕ) (c v : ℕ) (t : Transition) (i : ℕ) → i ≢ 144 + (24 * c + v) → i ≢ 152 + (24 * c + v) → i ≢ 160 + (24 * c + v) → getD (putMasks m c v t) i 0 ≡ getD m i 0
+put-masks-off : (m : List ℕ) (c v : ℕ) (t : Transition) (i : ℕ) → i ≢ neededCell c v → i ≢ barredCell c v → i ≢ actionCell c v → getD (putMasks m c v t) i 0 ≡ getD m i 0
 unfolding putMasks
-put-masks-off m c v t i a b d = getD-set-other (set (set m (144 + (24 * c + v)) (t .needed)) (152 + (24 * c + v)) (t .barred)) (160 + (24 * c + v)) i (t .action) 0 d
-    ∙ getD-set-other (set m (144 + (24 * c + v)) (t .needed)) (152 + (24 * c + v)) i (t .barred) 0 b ∙ getD-set-other m (144 + (24 * c + v)) i (t .needed) 0 a
+put-masks-off m c v t i a b d = getD-set-other (set (set m (neededCell c v) (t .needed)) (barredCell c v) (t .barred)) (actionCell c v) i (t .action) 0 d
+    ∙ getD-set-other (set m (neededCell c v) (t .needed)) (barredCell c v) i (t .barred) 0 b ∙ getD-set-other m (neededCell c v) i (t .needed) 0 a
 
-put-small-off : (s : List ℕ) (c v p : ℕ) (t : Transition) (i : ℕ) → i ≢ 8 * c + v → i ≢ 96 + (8 * c + v) → getD (putSmall s c v p t) i 0 ≡ getD s i 0
+put-small-off : (s : List ℕ) (c v p : ℕ) (t : Transition) (i : ℕ) → i ≢ toCell c v → i ≢ placeCell c v → getD (putSmall s c v p t) i 0 ≡ getD s i 0
 unfolding putSmall
-put-small-off s c v p t i a b = getD-set-other (set s (8 * c + v) (t .to)) (96 + (8 * c + v)) i p 0 b ∙ getD-set-other s (8 * c + v) i (t .to) 0 a
+put-small-off s c v p t i a b = getD-set-other (set s (toCell c v) (t .to)) (placeCell c v) i p 0 b ∙ getD-set-other s (toCell c v) i (t .to) 0 a
 
 pub length-put-masks : (m : List ℕ) (c v : ℕ) (t : Transition) → length (putMasks m c v t) ≡ length m
 unfolding putMasks
@@ -85,42 +86,42 @@ pub length-put-small : (s : List ℕ) (c v p : ℕ) (t : Transition) → length 
 unfolding putSmall
 length-put-small s c v p t = simp length-set
 
-module _ (m s : List ℕ) (c v p : ℕ) (t : Transition) (lc : c < 8) (lv : v < 8) where
-  put-stays : (d u : ℕ) → d < 8 → u < 8 → (d ≢ c) → Stays m s (putMasks m c v t) (putSmall s c v p t) d u
+module _ (m s : List ℕ) (c v p : ℕ) (t : Transition) (lc : c < mostCharts) (lv : v < mostFromState) where
+  put-stays : (d u : ℕ) → d < mostCharts → u < mostFromState → (d ≢ c) → Stays m s (putMasks m c v t) (putSmall s c v p t) d u
   put-stays d u ld lu n =
       record {
-        needed = put-masks-off m c v t (144 + (24 * d + u)) (λ e. n (omega arith)) (λ e. omega arith) (λ e. omega arith);
-        barred = put-masks-off m c v t (152 + (24 * d + u)) (λ e. omega arith) (λ e. n (omega arith)) (λ e. omega arith);
-        action = put-masks-off m c v t (160 + (24 * d + u)) (λ e. omega arith) (λ e. omega arith) (λ e. n (omega arith));
-        to = put-small-off s c v p t (8 * d + u) (λ e. n (omega arith)) (λ e. omega arith);
-        place = put-small-off s c v p t (96 + (8 * d + u)) (λ e. omega arith) (λ e. n (omega arith));
+        needed = put-masks-off m c v t (neededCell d u) (λ e. n (omega arith)) (λ e. omega arith) (λ e. omega arith);
+        barred = put-masks-off m c v t (barredCell d u) (λ e. omega arith) (λ e. n (omega arith)) (λ e. omega arith);
+        action = put-masks-off m c v t (actionCell d u) (λ e. omega arith) (λ e. omega arith) (λ e. n (omega arith));
+        to = put-small-off s c v p t (toCell d u) (λ e. n (omega arith)) (λ e. omega arith);
+        place = put-small-off s c v p t (placeCell d u) (λ e. omega arith) (λ e. n (omega arith));
       }
 
   put-earlier : (u : ℕ) → u < v → Stays m s (putMasks m c v t) (putSmall s c v p t) c u
   put-earlier u l =
       record {
-        needed = put-masks-off m c v t (144 + (24 * c + u)) (λ e. omega arith) (λ e. omega arith) (λ e. omega arith);
-        barred = put-masks-off m c v t (152 + (24 * c + u)) (λ e. omega arith) (λ e. omega arith) (λ e. omega arith);
-        action = put-masks-off m c v t (160 + (24 * c + u)) (λ e. omega arith) (λ e. omega arith) (λ e. omega arith);
-        to = put-small-off s c v p t (8 * c + u) (λ e. omega arith) (λ e. omega arith);
-        place = put-small-off s c v p t (96 + (8 * c + u)) (λ e. omega arith) (λ e. omega arith);
+        needed = put-masks-off m c v t (neededCell c u) (λ e. omega arith) (λ e. omega arith) (λ e. omega arith);
+        barred = put-masks-off m c v t (barredCell c u) (λ e. omega arith) (λ e. omega arith) (λ e. omega arith);
+        action = put-masks-off m c v t (actionCell c u) (λ e. omega arith) (λ e. omega arith) (λ e. omega arith);
+        to = put-small-off s c v p t (toCell c u) (λ e. omega arith) (λ e. omega arith);
+        place = put-small-off s c v p t (placeCell c u) (λ e. omega arith) (λ e. omega arith);
       }
 
-  put-is : masksFor (c + 1) ≤ length m → length s ≡ 160 → Is (putMasks m c v t) (putSmall s c v p t) c v t
+  put-is : masksFor (c + 1) ≤ length m → length s ≡ smallSize → Is (putMasks m c v t) (putSmall s c v p t) c v t
   unfolding putMasks putSmall
   put-is lm ls =
       record {
-        needed = getD-set-other (set (set m (144 + (24 * c + v)) (t .needed)) (152 + (24 * c + v)) (t .barred)) (160 + (24 * c + v)) (144 + (24 * c + v)) (t .action) 0 (λ e. omega arith)
-            ∙ getD-set-other (set m (144 + (24 * c + v)) (t .needed)) (152 + (24 * c + v)) (144 + (24 * c + v)) (t .barred) 0 (λ e. omega arith) ∙ getD-set-same m (144 + (24 * c + v)) (t .needed) 0 (omega arith);
-        barred = getD-set-other (set (set m (144 + (24 * c + v)) (t .needed)) (152 + (24 * c + v)) (t .barred)) (160 + (24 * c + v)) (152 + (24 * c + v)) (t .action) 0 (λ e. omega arith)
-            ∙ getD-set-same (set m (144 + (24 * c + v)) (t .needed)) (152 + (24 * c + v)) (t .barred) 0 (simp length-set (omega arith));
-        action = getD-set-same (set (set m (144 + (24 * c + v)) (t .needed)) (152 + (24 * c + v)) (t .barred)) (160 + (24 * c + v)) (t .action) 0 (simp length-set (omega arith));
-        to = getD-set-other (set s (8 * c + v) (t .to)) (96 + (8 * c + v)) (8 * c + v) p 0 (λ e. omega arith) ∙ getD-set-same s (8 * c + v) (t .to) 0 (omega arith);
+        needed = getD-set-other (set (set m (neededCell c v) (t .needed)) (barredCell c v) (t .barred)) (actionCell c v) (neededCell c v) (t .action) 0 (λ e. omega arith)
+            ∙ getD-set-other (set m (neededCell c v) (t .needed)) (barredCell c v) (neededCell c v) (t .barred) 0 (λ e. omega arith) ∙ getD-set-same m (neededCell c v) (t .needed) 0 (omega arith);
+        barred = getD-set-other (set (set m (neededCell c v) (t .needed)) (barredCell c v) (t .barred)) (actionCell c v) (barredCell c v) (t .action) 0 (λ e. omega arith)
+            ∙ getD-set-same (set m (neededCell c v) (t .needed)) (barredCell c v) (t .barred) 0 (simp length-set (omega arith));
+        action = getD-set-same (set (set m (neededCell c v) (t .needed)) (barredCell c v) (t .barred)) (actionCell c v) (t .action) 0 (simp length-set (omega arith));
+        to = getD-set-other (set s (toCell c v) (t .to)) (placeCell c v) (toCell c v) p 0 (λ e. omega arith) ∙ getD-set-same s (toCell c v) (t .to) 0 (omega arith);
       }
 
-  put-place : length s ≡ 160 → placeAt (putSmall s c v p t) c v ≡ p
+  put-place : length s ≡ smallSize → placeAt (putSmall s c v p t) c v ≡ p
   unfolding putSmall
-  put-place ls = getD-set-same (set s (8 * c + v) (t .to)) (96 + (8 * c + v)) p 0 (simp length-set (omega arith))
+  put-place ls = getD-set-same (set s (toCell c v) (t .to)) (placeCell c v) p 0 (simp length-set (omega arith))
 
 -- ── the same transition again ──
 
@@ -194,23 +195,23 @@ module _ (c q : ℕ) (low own others : Set) where
       (λ e k. rw e (omega arith))
 
   -- there is room for one more
-  pub leave-room : (g : ℕ → Transition) (p k : ℕ) (f : Filling) → f .count ≡ 0 → p < k → leave g k ≤ 8 → g p .from ≡ q → listing c q low own others g p f .count < 8
+  pub leave-room : (g : ℕ → Transition) (p k : ℕ) (f : Filling) → f .count ≡ 0 → p < k → leave g k ≤ mostFromState → g p .from ≡ q → listing c q low own others g p f .count < mostFromState
   leave-room g p k f z l few e = let r = count-leave g p f in let x : one (same (g p .from) q) ≡ 1 = rw (e, same-refl q) in
       let h = tally-plus k (λ u. one (same (g u .from) q)) p l in omega arith
 
-  pub count-few : (g : ℕ → Transition) (p k : ℕ) (f : Filling) → f .count ≡ 0 → p ≤ k → leave g k ≤ 8 → listing c q low own others g p f .count ≤ 8
+  pub count-few : (g : ℕ → Transition) (p k : ℕ) (f : Filling) → f .count ≡ 0 → p ≤ k → leave g k ≤ mostFromState → listing c q low own others g p f .count ≤ mostFromState
   count-few g p k f z l few = let r = count-leave g p f in let h = tally-mono p k (λ u. one (same (g u .from) q)) l in omega arith
 
-  module _ (lc : c < 8) (ts : List Transition) (keep : ℕ → Bool) (f₀ : Filling) where
+  module _ (lc : c < mostCharts) (ts : List Transition) (keep : ℕ → Bool) (f₀ : Filling) where
     -- the filling f after p transitions
     pub record Lists (p : ℕ) (f : Filling) : Type 0 where
       pub listed : Listed (f .masks) (f .small) c ts q keep p (f .count)
-      pub stays : (d u : ℕ) → d < 8 → u < 8 → d ≢ c → Stays (f₀ .masks) (f₀ .small) (f .masks) (f .small) d u
-      pub wires : (i : ℕ) → i < 144 → getD (f .masks) i 0 ≡ getD (f₀ .masks) i 0
-      pub rest : (i : ℕ) → 64 ≤ i → i < 96 → getD (f .small) i 0 ≡ getD (f₀ .small) i 0
+      pub stays : (d u : ℕ) → d < mostCharts → u < mostFromState → d ≢ c → Stays (f₀ .masks) (f₀ .small) (f .masks) (f .small) d u
+      pub wires : (i : ℕ) → i < listsFrom → getD (f .masks) i 0 ≡ getD (f₀ .masks) i 0
+      pub rest : (i : ℕ) → countFrom ≤ i → i < placeFrom → getD (f .small) i 0 ≡ getD (f₀ .small) i 0
 
-    lists-next : (p : ℕ) (t : Transition) (f : Filling) → nth noMove ts p ≡ takes t → keep (suc p) ≡ lastsBy low own others t → masksFor (c + 1) ≤ length (f .masks) → length (f .small) ≡ 160
-        → (t .from ≡ q → f .count < 8) → Lists p f → Lists (suc p) (step p t f)
+    lists-next : (p : ℕ) (t : Transition) (f : Filling) → nth noMove ts p ≡ takes t → keep (suc p) ≡ lastsBy low own others t → masksFor (c + 1) ≤ length (f .masks) → length (f .small) ≡ smallSize
+        → (t .from ≡ q → f .count < mostFromState) → Lists p f → Lists (suc p) (step p t f)
     lists-next p t f e k lm ls room l = by-cases (λ h. Lists (suc p) h) p t f
         (λ a. same-but (other (l .listed) t e (λ w. false≢true (sym a ∙ rw w (same-refl q)))))
         (λ a b. same-but (fails (l .listed) (k ∙ b)))
@@ -234,8 +235,8 @@ module _ (c q : ℕ) (low own others : Set) where
               rest = λ i r r₂. put-small-off (f .small) c (f .count) p t i (λ x. omega arith) (λ x. omega arith) ∙ l .rest i r r₂;
             }
 
-    pub listing-lists : (g : ℕ → Transition) (k p : ℕ) → p ≤ k → leave g k ≤ 8 → ((u : ℕ) → u < k → nth noMove ts u ≡ takes (g u)) → ((u : ℕ) → u < k → keep (suc u) ≡ lastsBy low own others (g u))
-        → masksFor (c + 1) ≤ length (f₀ .masks) → length (f₀ .small) ≡ 160 → f₀ .count ≡ 0 → Lists p (listing c q low own others g p f₀)
+    pub listing-lists : (g : ℕ → Transition) (k p : ℕ) → p ≤ k → leave g k ≤ mostFromState → ((u : ℕ) → u < k → nth noMove ts u ≡ takes (g u)) → ((u : ℕ) → u < k → keep (suc u) ≡ lastsBy low own others (g u))
+        → masksFor (c + 1) ≤ length (f₀ .masks) → length (f₀ .small) ≡ smallSize → f₀ .count ≡ 0 → Lists p (listing c q low own others g p f₀)
     unfolding listing
     listing-lists g k zero l few at kp lm ls z = record { listed = rw z start; stays = λ d u ld lu n. stays-refl (f₀ .masks) (f₀ .small) d u; wires = λ i r. refl; rest = λ i r r₂. refl }
     listing-lists g k (suc p) l few at kp lm ls z = lists-next p (g p) (listing c q low own others g p f₀) (at p l) (kp p l) (let e = length-masks g p f₀ in omega arith) (length-small g p f₀ ∙ ls)
@@ -243,22 +244,22 @@ module _ (c q : ℕ) (low own others : Set) where
 
 -- ── one chart more ──
 
-module _ (E : ℕ → Chart) (cfg : ℕ → ℕ) (N : ℕ) (lows m₀ s₀ : List ℕ) (few : N ≤ 8) where
+module _ (E : ℕ → Chart) (cfg : ℕ → ℕ) (N : ℕ) (lows m₀ s₀ : List ℕ) (few : N ≤ mostCharts) where
   -- the wiring of chart c is the same in tables that agree on it
-  others-same : (m m₁ : List ℕ) (may : ℕ → Set) (c : ℕ) → c < N → ((i : ℕ) → 8 ≤ i → i < 72 → getD m i 0 ≡ getD m₁ i 0) → othersAt m N may c ≡ othersAt m₁ N may c
+  others-same : (m m₁ : List ℕ) (may : ℕ → Set) (c : ℕ) → c < N → ((i : ℕ) → backFrom ≤ i → i < aheadFrom → getD m i 0 ≡ getD m₁ i 0) → othersAt m N may c ≡ othersAt m₁ N may c
   unfolding othersAt
-  others-same m m₁ may c l h = join-cong N _ _ (λ e r. ap (λ z. cond (same e c) 0 (may e) ∩ z) (h (8 + (8 * e + c)) (omega arith) (omega arith)))
+  others-same m m₁ may c l h = join-cong N _ _ (λ e r. ap (λ z. cond (same e c) 0 (may e) ∩ z) (h (backCell c e) (omega arith) (omega arith)))
 
-  keep-same : (m m₁ : List ℕ) (c v : ℕ) → c < N → ((i : ℕ) → 8 ≤ i → i < 72 → getD m i 0 ≡ getD m₁ i 0) → keepAt E cfg N lows m c v ≡ keepAt E cfg N lows m₁ c v
+  keep-same : (m m₁ : List ℕ) (c v : ℕ) → c < N → ((i : ℕ) → backFrom ≤ i → i < aheadFrom → getD m i 0 ≡ getD m₁ i 0) → keepAt E cfg N lows m c v ≡ keepAt E cfg N lows m₁ c v
   unfolding keepAt
-  keep-same m m₁ c v l h = ap₂ (λ a b. keptBy (getD lows c 0) a b (E c) (cfg c) (pick (E c) v)) (h (8 + (8 * c + c)) (omega arith) (omega arith)) (others-same m m₁ _ c l h)
+  keep-same m m₁ c v l h = ap₂ (λ a b. keptBy (getD lows c 0) a b (E c) (cfg c) (pick (E c) v)) (h (backCell c c) (omega arith) (omega arith)) (others-same m m₁ _ c l h)
 
   keep-by : (m : List ℕ) (c : ℕ) (low own others : Set) (u : ℕ) (t : Transition) → low ≡ getD lows c 0 → own ≡ backAt m c c → others ≡ othersAt m N (λ e. mayOf (E e .transitions) (cfg e)) c
       → nth noMove (E c .transitions) u ≡ takes t → keepAt E cfg N lows m c (suc u) ≡ lastsBy low own others t
   unfolding keepAt keptBy lastsBy pick test actionOf
   keep-by m c low own others u t el eo es e = rw (el, eo, es, nth-takes (behind (E c)) (E c .transitions) u t e)
 
-  pub until-none : length s₀ ≡ 160 → Until E cfg N lows m₀ s₀ 0 m₀ s₀
+  pub until-none : length s₀ ≡ smallSize → Until E cfg N lows m₀ s₀ 0 m₀ s₀
   until-none ls = record { listed = λ c l. absurd (omega arith); counts = λ c l. absurd (omega arith); wires = λ i l. refl; rest = λ i l b. refl; masks = refl; small = ls }
 
   module _ (k : ℕ) (lk : k < N) (m s : List ℕ) (low own others : Set) (g : ℕ → Transition) where
@@ -266,25 +267,25 @@ module _ (E : ℕ → Chart) (cfg : ℕ → ℕ) (N : ℕ) (lows m₀ s₀ : Lis
     done = listing k (cfg k) low own others g (length (E k .transitions)) (record { masks = m; small = s; count = 0 })
 
     abbrev counted : List ℕ
-    counted = set (done .small) (64 + k) (done .count)
+    counted = set (done .small) (countCell k) (done .count)
 
     -- chart k gets its candidates
-    pub until-next : masksFor N ≤ length m → Until E cfg N lows m₀ s₀ k m s → ((u : ℕ) → u < length (E k .transitions) → nth noMove (E k .transitions) u ≡ takes (g u)) → tally (length (E k .transitions)) (λ u. one (same (g u .from) (cfg k))) ≤ 8
+    pub until-next : masksFor N ≤ length m → Until E cfg N lows m₀ s₀ k m s → ((u : ℕ) → u < length (E k .transitions) → nth noMove (E k .transitions) u ≡ takes (g u)) → tally (length (E k .transitions)) (λ u. one (same (g u .from) (cfg k))) ≤ mostFromState
         → low ≡ getD lows k 0 → own ≡ backAt m k k → others ≡ othersAt m N (λ e. mayOf (E e .transitions) (cfg e)) k → Until E cfg N lows m₀ s₀ (suc k) (done .masks) counted
     until-next lm un at room el eo es =
         record {
           listed = λ c l. go c l (same c k) refl;
           counts = λ c l. go′ c l (same c k) refl;
           wires = λ i l. li .wires i l ∙ un .wires i l;
-          rest = λ i l b. getD-set-other (done .small) (64 + k) i (done .count) 0 (λ e. omega arith) ∙ li .rest i (omega arith) b ∙ un .rest i (omega arith) b;
+          rest = λ i l b. getD-set-other (done .small) (countCell k) i (done .count) 0 (λ e. omega arith) ∙ li .rest i (omega arith) b ∙ un .rest i (omega arith) b;
           masks = length-masks k (cfg k) low own others g (length (E k .transitions)) f₀ ∙ un .masks;
-          small = length-set (done .small) (64 + k) (done .count) ∙ ls;
+          small = length-set (done .small) (countCell k) (done .count) ∙ ls;
         }
       where
         f₀ : Filling
         f₀ = record { masks = m; small = s; count = 0 }
 
-        ls : length (done .small) ≡ 160
+        ls : length (done .small) ≡ smallSize
         ls = length-small k (cfg k) low own others g (length (E k .transitions)) f₀ ∙ un .small
 
         kept : (u : ℕ) → u < length (E k .transitions) → keepAt E cfg N lows m₀ k (suc u) ≡ lastsBy low own others (g u)
@@ -293,17 +294,17 @@ module _ (E : ℕ → Chart) (cfg : ℕ → ℕ) (N : ℕ) (lows m₀ s₀ : Lis
         li : Lists k (cfg k) low own others (let h = few in omega arith) (E k .transitions) (keepAt E cfg N lows m₀ k) f₀ (length (E k .transitions)) done
         li = listing-lists k (cfg k) low own others (let h = few in omega arith) (E k .transitions) (keepAt E cfg N lows m₀ k) f₀ g (length (E k .transitions)) (length (E k .transitions)) (omega arith) room at kept (omega arith) (un .small) refl
 
-        full : done .count ≤ 8
+        full : done .count ≤ mostFromState
         full = let h = count-leave k (cfg k) low own others g (length (E k .transitions)) f₀ in omega arith
 
-        to-stays : (c v : ℕ) → c < 8 → v < 8 → Stays (done .masks) (done .small) (done .masks) counted c v
-        to-stays c v l r = record { needed = refl; barred = refl; action = refl; to = getD-set-other (done .small) (64 + k) (8 * c + v) (done .count) 0 (λ e. omega arith); place = getD-set-other (done .small) (64 + k) (96 + (8 * c + v)) (done .count) 0 (λ e. let h = few in omega arith) }
+        to-stays : (c v : ℕ) → c < mostCharts → v < mostFromState → Stays (done .masks) (done .small) (done .masks) counted c v
+        to-stays c v l r = record { needed = refl; barred = refl; action = refl; to = getD-set-other (done .small) (countCell k) (toCell c v) (done .count) 0 (λ e. omega arith); place = getD-set-other (done .small) (countCell k) (placeCell c v) (done .count) 0 (λ e. let h = few in omega arith) }
 
         count-at : countAt counted k ≡ done .count
-        count-at = getD-set-same (done .small) (64 + k) (done .count) 0 (let h = ls in omega arith)
+        count-at = getD-set-same (done .small) (countCell k) (done .count) 0 (let h = ls in omega arith)
 
         count-off : (c : ℕ) → c < suc k → c ≢ k → countAt counted c ≡ countAt s c
-        count-off c l n = getD-set-other (done .small) (64 + k) (64 + c) (done .count) 0 (λ e. n (omega arith)) ∙ li .rest (64 + c) (omega arith) (omega arith)
+        count-off c l n = getD-set-other (done .small) (countCell k) (countCell c) (done .count) 0 (λ e. n (omega arith)) ∙ li .rest (countCell c) (omega arith) (omega arith)
 
         apart? : (c : ℕ) → same c k ≡ false → c ≢ k
         apart? c e w = false≢true (sym e ∙ rw w (same-refl k))
@@ -315,7 +316,7 @@ module _ (E : ℕ → Chart) (cfg : ℕ → ℕ) (N : ℕ) (lows m₀ s₀ : Lis
             (listed-stays m s (done .masks) counted c (E c .transitions) (cfg c) (keepAt E cfg N lows m₀ c) (un .listed c (omega arith))
             (λ v r. stays-trans m s (done .masks) (done .small) (done .masks) counted c v (li .stays c v (omega arith) (omega arith) n) (to-stays c v (omega arith) (omega arith))))
 
-        go′ : (c : ℕ) → c < suc k → (b : Bool) → same c k ≡ b → countAt counted c ≤ 8
+        go′ : (c : ℕ) → c < suc k → (b : Bool) → same c k ≡ b → countAt counted c ≤ mostFromState
         go′ c l true e = rw (same→≡ c k e, count-at) full
         go′ c l false e = rw (count-off c l (apart? c e)) (un .counts c (let n = apart? c e in omega arith))
 
@@ -324,26 +325,26 @@ module _ (E : ℕ → Chart) (cfg : ℕ → ℕ) (N : ℕ) (lows m₀ s₀ : Lis
 pub row-none : (k : ℕ) (w : ℕ → Set) (m : List ℕ) → AheadRow k w 0 m m
 row-none k w m = record { row = λ c l. absurd (omega arith); below = λ i l. refl; above = λ i l. refl; masks = refl }
 
-pub row-next : (k : ℕ) (w : ℕ → Set) (n : ℕ) (m₀ m : List ℕ) (v : Set) → AheadRow k w n m₀ m → 72 + (8 * k + n) < length m₀ → v ≡ w n → AheadRow k w (n + 1) m₀ (set m (72 + (8 * k + n)) v)
+pub row-next : (k : ℕ) (w : ℕ → Set) (n : ℕ) (m₀ m : List ℕ) (v : Set) → AheadRow k w n m₀ m → aheadCell k n < length m₀ → v ≡ w n → AheadRow k w (n + 1) m₀ (set m (aheadCell k n) v)
 row-next k w n m₀ m v a l e =
     record {
       row = λ c r. go c r (same c n) refl;
-      below = λ i r. getD-set-other m (72 + (8 * k + n)) i v 0 (λ x. omega arith) ∙ a .below i r;
-      above = λ i r. getD-set-other m (72 + (8 * k + n)) i v 0 (λ x. omega arith) ∙ a .above i (omega arith);
-      masks = length-set m (72 + (8 * k + n)) v ∙ a .masks;
+      below = λ i r. getD-set-other m (aheadCell k n) i v 0 (λ x. omega arith) ∙ a .below i r;
+      above = λ i r. getD-set-other m (aheadCell k n) i v 0 (λ x. omega arith) ∙ a .above i (omega arith);
+      masks = length-set m (aheadCell k n) v ∙ a .masks;
     }
   where
-    go : (c : ℕ) → c < n + 1 → (b : Bool) → same c n ≡ b → getD (set m (72 + (8 * k + n)) v) (72 + (8 * k + c)) 0 ≡ w c
-    go c r true x = rw (same→≡ c n x) (getD-set-same m (72 + (8 * k + n)) v 0 (let h = a .masks in omega arith) ∙ e)
+    go : (c : ℕ) → c < n + 1 → (b : Bool) → same c n ≡ b → getD (set m (aheadCell k n) v) (aheadCell k c) 0 ≡ w c
+    go c r true x = rw (same→≡ c n x) (getD-set-same m (aheadCell k n) v 0 (let h = a .masks in omega arith) ∙ e)
     go c r false x = let z : c ≢ n = λ y. false≢true (sym x ∙ rw y (same-refl n)) in
-        getD-set-other m (72 + (8 * k + n)) (72 + (8 * k + c)) v 0 (λ y. omega arith) ∙ a .row c (omega arith)
+        getD-set-other m (aheadCell k n) (aheadCell k c) v 0 (λ y. omega arith) ∙ a .row c (omega arith)
 
 -- what stands before and after row k is still there to make it
-pub row-value : (k : ℕ) (w : ℕ → Set) (c : ℕ) (m₀ m : List ℕ) (u : Set) → AheadRow k w c m₀ m → c < 8 → k < 8 → u ∩ backAt m c k ∪ aheadAt m (k + 1) c ≡ aheadBy m₀ k u c
+pub row-value : (k : ℕ) (w : ℕ → Set) (c : ℕ) (m₀ m : List ℕ) (u : Set) → AheadRow k w c m₀ m → c < mostCharts → k < mostCharts → u ∩ backAt m c k ∪ aheadAt m (k + 1) c ≡ aheadBy m₀ k u c
 unfolding aheadBy
-row-value k w c m₀ m u a l r = ap₂ (λ x y. u ∩ x ∪ y) (a .below (8 + (8 * k + c)) (omega arith)) (ap (λ z. aheadAt m z c) (add-one k) ∙ a .above (72 + (8 * suc k + c)) (omega arith))
+row-value k w c m₀ m u a l r = ap₂ (λ x y. u ∩ x ∪ y) (a .below (backCell c k) (omega arith)) (ap (λ z. aheadAt m z c) (add-one k) ∙ a .above (aheadCell (suc k) c) (omega arith))
 
-module _ (N : ℕ) (few : N ≤ 8) (s m₀ : List ℕ) where
+module _ (N : ℕ) (few : N ≤ mostCharts) (s m₀ : List ℕ) where
   -- nothing is left after the last chart
   pub from-last : (m : List ℕ) → AheadRow N (λ c. 0) N m₀ m → AheadFrom N s N m₀ m
   unfolding ahead
@@ -355,11 +356,11 @@ module _ (N : ℕ) (few : N ≤ 8) (s m₀ : List ℕ) where
         masks = a .masks;
       }
 
-  may-same : (m : List ℕ) (c : ℕ) → c < N → countAt s c ≤ 8 → ((i : ℕ) → 144 ≤ i → getD m i 0 ≡ getD m₀ i 0) → mayAt m s c ≡ mayAt m₀ s c
+  may-same : (m : List ℕ) (c : ℕ) → c < N → countAt s c ≤ mostFromState → ((i : ℕ) → listsFrom ≤ i → getD m i 0 ≡ getD m₀ i 0) → mayAt m s c ≡ mayAt m₀ s c
   unfolding mayAt
-  may-same m c l f h = join-cong (countAt s c) _ _ (λ v r. h (160 + (24 * c + v)) (omega arith))
+  may-same m c l f h = join-cong (countAt s c) _ _ (λ v r. h (actionCell c v) (omega arith))
 
-  pub from-next : (k : ℕ) (m m′ : List ℕ) (u : Set) → suc k ≤ N → countAt s k ≤ 8 → u ≡ mayAt m s k → AheadFrom N s (suc k) m₀ m → AheadRow k (aheadBy m k u) N m m′ → AheadFrom N s k m₀ m′
+  pub from-next : (k : ℕ) (m m′ : List ℕ) (u : Set) → suc k ≤ N → countAt s k ≤ mostFromState → u ≡ mayAt m s k → AheadFrom N s (suc k) m₀ m → AheadRow k (aheadBy m k u) N m m′ → AheadFrom N s k m₀ m′
   unfolding ahead aheadBy
   from-next k m m′ u l f e a r =
       record {
@@ -373,9 +374,9 @@ module _ (N : ℕ) (few : N ≤ 8) (s m₀ : List ℕ) where
       part c e = mayAt m₀ s e ∩ backAt m₀ c e
 
       go : (j c : ℕ) → k ≤ j → j ≤ N → c < N → (b : Bool) → same j k ≡ b → aheadAt m′ j c ≡ ahead (N - j) j (part c)
-      go j c p q x true y = rw (same→≡ j k y) (r .row c x ∙ ap₂ _∪_ (ap₂ _∩_ (e ∙ may-same m k (omega arith) f (a .above)) (a .below (8 + (8 * k + c)) (omega arith))) (a .rows (suc k) c (omega arith) (omega arith) x)
+      go j c p q x true y = rw (same→≡ j k y) (r .row c x ∙ ap₂ _∪_ (ap₂ _∩_ (e ∙ may-same m k (omega arith) f (a .above)) (a .below (backCell c k) (omega arith))) (a .rows (suc k) c (omega arith) (omega arith) x)
           ∙ sym (ap (λ n. ahead n k (part c)) (let h : N - k ≡ suc (N - suc k) = omega arith in h)))
-      go j c p q x false y = let z : j ≢ k = λ o. false≢true (sym y ∙ rw o (same-refl k)) in r .above (72 + (8 * j + c)) (omega arith) ∙ a .rows j c (omega arith) q x
+      go j c p q x false y = let z : j ≢ k = λ o. false≢true (sym y ∙ rw o (same-refl k)) in r .above (aheadCell j c) (omega arith) ∙ a .rows j c (omega arith) q x
 
 -- ── all of it ──
 
@@ -387,18 +388,18 @@ ahead-cong (suc n) k f g h = ap₂ _∪_ (h k (omega arith)) (ahead-cong n (suc 
 listed-kept : (m s : List ℕ) (c : ℕ) (ts : List Transition) (q : ℕ) (keep keep′ : ℕ → Bool) → ((v : ℕ) → keep v ≡ keep′ v) → {p n : ℕ} → Listed m s c ts q keep p n → Listed m s c ts q keep′ p n
 listed-kept m s c ts q keep keep′ h {p} {n} l = subst (λ f. Listed m s c ts q f p n) (fun-ext h) l
 
-module _ (E : ℕ → Chart) (cfg : ℕ → ℕ) (N : ℕ) (lows m₀ s₀ : List ℕ) (few : N ≤ 8) where
+module _ (E : ℕ → Chart) (cfg : ℕ → ℕ) (N : ℕ) (lows m₀ s₀ : List ℕ) (few : N ≤ mostCharts) where
   pub chosen : (m m′ s : List ℕ) → Until E cfg N lows m₀ s₀ N m s → AheadFrom N s 0 m m′ → ((c : ℕ) → c < N → stateAt s₀ c ≡ cfg c) → Chosen E cfg N lows m′ s
   chosen m m′ s un a st =
       record {
         listed = λ c l. listed-kept m′ s c (E c .transitions) (cfg c) (keepAt E cfg N lows m₀ c) (keepAt E cfg N lows m′ c)
             (λ v. keep-same E cfg N lows m₀ s₀ few m₀ m′ c v l (λ i p q. sym (a .below i q ∙ un .wires i (omega arith))))
             (listed-stays m s m′ s c (E c .transitions) (cfg c) (keepAt E cfg N lows m₀ c) (un .listed c l) (λ v r. let h = un .counts c l in
-            record { needed = a .above (144 + (24 * c + v)) (omega arith); barred = a .above (152 + (24 * c + v)) (omega arith); action = a .above (160 + (24 * c + v)) (omega arith); to = refl; place = refl }));
+            record { needed = a .above (neededCell c v) (omega arith); barred = a .above (barredCell c v) (omega arith); action = a .above (actionCell c v) (omega arith); to = refl; place = refl }));
         counts = un .counts;
         ahead-at = λ k c p q. a .rows k c (omega arith) p q ∙ ahead-cong (N - k) k _ _ (λ e x. ap₂ _∩_ (sym (may-same N few s m m′ e (omega arith) (un .counts e (omega arith)) (a .above)))
-            (sym (a .below (8 + (8 * e + c)) (omega arith))));
-        state-at = λ c l. un .rest (88 + c) (omega arith) (omega arith) ∙ st c l;
+            (sym (a .below (backCell c e) (omega arith))));
+        state-at = λ c l. un .rest (stateCell c) (omega arith) (omega arith) ∙ st c l;
       }
 
 -- ── what is chosen by the tables is what the file's candidates are ──
@@ -491,18 +492,18 @@ module _ (E : ℕ → Chart) (cfg : ℕ → ℕ) (base : List ℕ) where
   unfolding join
   raised-none m s c l = sets (getD base c 0 ∷ []) [] (A ≐ A ∪ₑ ∅ₑ) tt
 
-  pub raised-next : (k : ℕ) (m s lows lows′ : List ℕ) → Raised E cfg k m s base lows → ((c : ℕ) → c < 8 → getD lows′ c 0 ≡ getD lows c 0 ∪ sureAt s k (sureIn (E k .stays) (sureOf (E k .transitions) (cfg k))) ∩ backAt m c k)
+  pub raised-next : (k : ℕ) (m s lows lows′ : List ℕ) → Raised E cfg k m s base lows → ((c : ℕ) → c < mostCharts → getD lows′ c 0 ≡ getD lows c 0 ∪ sureAt s k (sureIn (E k .stays) (sureOf (E k .transitions) (cfg k))) ∩ backAt m c k)
       → Raised E cfg (suc k) m s base lows′
   unfolding join
   raised-next k m s lows lows′ h f c l = f c l ∙ sets (getD lows c 0 ∷ getD base c 0 ∷ join k (λ e. sureAt s e (sureIn (E e .stays) (sureOf (E e .transitions) (cfg e))) ∩ backAt m c e) ∷ (sureAt s k (sureIn (E k .stays) (sureOf (E k .transitions) (cfg k))) ∩ backAt m c k) ∷ [])
       (A ≐ B ∪ₑ C ∷ []) (A ∪ₑ D ≐ B ∪ₑ (C ∪ₑ D)) tt (h c l)
 
   -- by tables with the same wiring and the same masters
-  pub raised-same : (k : ℕ) (m s m′ s′ lows : List ℕ) → k ≤ 8 → ((i : ℕ) → 8 ≤ i → i < 72 → getD m′ i 0 ≡ getD m i 0) → ((i : ℕ) → 72 ≤ i → i < 88 → getD s′ i 0 ≡ getD s i 0)
+  pub raised-same : (k : ℕ) (m s m′ s′ lows : List ℕ) → k ≤ mostCharts → ((i : ℕ) → backFrom ≤ i → i < aheadFrom → getD m′ i 0 ≡ getD m i 0) → ((i : ℕ) → masterFrom ≤ i → i < stateFrom → getD s′ i 0 ≡ getD s i 0)
       → Raised E cfg k m s base lows → Raised E cfg k m′ s′ base lows
   unfolding sureAt
   raised-same k m s m′ s′ lows few f g h c l = h c l ∙ ap (λ z. getD base c 0 ∪ z) (join-cong k _ _ (λ e r.
-      ap₂ (λ x y. cond (ltb x 8) 0 (sureIn (E e .stays) (sureOf (E e .transitions) (cfg e))) ∩ y) (sym (g (72 + e) (omega arith) (omega arith))) (sym (f (8 + (8 * e + c)) (omega arith) (omega arith)))))
+      ap₂ (λ x y. cond (ltb x mostCharts) 0 (sureIn (E e .stays) (sureOf (E e .transitions) (cfg e))) ∩ y) (sym (g (masterCell e) (omega arith) (omega arith))) (sym (f (backCell c e) (omega arith) (omega arith)))))
 
 module _ (E : ℕ → Chart) (state : ℕ → ℕ) (cfg : ℕ → ℕ) (N : ℕ) (enc : ℕ → Option ℕ) (sc : ℕ → ℕ) (t : Tree) (inp : Set) (m s base lows : List ℕ)
     (st : Stands N enc sc t) (ro : Rows E state cfg N enc sc t m s) where
@@ -510,9 +511,9 @@ module _ (E : ℕ → Chart) (state : ℕ → ℕ) (cfg : ℕ → ℕ) (N : ℕ)
   unfolding sureAt surely
   sure-is e l = go (enc e) refl
     where
-      go : (κ : Option ℕ) → enc e ≡ κ → cond (ltb (masterAt s e) 8) 0 (sureIn (E e .stays) (sureOf (E e .transitions) (cfg e))) ≡ outside κ (sureIn (E e .stays) (sureOf (E e .transitions) (cfg e)))
-      go none x = rw (le-ltb (masterAt s e) 8 (ro .outside e l x))
-      go (some i) x = rw (lt-ltb (masterAt s e) 8 (let a = ro .few in let b = st .lower e i l x in let d = ro .inside e i l x .0 in omega arith))
+      go : (κ : Option ℕ) → enc e ≡ κ → cond (ltb (masterAt s e) mostCharts) 0 (sureIn (E e .stays) (sureOf (E e .transitions) (cfg e))) ≡ outside κ (sureIn (E e .stays) (sureOf (E e .transitions) (cfg e)))
+      go none x = rw (le-ltb (masterAt s e) mostCharts (ro .outside e l x))
+      go (some i) x = rw (lt-ltb (masterAt s e) mostCharts (let a = ro .few in let b = st .lower e i l x in let d = ro .inside e i l x .0 in omega arith))
 
   pub lows-are : ((c : ℕ) → c < N → getD base c 0 ≡ inp ∩ down t c) → Raised E cfg N m s base lows → Lows E cfg N enc t inp lows
   lows-are f h c l = h c (let a = ro .few in omega arith) ∙ ap₂ _∪_ (f c l) (join-cong N _ _ (λ e r. ap₂ _∩_ (sure-is e r) (ro .back-at c e l r)))
@@ -544,10 +545,10 @@ module _ (m s g y : List ℕ) (c : ℕ) (z : countAt s c ≡ 0) (o : c ≤ maste
           let end : (t′ : Trail) → block t′ ≡ [] = λ t′. both (fineAt m s t′ k && quietAt m s g y t′ k) (huntsBoth m s g y n (suc k) t′) (ih t′ (omega arith) (omega arith)) in
           either (wakes m s t k) _ _ (ap₂ _++_ (each-none (countAt s k) _ (λ v l. end (taken m s t k v))) (both (staysAt g y k) (block (stayed m s t k)) (end (stayed m s t k)))) (end (rested m s t k))
 
-pub hunts-stuck : (m s g y : List ℕ) (N : ℕ) (t : Trail) → N ≤ 8 → stuck s g y N ≡ true → huntsBoth m s g y N 0 t ≡ []
+pub hunts-stuck : (m s g y : List ℕ) (N : ℕ) (t : Trail) → N ≤ mostCharts → stuck s g y N ≡ true → huntsBoth m s g y N 0 t ≡ []
 unfolding stuck
-hunts-stuck m s g y N t few h = let u = any-one N (λ c. same (countAt s c) 0 && (not (ltb (masterAt s c) 8) && not (staysAt g y c))) h in let l = u .1 in
+hunts-stuck m s g y N t few h = let u = any-one N (λ c. same (countAt s c) 0 && (not (ltb (masterAt s c) mostCharts) && not (staysAt g y c))) h in let l = u .1 in
     let r = and-r (same (countAt s (u .0)) 0) _ (u .2) in
-    let o = ltb-false (masterAt s (u .0)) 8 (tests-not-true (ltb (masterAt s (u .0)) 8) (and-l _ _ r)) in
+    let o = ltb-false (masterAt s (u .0)) mostCharts (tests-not-true (ltb (masterAt s (u .0)) mostCharts) (and-l _ _ r)) in
     hunts-none m s g y (u .0) (same→≡ (countAt s (u .0)) 0 (and-l _ _ (u .2))) (omega arith)
-    (tests-not-true (staysAt g y (u .0)) (and-r (not (ltb (masterAt s (u .0)) 8)) _ r)) N 0 t (omega arith) (omega arith)
+    (tests-not-true (staysAt g y (u .0)) (and-r (not (ltb (masterAt s (u .0)) mostCharts)) _ r)) N 0 t (omega arith) (omega arith)

@@ -4,12 +4,15 @@ use mathlib.Core.List.{List}
 use Prim.Native.Nat.{ℕ, _+_, _/_, _≤_, _<_}
 use native.Mathlib.Omega.{arith}
 use borrow.Author.Needs.{needs}
-use lib.ListN.{length, take, getD-replicate}
+use lib.ListN.{length, take}
 use Rattle.layout.specs.declared.body.Shape.{Shape}
+use Rattle.meaning.specs.Numbers.{mostCharts}
 use Rattle.meaning.specs.File.{fileAt}
 use Rattle.meaning.specs.Check.{firstOf}
 use Rattle.meaning.specs.Calls.{laidOver, rowsOf, carriedOf}
 use Rattle.meaning.specs.Laws.Runs.{Valid}
+use Rattle.cells.specs.Table.{masksFor}
+use Rattle.plan.specs.Wire.Laws.{blank-new}
 use Rattle.engine.specs.Step.{configTestsIn}
 use Rattle.engine.specs.Run.{BodyRuns}
 use Rattle.engine.specs.Run.Laws.{Refuses, after-config, after-room, after-rows, config-is, room, no-room}
@@ -96,7 +99,7 @@ of-body-spec =
     states-of-requires
     (λ c. search needs)
     (λ c. search needs)
-    (λ c κs. (search needs, search needs, λ k p. getD-replicate 336 k 0 0 (omega arith), search needs))
+    (λ c κs. (search needs, search needs, blank-new (masksFor mostCharts), search needs))
     (λ c. search needs)
     (λ c. search needs)
     put-rows-requires

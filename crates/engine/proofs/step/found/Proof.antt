@@ -5,6 +5,7 @@ use mathlib.Core.List.{List, []}
 use Prim.Native.Nat.{ℕ}
 use borrow.Author.Needs.{needs}
 use lib.ListN.{replicate}
+use Rattle.cells.specs.Triggers.{staysSize}
 use Rattle.staying.specs.Staying.{Stays}
 use Rattle.staying.specs.Staying.Laws.{stays-none}
 use Rattle.engine.specs.Step.Laws.{prepared-again, found-here}
@@ -33,7 +34,7 @@ returns c =
 -- no chart may stay
 none : (c : tie.Else1) → let d = c .before .before .before .before .before .before in
     let s = d .before .before .before .before .before .before .before .before in
-    (m : List ℕ) → Stays (s .args .n) (s .args .body .now) (s .args .config .now) (d .choose .result .low) m [] (replicate 9 0)
+    (m : List ℕ) → Stays (s .args .n) (s .args .body .now) (s .args .config .now) (d .choose .result .low) m [] (replicate staysSize 0)
 none c = let d = c .before .before .before .before .before .before in
     let s = d .before .before .before .before .before .before .before .before in
     λ m. stays-none _ _ _ _ (d .choose .result .may) m [] (s .pre .0 .sized .charts) (c .if1 .left)
@@ -54,7 +55,7 @@ returns-2 c =
     let s = l .before .before .before .before .before in (
       rw (c .searched .ensures)
           (found-here _ _ _ _ _ _ _ _ _ _ (s .pre .0 .sized) (s .pre .2) (k .choose .ensures .1) (λ i. l .before .before .before .before .shared-slice-known .given i .fits) (s .pre .0)
-          _ (s .fits .input .fits) (l .lows .ensures) [] (replicate 9 0) (none e _)),
+          _ (s .fits .input .fits) (l .lows .ensures) [] (replicate staysSize 0) (none e _)),
       prepared-again _ _ _ _ _ _ _ _ _ _ (s .pre .0 .sized) (s .pre .2) (k .choose .ensures .1),
     )
 

@@ -1,19 +1,21 @@
 -- `step::found_new` meets its contract: either way there are masks enough, and all are empty. Assumes nothing.
 use native.Mathlib.Omega.{arith}
 use borrow.Author.Needs.{needs}
-use lib.ListN.{getD-replicate}
+use Rattle.meaning.specs.Numbers.{mostCharts}
+use Rattle.cells.specs.Table.{masksFor}
+use Rattle.plan.specs.Wire.Laws.{blank-new}
 use Rattle.engine.proofs.step.found_new.Statement.{statement}
 use Rattle.engine.proofs.step.found_new.Tie as tie
 
 found-in-requires : tie.Need-found-in-requires
 found-in-requires c κs =
     let s = c .before .before .before .before .before in
-    (s .pre .0, s .pre .1, omega (arith, c .before .if1 .taken), λ k p. getD-replicate 240 k 0 0 (omega arith))
+    (s .pre .0, s .pre .1, omega (arith, c .before .if1 .taken), blank-new (masksFor 4))
 
 found-in-requires-2 : tie.Need-found-in-requires-2
 found-in-requires-2 c κs =
     let s = c .before .before .before .before .before in
-    (s .pre .0, s .pre .1, omega (arith, s .pre .0 .sized .charts), λ k p. getD-replicate 336 k 0 0 (omega arith))
+    (s .pre .0, s .pre .1, omega (arith, s .pre .0 .sized .charts), blank-new (masksFor mostCharts))
 
 pub found-new-spec : {M : Type 1} → statement M
 found-new-spec =

@@ -30,11 +30,11 @@ abbrev μ-wire : Measures 3 wire-kinds.ps ℕ
 μ-wire κs a = a .1 .1 .0
 
 abbrev Inv-loop : lts.InvT-loop
-Inv-loop n body j back₀ rows node a part₀ i₀ back part i =
-    (i ≤ n .slaves) × (length back ≡ length back₀) × Gathers (fileAt n body) (node .a) i back₀ back part
+Inv-loop n body j masks₀ rows node a part₀ i₀ masks part i =
+    (i ≤ n .slaves) × (length masks ≡ length masks₀) × Gathers (fileAt n body) (node .a) i masks₀ masks part
 
 abbrev μ-loop : lts.MeasureT-loop
-μ-loop n body j back₀ rows node a part₀ i₀ back part i = n .slaves - i
+μ-loop n body j masks₀ rows node a part₀ i₀ masks part i = n .slaves - i
 
 -- what the function is given at the measure t, and what its callees ask and give
 abbrev at : ℕ → In 3 wire-kinds.ps
@@ -138,13 +138,14 @@ module _ (t : ℕ) where
       let r = composed-read k in
       let s = entry r in
       let h = lower-comp (s .pre .1 .0) (s .pre .1 .1) (r .node-at .ensures) (k .if2 .taken) in
-      (omega (arith, s .pre .0), (s .pre .1 .0, omega (arith, s .pre .1 .1), w .wire2 .kept .1 .1 .1 .0 ∙ s .pre .1 .2, w .wire2 .ensures .rows-are .long))
+      (omega (arith, s .pre .0), (s .pre .1 .0, omega (arith, s .pre .1 .1), rw (w .wire2 .kept .1 .1 .1 .0) (s .pre .1 .2), w .wire2 .ensures .rows-are .long))
 
   feed-requires : lts.Need-feed-requires (callees t) (at t) wire.Post Inv-loop μ-loop
   feed-requires c κs =
       let w′ = right c in
       let w = left (w′ .before) in
-      w′ .wire3 .kept .1 .1 .1 .0 ∙ w .wire2 .kept .1 .1 .1 .0 ∙ entry (composed-read (composed (w .before))) .pre .1 .2
+      let s = entry (composed-read (composed (w .before))) in
+      (rw (w′ .wire3 .kept .1 .1 .1 .0 ∙ w .wire2 .kept .1 .1 .1 .0) (s .pre .1 .2), s .pre .1 .0 .sized .charts)
 
   join-requires-2 : lts.Need-join-requires-2 (callees t) (at t) wire.Post Inv-loop μ-loop
   join-requires-2 c κs = entry (composed-read (composed (left (right (fed c .before) .before) .before))) .pre .1 .3
@@ -196,7 +197,7 @@ module _ (t : ℕ) where
       let r = chart-read k in
       let s = entry r in
       let h = below-charts (s .pre .1 .0) (s .pre .1 .1) (r .node-at .ensures) (k .before .before .if1 .left) (k .if2 .left) in
-      (s .pre .1 .0 .sized .holds, h, omega (arith, s .pre .1 .0 .sized .charts), s .pre .1 .2, s .pre .1 .3)
+      (s .pre .1 .0 .sized .holds, h, s .pre .1 .0 .sized .charts, s .pre .1 .2, s .pre .1 .3)
 
   lone-length : lts.Need-same-length-3 (callees t) (at t) wire.Post Inv-loop μ-loop
   lone-length c = c .before .before .lone .kept .1 .1 .1 .0
@@ -232,7 +233,7 @@ module _ (t : ℕ) where
       let r = chart-read k in
       let s = entry r in
       let h = lower-slave (s .pre .1 .0) (s .pre .1 .1) (r .node-at .ensures) (k .before .before .if1 .left) (k .if2 .left) (v .before .if4 .taken) (v .slave-at .ensures) (c .before .before .before .if5 .taken) in
-      (omega (arith, s .pre .0), (s .pre .1 .0, omega (arith, s .pre .1 .1), l .loop .inv .1 ∙ s .pre .1 .2, l .loop .inv .2 .rows-are .long))
+      (omega (arith, s .pre .0), (s .pre .1 .0, omega (arith, s .pre .1 .1), rw (l .loop .inv .1) (s .pre .1 .2), l .loop .inv .2 .rows-are .long))
 
   loop-again : lts.Need-loop-again (callees t) (at t) wire.Post Inv-loop μ-loop
   loop-again c =
@@ -241,9 +242,9 @@ module _ (t : ℕ) where
       let i = l .loop .inv in
       let r = chart-read (charted l) in
       let s = entry r in
-      let b = s .args .back .now in
+      let b = s .args .masks .now in
       let Now : List ℕ → List ℕ → Type 0 = λ m q. (length m ≡ length b) × Gathers (fileAt (s .args .n) (s .args .body .now)) (r .node-at .result .a) (l .loop .i + 1) b m q in
-      let z : Now (c .if5 .back) (c .if5 .part) =
+      let z : Now (c .if5 .masks) (c .if5 .part) =
       ⊎-elim
       (λ w. subst₂ Now (sym (w .7)) (sym (w .8)) (w .4 .kept .1 .1 .1 .0 ∙ i .1, gathers-in (s .pre .1 .0) (v .slave-at .ensures) (i .2) (w .0 .taken) (w .4 .ensures)))
       (λ w. subst₂ Now (sym (w .1)) (sym (w .2)) (i .1, gathers-out (s .pre .1 .0) (v .slave-at .ensures) (i .2) (w .0 .left)))
@@ -260,7 +261,8 @@ module _ (t : ℕ) where
   feed-requires-2 : lts.Need-feed-requires-2 (callees t) (at t) wire.Post Inv-loop μ-loop
   feed-requires-2 c κs =
       let l = loop (head c .before) in
-      l .loop .inv .1 ∙ entry (chart-read (charted l)) .pre .1 .2
+      let s = entry (chart-read (charted l)) in
+      (rw (l .loop .inv .1) (s .pre .1 .2), s .pre .1 .0 .sized .charts)
 
   join-requires-3 : lts.Need-join-requires-3 (callees t) (at t) wire.Post Inv-loop μ-loop
   join-requires-3 c κs = entry (chart-read (charted (loop (head (chart-fed c .before) .before)))) .pre .1 .3

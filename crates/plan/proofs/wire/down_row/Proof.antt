@@ -3,15 +3,16 @@ use mathlib.Core.Path.{_≡_, refl}
 use Prim.Native.Nat.{ℕ, _-_, _≤_, _<_}
 use native.Mathlib.Omega.{arith}
 use lib.ListN.{length, getD, length-set}
+use Rattle.meaning.specs.Numbers.{mostCharts}
 use Rattle.checks.specs.Parts.Laws.{fill-more}
 use Rattle.plan.proofs.wire.down_row.Statement.{statement}
 use Rattle.plan.proofs.wire.down_row.Tie as tie
 
 abbrev Inv-loop : tie.InvT-loop
-Inv-loop rows row₀ c₀ row c = (c ≤ 8) × (length row ≡ 8) × ((k : ℕ) → k < c → getD row k 0 ≡ getD rows k 0)
+Inv-loop rows row₀ c₀ row c = (c ≤ mostCharts) × (length row ≡ mostCharts) × ((k : ℕ) → k < c → getD row k 0 ≡ getD rows k 0)
 
 abbrev μ-loop : tie.MeasureT-loop
-μ-loop rows row₀ c₀ row c = 8 - c
+μ-loop rows row₀ c₀ row c = mostCharts - c
 
 loop-holds : tie.Need-loop-holds Inv-loop μ-loop
 loop-holds c = (omega arith, refl, λ k l. absurd (omega arith))

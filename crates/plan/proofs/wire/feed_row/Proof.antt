@@ -1,21 +1,23 @@
 -- `wire::feed_row` meets its contract: the masks below c are joined; an empty m feeds nothing. Assumes nothing.
-use mathlib.Core.Path.{_≡_, refl}
+use mathlib.Core.Path.{_≡_, ap, _∙_}
 use mathlib.Core.List.{[], _∷_}
-use Prim.Native.Nat.{ℕ, _+_, _-_, _≤_}
+use Prim.Native.Nat.{ℕ, _-_, _≤_}
 use native.Mathlib.Omega.{arith}
-use lib.ListN.{getD}
+use lib.ListN.{length}
 use Rattle.signals.specs.Mask.{_∪_, _∩_}
 use Rattle.signals.specs.Decide.{sets, A, B, ∅ₑ, _∩ₑ_, _≐_}
+use Rattle.meaning.specs.Numbers.{mostCharts}
+use Rattle.cells.specs.Table.{backRow, backCell, masksFor, backAt}
 use Rattle.plan.specs.Wire.{RowAt, downIn}
-use Rattle.plan.proofs.Filled.{row-none, row-empty, row-join}
+use Rattle.plan.proofs.Filled.{row-none, row-empty, row-more}
 use Rattle.plan.proofs.wire.feed_row.Statement.{statement}
 use Rattle.plan.proofs.wire.feed_row.Tie as tie
 
 abbrev Inv-loop : tie.InvT-loop
-Inv-loop back₀ at m part c₀ back c = (c ≤ 8) × RowAt at c (λ k. getD back₀ (at + k) 0 ∪ (m ∩ downIn part k)) back₀ back
+Inv-loop masks₀ d m part c₀ masks c = (c ≤ mostCharts) × RowAt (backRow d) c (λ k. backAt masks₀ k d ∪ (m ∩ downIn part k)) masks₀ masks
 
 abbrev μ-loop : tie.MeasureT-loop
-μ-loop back₀ at m part c₀ back c = 8 - c
+μ-loop masks₀ d m part c₀ masks c = mostCharts - c
 
 nothing : (m s : ℕ) → m ≡ 0 → m ∩ s ≡ 0
 nothing m s e = sets (m ∷ s ∷ []) (A ≐ ∅ₑ ∷ []) (A ∩ₑ B ≐ ∅ₑ) tt e
@@ -26,12 +28,23 @@ returns-empty c = row-empty _ _ _ _ (λ k. nothing _ _ (c .if1 .taken))
 loop-holds : tie.Need-loop-holds Inv-loop μ-loop
 loop-holds c = (omega arith, row-none _ _ _)
 
+-- the masks are as many as they were
+roomy : (t : tie.At-loop Inv-loop μ-loop) → masksFor 0 ≤ length (t .loop .masks)
+roomy t = omega (arith, t .loop .inv .1 .long, t .before .before .before .pre .0)
+
 loop-again : tie.Need-loop-again Inv-loop μ-loop
-loop-again c = let l = c .before .before .before .loop in
-    (omega arith, row-join _ _ _ (l .c) _ (l .back) (omega arith) refl (l .inv .1))
+loop-again c =
+    let p = c .before .before in
+    let b = p .before .before .before in
+    let t = b .before .before .before in
+    let l = t .loop in
+    let a = t .before .before .before .args in
+    let f = t .before .before .before .pre .1 in
+    let e = ap (λ (x : ℕ). x ∪ (a .m ∩ downIn (a .part .now) (l .c))) (b .back .ensures ∙ l .inv .1 .above (backCell (l .c) (a .d)) (omega arith)) in
+    (omega arith, rw (p .put-back .ensures) (row-more (backRow (a .d)) (l .c) _ _ (a .masks .now) (l .masks) (omega (arith, roomy t)) e (l .inv .1)))
 
 returns : tie.Need-returns-2 Inv-loop μ-loop
-returns c = let e : c .before .loop .c ≡ 8 = omega arith in rw e at (c .before .loop .inv .1)
+returns c = let e : c .before .loop .c ≡ mostCharts = omega arith in rw e at (c .before .loop .inv .1)
 
 pub feed-row-spec : {M : Type 1} → statement M
 feed-row-spec =
@@ -41,16 +54,12 @@ feed-row-spec =
     μ-loop
     returns-empty
     loop-holds
+    (λ c κs. let t = c .before .before in (roomy t, omega arith, t .before .before .before .pre .1))
     (λ c. omega arith)
     (λ c. omega arith)
-    (λ c. omega arith)
-    (λ c. omega arith)
-    (λ c. omega arith)
-    (λ c. omega arith)
-    (λ c. omega arith)
-    (λ c. omega arith)
+    (λ c κs. let t = c .before .before .before .before .before in (roomy t, omega arith, t .before .before .before .pre .1))
     (λ c. omega arith)
     (λ c. omega arith)
     loop-again
-    (λ c. omega arith)
+    (λ c. c .before .loop .inv .1 .long)
     returns)

@@ -5,6 +5,7 @@ use native.Mathlib.Omega.{arith}
 use borrow.Author.Needs.{needs}
 use lib.ListN.{getD}
 use Rattle.signals.specs.Mask.{_∪_, _∖_}
+use Rattle.meaning.specs.Numbers.{mostCharts}
 use Rattle.plan.specs.Wire.{RowAt}
 use Rattle.plan.proofs.Filled.{row-none, row-join}
 use Rattle.plan.proofs.wire.join_row.Statement.{statement}
@@ -12,10 +13,10 @@ use Rattle.plan.proofs.wire.join_row.Tie as tie
 
 abbrev Inv-loop : tie.InvT-loop
 Inv-loop rows₀ part at x c₀ rows c =
-    (c ≤ 8) × RowAt at c (λ k. getD rows₀ (at + k) 0 ∪ (getD part (at + k) 0 ∖ x)) rows₀ rows
+    (c ≤ mostCharts) × RowAt at c (λ k. getD rows₀ (at + k) 0 ∪ (getD part (at + k) 0 ∖ x)) rows₀ rows
 
 abbrev μ-loop : tie.MeasureT-loop
-μ-loop rows₀ part at x c₀ rows c = 8 - c
+μ-loop rows₀ part at x c₀ rows c = mostCharts - c
 
 loop-holds : tie.Need-loop-holds Inv-loop μ-loop
 loop-holds c = (omega arith, row-none _ _ _)
@@ -27,7 +28,7 @@ loop-again c =
     (omega arith, row-join (a .at) (λ k. getD (a .part .now) (a .at + k) 0 ∖ a .x) _ (l .c) _ (l .rows) (omega arith) (c .less .ensures) (l .inv .1))
 
 returns : tie.Need-returns Inv-loop μ-loop
-returns c = let e : c .before .loop .c ≡ 8 = omega arith in rw e at (c .before .loop .inv .1)
+returns c = let e : c .before .loop .c ≡ mostCharts = omega arith in rw e at (c .before .loop .inv .1)
 
 pub join-row-spec : {M : Type 1} → statement M
 join-row-spec =

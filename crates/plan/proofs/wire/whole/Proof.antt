@@ -1,4 +1,4 @@
--- `wire::whole` meets its contract: the whole is joined to empty rows and an empty square. Assumes nothing.
+-- `wire::whole` meets its contract: the whole is joined to empty rows and empty masks. Assumes nothing.
 use mathlib.Core.Path.{refl}
 use borrow.Author.Needs.{needs}
 use Rattle.meaning.specs.File.{fileAt}

@@ -1,18 +1,18 @@
--- `put` meets its contract: five stores. Assumes nothing.
+-- `cells::masks::put_candidate` meets its contract: three stores.
 use mathlib.Core.Path.{refl}
 use native.Mathlib.Omega.{arith}
 use lib.ListN.{length-set}
 use borrow.Author.Needs.{needs}
-use Rattle.tables.specs.Fill.{putMasks, putSmall}
-use Rattle.candidates.proofs.put.Statement.{statement}
-use Rattle.candidates.proofs.put.Tie as tie
+use Rattle.cells.specs.Table.{putMasks}
+use Rattle.cells.proofs.masks.put_candidate.Statement.{statement}
+use Rattle.cells.proofs.masks.put_candidate.Tie as tie
 
 returns : tie.Need-returns
-unfolding putMasks putSmall
-returns c = (refl, refl)
+unfolding putMasks
+returns c = refl
 
-pub put-spec : {M : Type 1} → statement M
-put-spec =
+pub put-candidate-spec : {M : Type 1} → statement M
+put-candidate-spec =
     tie.close
     (tie.spec
     (λ c. search needs)
@@ -22,7 +22,6 @@ put-spec =
     (λ c. search needs)
     (λ c. search needs)
     (λ c. search needs)
-    (λ c. simp length-set (omega arith))
     (λ c. search needs)
     (λ c. search needs)
     (λ c. simp length-set (omega arith))
@@ -30,9 +29,6 @@ put-spec =
     (λ c. search needs)
     (λ c. search needs)
     (λ c. search needs)
-    (λ c. search needs)
-    (λ c. search needs)
     (λ c. simp length-set (omega arith))
-    (λ c. search needs)
     (λ c. search needs)
     returns)

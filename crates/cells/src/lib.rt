@@ -1,0 +1,21 @@
+// The tables of a search: where each cell stands, by chart and candidate. No other crate computes an index into them or says how long they are. What
+// the cells mean is in specs/.
+ghost use mathlib.Core.Path.{_≡_};
+
+pub mod masks;
+pub mod moves;
+pub mod small;
+pub mod trail;
+pub mod triggers;
+
+// The charts that tables have room for, and the candidates of each.
+pub const CHARTS: usize = layout::limits::MOST_CHARTS as usize;
+
+pub const CANDIDATES: usize = layout::limits::MOST_FROM_STATE as usize;
+
+// A small number, to count with.
+fn wide(x: u8) -> usize
+    ensures { λ r. ⌜ r ≡ x ⌝ }
+{
+    x as usize
+}
