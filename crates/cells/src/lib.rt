@@ -9,7 +9,7 @@ pub mod trail;
 pub mod triggers;
 
 // The charts that tables have room for, and the candidates of each.
-pub const CHARTS: usize = layout::limits::MOST_CHARTS as usize;
+pub const CHARTS: usize = layout::limits::CHARTS;
 
 pub const CANDIDATES: usize = layout::limits::MOST_FROM_STATE as usize;
 
