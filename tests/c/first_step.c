@@ -2,21 +2,9 @@
  * run and as two, rewrites it, asks whether it is plain; then, under edition 2, steps, rewrites and asks again. Prints what it got. */
 #include <stdio.h>
 #include "mestecur.h"
+#include "whole_case.h"
 
 enum { CHARTS = 1, INPUTS = 3, ROW = 10 + CHARTS, PLACES = 8, EDITION_FROM_END = 5 };
-
-/* One chart of 2 states; 0 to 1 needs {0}, action {1}; 1 to 0 needs {1}. */
-static uint8_t file[] = {
-    /* chart: 2 states, initial state 0, 2 transitions, zeros; feedback; extra set */
-    2, 0, 2, 0, 0, 0, 0, 0, 0, 0, 0, 0, 0, 0, 0, 0, 0, 0, 0, 0, 0, 0, 0, 0,
-    /* transition: from 0 to 1, zeros; needed {0}; barred {}; action {1} */
-    0, 1, 0, 0, 1, 0, 0, 0, 0, 0, 0, 0, 0, 0, 0, 0, 0, 0, 0, 0, 2, 0, 0, 0, 0, 0, 0, 0,
-    /* transition: from 1 to 0, zeros; needed {1}; barred {}; action {} */
-    1, 0, 0, 0, 2, 0, 0, 0, 0, 0, 0, 0, 0, 0, 0, 0, 0, 0, 0, 0, 0, 0, 0, 0, 0, 0, 0, 0,
-    /* node: kind 0, chart 0 */
-    0, 0, 0, 0, 0, 0, 0, 0, 0, 0, 0, 0, 0, 0, 0, 0, 0, 0, 0, 0,
-    /* trailer: the body's 100 bytes; 1 chart, 0 slaves, 1 node, edition 1; 2 transitions; zeros */
-    0x64, 0, 0, 0, 1, 0, 1, 1, 2, 0, 0, 0};
 
 static const uint64_t inputs[INPUTS] = {1, 0, 2};
 
