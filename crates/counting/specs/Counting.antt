@@ -1,8 +1,9 @@
 -- The count of open choices over rows of bytes and a table: wiring's Entries, over lists. In this order: what the count
 -- asks of a file (Countable); a product (`branchIn`), a chart's sum (`sumIn`) and the total (`totalIn`), with what each
--- needs so as not to overflow; the table while it is filled (CountsOn, Stored, Filled).
+-- needs so as not to overflow; the table while it is filled (CountsOn, Stored, Filled); the places that begin an open
+-- choice (`begins`).
 use mathlib.Core.Path.{_≡_}
-use mathlib.Core.Bool.{false, cond}
+use mathlib.Core.Bool.{Bool, false, cond}
 use mathlib.Core.List.{List}
 use Prim.Native.Nat.{ℕ, _+_, _≤_, _<_}
 use lib.Dec.{ltb}
@@ -18,7 +19,7 @@ use Rattle.meaning.specs.Check.Nodes.{Sound}
 use Rattle.meaning.specs.Calls.{Valid}
 use Rattle.meaning.specs.Laws.Names.{kap}
 use Rattle.wiring.specs.Product.{times}
-use Rattle.wiring.specs.Counted.{countBy}
+use Rattle.wiring.specs.Counted.{countBy, spared}
 use Rattle.wiring.specs.Opened.{lastOf, ruleOf, hitsOf}
 use Rattle.wiring.specs.Entries.{factorAt, branchAt, sumAt, totalAt}
 use Rattle.checks.specs.Known.{Sized, Summed}
@@ -132,3 +133,11 @@ pub record Stored (n : Shape) (b config : List ℕ) (k : ℕ) (t₀ t : List ℕ
 pub record Filled (n : Shape) (b config t₀ t : List ℕ) : Type 0 where
   pub long : length t ≡ length t₀
   pub right : CountsOn n b config 0 t
+
+-- ── places that begin an open choice ──
+
+-- place v of chart c does, by a table that is right, or it is that of an inactive chart
+abbrev pub begins : File → List ℕ → List ℕ → ℕ → ℕ → Bool
+begins F config t c v =
+    spared (F .charts) (kap F) (F .master) (hitsOf (F .chart) (at config) (F .state) (F .master)) (at t)
+    (ruleOf (F .chart) (at config)) c v

@@ -2,6 +2,7 @@
 // is open is said in the crate meaning (Open); that this is its number, in the crate wiring (Counted to Few).
 ghost use mathlib.Core.Path.{_≡_};
 ghost use Prim.Native.Nat.{_+_, _≤_, _<_};
+ghost use lib.Dec.{ltb};
 ghost use lib.ListN.{length};
 ghost use Rattle.layout.specs.Body.{Holds, headAt, transitionAt, startOf};
 ghost use Rattle.meaning.specs.File.{fileAt};
@@ -59,6 +60,24 @@ fn branch(
         d += 1;
     }
     product
+}
+
+// Whether chart c begins an open choice by going from state q to state u, by a table that is filled.
+pub fn begins_open(
+    charts: usize,
+    masters: &[u8],
+    states: &[u8],
+    counts: &[u64],
+    c: usize,
+    q: u8,
+    u: u8,
+) -> bool
+    requires { ⌜ Roomy charts (now masters) (now states) (now counts)
+        × Small charts (now masters) (now states) (now counts) c q u ⌝ }
+    ensures { λ r. ⌜ r ≡ ltb 0 (branchIn charts (now (masters .entry)) (now (states .entry)) (now (counts .entry))
+        c q u) ⌝ }
+{
+    0 < branch(charts, masters, states, counts, c, q, u)
 }
 
 // What staying adds to the entry of chart c in state q: only in the edition in which charts may stay.
@@ -155,7 +174,7 @@ fn store(
 }
 
 // Stores each chart's entry, from the highest down.
-fn fill(n: Shape, body: &[u8], config: &[u8], masters: &[u8], states: &[u8], counts: &mut [u64])
+pub fn fill(n: Shape, body: &[u8], config: &[u8], masters: &[u8], states: &[u8], counts: &mut [u64])
     requires { ⌜ Countable n (now body) (now config) (now masters) (now states) × (n .charts ≤ length (now counts)) ⌝ }
     ensures { λ _. ⌜ Filled n (now (body .entry)) (now (config .entry)) (now (counts .entry)) (now (counts .exit)) ⌝ }
 {

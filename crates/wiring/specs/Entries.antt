@@ -1,8 +1,9 @@
 -- The count as code computes it: from two rows of small numbers, each chart's master and that slave's state, and a
 -- table of counts that is filled from the highest chart down. In this order: the product of a move (`branchAt`,
--- `branch-at`), a chart's entry as a sum over its moves (`entryAt`, `entry-at`), the total (`totalAt`, `total-at`); a
--- table whose entries from k on are right (CountsFrom): one more stored (`counts-store`), all stored (`counts-all`);
--- nothing on the way is too large (`part-fits`, `sum-part-fits`, `total-part-fits`).
+-- `branch-at`), and whether its place begins an open choice (`spared-at`); a chart's entry as a sum over its moves
+-- (`entryAt`, `entry-at`), the total (`totalAt`, `total-at`); a table whose entries from k on are right (CountsFrom):
+-- one more stored (`counts-store`), all stored (`counts-all`); nothing on the way is too large (`part-fits`,
+-- `sum-part-fits`, `total-part-fits`).
 use mathlib.Core.Path.{_≡_, refl, sym, _∙_, ap, ap₂, subst}
 use mathlib.Core.Bool.{Bool, true, false, _&&_, _||_, cond}
 use mathlib.Core.Option.{Option, none, some}
@@ -23,9 +24,9 @@ use Rattle.meaning.specs.Laws.Bools.{same→≡, same-≢}
 use Rattle.meaning.specs.Laws.Editions.{stay-last}
 use Rattle.wiring.specs.Product.{times, times-cong}
 use Rattle.wiring.specs.Counted.{nested, outsideOnly, totalOf, branch, countBy, Counts, nested-above, count-above}
-use Rattle.wiring.specs.Counted.{theCount, the-counts}
+use Rattle.wiring.specs.Counted.{theCount, the-counts, spared}
 use Rattle.wiring.specs.Fits.{count-fits, branch-fits, total-fits}
-use Rattle.wiring.specs.Opened.{nth-near, lastOf, ruleOf, hitsOf, count-transitions}
+use Rattle.wiring.specs.Opened.{nth-near, ruleIn, idle-pick, lastOf, ruleOf, hitsOf, count-transitions}
 
 -- master d: the master of chart d's nearest slave, `limit` or more if d is in none; inState d: that slave's state;
 -- count: the table. Chart c goes from state q to state u: chart d's count, if that activates d
@@ -100,6 +101,13 @@ module _ (E : ℕ → Chart) (state : ℕ → ℕ) (cfg : ℕ → ℕ) (N limit 
         → branch N enc sc hits count c v ≡ branchAt N master inState count c (cfg c) (leads c v)
     unfolding branch branchAt
     branch-at c v l = times-cong N _ _ (factor-at c v l)
+
+    -- a place that begins an open choice, if it is not that of an inactive chart
+    pub spared-at : (c p : ℕ) → c < N → p < lastPlace (E c)
+        → spared N enc sc hits count (ruleOf E cfg) c (suc p)
+        ≡ ltb 0 (branchAt N master inState count c (cfg c) (leads c (suc p)))
+    unfolding spared ruleIn
+    spared-at c p l m = ap₂ (λ a x. a || ltb 0 x) (idle-pick (E c) (cfg c) p m) (branch-at c (suc p) l)
 
     -- the count's sum, move by move
     pub entry-at : (c : ℕ) → c < N

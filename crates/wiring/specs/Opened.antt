@@ -96,7 +96,7 @@ idle-nth C m [] s k h = h (omega arith)
 idle-nth C m (t ∷ ts) s zero h = refl
 idle-nth C m (t ∷ ts) s (suc k) h = idle-nth C m ts s k (λ l. h (omega arith))
 
-idle-pick : (C : Chart) (s k : ℕ) → k < lastPlace C → openChart C false s (pick C (suc k)) ≡ false
+pub idle-pick : (C : Chart) (s k : ℕ) → k < lastPlace C → openChart C false s (pick C (suc k)) ≡ false
 unfolding pick lastPlace openChart
 idle-pick C s k l = idle-nth C (behind C) (C .transitions) s k (λ m. go (C .stays) l m)
   where

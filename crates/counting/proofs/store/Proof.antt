@@ -6,7 +6,7 @@ use lib.ListN.{length-set}
 use borrow.Author.Needs.{needs}
 use Rattle.layout.specs.declared.record.Head.{Head}
 use Rattle.counting.specs.Counting.{sumIn}
-use Rattle.counting.specs.Counting.Laws.{begins, config-long, smalls, stores}
+use Rattle.counting.specs.Counting.Laws.{starts-at, config-long, smalls, stores}
 use Rattle.counting.proofs.store.Statement.{statement}
 use Rattle.counting.proofs.store.Tie as tie
 
@@ -16,7 +16,7 @@ sub-start c =
     let a = s .args in
     let p = s .pre in
     let e = (c .wide .ensures) ∙ ap (λ (h : Head). h .transitions) (c .before .head-at .ensures) in
-    begins (a .n) (a .body .now) (a .config .now) (a .masters .now) (a .states .now) (p .0) (a .k) (a .end)
+    starts-at (a .n) (a .body .now) (a .config .now) (a .masters .now) (a .states .now) (p .0) (a .k) (a .end)
     (c .wide .result) (p .1) (p .3) e .0
 
 shared-slice-read-q : tie.Need-shared-slice-read-q
@@ -33,7 +33,7 @@ entry-requires c κs =
     let p = s .pre in
     let w = c .before .before .wide in
     let e = (w .ensures) ∙ ap (λ (h : Head). h .transitions) (c .before .before .before .head-at .ensures) in
-    let g = begins (a .n) (a .body .now) (a .config .now) (a .masters .now) (a .states .now) (p .0) (a .k) (a .end)
+    let g = starts-at (a .n) (a .body .now) (a .config .now) (a .masters .now) (a .states .now) (p .0) (a .k) (a .end)
     (w .result) (p .1) (p .3) e in (
       p .0 .sized .holds,
       g .1,
@@ -51,7 +51,7 @@ returns c =
     let p = s .pre in
     let w = c .before .before .before .wide in
     let e = (w .ensures) ∙ ap (λ (h : Head). h .transitions) (c .before .before .before .before .head-at .ensures) in
-    let g = begins (a .n) (a .body .now) (a .config .now) (a .masters .now) (a .states .now) (p .0) (a .k) (a .end)
+    let g = starts-at (a .n) (a .body .now) (a .config .now) (a .masters .now) (a .states .now) (p .0) (a .k) (a .end)
     (w .result) (p .1) (p .3) e in
     record {
       long = length-set (a .counts .now) (a .k) (c .entry .result);

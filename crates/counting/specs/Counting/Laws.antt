@@ -1,9 +1,9 @@
 -- Laws of the loops that count, in this order: a factor by what a move activates (`factor-other` to `factor-none`); a
 -- product one factor longer (`branch-none` to `branch-done`); what staying and a transition add (`staying-no` to
 -- `adds-small`), and a sum one transition longer (`sum-none` to `sum-done`); of a file, where a chart's transitions
--- start (`begins`), that nothing on the way is too large (`smalls`, `total-small`), an entry stored (`stores`), and
--- that the total is the number of open choices (`total-is`); the total one factor longer (`total-none` to
--- `total-done`).
+-- start (`starts-at`), that nothing on the way is too large (`smalls`, `total-small`), an entry stored (`stores`), and
+-- that the total is the number of open choices (`total-is`); which places begin an open choice (`begins-is`); the total
+-- one factor longer (`total-none` to `total-done`).
 use mathlib.Core.Path.{_≡_, refl, sym, _∙_, ap, ap₂, subst}
 use mathlib.Core.Bool.{Bool, true, false, _&&_, _||_, cond}
 use mathlib.Core.List.{List}
@@ -13,7 +13,7 @@ use Prim.Native.Nat.{ℕ, zero, suc, _+_, _*_, _-_, _^_, _≤_, _<_}
 use native.Mathlib.Nat.{pow-le-pow-right}
 use native.Mathlib.Omega.{arith}
 use borrow.Author.Tests.{lt-ltb, le-ltb}
-use lib.Dec.{lit<, lit≤}
+use lib.Dec.{ltb, lit<, lit≤}
 use lib.ListN.{length, set}
 use Rattle.layout.specs.Body.{headAt, transitionAt, startOf, transitionsOf}
 use Rattle.layout.specs.Body.Laws.{length-from, startOf-next, startOf-mono}
@@ -22,19 +22,19 @@ use Rattle.layout.specs.declared.record.Transition.{Transition}
 use Rattle.meaning.specs.Numbers.{mostCharts, stayEdition}
 use Rattle.meaning.specs.Count.{tally}
 use Rattle.meaning.specs.Count.Laws.{tally-none, tally-more}
-use Rattle.meaning.specs.Meaning.{same, noMove, takes, stay, nth, behind, pick, after}
+use Rattle.meaning.specs.Meaning.{same, noMove, takes, stay, nth, behind, pick, lastPlace, after}
 use Rattle.meaning.specs.File.{chartOf, fileAt}
 use Rattle.meaning.specs.Open.{openChart, openIn}
 use Rattle.meaning.specs.Laws.Bools.{or-r, same-refl, same-≢}
 use Rattle.meaning.specs.Laws.Names.{kap}
 use Rattle.wiring.specs.Product.{times, times-none, times-more}
 use Rattle.wiring.specs.Entries.{branchAt, addsAt, sumAt, totalAt, Rowed, part-fits, sum-part-fits, counts-store}
-use Rattle.wiring.specs.Entries.{total-part-fits, total-at}
+use Rattle.wiring.specs.Entries.{total-part-fits, total-at, spared-at}
 use Rattle.wiring.specs.Few.{nth-from, few-from, movesFrom, mostMoves, moves-few, file-stands, open-counted}
 use Rattle.nesting.specs.Nearest.{masterBy, stateBy}
 use Rattle.counting.specs.Counting.{room, mostCount, at, Countable, factorIn, branchIn, Small, stayingIn, addedIn}
 use Rattle.counting.specs.Counting.{sumIn, Smalls}
-use Rattle.counting.specs.Counting.{totalIn, outsideIn, TotalSmall, CountsOn}
+use Rattle.counting.specs.Counting.{totalIn, outsideIn, TotalSmall, CountsOn, begins}
 
 -- ── a factor ──
 
@@ -172,9 +172,9 @@ module _ (n : Shape) (b config m s : List ℕ) (w : Countable n b config m s) wh
       omega arith
 
   -- where chart k's transitions start, from where the next chart's do
-  pub begins : (k end cnt : ℕ) → k < n .charts → end ≡ startOf n b (k + 1) → cnt ≡ headAt n b k .transitions
+  pub starts-at : (k end cnt : ℕ) → k < n .charts → end ≡ startOf n b (k + 1) → cnt ≡ headAt n b k .transitions
       → (cnt ≤ end) × (end - cnt ≡ startOf n b k) × ((end - cnt) + cnt ≤ n .transitions)
-  begins k end cnt l e f =
+  starts-at k end cnt l e f =
       let a = startOf-next n b k in let d = startOf-mono n b k (n .charts) l in let z = w .summed in
       (omega arith, omega arith, omega arith)
 
@@ -229,6 +229,19 @@ module _ (n : Shape) (b config m s : List ℕ) (w : Countable n b config m s) wh
         here =
             ap (sumIn n b m s t k (at config k)) (sym (unfold chartOf transitionsOf in
             length-from (transitionAt n b) (startOf n b k) (headAt n b k .transitions)))
+
+  -- by a table that is right: a move's product is small, and says whether its place begins an open choice
+  module _ (t : List ℕ) (h : CountsOn n b config zero t) (c : ℕ) (l : c < n .charts) where
+    pub move-small : (v : ℕ) → Small (n .charts) m s t c (at config c) (after (at config c) (pick (chartOf n b c) v))
+    move-small = leads-small c l t (λ d p q. h d (omega arith) q)
+
+    pub begins-is : (p : ℕ) → p < lastPlace (chartOf n b c)
+        → begins (fileAt n b) config t c (suc p)
+        ≡ ltb 0 (branchIn (n .charts) m s t c (at config c) (after (at config c) (pick (chartOf n b c) (suc p))))
+    unfolding fileAt
+    begins-is p q =
+        spared-at (fileAt n b .chart) (fileAt n b .state) (at config) (n .charts) room (kap (fileAt n b))
+        (fileAt n b .master) (at m) (at s) rowed (at t) c p l q
 
   -- the total over the first j charts
   pub total-small : (t : List ℕ) → CountsOn n b config zero t → TotalSmall n m t
