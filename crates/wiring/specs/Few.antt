@@ -6,7 +6,7 @@
 use mathlib.Core.Path.{_≡_, refl, sym, _∙_, ap, ap₂}
 use mathlib.Core.Bool.{Bool, true, false, cond, true≢false}
 use mathlib.Core.List.{List}
-use Prim.Native.Nat.{ℕ, zero, suc, _+_, _-_, _*_, _^_, _≤_, _<_}
+use Prim.Native.Nat.{ℕ, zero, suc, _+_, _-_, _^_, _≤_, _<_}
 use native.Mathlib.Nat.{add-zero, mul-one, pow-le-pow-right}
 use native.Mathlib.Omega.{arith}
 use borrow.Author.Tests.{ltb-false}
@@ -19,9 +19,9 @@ use Rattle.layout.specs.declared.record.Transition.{Transition}
 use Rattle.meaning.specs.Numbers.{mostFromState, firstEdition}
 use Rattle.meaning.specs.Count.{anyUpTo, tally, one}
 use Rattle.meaning.specs.Count.Laws.{or-right, any-never, tally-cong}
-use Rattle.meaning.specs.Meaning.{same, Chart, Move, noMove, takes, nth, lastPlace}
+use Rattle.meaning.specs.Meaning.{Chart, Move, noMove, takes, nth, lastPlace}
 use Rattle.meaning.specs.File.{File, trailer, bodyOf, shapeOf, chartOf, fileAt, fileOf, wholeOf}
-use Rattle.meaning.specs.Check.{inChart, ends?, leaving, transitions?, refusalOf}
+use Rattle.meaning.specs.Check.{ends?, leaving, transitions?, refusalOf}
 use Rattle.meaning.specs.Check.Laws.{passed, counted}
 use Rattle.meaning.specs.Check.Nodes.{Sound, sound}
 use Rattle.meaning.specs.Open.{openChart, openIn}

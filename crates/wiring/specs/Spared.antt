@@ -20,7 +20,7 @@ use Rattle.wiring.specs.Wire.{Small}
 use Rattle.wiring.specs.Wired.{Stands}
 use Rattle.wiring.specs.Dropped.{Bounds}
 use Rattle.wiring.specs.Hunt.{opens, fine, hunt, hunted-all}
-use Rattle.wiring.specs.Counted.{Counts, spared, local, completions, open-spared, Free, completes}
+use Rattle.wiring.specs.Counted.{Counts, spared, local, completions, open-spared, completes}
 use Rattle.wiring.specs.Opened.{open?-is, ruleIn, lastOf, ruleOf, hitsOf, actOf, openAt, keepsIn, goesOn, ac, ru}
 use Rattle.wiring.specs.Opened.{open-every, keeps-below, open-completions, open-all, open-total}
 

@@ -5,7 +5,6 @@ use native.Mathlib.Omega.{arith}
 use lib.ListN.{length-set}
 use borrow.Author.Needs.{needs}
 use Rattle.layout.specs.declared.record.Head.{Head}
-use Rattle.counting.specs.Counting.{sumIn}
 use Rattle.counting.specs.Counting.Laws.{starts-at, config-long, smalls, stores}
 use Rattle.counting.proofs.store.Statement.{statement}
 use Rattle.counting.proofs.store.Tie as tie

@@ -4,8 +4,8 @@
 -- start (`starts-at`), that nothing on the way is too large (`smalls`, `total-small`), an entry stored (`stores`), and
 -- that the total is the number of open choices (`total-is`); which places begin an open choice (`begins-is`); the total
 -- one factor longer (`total-none` to `total-done`).
-use mathlib.Core.Path.{_≡_, refl, sym, _∙_, ap, ap₂, subst}
-use mathlib.Core.Bool.{Bool, true, false, _&&_, _||_, cond}
+use mathlib.Core.Path.{_≡_, refl, sym, _∙_, ap, subst}
+use mathlib.Core.Bool.{true, _&&_, _||_, cond}
 use mathlib.Core.List.{List}
 use mathlib.Core.Logic.{_≢_}
 use mathlib.Core.Option.{none, some}
@@ -19,10 +19,10 @@ use Rattle.layout.specs.Body.{headAt, transitionAt, startOf, transitionsOf}
 use Rattle.layout.specs.Body.Laws.{length-from, startOf-next, startOf-mono}
 use Rattle.layout.specs.declared.body.Shape.{Shape}
 use Rattle.layout.specs.declared.record.Transition.{Transition}
-use Rattle.meaning.specs.Numbers.{mostCharts, stayEdition}
+use Rattle.meaning.specs.Numbers.{stayEdition}
 use Rattle.meaning.specs.Count.{tally}
-use Rattle.meaning.specs.Count.Laws.{tally-none, tally-more}
-use Rattle.meaning.specs.Meaning.{same, noMove, takes, stay, nth, behind, pick, lastPlace, after}
+use Rattle.meaning.specs.Count.Laws.{tally-more}
+use Rattle.meaning.specs.Meaning.{same, noMove, takes, nth, behind, pick, lastPlace, after}
 use Rattle.meaning.specs.File.{chartOf, fileAt}
 use Rattle.meaning.specs.Open.{openChart, openIn}
 use Rattle.meaning.specs.Laws.Bools.{or-r, same-refl, same-≢}

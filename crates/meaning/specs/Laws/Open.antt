@@ -10,7 +10,7 @@ use Prim.Native.Nat.{ℕ, zero, suc, _+_, _<_}
 use native.Mathlib.Omega.{arith}
 use borrow.Author.Tests.{eq-eqb}
 use lib.ListN.{getD}
-use Rattle.signals.specs.Mask.{_∪_, _∩_, _∖_, within, apart}
+use Rattle.signals.specs.Mask.{_∩_, _∖_, within, apart}
 use Rattle.signals.specs.Decide.{sets, A, ∅ₑ, _∩ₑ_, _≐_, _⊑_}
 use Rattle.layout.specs.declared.record.Transition.{Transition}
 use Rattle.meaning.specs.Count.{tally, one}
