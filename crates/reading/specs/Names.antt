@@ -8,7 +8,8 @@ use Prim.Native.Nat.{ℕ, zero, suc}
 use lib.Dec.{eqb, ltb}
 use Rattle.meaning.specs.Check.{notBelow, differ}
 use Rattle.notation.specs.Syntax.{OneOrMore, one, _▸_, Signals, Literal, needed, barred, Transition, Heading}
-use Rattle.notation.specs.Syntax.{Sequential, Single, sequential, decomposed, hidden, Chart, single, composed, Slaves, firstSlave}
+use Rattle.notation.specs.Syntax.{Sequential, Single, sequential, decomposed, hidden, Chart, single, composed}
+use Rattle.notation.specs.Syntax.{Slaves, firstSlave}
 use Rattle.notation.specs.Syntax.{moreSlaves}
 use Rattle.reading.specs.Numbers.{namedCharts, namedStates, namedSignals}
 

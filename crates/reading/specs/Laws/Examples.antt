@@ -24,7 +24,8 @@ use Rattle.line.specs.Ascii.{ascii}
 use Rattle.notation.specs.Syntax.{depth}
 use Rattle.notation.specs.Spelling.{letter, blank}
 use Rattle.notation.specs.Reader.{reader, readFrom, atEnd, onTo, step, stepGap, begin, onward, behind, firstByte}
-use Rattle.notation.specs.Reader.{isDigit, ending, final, ways, lastSet, follow, close, setEnd, sequentialEnd, addSlave, _▸?_}
+use Rattle.notation.specs.Reader.{isDigit, ending, final, ways, lastSet, follow, close, setEnd, sequentialEnd}
+use Rattle.notation.specs.Reader.{addSlave, _▸?_}
 use Rattle.reading.specs.Names.{membersOf, membersOr, first, any, has, twice?, lacksBefore, leftOut?, notAll?}
 use Rattle.reading.specs.Names.{signals?, set?, optional?, signalOf, transition?, sequential?, sequentialsIn}
 use Rattle.reading.specs.Names.{parts?, names? as badNames?}
@@ -134,7 +135,8 @@ files =
 pub meant : map readFile texts ≡ files
 unfolding texts files letter blank reader readFrom atEnd onTo step stepGap begin onward behind firstByte isDigit ending
     final ways lastSet follow close setEnd sequentialEnd addSlave _▸?_ membersOf membersOr sequentialsIn withKey
-    sortedBy all gathered maskOf optionalOf neededIn barredIn transitionFor headFor laySlaves withNode beside layHidden layBoth
+    sortedBy all gathered maskOf optionalOf neededIn barredIn transitionFor headFor laySlaves withNode beside
+    layHidden layBoth
     laySingle bodyFor trailerFor fileFor fileIn readFile single trailerBytes headBytes transitionBytes slaveBytes
     nodeBytes bytes
 meant = refl
