@@ -41,9 +41,11 @@ afterBlanks w = drop (blanks w) w
 pub record BehindSign (w : List ℕ) (at n r : ℕ) : Type 0 where
   pub behind : drop r w ≡ drop n (afterBlanks (drop at w))
   pub within : r ≤ length w
+  pub onward : at ≤ r
   pub further : 0 < n → at + blanks (drop at w) < length w → at < r
 
 -- r is the name that is the next token from `at` on
 pub record NameFrom (w : List ℕ) (at : ℕ) (r : Name) : Type 0 where
   pub is : NumberAt (drop 1 (afterBlanks (drop at w))) w r
+  pub onward : at ≤ r .next
   pub further : at + blanks (drop at w) < length w → at < r .next

@@ -13,6 +13,7 @@ returns c =
     record {
       behind = behind-out (a .text .now) (a .at) (d .next-token .result) (a .n) (d .next-token .ensures .0) (omega arith);
       within = omega arith;
+      onward = omega (arith, d .next-token .ensures .0);
       further = λ p q. omega (arith, d .next-token .ensures .0);
     }
 
@@ -24,6 +25,7 @@ returns-2 c =
     record {
       behind = behind-in (a .text .now) (a .at) (d .next-token .result) (a .n) (d .next-token .ensures .0);
       within = omega arith;
+      onward = omega (arith, d .next-token .ensures .0);
       further = λ p q. omega (arith, d .next-token .ensures .0);
     }
 

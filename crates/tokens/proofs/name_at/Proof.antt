@@ -12,6 +12,7 @@ returns c =
     let b = c .before .behind-sign .ensures in
     record {
       is = subst (λ u. NumberAt u (a .text .now) (c .number .result)) (b .behind) (c .number .ensures .0);
+      onward = omega (arith, b .onward, c .number .ensures .1);
       further = λ p. (let z = b .further (omega arith) p in omega (arith, c .number .ensures .1));
     }
 

@@ -166,5 +166,6 @@ module _ (w : List ℕ) (at : ℕ) {ts : Tokens} where
   pub named-right : (l : Letter) (n : ℕ) (r : Name) → Text (name l n ∷ ts) (drop at w)
       → NumberAt (drop 1 (drop (blanks (drop at w)) (drop at w))) w r
       → (r .value ≡ cap n) × Text ts (drop (r .next) w)
-  named-right l n r h e = let m =
-      text-name (drop at w) l n h in (e .value ∙ m .0, subst (λ x. Text ts x) (sym (e .behind)) (m .1))
+  named-right l n r h e =
+      let m = text-name (drop at w) l n h in
+      (e .value ∙ m .0, subst (λ x. Text ts x) (sym (e .behind)) (m .1))

@@ -1,0 +1,71 @@
+// The fields of a chart in a text that spells one, read into numbers: sets of signals. What is answered is right if the
+// field is there; the functions are safe on every text.
+ghost use mathlib.Core.Path.{_≡_};
+ghost use Prim.Native.Nat.{_≤_};
+ghost use lib.ListN.{length};
+ghost use Rattle.fields.specs.Fields.{Joins, SetAt, MembersAt};
+
+// A set of signals: its mask, whether a signal is out of range, and the place behind it.
+pub struct SignalSet {
+    pub mask: u64,
+    pub bad: bool,
+    pub next: usize,
+}
+
+// Signals read so far.
+pub struct Joined {
+    pub mask: u64,
+    pub bad: bool,
+}
+
+// One signal more.
+fn with_signal(mask: u64, bad: bool, n: u64) -> Joined
+    ensures { λ r. ⌜ Joins mask bad n r ⌝ }
+{
+    if n < 64 {
+        return Joined {
+            mask: signals::with(mask, n as u32),
+            bad: bad,
+        };
+    }
+    Joined {
+        mask: mask,
+        bad: true,
+    }
+}
+
+// The signals from the first name of a set on.
+fn members(text: &[u8], at: usize) -> SignalSet
+    requires { ⌜ at ≤ length (now text) ⌝ }
+    ensures { λ r. ⌜ MembersAt (now (text .entry)) at r ⌝ }
+{
+    let n = tokens::name_at(text, at);
+    let mut so_far = with_signal(0, false, n.value);
+    let mut i = n.next;
+    while tokens::peek(text, i) == b',' {
+        let m = tokens::name_at(text, tokens::behind_sign(text, i, 1));
+        so_far = with_signal(so_far.mask, so_far.bad, m.value);
+        i = m.next;
+    }
+    SignalSet {
+        mask: so_far.mask,
+        bad: so_far.bad,
+        next: tokens::behind_sign(text, i, 1),
+    }
+}
+
+// A set in braces.
+pub fn set(text: &[u8], at: usize) -> SignalSet
+    requires { ⌜ at ≤ length (now text) ⌝ }
+    ensures { λ r. ⌜ SetAt (now (text .entry)) at r ⌝ }
+{
+    let i = tokens::behind_sign(text, at, 1);
+    if tokens::peek(text, i) == b'}' {
+        return SignalSet {
+            mask: 0,
+            bad: false,
+            next: tokens::behind_sign(text, i, 1),
+        };
+    }
+    members(text, i)
+}
