@@ -2,18 +2,21 @@
 -- others, the answer is the field's value, and the others go on behind it.
 use mathlib.Core.Path.{_≡_}
 use mathlib.Core.Bool.{Bool, false, _||_}
-use mathlib.Core.List.{List, _∷_, _++_}
+use mathlib.Core.Option.{Option}
+use mathlib.Core.List.{List, [], _∷_, _++_, map}
 use Prim.Native.Nat.{ℕ, _≤_, _<_}
 use lib.ListN.{length, drop}
 use Rattle.signals.specs.Mask.{_∪_, single}
 use Rattle.meaning.specs.Check.{notBelow}
-use Rattle.notation.specs.Syntax.{OneOrMore, Signals}
-use Rattle.notation.specs.Spelling.{letS, rbrace, sign, Tokens, ofNames, ofSet, Text}
+use Rattle.notation.specs.Syntax.{OneOrMore, Signals, Literal}
+use Rattle.notation.specs.Spelling.{letS, rbrace, slash, sign, Tokens, ofNames, ofSet, ofLiteral, ofLiterals}
+use Rattle.notation.specs.Spelling.{ofGuard, Text}
 use Rattle.reading.specs.Numbers.{namedSignals}
-use Rattle.reading.specs.Names.{membersOf, membersOr, signals?}
-use Rattle.reading.specs.Meant.{maskOf}
+use Rattle.reading.specs.Names.{membersOf, membersOr, signals?, signalOf}
+use Rattle.reading.specs.Meant.{maskOf, neededIn, barredIn}
 use Rattle.fields.specs.declared.SignalSet.{SignalSet}
 use Rattle.fields.specs.declared.Joined.{Joined}
+use Rattle.fields.specs.declared.Guard.{Guard}
 
 -- r is the signals read so far with the signal n: bad if it is out of range, else in the mask
 pub record Joins (mask : ℕ) (bad : Bool) (n : ℕ) (r : Joined) : Type 0 where
@@ -36,3 +39,30 @@ pub record MembersAt (w : List ℕ) (at : ℕ) (r : SignalSet) : Type 0 where
   pub within : r .next ≤ length w
   pub gives : (ks : OneOrMore ℕ) (ts : Tokens) → Text (ofNames letS ks ++ (sign rbrace ∷ ts)) (drop at w)
       → Gives w r (membersOf ks) ts
+
+-- ── guards ──
+
+-- g is the literals `done`: bad if a signal of theirs is out of range, else their masks
+pub record Means (g : Guard) (done : List Literal) : Type 0 where
+  pub is-bad : g .bad ≡ signals? (map signalOf done)
+  pub is-needed : g .bad ≡ false → g .needed ≡ maskOf (neededIn done)
+  pub is-barred : g .bad ≡ false → g .barred ≡ maskOf (barredIn done)
+
+-- r is g with the literal that stands at a place
+pub record LiteralAt (w : List ℕ) (at : ℕ) (g r : Guard) : Type 0 where
+  pub within : r .next ≤ length w
+  pub onward : at ≤ r .next
+  pub gives : (l : Literal) (ts : Tokens) (done : List Literal) → Text (ofLiteral l ++ ts) (drop at w) → Means g done
+      → Text ts (drop (r .next) w) × Means r (done ++ (l ∷ []))
+
+-- the literals and the slash that stand at a place
+pub record LiteralsAt (w : List ℕ) (at : ℕ) (r : Guard) : Type 0 where
+  pub within : r .next ≤ length w
+  pub gives : (ls : OneOrMore Literal) (ts : Tokens) → Text (ofLiterals ls ++ (sign slash ∷ ts)) (drop at w)
+      → Text ts (drop (r .next) w) × Means r (membersOf ls)
+
+-- the same where there may be no literal
+pub record GuardAt (w : List ℕ) (at : ℕ) (r : Guard) : Type 0 where
+  pub within : r .next ≤ length w
+  pub gives : (ls : Option (OneOrMore Literal)) (ts : Tokens) → Text (ofGuard ls ++ (sign slash ∷ ts)) (drop at w)
+      → Text ts (drop (r .next) w) × Means r (membersOr ls)

@@ -1,2 +1,3 @@
--- Laws of the fields of a chart: sets of signals (Sets).
+-- Laws of the fields of a chart: sets of signals (Sets), guards (Guards).
 pub mod Sets
+pub mod Guards

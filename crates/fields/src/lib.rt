@@ -1,9 +1,9 @@
-// The fields of a chart in a text that spells one, read into numbers: sets of signals. What is answered is right if the
-// field is there; the functions are safe on every text.
+// The fields of a chart in a text that spells one, read into numbers: sets of signals and guards. What is answered is
+// right if the field is there; the functions are safe on every text.
 ghost use mathlib.Core.Path.{_≡_};
 ghost use Prim.Native.Nat.{_≤_};
 ghost use lib.ListN.{length};
-ghost use Rattle.fields.specs.Fields.{Joins, SetAt, MembersAt};
+ghost use Rattle.fields.specs.Fields.{Joins, SetAt, MembersAt, LiteralAt, LiteralsAt, GuardAt};
 
 // A set of signals: its mask, whether a signal is out of range, and the place behind it.
 pub struct SignalSet {
@@ -68,4 +68,82 @@ pub fn set(text: &[u8], at: usize) -> SignalSet
         };
     }
     members(text, i)
+}
+
+// A guard: the masks of the needed and of the barred signals, whether a signal is out of range, and the place behind
+// it.
+pub struct Guard {
+    pub needed: u64,
+    pub barred: u64,
+    pub bad: bool,
+    pub next: usize,
+}
+
+// One literal more, behind what is read of a guard.
+fn literal(text: &[u8], at: usize, g: Guard) -> Guard
+    requires { ⌜ at ≤ length (now text) ⌝ }
+    ensures { λ r. ⌜ LiteralAt (now (text .entry)) at g r ⌝ }
+{
+    if tokens::peek(text, at) == b'-' {
+        let n = tokens::name_at(text, tokens::behind_sign(text, at, 1));
+        let j = with_signal(g.barred, g.bad, n.value);
+        return Guard {
+            needed: g.needed,
+            barred: j.mask,
+            bad: j.bad,
+            next: n.next,
+        };
+    }
+    let n = tokens::name_at(text, at);
+    let j = with_signal(g.needed, g.bad, n.value);
+    Guard {
+        needed: j.mask,
+        barred: g.barred,
+        bad: j.bad,
+        next: n.next,
+    }
+}
+
+// The literals of a guard, and the slash behind them.
+fn literals(text: &[u8], at: usize) -> Guard
+    requires { ⌜ at ≤ length (now text) ⌝ }
+    ensures { λ r. ⌜ LiteralsAt (now (text .entry)) at r ⌝ }
+{
+    let mut g = literal(
+        text,
+        at,
+        Guard {
+            needed: 0,
+            barred: 0,
+            bad: false,
+            next: at,
+        },
+    );
+    let mut i = g.next;
+    while tokens::peek(text, i) == b'&' {
+        g = literal(text, tokens::behind_sign(text, i, 1), g);
+        i = g.next;
+    }
+    Guard {
+        needed: g.needed,
+        barred: g.barred,
+        bad: g.bad,
+        next: tokens::behind_sign(text, i, 1),
+    }
+}
+
+// A guard, which may be left out, and the slash behind it.
+pub fn guard_at(text: &[u8], at: usize) -> Guard
+    requires { ⌜ at ≤ length (now text) ⌝ }
+    ensures { λ r. ⌜ GuardAt (now (text .entry)) at r ⌝ }
+{
+    if tokens::peek(text, at) == b'/' {
+        return Guard {
+            needed: 0,
+            barred: 0,
+            bad: false,
+            next: tokens::behind_sign(text, at, 1),
+        };
+    }
+    literals(text, at)
 }

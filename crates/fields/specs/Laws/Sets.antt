@@ -47,7 +47,7 @@ cap-is n = go (decLt n 1000)
     go (no h) l =
         absurd (let z : ltb n 1000 ≡ false = le-ltb n 1000 (omega arith) in let k = (rw z at l) in omega arith)
 
-any-snoc : (p : ℕ → Bool) (a : List ℕ) (n : ℕ) → any p (a ++ (n ∷ [])) ≡ (any p a || p n)
+pub any-snoc : (p : ℕ → Bool) (a : List ℕ) (n : ℕ) → any p (a ++ (n ∷ [])) ≡ (any p a || p n)
 unfolding any
 any-snoc p [] n = go (p n)
   where
@@ -60,7 +60,7 @@ any-snoc p (m ∷ a) n = ap (p m ||_) (any-snoc p a n) ∙ go (p m)
     go true = refl
     go false = refl
 
-mask-snoc : (a : List ℕ) (n : ℕ) → maskOf (a ++ (n ∷ [])) ≡ maskOf a ∪ single n
+pub mask-snoc : (a : List ℕ) (n : ℕ) → maskOf (a ++ (n ∷ [])) ≡ maskOf a ∪ single n
 unfolding maskOf
 mask-snoc [] n = sets (single n ∷ []) [] (A ∪ₑ ∅ₑ ≐ ∅ₑ ∪ₑ A) tt
 mask-snoc (m ∷ a) n =
@@ -91,23 +91,31 @@ below n e = go (ltb n 64) refl e
     go true h e = ltb-true n 64 h
     go false h e = absurd (true≢false e)
 
+-- one signal more, whose number is cut
+module _ (mask : ℕ) (bad : Bool) (n v : ℕ) (r : Joined) (e : v ≡ cap n) (j : Joins mask bad v r) where
+  pub joins-bad : r .bad ≡ (bad || notBelow n namedSignals)
+  joins-bad = j .is-bad ∙ ap (bad ||_) (ap (λ k. notBelow k namedSignals) e ∙ cap-range n)
+
+  pub joins-before : r .bad ≡ false → bad ≡ false
+  joins-before f = or-left bad (notBelow v namedSignals) (sym (j .is-bad) ∙ f)
+
+  pub joins-mask : r .bad ≡ false → r .mask ≡ mask ∪ single n
+  joins-mask f =
+      let l = below v (or-right bad (notBelow v namedSignals) (sym (j .is-bad) ∙ f)) in
+      j .is-mask l ∙ ap (λ k. mask ∪ single k) (e ∙ cap-is n (subst (λ k. k < namedSignals) e l))
+
 pub so-far-more : (mask : ℕ) (bad : Bool) (done : List ℕ) (n v : ℕ) (r : Joined) → v ≡ cap n → SoFar mask bad done
     → Joins mask bad v r → SoFar (r .mask) (r .bad) (done ++ (n ∷ []))
 unfolding signals?
 so-far-more mask bad done n v r e s j =
     record {
-      is-bad = bad-is ∙ sym (any-snoc (λ m. notBelow m namedSignals) done n);
-      is-mask = λ f. (let g = sym (j .is-bad) ∙ f in
-          let l = below v (or-right bad (notBelow v namedSignals) g) in
-          let z : v ≡ n = e ∙ cap-is n (subst (λ k. k < namedSignals) e l) in
-          j .is-mask l ∙ ap (λ k. mask ∪ single k) z
-          ∙ ap (_∪ single n) (s .is-mask (or-left bad (notBelow v namedSignals) g)) ∙ sym (mask-snoc done n));
+      is-bad =
+          joins-bad mask bad n v r e j ∙ ap (_|| notBelow n namedSignals) (s .is-bad)
+          ∙ sym (any-snoc (λ m. notBelow m namedSignals) done n);
+      is-mask =
+          λ f. joins-mask mask bad n v r e j f ∙ ap (_∪ single n) (s .is-mask (joins-before mask bad n v r e j f))
+          ∙ sym (mask-snoc done n);
     }
-  where
-    bad-is : r .bad ≡ (any (λ m. notBelow m namedSignals) done || notBelow n namedSignals)
-    bad-is =
-        j .is-bad ∙ ap (λ c. c || notBelow v namedSignals) (s .is-bad)
-        ∙ ap (λ c. any (λ m. notBelow m namedSignals) done || c) (ap (λ k. notBelow k namedSignals) e ∙ cap-range n)
 
 -- ── names ──
 
