@@ -8,15 +8,17 @@ use Prim.Native.Nat.{ℕ, _≤_, _<_}
 use lib.ListN.{length, drop}
 use Rattle.signals.specs.Mask.{_∪_, single}
 use Rattle.meaning.specs.Check.{notBelow}
-use Rattle.notation.specs.Syntax.{OneOrMore, Signals, Literal}
+use Rattle.notation.specs.Syntax.{OneOrMore, Signals, Literal, Transition}
 use Rattle.notation.specs.Spelling.{letS, rbrace, slash, sign, Tokens, ofNames, ofSet, ofLiteral, ofLiterals}
-use Rattle.notation.specs.Spelling.{ofGuard, Text}
+use Rattle.notation.specs.Spelling.{ofGuard, ofTransition, Text}
 use Rattle.reading.specs.Numbers.{namedSignals}
-use Rattle.reading.specs.Names.{membersOf, membersOr, signals?, signalOf}
-use Rattle.reading.specs.Meant.{maskOf, neededIn, barredIn}
+use Rattle.reading.specs.Names.{membersOf, membersOr, signals?, set?, signalOf}
+use Rattle.reading.specs.Meant.{maskOf, neededIn, barredIn, transitionFor}
+use Rattle.tokens.specs.Tokens.{cap}
 use Rattle.fields.specs.declared.SignalSet.{SignalSet}
 use Rattle.fields.specs.declared.Joined.{Joined}
 use Rattle.fields.specs.declared.Guard.{Guard}
+use Rattle.fields.specs.declared.Passage.{Passage}
 
 -- r is the signals read so far with the signal n: bad if it is out of range, else in the mask
 pub record Joins (mask : ℕ) (bad : Bool) (n : ℕ) (r : Joined) : Type 0 where
@@ -66,3 +68,21 @@ pub record GuardAt (w : List ℕ) (at : ℕ) (r : Guard) : Type 0 where
   pub within : r .next ≤ length w
   pub gives : (ls : Option (OneOrMore Literal)) (ts : Tokens) → Text (ofGuard ls ++ (sign slash ∷ ts)) (drop at w)
       → Text ts (drop (r .next) w) × Means r (membersOr ls)
+
+-- ── transitions ──
+
+-- r is the transition t, behind which the tokens ts go on: its states cut at 1,000; bad if a signal of its guard or
+-- action is out of range, else the masks of the transition that it means
+pub record Passes (w : List ℕ) (r : Passage) (t : Transition) (ts : Tokens) : Type 0 where
+  pub goes-on : Text ts (drop (r .next) w)
+  pub is-from : r .from ≡ cap (t .from)
+  pub is-to : r .to ≡ cap (t .to)
+  pub is-bad : r .bad ≡ (signals? (map signalOf (membersOr (t .guard))) || set? (t .action))
+  pub is-needed : r .bad ≡ false → r .needed ≡ transitionFor t .needed
+  pub is-barred : r .bad ≡ false → r .barred ≡ transitionFor t .barred
+  pub is-action : r .bad ≡ false → r .action ≡ transitionFor t .action
+
+-- the transition that stands at a place
+pub record TransitionAt (w : List ℕ) (at : ℕ) (r : Passage) : Type 0 where
+  pub within : r .next ≤ length w
+  pub gives : (t : Transition) (ts : Tokens) → Text (ofTransition t ++ ts) (drop at w) → Passes w r t ts

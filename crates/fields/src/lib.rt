@@ -1,9 +1,11 @@
-// The fields of a chart in a text that spells one, read into numbers: sets of signals and guards. What is answered is
-// right if the field is there; the functions are safe on every text.
+// The fields of a chart in a text that spells one, read into numbers: sets of signals, guards, transitions. What is
+// answered is right if the field is there; the functions are safe on every text.
 ghost use mathlib.Core.Path.{_≡_};
+ghost use mathlib.Core.Bool.{_||_};
 ghost use Prim.Native.Nat.{_≤_};
 ghost use lib.ListN.{length};
 ghost use Rattle.fields.specs.Fields.{Joins, SetAt, MembersAt, LiteralAt, LiteralsAt, GuardAt};
+ghost use Rattle.fields.specs.Fields.{TransitionAt};
 
 // A set of signals: its mask, whether a signal is out of range, and the place behind it.
 pub struct SignalSet {
@@ -146,4 +148,44 @@ pub fn guard_at(text: &[u8], at: usize) -> Guard
         };
     }
     literals(text, at)
+}
+
+// A transition: its states as far as they matter, its masks, whether a signal is out of range, and the place behind it.
+pub struct Passage {
+    pub from: u64,
+    pub to: u64,
+    pub needed: u64,
+    pub barred: u64,
+    pub action: u64,
+    pub bad: bool,
+    pub next: usize,
+}
+
+fn either(a: bool, b: bool) -> bool
+    ensures { λ r. ⌜ r ≡ (a || b) ⌝ }
+{
+    if a {
+        return true;
+    }
+    b
+}
+
+// A transition in round brackets.
+pub fn transition_at(text: &[u8], at: usize) -> Passage
+    requires { ⌜ at ≤ length (now text) ⌝ }
+    ensures { λ r. ⌜ TransitionAt (now (text .entry)) at r ⌝ }
+{
+    let a = tokens::name_at(text, tokens::behind_sign(text, at, 1));
+    let b = tokens::name_at(text, tokens::behind_sign(text, a.next, 1));
+    let g = guard_at(text, tokens::behind_sign(text, b.next, 1));
+    let s = set(text, g.next);
+    Passage {
+        from: a.value,
+        to: b.value,
+        needed: g.needed,
+        barred: g.barred,
+        action: s.mask,
+        bad: either(g.bad, s.bad),
+        next: tokens::behind_sign(text, s.next, 1),
+    }
 }
