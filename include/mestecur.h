@@ -5,13 +5,14 @@
  * any thread.
  *
  * The caller has to make sure of these, since no call can check them:
- *   - No pointer is null, and each one points to as many bytes or numbers as its length says, even if the length is 0. `places` points to 8 bytes.
- *   - Pointers to 64-bit numbers and to lengths are aligned as C requires.
+ *   - No pointer is null, and each one points to as many bytes, numbers or structs as its length says, even if the length is 0. `places` points to
+ *     8 bytes.
+ *   - Pointers to 64-bit numbers, to lengths and to structs are aligned as C requires.
  *   - Memory that a call writes does not overlap any other memory passed to the same call.
  *
  * Every call returns 0 for success, or the number of its refusal (RULES 3).
  *   - Buffers (`config`, `next`, `rows`, `out`): a call that succeeds writes to the front of the buffer, and leaves the rest of it unchanged. A call
- *     that is refused leaves all of it unchanged.
+ *     that is refused leaves all of it unchanged, and so does a refused mestecur_post with `cases`.
  *   - Results (`input`, `output`, `mark`, `carried_on`, `length`, `plain`, `places`) are always written. If the call is refused, each place is
  *     MESTECUR_NO_PLACE and every other result is 0.
  *
@@ -68,6 +69,29 @@ uint8_t mestecur_rewrite(const uint8_t *file, size_t file_len, uint8_t *out, siz
 /* Writes 1 to `plain` if the file is plain, otherwise 0 (RULES 8). Every step of a plain file that is given has mark 1. Refusals: 1 to 11. */
 uint8_t mestecur_plain(const uint8_t *file, size_t file_len, uint8_t *plain);
 
+/* A case of a book (RULES 11.1). Its configuration is the first `length` bytes of `config`; the others are not read. */
+typedef struct {
+    uint64_t carried;   /* the set that refused days carry to the next one; 0 for a new case */
+    uint32_t last_row;  /* the number of its last row; 0 for a new case */
+    uint8_t length;     /* the length of its configuration: the number of charts */
+    uint8_t config[16]; /* its configuration */
+} mestecur_case;
+
+/* An entry of a day: the number of a case, from 0 on, and the signals that arrived for it (RULES 11.2). */
+typedef struct {
+    uint64_t number;
+    uint64_t signals;
+} mestecur_entry;
+
+/* Posts a day for a book of 1 to 64 cases that have the same chart file (RULES 11): makes one step for each case, in order, from its configuration
+ * and under its carried set and the signals of all its entries together. Entries may come in any order, and a case may have none. Writes to `rows` one
+ * row for each case, without gaps: the new row number (4 bytes, little-endian), then a row as mestecur_run writes it, of a refused step too. Writes to
+ * each case its configuration and its carried set after the step, and the new row number, which is the old one and 1. Lengths are numbers of cases and
+ * entries, `rows_len` is in bytes: 14 and one for each chart, for each case. Refusals: 1 to 11; 20 or 21, by the first case whose configuration is
+ * wrong; 60; 61; 62; 63. */
+uint8_t mestecur_post(const uint8_t *file, size_t file_len, mestecur_case *cases, size_t cases_len, const mestecur_entry *entries,
+                      size_t entries_len, uint8_t *rows, size_t rows_len);
+
 /* The refusals (RULES 3). A call returns the first one that applies, in the order in which they are listed at the call. */
 enum {
     MESTECUR_ACCEPTED = 0,
@@ -98,7 +122,12 @@ enum {
     MESTECUR_REWRITING_CHART = 42,   /* the result would have more than 64 transitions in one chart */
     MESTECUR_REWRITING_NODES = 44,   /* the result would have more than 64 nodes */
     MESTECUR_REWRITING_ROOM = 45,    /* the buffer is shorter than the result */
-    MESTECUR_REWRITING_EDITION = 46  /* the file is edition 2: a master that stays could not call its slave; tested right after 11 */
+    MESTECUR_REWRITING_EDITION = 46, /* the file is edition 2: a master that stays could not call its slave; tested right after 11 */
+
+    MESTECUR_BOOK = 60,         /* there is no case, or there are more than 64 */
+    MESTECUR_ENTRY = 61,        /* an entry is for a case that is not in the book */
+    MESTECUR_ROW_NUMBER = 62,   /* a case's last row has the number 4294967295, the highest there is */
+    MESTECUR_POSTING_ROOM = 63  /* the buffer for a day's rows is too short for a row for each case */
 };
 
 #ifdef __cplusplus

@@ -6,5 +6,6 @@ pub mod hand;
 pub mod measure;
 pub mod parts;
 pub mod picture;
+pub mod posting;
 pub mod table;
 pub mod worst;

@@ -1,22 +1,32 @@
 //! `bench [PART] [--picture FILE]`: measures and prints a table of each part, `check`, `step`,
-//! `staying` (steps of edition 2), `run`, `rewriting` or `growth`, ratios first; all of them if none is
-//! named. The picture has the ratios of the parts measured as bars on a log scale.
+//! `staying` (steps of edition 2), `run`, `rewriting`, `posting` or `growth`, ratios first; all of them
+//! if none is named. The picture has the ratios of the parts measured as bars on a log scale.
 //!
 //! `bench worst COUNT`: draws so many files of edition 2 with eight transitions from a state, and as many
 //! with two, and prints which of them has the hardest step.
 
 use bench::parts::{self, Part};
 use bench::picture::{picture, Bar};
+use bench::posting::posting;
 use bench::worst::worst;
 use reference::words;
 use std::process::ExitCode;
 
 /// What can be said on the command line.
 const USE: &str =
-    "use: bench [check | step | staying | run | rewriting | growth] [--picture FILE] | worst COUNT";
+    "use: bench [check | step | staying | run | rewriting | posting | growth] [--picture FILE] \
+    | worst COUNT";
 
 /// All parts, in the order of the table.
-const NAMES: [&str; 6] = ["check", "step", "staying", "run", "rewriting", "growth"];
+const NAMES: [&str; 7] = [
+    "check",
+    "step",
+    "staying",
+    "run",
+    "rewriting",
+    "posting",
+    "growth",
+];
 
 fn main() -> ExitCode {
     words::done(|words| match *words {
@@ -64,6 +74,7 @@ fn measured(name: &str) -> Vec<Part> {
         "staying" => vec![parts::staying()],
         "run" => parts::run(),
         "rewriting" => vec![parts::rewriting()],
+        "posting" => vec![posting()],
         _ => parts::growth(),
     }
 }

@@ -337,7 +337,7 @@ fn decode(bytes: &mut &[u8]) -> Result<Command, String> {
 }
 
 /// The next bytes, if there are that many.
-fn take<'a>(bytes: &mut &'a [u8], count: usize) -> Result<&'a [u8], String> {
+pub fn take<'a>(bytes: &mut &'a [u8], count: usize) -> Result<&'a [u8], String> {
     if bytes.len() < count {
         return Err("breaks off".to_string());
     }

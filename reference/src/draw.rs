@@ -2,6 +2,7 @@
 //! and damaged, the named cases with something altered, and some steps with many choices. A third of
 //! the files are edition 2. Each call is cheap enough for this engine, which tries every choice.
 
+use crate::book::{self, Post};
 use crate::check::accept;
 use crate::command::{Command, Op, OPS};
 use crate::generate::*;
@@ -40,6 +41,12 @@ impl Draw {
             1..=39 => altered(random, &self.named, name),
             _ => fresh(random, name),
         }
+    }
+
+    /// The next posting, under a name.
+    pub fn post(&mut self, name: &str) -> Post {
+        let edition = edition(&mut self.random);
+        book::draw::post(&mut self.random, edition, name)
     }
 }
 

@@ -518,7 +518,7 @@ pub fn bounded(random: &mut Random, edition: Edition, bytes: usize) -> (Shape, M
 }
 
 /// The model's file behind some front bytes; once in so many times damaged.
-fn seldom_damaged(random: &mut Random, model: &Model, times: usize) -> Vec<u8> {
+pub fn seldom_damaged(random: &mut Random, model: &Model, times: usize) -> Vec<u8> {
     match random.below(times) {
         0 => damaged(random, model),
         _ => [front(random), model.file()].concat(),

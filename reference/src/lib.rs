@@ -17,16 +17,18 @@
 //! - [`plain`]: whether a file is plain (RULES 8).
 //! - [`agreement`]: the places of a step of the rewritten file (RULES 9.8).
 //! - [`day`]: the day program, refusals 30 and 31 (RULES 10).
+//! - [`posting`]: a day's posting for a book, refusals 60 to 63 (RULES 11).
 //! - [`chart`]: the command line tool's answers.
 //!
 //! What the comparison needs: [`command`] (one call as bytes, its answer as a line), [`cases`]
 //! (calls with a name and an answer written by hand), [`generate`] (random calls from fixed seeds),
-//! [`record`] (what is recorded of each kind), [`draw`] (random calls of every kind) and [`walk`]
-//! (random files with slaves, and all their configurations). [`laws`] tries two laws of composed
+//! [`record`] (what is recorded of each kind), [`draw`] (random calls of every kind), [`book`] (the
+//! same of postings) and [`walk`] (random files with slaves, and all their configurations). [`laws`] tries two laws of composed
 //! nodes on random files (RULES 5.13, 5.14). With the feature `engine` also `fuzz`, which compares
 //! the proved engine with this one. [`words`] is what a program does with its command line.
 
 pub mod agreement;
+pub mod book;
 pub mod cases;
 pub mod chart;
 pub mod check;
@@ -43,6 +45,7 @@ pub mod laws;
 pub mod limits;
 pub mod model;
 pub mod plain;
+pub mod posting;
 pub mod record;
 pub mod rewriting;
 pub mod run;
@@ -56,6 +59,7 @@ pub use day::day;
 pub use first::first;
 pub use interface::{interface, Interface};
 pub use plain::{plain, Plain};
+pub use posting::{post, CaseRecord, Entry};
 pub use rewriting::{rewrite, Rewritten};
 pub use run::{run, Ran};
 pub use set::Set;

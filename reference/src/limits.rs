@@ -46,6 +46,15 @@ pub const NODE_BYTES: usize = 20;
 /// RULES 6.3: the bytes of a row before its configuration: output, mark and refusal.
 pub const ROW_HEAD_BYTES: usize = SET_BYTES + 2;
 
+/// RULES 11.1: the most cases of a book.
+pub const CASES: usize = 64;
+/// RULES 11.1: the bytes that a case record has for its configuration.
+pub const CASE_CONFIGURATION: usize = 16;
+/// RULES 11.1: the highest row number, which has no next one.
+pub const LAST_ROW: u32 = u32::MAX;
+/// RULES 11.4: the bytes of a posted row before its configuration: its number, then a row's head.
+pub const POSTED_HEAD_BYTES: usize = 4 + ROW_HEAD_BYTES;
+
 /// RULES 2.6: the kind of a node that holds a chart.
 pub const KIND_CHART: u8 = 0;
 /// RULES 2.6: the kind of a composed node.
@@ -53,7 +62,7 @@ pub const KIND_COMPOSED: u8 = 1;
 /// RULES 2.6: the kind of a hidden node.
 pub const KIND_HIDDEN: u8 = 2;
 
-/// What a call returns (RULES 3.2 to 3.5).
+/// What a call returns (RULES 3.2 to 3.5, 3.7).
 pub mod refusal {
     /// none of the tests applies
     pub const SUCCESS: u8 = 0;
@@ -105,4 +114,12 @@ pub mod refusal {
     pub const REWRITING_ROOM: u8 = 45;
     /// the file has edition 2
     pub const REWRITING_EDITION: u8 = 46;
+    /// the book has no case, or too many
+    pub const BOOK: u8 = 60;
+    /// an entry is for a case that is not in the book
+    pub const ENTRY: u8 = 61;
+    /// the last row of a case has the highest number that there is
+    pub const ROW_NUMBER: u8 = 62;
+    /// the buffer is too short for the rows of a day
+    pub const POSTING_ROOM: u8 = 63;
 }

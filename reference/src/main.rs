@@ -1,20 +1,25 @@
 //! The command line:
 //!
 //! - `reference record KIND COMMANDS LINES` writes the recorded calls of a kind (`file`, `step`,
-//!   `run`, `rewrite` or `plain`) to the file COMMANDS and the lines they answer to the file LINES.
+//!   `run`, `rewrite` or `plain`) to the file COMMANDS and the lines they answer to the file LINES;
+//!   of the kind `post` the recorded postings.
 //! - `reference file NAME` prints the file of a named case.
 //! - `reference show` reads recorded calls on standard input and prints the lines they answer.
 //! - `reference day` reads the day program's input on standard input and prints what it prints.
 //! - `reference chart WORDS..` prints what the command line tool prints for words that are typed
 //!   right, a refusal by its number alone.
 //! - `reference fuzz SEED COUNT`, with the feature `engine`, makes so many random calls here and in
-//!   the proved engine and compares; the first difference is printed with the call.
+//!   the proved engine, and a tenth of that in postings, and compares; the first difference is printed
+//!   with the call.
 //! - `reference same SEED COUNT`, with the feature `engine`, rewrites so many random files with slaves
 //!   here and in the proved engine, and compares the engine's steps of old and new file from every
 //!   configuration; prints how many of each kind were compared.
+//! - `reference replay`, with the feature `engine`, reads recorded postings on standard input, makes
+//!   each in the proved engine and prints the lines it answers.
 //! - `reference laws SEED COUNT` tries two laws of composed nodes on so many random files of both
 //!   editions, from every configuration; with the feature `engine`, also in the proved engine.
 
+use reference::book;
 use reference::command::decode_all;
 use reference::laws::{hold, Engine, REFERENCE};
 use reference::record::{commands, encode, lines, named, Kind, KINDS};
@@ -25,16 +30,18 @@ use std::process::ExitCode;
 /// What can be said on the command line.
 const USE: &str =
     "use: reference record KIND COMMANDS LINES | file NAME | show | day | chart WORDS.. \
-    | laws SEED COUNT | fuzz SEED COUNT | same SEED COUNT";
+    | replay | laws SEED COUNT | fuzz SEED COUNT | same SEED COUNT";
 
 fn main() -> ExitCode {
     words::done(|words| match *words {
+        ["record", "post", calls, answers] => record_posts(calls, answers),
         ["record", kind, calls, answers] => record(kind, calls, answers),
         ["file", name] => file(name),
         ["show"] => show(),
         ["day"] => day(),
         ["chart", "rewrite", file, out] => rewrite(file, out),
         ["chart", command, file, ref words @ ..] => chart(command, file, words),
+        ["replay"] => replay(),
         ["laws", seed, count] => laws(seed, count),
         [command @ ("fuzz" | "same"), seed, count] => hold_engine(command, seed, count),
         _ => Err(USE.to_string()),
@@ -43,12 +50,34 @@ fn main() -> ExitCode {
 
 /// Writes the calls of a kind and their lines.
 fn record(kind: &str, calls: &str, answers: &str) -> Result<(), String> {
-    let kind = Kind::of(kind).ok_or("the kinds are file, step, run, rewrite, plain")?;
+    let kind = Kind::of(kind).ok_or("the kinds are file, step, run, rewrite, plain, post")?;
     let commands = commands(kind);
     write(calls, &encode(&commands))?;
     write(answers, lines(&commands).as_bytes())?;
     eprintln!("{} calls", commands.len());
     Ok(())
+}
+
+/// Writes the recorded postings and their lines.
+fn record_posts(calls: &str, answers: &str) -> Result<(), String> {
+    let posts = book::recorded();
+    write(calls, &book::encode(&posts))?;
+    write(answers, book::lines(&posts, reference::post).as_bytes())?;
+    eprintln!("{} postings", posts.len());
+    Ok(())
+}
+
+/// Prints the lines of the postings on standard input, made in the proved engine.
+#[cfg(feature = "engine")]
+fn replay() -> Result<(), String> {
+    let posts = book::decode_all(&standard_input()?)?;
+    print(book::lines(&posts, reference::fuzz::post::raw).as_bytes())
+}
+
+/// Without the engine there is nothing to make them in.
+#[cfg(not(feature = "engine"))]
+fn replay() -> Result<(), String> {
+    Err("replay: not built with the feature `engine`".to_string())
 }
 
 /// Prints the file of a named case.
@@ -112,8 +141,8 @@ fn hold_engine(command: &str, seed: &str, count: &str) -> Result<(), String> {
     let (seed, count) = numbers(seed, count)?;
     let what = match command {
         "fuzz" => {
-            reference::fuzz::agree(seed, count)?;
-            format!("{count} commands agree")
+            let posts = reference::fuzz::agree(seed, count)?;
+            format!("{count} commands and {posts} postings agree")
         }
         _ => reference::fuzz::same::agree(seed, count)?.to_string(),
     };

@@ -17,7 +17,7 @@ pub struct Row {
 
 impl Row {
     /// The row's bytes: output, mark, refusal, configuration.
-    fn bytes(&self) -> Vec<u8> {
+    pub fn bytes(&self) -> Vec<u8> {
         let mut bytes = self.output.bytes().to_vec();
         bytes.push(u8::from(self.mark));
         bytes.push(self.refusal);

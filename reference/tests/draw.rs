@@ -75,3 +75,13 @@ fn calls_can_be_recorded() {
         assert_eq!(read, Ok(vec![command]));
     }
 }
+
+/// As many postings as a comparison of 25,000 calls makes.
+#[test]
+fn postings_meet_each_of_their_refusals() {
+    let mut draw = Draw::new(1);
+    let refusals = (0..2_500).map(|_| draw.post("").posted().refusal);
+    let found: BTreeSet<u8> = refusals.collect();
+    let expected = (0..=11).chain([20, 21]).chain(60..=63);
+    assert_eq!(found, expected.collect());
+}

@@ -23,12 +23,14 @@
 //! ```
 
 mod place;
+mod posting;
 pub mod raw;
 mod refusal;
 mod row;
 mod set;
 
 pub use place::{Place, Places};
+pub use posting::{post, posted_bytes, posted_rows, Case, Entry, PostedRow, CASES, CONFIGURATION};
 pub use refusal::Refusal;
 pub use row::{rows, rows_bytes, Given, Row};
 pub use set::{Set, Signals};

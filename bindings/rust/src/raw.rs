@@ -1,5 +1,7 @@
 //! The engine's own functions, as include/mestecur.h declares and explains them.
 
+use crate::{Case, Entry};
+
 extern "C" {
     /// Tests whether a file holds a chart.
     pub fn mestecur_check(file: *const u8, file_len: usize) -> u8;
@@ -59,4 +61,16 @@ extern "C" {
 
     /// Gives whether a file is plain.
     pub fn mestecur_plain(file: *const u8, file_len: usize, plain: *mut u8) -> u8;
+
+    /// Posts a day for a book of cases.
+    pub fn mestecur_post(
+        file: *const u8,
+        file_len: usize,
+        cases: *mut Case,
+        cases_len: usize,
+        entries: *const Entry,
+        entries_len: usize,
+        rows: *mut u8,
+        rows_len: usize,
+    ) -> u8;
 }

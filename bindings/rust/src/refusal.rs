@@ -9,7 +9,7 @@ use std::num::NonZeroU8;
 pub struct Refusal(NonZeroU8);
 
 /// Why a call is refused, by number (RULES 3). The day program's numbers are not here: no call gives them.
-const WORDS: [(u8, &str); 22] = [
+const WORDS: [(u8, &str); 26] = [
     (1, "fewer than 12 bytes, so there is no trailer"),
     (2, "the edition is neither 1 nor 2"),
     (
@@ -67,6 +67,19 @@ const WORDS: [(u8, &str); 22] = [
     (
         46,
         "rewriting: edition 2, in which charts may stay; only edition 1 can be rewritten",
+    ),
+    (60, "posting: a book needs 1 to 64 cases"),
+    (
+        61,
+        "posting: an entry is for a case that is not in the book",
+    ),
+    (
+        62,
+        "posting: a case's last row has the number 4294967295, the highest there is",
+    ),
+    (
+        63,
+        "posting: the buffer is shorter than a row for each case",
     ),
 ];
 

@@ -31,7 +31,7 @@ pub fn rows(buffer: &[u8], charts: usize) -> impl Iterator<Item = Row<'_>> {
 }
 
 /// One row from its bytes.
-fn row(bytes: &[u8]) -> Row<'_> {
+pub(crate) fn row(bytes: &[u8]) -> Row<'_> {
     let (head, config) = bytes.split_at(HEAD_BYTES);
     let output = head[..8].iter().rev();
     let given = Given {

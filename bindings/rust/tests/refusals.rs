@@ -3,7 +3,7 @@
 mod charts;
 
 use charts::{d, edition_2, whole_case};
-use mestecur::{check, first, interface, plain, rewrite, run, step, Refusal, Set};
+use mestecur::{check, first, interface, plain, post, rewrite, run, step, Case, Refusal, Set};
 
 /// The number of a refused call.
 fn number<T: std::fmt::Debug>(answer: Result<T, Refusal>) -> u8 {
@@ -21,6 +21,9 @@ fn every_call_refuses(file: &[u8], refusal: u8) {
     assert_eq!(number(ran), refusal);
     assert_eq!(number(rewrite(file, &mut buffer)), refusal);
     assert_eq!(number(plain(file)), refusal);
+    let mut cases = [Case::new(&[0]).unwrap()];
+    assert_eq!(number(post(file, &mut cases, &[], &mut buffer)), refusal);
+    assert_eq!(cases, [Case::new(&[0]).unwrap()]);
     assert_eq!(buffer, [0xA5; 300]);
 }
 
@@ -124,7 +127,8 @@ fn a_refusal_prints_its_number_and_why() {
     );
     assert_eq!(Refusal::of(0), None);
     let unknown = Refusal::of(99).unwrap().words();
-    for known in (1..=11).chain(20..=23).chain([27]).chain(40..=46) {
+    let calls = (1..=11).chain(20..=23).chain([27]).chain(40..=46);
+    for known in calls.chain(60..=63) {
         let words = Refusal::of(known).unwrap().words();
         assert_eq!(words == unknown, known == 43, "{known}");
     }

@@ -11,6 +11,8 @@ use Rattle.meaning.specs.Calls.{firstRefusal, firstBytes, inputOf, outputOf, st
 use Rattle.meaning.specs.Calls.{runBytes, runCarried}
 use Rattle.meaning.specs.Rewriting.{rewriteRefusal, rewriteLength, rewriteOut}
 use Rattle.meaning.specs.Plain.{plainOf}
+use Rattle.engine.specs.States.{statesOf}
+use Rattle.engine.specs.declared.file.StateCounts.{StateCounts}
 use Rattle.engine.specs.declared.interface.Faces.{Faces}
 use Rattle.engine.specs.declared.plainness.Plainness.{Plainness}
 use Rattle.engine.specs.declared.rewriting.Rewritten.{Rewritten}
@@ -25,6 +27,10 @@ CheckSays f r = r ≡ refusalOf f
 -- the first configuration (RULES 6.1)
 abbrev pub FirstSays : List ℕ → List ℕ → ℕ → List ℕ → Type 0
 FirstSays f b r c = (r ≡ firstRefusal f (length b)) × (c ≡ firstBytes f b)
+
+-- how many states each chart has (RULES 2.3)
+abbrev pub StatesSays : List ℕ → StateCounts → Type 0
+StatesSays f r = r ≡ statesOf f
 
 -- the interface (RULES 4.2)
 abbrev pub InterfaceSays : List ℕ → Faces → Type 0

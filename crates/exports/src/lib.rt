@@ -1,9 +1,12 @@
-// The engine for programs in C and Rust (include/mestecur.h). A slice passes as a pointer and a length. Each function returns 0 or the refusal;
-// a single number behind a pointer is an answer, and is 0 where the call is refused; so are places, and they are 255 then.
+// The engine and the posting for programs in C and Rust (include/mestecur.h). A slice passes as a pointer and a length. Each function returns 0 or the
+// refusal. A single number behind a pointer is an answer, and is 0 where the call is refused; places are answers too, and are 255 then.
 ghost use mathlib.Core.Path.{_≡_};
 ghost use Rattle.meaning.specs.Count.{one};
 ghost use Rattle.exports.specs.Contracts.{CheckReturns, FirstReturns, InterfaceReturns, PlainReturns, StepReturns};
 ghost use Rattle.exports.specs.Contracts.{RunReturns, RewriteReturns};
+ghost use Rattle.posting.specs.Posting.{PostSays};
+use posting::Case;
+use posting::Entry;
 
 #[no_mangle]
 pub extern "C" fn mestecur_check(file: &[u8]) -> u8
@@ -90,4 +93,17 @@ pub extern "C" fn mestecur_rewrite(file: &[u8], out: &mut [u8], size: &mut usize
     let w = engine::rewriting::rewriting(file, out);
     *size = w.length;
     w.refusal
+}
+
+#[no_mangle]
+pub extern "C" fn mestecur_post(
+    file: &[u8],
+    cases: &mut [Case],
+    entries: &[Entry],
+    rows: &mut [u8],
+) -> u8
+    ensures { λ r. ⌜ PostSays (now (file .entry)) (now (cases .entry)) (now (entries .entry)) (now (rows .entry))
+        r (now (cases .exit)) (now (rows .exit)) ⌝ }
+{
+    posting::post(file, cases, entries, rows)
 }

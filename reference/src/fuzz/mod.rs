@@ -2,6 +2,7 @@
 //! compared, refusal, answers and every byte of the buffer.
 
 pub mod engine;
+pub mod post;
 pub mod same;
 
 use crate::cases::charts::whole_case;
@@ -23,18 +24,26 @@ pub struct Told {
     pub bytes: Vec<u8>,
 }
 
+/// After how many random calls there is a posting.
+const POSTS: usize = 10;
+
 /// The inputs of a run that is longer than the day program's can be.
 const LONG_RUN: usize = 8_189;
 
-/// Makes a long run and so many random calls in both engines; the first one that differs, in words.
-pub fn agree(seed: u64, count: usize) -> Result<(), String> {
+/// Makes a long run and so many random calls and postings in both engines; the first one that differs,
+/// in words. Gives the number of postings.
+pub fn agree(seed: u64, count: usize) -> Result<usize, String> {
     compare(&long_run(seed))?;
     let mut draw = Draw::new(seed);
     for place in 0..count {
         let command = draw.command(&format!("fuzz-{seed}-{place}"));
         compare(&command)?;
     }
-    Ok(())
+    let posts = count.div_ceil(POSTS);
+    for place in 0..posts {
+        post::compare(&draw.post(&format!("fuzz-{seed}-post-{place}")))?;
+    }
+    Ok(posts)
 }
 
 /// A run of the whole case under random inputs.

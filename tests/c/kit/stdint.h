@@ -2,5 +2,6 @@
 #ifndef KIT_STDINT_H
 #define KIT_STDINT_H
 typedef unsigned char uint8_t;
+typedef unsigned int uint32_t;
 typedef unsigned long uint64_t;
 #endif

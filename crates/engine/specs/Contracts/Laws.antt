@@ -3,7 +3,8 @@ use mathlib.Core.Path.{_≡_, sym, _∙_}
 use mathlib.Core.List.{List}
 use Prim.Native.Nat.{ℕ}
 use Rattle.meaning.specs.Meaning.{Set}
-use Rattle.engine.specs.Contracts.{CheckSays, FirstSays, InterfaceSays, PlainSays, StepSays, RunSays, RewritingSays}
+use Rattle.engine.specs.Contracts.{CheckSays, FirstSays, StatesSays, InterfaceSays, PlainSays, StepSays, RunSays, RewritingSays}
+use Rattle.engine.specs.declared.file.StateCounts.{StateCounts}
 use Rattle.engine.specs.declared.interface.Faces.{Faces}
 use Rattle.engine.specs.declared.plainness.Plainness.{Plainness}
 use Rattle.engine.specs.declared.rewriting.Rewritten.{Rewritten}
@@ -22,6 +23,9 @@ module _ {A B : Type 0} where
 module _ (f : List ℕ) where
   pub check-determined : (r r′ : ℕ) → CheckSays f r → CheckSays f r′ → r ≡ r′
   check-determined = one
+
+  pub states-determined : (r r′ : StateCounts) → StatesSays f r → StatesSays f r′ → r ≡ r′
+  states-determined = one
 
   pub interface-determined : (r r′ : Faces) → InterfaceSays f r → InterfaceSays f r′ → r ≡ r′
   interface-determined = one

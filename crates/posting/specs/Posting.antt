@@ -1,0 +1,183 @@
+-- The posting of a day for a whole book (RULES 11). A book is one chart file and a list of case records; a day is a list of entries. In this order:
+-- limits and refusals; a case and its entries; the refusals in order; a case posted; the book posted; the call; days one after another.
+use mathlib.Core.Path.{_≡_}
+use mathlib.Core.Bool.{Bool, true, false, cond, _||_}
+use mathlib.Core.List.{List, [], _∷_, _++_}
+use Prim.Native.Nat.{ℕ, zero, suc, _+_, _*_}
+use lib.Dec.{ltb, leb}
+use lib.ListN.{length, getD, take, drop}
+use Rattle.signals.specs.Mask.{_∪_}
+use Rattle.layout.specs.Le.{bytes}
+use Rattle.meaning.specs.Meaning.{Set, ∅, same, Answer}
+use Rattle.meaning.specs.File.{File, fileOf}
+use Rattle.meaning.specs.Check.{Test, firstOf, fileTests}
+use Rattle.meaning.specs.Calls.{made, laidOver, configTests, stepIn, nextIn, rowOf, carriedAfter}
+use Rattle.posting.specs.declared.Case.{Case}
+use Rattle.posting.specs.declared.Entry.{Entry}
+pub mod Laws
+
+-- ── limits and refusals ──
+
+-- cases of a book
+abbrev pub mostCases : ℕ
+mostCases = 64
+
+-- the highest number of a row: it has four bytes
+abbrev pub lastRow : ℕ
+lastRow = 4294967295
+
+-- the bytes that a record has for its configuration
+abbrev pub width : ℕ
+width = 16
+
+-- 60: a book has no case, or more than 64
+abbrev pub badBook : ℕ
+badBook = 60
+
+-- 61: an entry is for a case that is not in the book
+abbrev pub noSuchCase : ℕ
+noSuchCase = 61
+
+-- 62: the number of a case's last row is the highest one
+abbrev pub rowsEnd : ℕ
+rowsEnd = 62
+
+-- 63: the buffer has no room for a row of each case
+abbrev pub shortBook : ℕ
+shortBook = 63
+
+-- ── a case and its entries ──
+
+-- the configuration of a record: its first `length` bytes; past those that the record has, they count as 0
+abbrev pub configOf : Case → List ℕ
+configOf c = made (c .length) (λ k. getD (c .config) k 0)
+
+-- all that arrived for case k: its entries joined, and the empty set if it has none
+unfoldable pub joined : ℕ → List Entry → Set
+joined k [] = ∅
+joined k (e ∷ es) = cond (same (e .number) k) (e .signals ∪ joined k es) (joined k es)
+
+-- its own entries
+unfoldable pub mine : ℕ → List Entry → List Entry
+mine k [] = []
+mine k (e ∷ es) = cond (same (e .number) k) (e ∷ mine k es) (mine k es)
+
+-- two entries for one case, joined beforehand
+abbrev pub both : Entry → Entry → Entry
+both a b = record { number = a .number; signals = a .signals ∪ b .signals }
+
+-- two days that differ in the order of their entries, and in what was joined beforehand: neighbours are exchanged, or joined if they are for one
+-- case, at any place, back and forth, any number of times
+pub data Alike : List Entry → List Entry → Type 0 where
+  alike-none : Alike [] []
+  alike-on : (e : Entry) {es fs : List Entry} → Alike es fs → Alike (e ∷ es) (e ∷ fs)
+  alike-swap : (a b : Entry) (es : List Entry) → Alike (a ∷ b ∷ es) (b ∷ a ∷ es)
+  alike-join : (a b : Entry) (es : List Entry) → a .number ≡ b .number → Alike (a ∷ b ∷ es) (both a b ∷ es)
+  alike-back : {es fs : List Entry} → Alike es fs → Alike fs es
+  alike-then : {es fs gs : List Entry} → Alike es fs → Alike fs gs → Alike es gs
+
+-- ── the refusals, in order ──
+
+-- 20 and 21 of each case in turn: the first bad case decides, also past the cases that a book may have
+unfoldable pub bookTests : List ℕ → List Case → List Test
+bookTests f [] = []
+bookTests f (c ∷ cs) = configTests f (configOf c) ++ bookTests f cs
+
+-- 61, in a book of n cases
+unfoldable pub outside? : ℕ → List Entry → Bool
+outside? n [] = false
+outside? n (e ∷ es) = leb n (e .number) || outside? n es
+
+-- 62
+unfoldable pub ended? : List Case → Bool
+ended? [] = false
+ended? (c ∷ cs) = leb lastRow (c .last) || ended? cs
+
+-- 60 to 63; a row has 14 bytes and one for each chart
+unfoldable pub dayTests : List ℕ → List Case → List Entry → ℕ → List Test
+dayTests f cases entries room =
+    record { number = badBook; applies = same (length cases) 0 || ltb mostCases (length cases) }
+    ∷ record { number = noSuchCase; applies = outside? (length cases) entries }
+    ∷ record { number = rowsEnd; applies = ended? cases }
+    ∷ record { number = shortBook; applies = ltb room (length cases * (14 + fileOf f .charts)) }
+    ∷ []
+
+-- 1 to 11; 20 and 21; 60 to 63
+unfoldable pub postRefusal : List ℕ → List Case → List Entry → ℕ → ℕ
+postRefusal f cases entries room = firstOf (fileTests f ++ (bookTests f cases ++ dayTests f cases entries room))
+
+-- ── a case posted: i is what arrived for it ──
+
+-- the step from its configuration, under what it carries joined with what arrived
+abbrev pub answerTo : File → Case → Set → Answer
+answerTo F c i = stepIn F (configOf c) (c .carried ∪ i)
+
+-- its row, given or refused: the new number in 4 bytes, then a row as a run has it (RULES 6.3)
+unfoldable pub postedRow : File → Case → Set → List ℕ
+postedRow F c i = bytes 4 (c .last + 1) ++ rowOf (answerTo F c i) (configOf c)
+
+-- its record then: the next configuration over the front of the old bytes, what is carried on (RULES 6.4), the number of the new row
+unfoldable pub postedCase : File → Case → Set → Case
+postedCase F c i = record {
+  carried = carriedAfter (answerTo F c i) (c .carried ∪ i);
+  last = c .last + 1;
+  length = c .length;
+  config = nextIn (answerTo F c i) (c .config);
+}
+
+-- ── the book posted: every case has one row, in the order of the cases; the first of them has number k ──
+
+unfoldable pub rowsFrom : File → ℕ → List Case → List Entry → List ℕ
+rowsFrom F k [] entries = []
+rowsFrom F k (c ∷ cs) entries = postedRow F c (joined k entries) ++ rowsFrom F (suc k) cs entries
+
+unfoldable pub casesFrom : File → ℕ → List Case → List Entry → List Case
+casesFrom F k [] entries = []
+casesFrom F k (c ∷ cs) entries = postedCase F c (joined k entries) ∷ casesFrom F (suc k) cs entries
+
+-- ── the call: a refusal changes nothing, and bytes behind the rows are unchanged (RULES 1.4) ──
+
+-- what the records hold after it
+unfoldable pub postCases : List ℕ → List Case → List Entry → ℕ → List Case
+postCases f cases entries room =
+    cond (same (postRefusal f cases entries room) 0) (casesFrom (fileOf f) 0 cases entries) cases
+
+-- what the row buffer holds after it
+unfoldable pub postRows : List ℕ → List Case → List Entry → List ℕ → List ℕ
+postRows f cases entries rows =
+    cond (same (postRefusal f cases entries (length rows)) 0) (laidOver (rowsFrom (fileOf f) 0 cases entries) rows) rows
+
+-- the contract: r is the refusal, and cs and rs are what the records and the row buffer hold
+abbrev pub PostSays : List ℕ → List Case → List Entry → List ℕ → ℕ → List Case → List ℕ → Type 0
+PostSays f cases entries rows r cs rs =
+    (r ≡ postRefusal f cases entries (length rows))
+    × (cs ≡ postCases f cases entries (length rows))
+    × (rs ≡ postRows f cases entries rows)
+
+-- row k of the rows that a call wrote
+abbrev pub postedAt : List ℕ → List ℕ → ℕ → List ℕ
+postedAt f rows k = take (14 + fileOf f .charts) (drop (k * (14 + fileOf f .charts)) rows)
+
+-- ── days one after another, each with a buffer as long as `rows` ──
+
+-- the records after them
+unfoldable pub postDays : List ℕ → List Case → List (List Entry) → List ℕ → List Case
+postDays f cases [] rows = cases
+postDays f cases (day ∷ days) rows = postDays f (postCases f cases day (length rows)) days rows
+
+-- no day of them is refused
+unfoldable pub DaysPosted : List ℕ → List Case → List (List Entry) → List ℕ → Type 0
+DaysPosted f cases [] rows = Unit {0}
+DaysPosted f cases (day ∷ days) rows =
+    (postRefusal f cases day (length rows) ≡ 0) × DaysPosted f (postCases f cases day (length rows)) days rows
+
+-- the rows of case k, day by day, each without its number
+unfoldable pub caseRows : List ℕ → List Case → List (List Entry) → List ℕ → ℕ → List ℕ
+caseRows f cases [] rows k = []
+caseRows f cases (day ∷ days) rows k =
+    drop 4 (postedAt f (postRows f cases day rows) k) ++ caseRows f (postCases f cases day (length rows)) days rows k
+
+-- what arrived for case k, day by day
+unfoldable pub arrived : ℕ → List (List Entry) → List Set
+arrived k [] = []
+arrived k (day ∷ days) = joined k day ∷ arrived k days
