@@ -47,22 +47,22 @@ pub record Given (F : File) : Type 0 where
 
 -- ── a test that is false ──
 
-neither : (a b : Bool) → a ≡ false → b ≡ false → (a || b) ≡ false
+pub neither : (a b : Bool) → a ≡ false → b ≡ false → (a || b) ≡ false
 neither true b p q = absurd (true≢false p)
 neither false b p q = q
 
-equal : (m k : ℕ) → m ≡ k → differ m k ≡ false
+pub equal : (m k : ℕ) → m ≡ k → differ m k ≡ false
 equal m k e = ap (λ z. differ z k) e ∙ ap not (same-refl k)
 
-lower : (m k : ℕ) → m < k → notBelow m k ≡ false
+pub lower : (m k : ℕ) → m < k → notBelow m k ≡ false
 lower m k l = ap not (lt-ltb m k l)
 
-there : (m : ℕ) → 0 < m → same m 0 ≡ false
+pub there : (m : ℕ) → 0 < m → same m 0 ≡ false
 there m l = same-≢ m 0 (λ e. omega arith)
 
 -- ── zero bytes ──
 
-head-zero : (h : Head) (i : ℕ) → i < 5 → getD (headBytes h) (3 + i) 0 ≡ 0
+pub head-zero : (h : Head) (i : ℕ) → i < 5 → getD (headBytes h) (3 + i) 0 ≡ 0
 unfolding headBytes
 head-zero h zero l = refl
 head-zero h (suc zero) l = refl
@@ -71,25 +71,25 @@ head-zero h (suc (suc (suc zero))) l = refl
 head-zero h (suc (suc (suc (suc zero)))) l = refl
 head-zero h (suc (suc (suc (suc (suc i))))) l = absurd (omega arith)
 
-transition-zero : (t : Transition) (i : ℕ) → i < 2 → getD (transitionBytes t) (2 + i) 0 ≡ 0
+pub transition-zero : (t : Transition) (i : ℕ) → i < 2 → getD (transitionBytes t) (2 + i) 0 ≡ 0
 unfolding transitionBytes
 transition-zero t zero l = refl
 transition-zero t (suc zero) l = refl
 transition-zero t (suc (suc i)) l = absurd (omega arith)
 
-node-zero : (d : Node) (i : ℕ) → i < 1 → getD (nodeBytes d) (3 + i) 0 ≡ 0
+pub node-zero : (d : Node) (i : ℕ) → i < 1 → getD (nodeBytes d) (3 + i) 0 ≡ 0
 unfolding nodeBytes
 node-zero d zero l = refl
 node-zero d (suc i) l = absurd (omega arith)
 
-trailer-zero : (t : Trailer) (i : ℕ) → i < 2 → getD (trailerBytes t) (10 + i) 0 ≡ 0
+pub trailer-zero : (t : Trailer) (i : ℕ) → i < 2 → getD (trailerBytes t) (10 + i) 0 ≡ 0
 unfolding trailerBytes bytes
 trailer-zero t zero l = refl
 trailer-zero t (suc zero) l = refl
 trailer-zero t (suc (suc i)) l = absurd (omega arith)
 
 -- the zero bytes of a record that stands at a place
-zeros-at : (s xs r : List ℕ) (at k m : ℕ) → drop at s ≡ xs ++ r → k + m ≤ length xs → ((i : ℕ) → i < m → getD xs (k + i) 0 ≡ 0)
+pub zeros-at : (s xs r : List ℕ) (at k m : ℕ) → drop at s ≡ xs ++ r → k + m ≤ length xs → ((i : ℕ) → i < m → getD xs (k + i) 0 ≡ 0)
     → nonzero s (at + k) m ≡ false
 unfolding nonzero
 zeros-at s xs r at k m e l h = any-all m (λ i. differ (getD s (at + k + i) 0) 0) (λ i q. equal (getD s (at + k + i) 0) 0
@@ -98,7 +98,7 @@ zeros-at s xs r at k m e l h = any-all m (λ i. differ (getD s (at + k + i) 0) 0
 
 -- ── how many transitions leave a state ──
 
-leaving-list : (ts : List Transition) (s : ℕ) → tally (length ts) (λ u. one (same (getD ts u noTransition .from) s)) ≡ leavingIn ts s
+pub leaving-list : (ts : List Transition) (s : ℕ) → tally (length ts) (λ u. one (same (getD ts u noTransition .from) s)) ≡ leavingIn ts s
 unfolding leavingIn tally
 leaving-list [] s = refl
 leaving-list (t ∷ ts) s = tally-front (length ts) (λ u. one (same (getD (t ∷ ts) u noTransition .from) s))

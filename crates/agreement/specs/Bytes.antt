@@ -23,54 +23,54 @@ use Rattle.agreement.specs.Again.{Given, fits}
 -- ── lists ──
 
 -- a list of bytes, byte by byte
-data Bytes : List ℕ → Type 0 where
+pub data Bytes : List ℕ → Type 0 where
   end : Bytes []
   byte : {x : ℕ} {s : List ℕ} → x < 256 → Bytes s → Bytes (x ∷ s)
 
-all-bytes : {s : List ℕ} → Bytes s → AllBytes s
+pub all-bytes : {s : List ℕ} → Bytes s → AllBytes s
 all-bytes end i = lit< tt
 all-bytes (byte l h) zero = l
 all-bytes (byte l h) (suc i) = all-bytes h i
 
-and : {a b : List ℕ} → Bytes a → Bytes b → Bytes (a ++ b)
+pub and : {a b : List ℕ} → Bytes a → Bytes b → Bytes (a ++ b)
 and end k = k
 and (byte l h) k = byte l (and h k)
 
-number : (n x : ℕ) → Bytes (bytes n x)
+pub number : (n x : ℕ) → Bytes (bytes n x)
 unfolding bytes
 number zero x = end
 number (suc n) x = byte (mod-lt x (lit< tt)) (number n (x / 256))
 
 -- a zero byte
-nought : {s : List ℕ} → Bytes s → Bytes (0 ∷ s)
+pub nought : {s : List ℕ} → Bytes s → Bytes (0 ∷ s)
 nought h = byte (lit< tt) h
 
-in-turn : (n : ℕ) (f : ℕ → List ℕ) → ((i : ℕ) → i < n → Bytes (f i)) → Bytes (inTurn n f)
+pub in-turn : (n : ℕ) (f : ℕ → List ℕ) → ((i : ℕ) → i < n → Bytes (f i)) → Bytes (inTurn n f)
 unfolding inTurn
 in-turn zero f h = end
 in-turn (suc n) f h = and (in-turn n f (λ i l. h i (omega arith))) (h n (omega arith))
 
 -- ── records ──
 
-head-bytes : (r : Head) → r .states < 256 → r .initial < 256 → r .transitions < 256 → Bytes (headBytes r)
+pub head-bytes : (r : Head) → r .states < 256 → r .initial < 256 → r .transitions < 256 → Bytes (headBytes r)
 unfolding headBytes
 head-bytes r s i t = and (and (byte s (byte i (byte t (nought (nought (nought (nought (nought end)))))))) (number 8 (r .feedback)))
     (number 8 (r .extra))
 
-transition-bytes : (r : Transition) → r .from < 256 → r .to < 256 → Bytes (transitionBytes r)
+pub transition-bytes : (r : Transition) → r .from < 256 → r .to < 256 → Bytes (transitionBytes r)
 unfolding transitionBytes
 transition-bytes r f t = and (and (and (byte f (byte t (nought (nought end)))) (number 8 (r .needed))) (number 8 (r .barred))) (number 8 (r .action))
 
-transitions-bytes : (ts : List Transition) → Every (λ t. (t .from < 256) × (t .to < 256)) ts → Bytes (transitionsBytes ts)
+pub transitions-bytes : (ts : List Transition) → Every (λ t. (t .from < 256) × (t .to < 256)) ts → Bytes (transitionsBytes ts)
 unfolding transitionsBytes
 transitions-bytes [] h = end
 transitions-bytes (t ∷ ts) h = and (transition-bytes t (h .0 .0) (h .0 .1)) (transitions-bytes ts (h .1))
 
-node-bytes : (r : Node) → r .kind < 256 → r .a < 256 → r .b < 256 → Bytes (nodeBytes r)
+pub node-bytes : (r : Node) → r .kind < 256 → r .a < 256 → r .b < 256 → Bytes (nodeBytes r)
 unfolding nodeBytes
 node-bytes r k a b = and (and (byte k (byte a (byte b (nought end)))) (number 8 (r .x))) (number 8 (r .y))
 
-trailer-bytes : (r : Trailer) → r .charts < 256 → r .slaves < 256 → r .nodes < 256 → r .edition < 256 → Bytes (trailerBytes r)
+pub trailer-bytes : (r : Trailer) → r .charts < 256 → r .slaves < 256 → r .nodes < 256 → r .edition < 256 → Bytes (trailerBytes r)
 unfolding trailerBytes
 trailer-bytes r c s n e = and (and (number 4 (r .distance)) (byte c (byte s (byte n (byte e (number 2 (r .transitions))))))) (nought (nought end))
 
