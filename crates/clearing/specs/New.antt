@@ -36,6 +36,7 @@ use Rattle.agreement.specs.Again.{leaving-list}
 use Rattle.clearing.specs.Alive.{alive-most}
 use Rattle.clearing.specs.Cleared.{Clearable, slaves-cleared, nodes-cleared, naming-cleared, inside-cleared}
 use Rattle.clearing.specs.Encodes.{InOrder}
+use Rattle.clearing.specs.Left.Laws.{no-more}
 
 -- ── lists ──
 
@@ -175,22 +176,10 @@ module _ (f : List ℕ) (ab : AllBytes f) (p : Passed f) (first : trailer f .edi
 
   -- ── not longer than the file ──
 
-  fewer : (k : ℕ) → tally k (λ c. length (clear F .chart c .transitions)) ≤ startOf n b k
-  unfolding tally startOf clearedChart fileOf fileAt chartOf transitionsOf
-  fewer zero = omega arith
-  fewer (suc k) = let a = fewer k in
-      let g = alive-most (headAt n b k .feedback)
-      (from (transitionAt n b) (startOf n b k) (headAt n b k .transitions)) in
-      let e = length-from (transitionAt n b) (startOf n b k) (headAt n b k .transitions) in omega arith
-
-  no-more : transitionsIn (clear F) ≤ n .transitions
-  unfolding transitionsIn fileOf fileAt
-  no-more = let a = fewer (n .charts) in let e = summed n b (p .charts) in omega arith
-
   pub not-longer : sizeOf (shapeIn (clear F)) + 12 ≤ length f
   unfolding shapeIn fileOf fileAt distance?
   not-longer =
-      let a = no-more in
+      let a = no-more n b (summed n b (p .charts)) in
       let d = alike (trailer f .distance) (sizeOf n)
       (or-left (differ (trailer f .distance) (sizeOf n)) (ltb (endOf f) (trailer f .distance)) (p .distance)) in
       let e = ltb-false (endOf f) (trailer f .distance)

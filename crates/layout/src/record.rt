@@ -4,7 +4,7 @@ ghost use Prim.Native.Nat.{_+_, _≤_};
 ghost use lib.ListN.{length, drop};
 ghost use lib.Seq.{sets};
 ghost use Rattle.layout.specs.Record.{trailerOf, headOf, transitionOf, slaveOf, nodeOf};
-ghost use Rattle.layout.specs.Record.{trailerBytes, headBytes, transitionBytes, nodeBytes};
+ghost use Rattle.layout.specs.Record.{trailerBytes, headBytes, transitionBytes, slaveBytes, nodeBytes};
 
 // The last 12 bytes of a file.
 pub struct Trailer {
@@ -149,6 +149,16 @@ pub fn write_transition(s: &mut [u8], at: usize, r: Transition)
     crate::number::put64(s, at + 4, r.needed);
     crate::number::put64(s, at + 12, r.barred);
     crate::number::put64(s, at + 20, r.action);
+}
+
+pub fn write_slave(s: &mut [u8], at: usize, r: Slave)
+    requires { ⌜ at + 4 ≤ length (now s) ⌝ }
+    ensures { λ _. ⌜ now (s .exit) ≡ sets (now (s .entry)) at (slaveBytes r) ⌝ }
+{
+    s[at] = r.chart;
+    s[at + 1] = r.state;
+    s[at + 2] = r.node;
+    s[at + 3] = 0;
 }
 
 pub fn write_node(s: &mut [u8], at: usize, r: Node)

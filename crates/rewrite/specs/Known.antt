@@ -65,10 +65,6 @@ pub record Begins (F : File) (j first : ℕ) : Type 0 where
   pub is : first ≡ start F j
   pub named : start F (F .nodes) ≤ mostNodes
 
--- the counts of a shape fit their bytes
-abbrev pub Small : Shape → Type 0
-Small m = (m .charts < 256) × (m .transitions < 65536) × (m .slaves < 256) × (m .nodes < 256)
-
 -- the nearest slave of a chart, from the whole down, is the nearest from the chart up
 abbrev pub Upward : File → Type 0
 Upward F = (c : ℕ) → c < F .charts → nearestSlave F c ≡ kap F c

@@ -1,13 +1,10 @@
 -- The records of the rewritten file as code makes them, from sets that tables hold. In this order: idle transitions; a chart's
--- transitions; nodes; the trailer. That these are the records of the rewriting is in Records/Laws.antt.
+-- transitions; nodes. That these are the records of the rewriting is in Records/Laws.antt.
 use mathlib.Core.Bool.{cond}
 use mathlib.Core.List.{List, [], _∷_, _++_}
 use Prim.Native.Nat.{ℕ, zero, suc, _+_}
 use Rattle.signals.specs.Mask.{_∪_}
 use Rattle.layout.specs.Record.{nodeBytes}
-use Rattle.layout.specs.Body.{sizeOf}
-use Rattle.layout.specs.declared.body.Shape.{Shape}
-use Rattle.layout.specs.declared.record.Trailer.{Trailer}
 use Rattle.layout.specs.declared.record.Transition.{Transition}
 use Rattle.layout.specs.declared.record.Node.{Node}
 use Rattle.meaning.specs.Meaning.{Set, ∅, same}
@@ -55,8 +52,3 @@ masterBytes F c at slaves =
 unfoldable pub heldBytes : File → ℕ → ℕ → ℕ → List ℕ
 heldBytes F c at zero = nodeBytes (holding c)
 heldBytes F c at (suc s) = masterBytes F c at (suc s)
-
--- the trailer of a body of the shape m
-unfoldable pub trailerWith : Shape → ℕ → Trailer
-trailerWith m edition =
-    record { distance = sizeOf m; charts = m .charts; slaves = m .slaves; nodes = m .nodes; edition = edition; transitions = m .transitions }

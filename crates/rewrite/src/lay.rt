@@ -2,21 +2,19 @@
 ghost use mathlib.Core.Path.{_≡_};
 ghost use Prim.Native.Nat.{_+_, _≤_, _<_};
 ghost use lib.ListN.{length};
-ghost use Rattle.layout.specs.Record.{headBytes, transitionBytes, nodeBytes, trailerBytes};
+ghost use Rattle.layout.specs.Record.{headBytes, transitionBytes};
 ghost use Rattle.meaning.specs.Numbers.{firstEdition, mostNodes};
 ghost use Rattle.meaning.specs.Calls.{laidOver};
-ghost use lib.Seq.{sets};
 ghost use Rattle.layout.specs.Body.{transitionAt};
 ghost use Rattle.meaning.specs.File.{fileAt};
 ghost use Rattle.meaning.specs.Rewriting.{callsBy, callsOf, count, madeFor, rewrite, rewrittenChart, headFor, inTurn, transitionsBytes, shapeIn, encode};
-ghost use Rattle.rewrite.specs.Known.{Checked, CallsIn, InnerIn, NamesIn, Fits, Takes, Stands, Master, Holder, Begins, Small};
+ghost use Rattle.rewrite.specs.Known.{Checked, CallsIn, InnerIn, NamesIn, Fits, Takes, Stands, Master, Holder, Begins};
 ghost use Rattle.layout.specs.Put.{Room, Put};
-ghost use Rattle.rewrite.specs.Records.{calledWith, idleWith, partBytes, masterBytes, heldBytes, nodesBytes, trailerWith};
+ghost use Rattle.rewrite.specs.Records.{calledWith, idleWith, partBytes, masterBytes, heldBytes, nodesBytes};
 use checks::limits;
 use layout::body::Shape;
 use layout::record::Head;
 use layout::record::Node;
-use layout::record::Trailer;
 use layout::record::Transition;
 
 // Each chart's head: more transitions, the rest as it was.
@@ -225,14 +223,6 @@ fn names(n: Shape, body: &[u8]) -> [u8; 64]
     names
 }
 
-fn put_node(out: &mut [u8], at: usize, r: Node) -> usize
-    requires { ⌜ at + 20 ≤ length (now out) ⌝ }
-    ensures { λ p. ⌜ Put (now (out .entry)) at (nodeBytes r) (now (out .exit)) p ⌝ }
-{
-    layout::record::write_node(out, at, r);
-    at + limits::NODE_BYTES
-}
-
 // The nodes that compose the slaves of chart c with it, one behind another; its own is node `first`.
 fn parts(
     n: Shape,
@@ -263,7 +253,7 @@ fn parts(
                 x: x,
                 y: 0,
             };
-            p = put_node(out, p, new);
+            p = laying::put_node(out, p, new);
             made += 1;
         }
         i += 1;
@@ -296,7 +286,7 @@ fn master(
         x: 0,
         y: 0,
     };
-    let p = put_node(out, at, held);
+    let p = laying::put_node(out, at, held);
     let q = parts(n, body, names, c, h.feedback | hidden, first as u8, out, p);
     let whole = Node {
         kind: 2,
@@ -305,7 +295,7 @@ fn master(
         x: hidden,
         y: hidden,
     };
-    put_node(out, q, whole)
+    laying::put_node(out, q, whole)
 }
 
 // The nodes that are made for a node that holds chart c; the first gets the name `first`.
@@ -334,7 +324,7 @@ fn holder(
             x: 0,
             y: 0,
         };
-        return put_node(out, at, held);
+        return laying::put_node(out, at, held);
     }
     master(n, body, calls, names, c, slaves, first, out, at)
 }
@@ -369,7 +359,7 @@ fn node(
             x: r.x,
             y: 0,
         };
-        return put_node(out, at, both);
+        return laying::put_node(out, at, both);
     }
     let hidden = Node {
         kind: 2,
@@ -378,7 +368,7 @@ fn node(
         x: r.x,
         y: r.y,
     };
-    put_node(out, at, hidden)
+    laying::put_node(out, at, hidden)
 }
 
 // The nodes that are made for all nodes, in the old order.
@@ -407,22 +397,6 @@ fn nodes(
     p
 }
 
-// The trailer of a body of the shape m, right behind it.
-fn trailer(m: Shape, edition: u8, out: &mut [u8], at: usize)
-    requires { ⌜ Small m × (at + 12 ≤ length (now out)) ⌝ }
-    ensures { λ _. ⌜ now (out .exit) ≡ sets (now (out .entry)) at (trailerBytes (trailerWith m edition)) ⌝ }
-{
-    let t = Trailer {
-        distance: layout::body::size(m) as u32,
-        charts: m.charts as u8,
-        slaves: m.slaves as u8,
-        nodes: m.nodes as u8,
-        edition: edition,
-        transitions: m.transitions as u16,
-    };
-    layout::record::write_trailer(out, at, t);
-}
-
 // The rewritten file, which has the shape m, over the front of `out`.
 pub fn lay(
     n: Shape,
@@ -442,5 +416,5 @@ pub fn lay(
     let behind_heads = heads(n, body, inner, out, 0);
     let behind_transitions = transitions(n, body, calls, inner, out, behind_heads);
     let end = nodes(n, body, calls, &names, out, behind_transitions);
-    trailer(m, edition, out, end);
+    laying::trailer(m, edition, out, end);
 }

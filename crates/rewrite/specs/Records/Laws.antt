@@ -27,9 +27,10 @@ use Rattle.meaning.specs.Rewriting.{call, callIn, called, idle, idles, chartWit
 use Rattle.meaning.specs.Rewriting.Laws.{sum-most}
 use Rattle.agreement.specs.Charts.{places, places-none}
 use Rattle.agreement.specs.Laid.{noNode, laid-length}
-use Rattle.rewrite.specs.Known.{Fits, Small}
-use Rattle.rewrite.specs.Turn.{turn-front, turn-cong}
-use Rattle.rewrite.specs.Records.{idleCount, calledWith, idleWith, holding, composing, hiding, nodesBytes, partBytes, masterBytes, heldBytes, trailerWith}
+use Rattle.rewrite.specs.Known.{Fits}
+use Rattle.laying.specs.Trailer.{Small, trailerWith}
+use Rattle.laying.specs.Turn.{turn-front, turn-cong}
+use Rattle.rewrite.specs.Records.{idleCount, calledWith, idleWith, holding, composing, hiding, nodesBytes, partBytes, masterBytes, heldBytes}
 
 -- ── idle transitions, counted ──
 

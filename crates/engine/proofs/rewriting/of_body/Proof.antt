@@ -10,7 +10,8 @@ use lib.ListN.{length}
 use Rattle.meaning.specs.File.{File, fileAt}
 use Rattle.meaning.specs.Check.{firstOf}
 use Rattle.meaning.specs.Rewriting.{used, free, call, rewrite, encode}
-use Rattle.rewrite.specs.Known.{Calling, CallsIn, Fits, Small}
+use Rattle.rewrite.specs.Known.{Calling, CallsIn, Fits}
+use Rattle.laying.specs.Trailer.{Small}
 use Rattle.rewrite.specs.Records.Laws.{shape-small}
 use Rattle.rewrite.specs.declared.calls.Calls.{Calls}
 use Rattle.engine.specs.Rewriting.{limitTests}

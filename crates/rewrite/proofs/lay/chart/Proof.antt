@@ -14,7 +14,7 @@ use Rattle.meaning.specs.Rewriting.{callsBy, rewrittenChart, inTurn, transition
 use Rattle.rewrite.specs.Known.{Takes, Stands}
 use Rattle.layout.specs.Put.{Room}
 use Rattle.layout.specs.Put.Laws.{put-append, put-length, room-first, room-next}
-use Rattle.rewrite.specs.Turn.{put-is}
+use Rattle.laying.specs.Turn.{put-is}
 use Rattle.rewrite.specs.Records.{idleCount, calledWith, idleWith}
 use Rattle.rewrite.specs.Records.Laws.{chart-bytes, count-most}
 use Rattle.checks.specs.Known.Laws.{in-all, own-are}

@@ -14,7 +14,7 @@ use Rattle.meaning.specs.File.{fileAt, chartOf}
 use Rattle.meaning.specs.Rewriting.{chartWith, rewrittenChart, headFor, inTurn}
 use Rattle.layout.specs.Put.{Put}
 use Rattle.layout.specs.Put.Laws.{put-length}
-use Rattle.rewrite.specs.Turn.{put-start, put-record, put-done, room-record}
+use Rattle.laying.specs.Turn.{put-start, put-record, put-done, room-record}
 use Rattle.rewrite.proofs.Laws.{length-rewritten}
 use Rattle.rewrite.proofs.lay.heads.Statement.{statement}
 use Rattle.rewrite.proofs.lay.heads.Tie as tie

@@ -9,7 +9,7 @@ use Rattle.meaning.specs.File.{File, fileAt}
 use Rattle.meaning.specs.Rewriting.{count}
 use Rattle.layout.specs.Put.{Room}
 use Rattle.layout.specs.Put.Laws.{put-length}
-use Rattle.rewrite.specs.Turn.{put-is, room-all}
+use Rattle.laying.specs.Turn.{put-is, room-all}
 use Rattle.rewrite.specs.Records.{holding, masterBytes, heldBytes}
 use Rattle.rewrite.specs.Records.Laws.{held-none, held-some}
 use Rattle.rewrite.proofs.lay.holder.Statement.{statement}

@@ -10,7 +10,7 @@ use Rattle.layout.specs.Record.Laws.{length-transition}
 use Rattle.meaning.specs.Rewriting.{inTurn}
 use Rattle.layout.specs.Put.{Put}
 use Rattle.layout.specs.Put.Laws.{put-length}
-use Rattle.rewrite.specs.Turn.{put-start, put-record, put-done, room-record}
+use Rattle.laying.specs.Turn.{put-start, put-record, put-done, room-record}
 use Rattle.rewrite.specs.Records.{idleWith}
 use Rattle.rewrite.proofs.lay.idles.Statement.{statement}
 use Rattle.rewrite.proofs.lay.idles.Tie as tie

@@ -13,11 +13,12 @@ use Rattle.meaning.specs.Numbers.{firstEdition}
 use Rattle.meaning.specs.Calls.{laidOver}
 use Rattle.meaning.specs.File.{File, fileAt}
 use Rattle.meaning.specs.Rewriting.{rewrittenChart, madeFor, rewrite, inTurn, headFor, transitionsBytes, shapeIn, encode}
-use Rattle.rewrite.specs.Known.{Checked, Fits, Small}
+use Rattle.rewrite.specs.Known.{Checked, Fits}
+use Rattle.laying.specs.Trailer.{Small, trailerWith}
 use Rattle.layout.specs.Put.{Room, Put}
 use Rattle.layout.specs.Put.Laws.{put-append, put-over, put-length, room-first, room-next}
-use Rattle.rewrite.specs.Turn.{put-one, put-is, room-last}
-use Rattle.rewrite.specs.Records.{nodesBytes, trailerWith}
+use Rattle.laying.specs.Turn.{put-one, put-is, room-last}
+use Rattle.rewrite.specs.Records.{nodesBytes}
 use Rattle.rewrite.specs.Records.Laws.{encode-is, shape-small}
 use Rattle.rewrite.proofs.lay.lay.Statement.{statement}
 use Rattle.rewrite.proofs.lay.lay.Tie as tie

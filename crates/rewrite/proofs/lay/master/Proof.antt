@@ -14,7 +14,7 @@ use Rattle.meaning.specs.File.{File, fileAt, chartOf}
 use Rattle.meaning.specs.Rewriting.{callsOf, inTurn}
 use Rattle.layout.specs.Put.{Room}
 use Rattle.layout.specs.Put.Laws.{put-append, put-length, room-first, room-next}
-use Rattle.rewrite.specs.Turn.{put-is, room-one, room-last}
+use Rattle.laying.specs.Turn.{put-is, room-one, room-last}
 use Rattle.rewrite.specs.Records.{holding, hiding, partBytes, masterBytes}
 use Rattle.rewrite.proofs.lay.master.Statement.{statement}
 use Rattle.rewrite.proofs.lay.master.Tie as tie

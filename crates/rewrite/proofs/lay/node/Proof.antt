@@ -16,7 +16,7 @@ use Rattle.agreement.specs.Laid.{ren-inside}
 use Rattle.rewrite.specs.Known.{Checked, NamesIn, Holder, Begins}
 use Rattle.layout.specs.Put.{Room}
 use Rattle.layout.specs.Put.Laws.{put-length}
-use Rattle.rewrite.specs.Turn.{put-is, room-all}
+use Rattle.laying.specs.Turn.{put-is, room-all}
 use Rattle.rewrite.specs.Records.{composing, hiding, heldBytes, nodesBytes}
 use Rattle.rewrite.specs.Records.Laws.{held-are, comp-are, hide-are}
 use Rattle.rewrite.proofs.lay.node.Statement.{statement}

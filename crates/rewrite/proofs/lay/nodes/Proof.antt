@@ -11,7 +11,7 @@ use Rattle.meaning.specs.Rewriting.{start, madeFor, inTurn}
 use Rattle.agreement.specs.Laid.{ren-inside}
 use Rattle.layout.specs.Put.{Put}
 use Rattle.layout.specs.Put.Laws.{put-length}
-use Rattle.rewrite.specs.Turn.{put-start, put-next, put-done, room-turn}
+use Rattle.laying.specs.Turn.{put-start, put-next, put-done, room-turn}
 use Rattle.rewrite.specs.Records.{nodesBytes}
 use Rattle.rewrite.proofs.Laws.{nodes-none, name-next}
 use Rattle.rewrite.proofs.lay.nodes.Statement.{statement}

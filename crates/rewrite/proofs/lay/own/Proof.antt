@@ -15,7 +15,7 @@ use Rattle.meaning.specs.File.{fileAt}
 use Rattle.meaning.specs.Rewriting.{callsBy, inTurn}
 use Rattle.layout.specs.Put.{Put}
 use Rattle.layout.specs.Put.Laws.{put-length}
-use Rattle.rewrite.specs.Turn.{put-start, put-record, put-done, room-record}
+use Rattle.laying.specs.Turn.{put-start, put-record, put-done, room-record}
 use Rattle.rewrite.specs.Records.{calledWith}
 use Rattle.rewrite.proofs.lay.own.Statement.{statement}
 use Rattle.rewrite.proofs.lay.own.Tie as tie

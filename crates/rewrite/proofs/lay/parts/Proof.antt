@@ -20,7 +20,7 @@ use Rattle.meaning.specs.Rewriting.{count, newName, inTurn}
 use Rattle.rewrite.specs.Known.{Checked, NamesIn}
 use Rattle.layout.specs.Put.{Put}
 use Rattle.layout.specs.Put.Laws.{put-none, put-length}
-use Rattle.rewrite.specs.Turn.{put-is, put-start, put-next, put-done, room-record}
+use Rattle.laying.specs.Turn.{put-is, put-start, put-next, put-done, room-record}
 use Rattle.rewrite.specs.Records.{composing, partBytes}
 use Rattle.rewrite.proofs.Laws.{is-of, is-not, count-own, count-other}
 use Rattle.rewrite.proofs.lay.parts.Statement.{statement}

@@ -1,11 +1,11 @@
--- `lay::put_node` meets its contract. Assumes nothing.
+-- `put_node` meets its contract.
 use native.Mathlib.Omega.{arith}
 use borrow.Author.Needs.{needs}
 use Rattle.layout.specs.Record.Laws.{length-node}
 use Rattle.layout.specs.Put.Laws.{put-length}
-use Rattle.rewrite.specs.Turn.{put-one}
-use Rattle.rewrite.proofs.lay.put_node.Statement.{statement}
-use Rattle.rewrite.proofs.lay.put_node.Tie as tie
+use Rattle.laying.specs.Turn.{put-one}
+use Rattle.laying.proofs.put_node.Statement.{statement}
+use Rattle.laying.proofs.put_node.Tie as tie
 
 returns : tie.Need-returns
 returns c = put-one _ 20 _ _ _ (length-node _) (c .before .before .write-node .ensures)

@@ -1,4 +1,4 @@
--- `lay::trailer` meets its contract. Assumes nothing.
+-- `trailer` meets its contract.
 use mathlib.Core.Path.{ap, _∙_}
 use Prim.Native.Nat.{ℕ}
 use native.Mathlib.Omega.{arith}
@@ -6,9 +6,9 @@ use lib.ListN.{length}
 use lib.Seq.{sets, length-sets}
 use Rattle.layout.specs.Record.{trailerBytes}
 use Rattle.layout.specs.declared.record.Trailer.{Trailer}
-use Rattle.rewrite.specs.Records.{trailerWith}
-use Rattle.rewrite.proofs.lay.trailer.Statement.{statement}
-use Rattle.rewrite.proofs.lay.trailer.Tie as tie
+use Rattle.laying.specs.Trailer.{trailerWith}
+use Rattle.laying.proofs.trailer.Statement.{statement}
+use Rattle.laying.proofs.trailer.Tie as tie
 
 returns : tie.Need-returns
 unfolding trailerWith
