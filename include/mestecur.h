@@ -16,7 +16,8 @@
  *   - Results (`input`, `output`, `mark`, `carried_on`, `length`, `plain`, `places`) are always written. If the call is refused, each place is
  *     MESTECUR_NO_PLACE and every other result is 0.
  *
- * A file is edition 1 or edition 2, by a byte of its trailer (RULES 7). Every call takes both, except mestecur_rewrite, which takes edition 1 only.
+ * A file is edition 1 or edition 2, by a byte of its trailer (RULES 7). Every call takes both, except mestecur_rewrite and mestecur_clear, which take
+ * edition 1 only.
  *
  * A set of signals is a 64-bit number in which bit n is signal n, 0 to 63. A configuration has one byte for each chart, its present state. */
 #ifndef MESTECUR_H
@@ -68,6 +69,11 @@ uint8_t mestecur_rewrite(const uint8_t *file, size_t file_len, uint8_t *out, siz
 
 /* Writes 1 to `plain` if the file is plain, otherwise 0 (RULES 8). Every step of a plain file that is given has mark 1. Refusals: 1 to 11. */
 uint8_t mestecur_plain(const uint8_t *file, size_t file_len, uint8_t *plain);
+
+/* Writes to `out` the file without its dead transitions, those that can never be taken because of their own guard, action and chart, and its length to
+ * `length` (RULES 12). The new file makes the same steps; places count in its shorter lists. A buffer of the file's length is always enough.
+ * Refusals: 1 to 11, 46, 45. */
+uint8_t mestecur_clear(const uint8_t *file, size_t file_len, uint8_t *out, size_t out_len, size_t *length);
 
 /* A case of a book (RULES 11.1). Its configuration is the first `length` bytes of `config`; the others are not read. */
 typedef struct {
@@ -121,8 +127,8 @@ enum {
     MESTECUR_REWRITING_STATE = 41,   /* the result would have more than 8 transitions from one state */
     MESTECUR_REWRITING_CHART = 42,   /* the result would have more than 64 transitions in one chart */
     MESTECUR_REWRITING_NODES = 44,   /* the result would have more than 64 nodes */
-    MESTECUR_REWRITING_ROOM = 45,    /* the buffer is shorter than the result */
-    MESTECUR_REWRITING_EDITION = 46, /* the file is edition 2: a master that stays could not call its slave; tested right after 11 */
+    MESTECUR_REWRITING_ROOM = 45,    /* the buffer is shorter than the result; of mestecur_clear too */
+    MESTECUR_REWRITING_EDITION = 46, /* the file is edition 2, which can be neither rewritten nor cleared; tested right after 11 */
 
     MESTECUR_BOOK = 60,         /* there is no case, or there are more than 64 */
     MESTECUR_ENTRY = 61,        /* an entry is for a case that is not in the book */

@@ -49,7 +49,10 @@ fn the_engine_by_hand_agrees_with_the_reference() {
     let mut draw = Draw::new(7);
     for place in 0..20_000 {
         let mut command = draw.command(&place.to_string());
-        if matches!(command.op, Op::First | Op::Interface | Op::Plain) {
+        if matches!(
+            command.op,
+            Op::First | Op::Interface | Op::Plain | Op::Clear
+        ) {
             command.op = Op::Check;
         }
         assert_eq!(by_hand(&command), expected(&command), "{command:?}");

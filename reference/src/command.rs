@@ -7,7 +7,7 @@
 
 use crate::set::Set;
 use crate::step::NO_PLACES;
-use crate::{check, first, interface, plain, rewrite, run, step, Places};
+use crate::{check, clear, first, interface, plain, rewrite, run, step, Places};
 
 /// The value of each byte of the buffer before a call.
 pub const FILL: u8 = 0xA5;
@@ -28,10 +28,11 @@ pub enum Op {
     Run,
     Rewrite,
     Plain,
+    Clear,
 }
 
 /// All ops; the place of each is its number in the header.
-pub const OPS: [Op; 7] = [
+pub const OPS: [Op; 8] = [
     Op::Check,
     Op::First,
     Op::Interface,
@@ -39,6 +40,7 @@ pub const OPS: [Op; 7] = [
     Op::Run,
     Op::Rewrite,
     Op::Plain,
+    Op::Clear,
 ];
 
 /// One call, with all that is passed to it.
@@ -172,6 +174,15 @@ impl Command {
         }
     }
 
+    /// The clearing of a file, into a buffer of this length.
+    pub fn clear(name: &str, file: Vec<u8>, room: usize) -> Command {
+        Command {
+            op: Op::Clear,
+            room,
+            ..Command::check(name, file)
+        }
+    }
+
     /// Whether it is small enough to be recorded.
     pub fn can_be_recorded(&self) -> bool {
         let bytes = self.file.len().max(self.room);
@@ -232,7 +243,7 @@ impl Command {
             Op::Run => vec![Set(one).hex(), lent],
             Op::Interface => vec![Set(one).hex(), Set(other).hex()],
             Op::Step => vec![Set(one).hex(), mark.to_string(), hex(&numbers.places), lent],
-            Op::Rewrite => vec![one.to_string(), lent],
+            Op::Rewrite | Op::Clear => vec![one.to_string(), lent],
             Op::Plain => vec![one.to_string()],
         }
     }
@@ -268,6 +279,10 @@ impl Command {
                 let found = plain(file);
                 (found.refusal, Numbers::two(u64::from(found.plain), 0))
             }
+            Op::Clear => {
+                let cleared = clear(file, lent);
+                (cleared.refusal, Numbers::two(cleared.length as u64, 0))
+            }
         }
     }
 }
@@ -282,6 +297,7 @@ fn word(op: Op) -> &'static str {
         Op::Run => "run",
         Op::Rewrite => "rewrite",
         Op::Plain => "plain",
+        Op::Clear => "clear",
     }
 }
 

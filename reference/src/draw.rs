@@ -57,13 +57,14 @@ fn edition(random: &mut Random) -> Edition {
 
 /// A call with a random file.
 fn fresh(random: &mut Random, name: &str) -> Command {
-    let (kind, edition) = (random.below(14), edition(random));
+    let (kind, edition) = (random.below(16), edition(random));
     affordable(random, |random| match kind {
         0..=3 => file_command(random, edition, name),
         4..=7 => step_command(random, edition, name),
         8 | 9 => run_command(random, edition, name),
         10 | 11 => rewrite_command(random, edition, name),
-        _ => plain_command(random, edition, name),
+        12 | 13 => plain_command(random, edition, name),
+        _ => clear_command(random, edition, name),
     })
 }
 
@@ -168,6 +169,7 @@ fn other_call(random: &mut Random, command: &mut Command) {
         Op::First | Op::Step => room(random, charts),
         Op::Run => room(random, command.inputs.len() * (ROW_HEAD_BYTES + charts)),
         Op::Rewrite => room(random, 2 * command.file.len() + NODES * NODE_BYTES),
+        Op::Clear => room(random, command.file.len()),
     };
 }
 

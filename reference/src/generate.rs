@@ -4,6 +4,7 @@
 use crate::cases::rewrite::rewritten_bytes;
 use crate::cases::run::rows_bytes;
 use crate::check::accept;
+use crate::clearing::clear_model;
 use crate::command::Command;
 use crate::file::Records;
 use crate::interface::chart_input;
@@ -858,5 +859,39 @@ fn disturb_transition(random: &mut Random, signal: Set, chart: &mut Chart) {
             chart.transitions[one] = chart.transitions[other].clone();
         }
         _ => {}
+    }
+}
+
+/// Random clearings.
+pub fn clear_commands(drawing: Drawing) -> Vec<Command> {
+    drawing.commands(clear_command)
+}
+
+/// One random clearing; its buffer is often just long enough for the cleared file, or a byte short.
+pub fn clear_command(random: &mut Random, edition: Edition, name: &str) -> Command {
+    let bytes = random.pick(&[300, 500, 800, 1_300]);
+    let (shape, mut model) = bounded(random, edition, bytes);
+    deaden(random, &shape, &mut model);
+    let needed = clear_model(&model).file().len();
+    let file = seldom_damaged(random, &model, 15);
+    Command::clear(name, file, room(random, needed))
+}
+
+/// Lets some of the transitions bar what they need or what they output. Those that bar an output are
+/// dead if their own chart feeds it back, and look so if only a node does, or another chart.
+pub fn deaden(random: &mut Random, shape: &Shape, model: &mut Model) {
+    let percent = random.pick(&[0, 10, 25, 25, 60, 100]);
+    for chart in &mut model.charts {
+        for transition in &mut chart.transitions {
+            if random.chance(percent) {
+                let signal = Set::one(random.pick(&shape.signals));
+                transition.barred = transition.barred.joined(signal);
+                match random.below(3) {
+                    0 => transition.needed = transition.needed.joined(signal),
+                    1 => transition.action = transition.action.joined(signal),
+                    _ => chart.feedback = chart.feedback.joined(transition.action),
+                }
+            }
+        }
     }
 }

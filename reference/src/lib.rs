@@ -14,6 +14,7 @@
 //! - [`step`]: a step of either edition, its places, refusals 20 to 23 (RULES 5).
 //! - [`run`]: a run, what it carries, refusal 27 (RULES 6).
 //! - [`rewriting`]: the rewriting, refusals 40 to 46 (RULES 9).
+//! - [`clearing`]: the file without its dead transitions, refusals 46 and 45 (RULES 12).
 //! - [`plain`]: whether a file is plain (RULES 8).
 //! - [`agreement`]: the places of a step of the rewritten file (RULES 9.8).
 //! - [`day`]: the day program, refusals 30 and 31 (RULES 10).
@@ -24,7 +25,7 @@
 //! (calls with a name and an answer written by hand), [`generate`] (random calls from fixed seeds),
 //! [`record`] (what is recorded of each kind), [`draw`] (random calls of every kind), [`book`] (the
 //! same of postings) and [`walk`] (random files with slaves, and all their configurations). [`laws`] tries two laws of composed
-//! nodes on random files (RULES 5.13, 5.14). With the feature `engine` also `fuzz`, which compares
+//! nodes on random files (RULES 5.13, 5.14), and [`cleared`] compares them with their cleared ones. With the feature `engine` also `fuzz`, which compares
 //! the proved engine with this one. [`words`] is what a program does with its command line.
 
 pub mod agreement;
@@ -32,6 +33,8 @@ pub mod book;
 pub mod cases;
 pub mod chart;
 pub mod check;
+pub mod cleared;
+pub mod clearing;
 pub mod command;
 pub mod day;
 pub mod draw;
@@ -55,6 +58,7 @@ pub mod walk;
 pub mod words;
 
 pub use check::check;
+pub use clearing::{clear, Cleared};
 pub use day::day;
 pub use first::first;
 pub use interface::{interface, Interface};

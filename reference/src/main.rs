@@ -1,7 +1,7 @@
 //! The command line:
 //!
 //! - `reference record KIND COMMANDS LINES` writes the recorded calls of a kind (`file`, `step`,
-//!   `run`, `rewrite` or `plain`) to the file COMMANDS and the lines they answer to the file LINES;
+//!   `run`, `rewrite`, `plain` or `clear`) to the file COMMANDS and the lines they answer to the file LINES;
 //!   of the kind `post` the recorded postings.
 //! - `reference file NAME` prints the file of a named case.
 //! - `reference show` reads recorded calls on standard input and prints the lines they answer.
@@ -18,19 +18,22 @@
 //!   each in the proved engine and prints the lines it answers.
 //! - `reference laws SEED COUNT` tries two laws of composed nodes on so many random files of both
 //!   editions, from every configuration; with the feature `engine`, also in the proved engine.
+//! - `reference cleared SEED COUNT` clears so many random files and compares old and new file, from
+//!   every configuration; with the feature `engine`, also in the proved engine.
 
-use reference::book;
 use reference::command::decode_all;
-use reference::laws::{hold, Engine, REFERENCE};
+use reference::laws::{self, Engine, REFERENCE};
 use reference::record::{commands, encode, lines, named, Kind, KINDS};
 use reference::words;
+use reference::{book, cleared};
+use std::fmt::Display;
 use std::io::{Read, Write};
 use std::process::ExitCode;
 
 /// What can be said on the command line.
 const USE: &str =
     "use: reference record KIND COMMANDS LINES | file NAME | show | day | chart WORDS.. \
-    | replay | laws SEED COUNT | fuzz SEED COUNT | same SEED COUNT";
+    | replay | laws SEED COUNT | cleared SEED COUNT | fuzz SEED COUNT | same SEED COUNT";
 
 fn main() -> ExitCode {
     words::done(|words| match *words {
@@ -42,7 +45,8 @@ fn main() -> ExitCode {
         ["chart", "rewrite", file, out] => rewrite(file, out),
         ["chart", command, file, ref words @ ..] => chart(command, file, words),
         ["replay"] => replay(),
-        ["laws", seed, count] => laws(seed, count),
+        ["laws", seed, count] => told("laws", seed, count, laws::hold),
+        ["cleared", seed, count] => told("cleared", seed, count, cleared::hold),
         [command @ ("fuzz" | "same"), seed, count] => hold_engine(command, seed, count),
         _ => Err(USE.to_string()),
     })
@@ -50,7 +54,8 @@ fn main() -> ExitCode {
 
 /// Writes the calls of a kind and their lines.
 fn record(kind: &str, calls: &str, answers: &str) -> Result<(), String> {
-    let kind = Kind::of(kind).ok_or("the kinds are file, step, run, rewrite, plain, post")?;
+    let kind =
+        Kind::of(kind).ok_or("the kinds are file, step, run, rewrite, plain, clear, post")?;
     let commands = commands(kind);
     write(calls, &encode(&commands))?;
     write(answers, lines(&commands).as_bytes())?;
@@ -113,18 +118,21 @@ fn rewrite(file: &str, out: &str) -> Result<(), String> {
     chart("rewrite", file, &[])
 }
 
-/// The engines that the laws are asked of.
+/// The engines that laws are asked of.
 #[cfg(feature = "engine")]
 const ENGINES: &[Engine] = &[REFERENCE, ("engine", reference::fuzz::engine::raw)];
 #[cfg(not(feature = "engine"))]
 const ENGINES: &[Engine] = &[REFERENCE];
 
-/// Tries the laws of composed nodes on so many random files.
-fn laws(seed: &str, count: &str) -> Result<(), String> {
+/// What tries a law on so many random files, by some engines, and tells how much was tried.
+type Hold<T> = fn(u64, usize, &[Engine]) -> Result<T, String>;
+
+/// Tries a law on so many random files.
+fn told<T: Display>(law: &str, seed: &str, count: &str, hold: Hold<T>) -> Result<(), String> {
     let (seed, count) = numbers(seed, count)?;
-    let tried = hold(seed, count, ENGINES).map_err(|what| format!("laws: {what}"))?;
+    let tried = hold(seed, count, ENGINES).map_err(|what| format!("{law}: {what}"))?;
     let names: Vec<&str> = ENGINES.iter().map(|(name, _)| *name).collect();
-    let line = format!("laws: {tried} (seed {seed}; {})\n", names.join(", "));
+    let line = format!("{law}: {tried} (seed {seed}; {})\n", names.join(", "));
     print(line.as_bytes())
 }
 

@@ -13,15 +13,17 @@ pub enum Kind {
     Run,
     Rewrite,
     Plain,
+    Clear,
 }
 
 /// All kinds.
-pub const KINDS: [Kind; 5] = [
+pub const KINDS: [Kind; 6] = [
     Kind::File,
     Kind::Step,
     Kind::Run,
     Kind::Rewrite,
     Kind::Plain,
+    Kind::Clear,
 ];
 
 /// The random calls of a recording of each kind: with files of edition 1, then of edition 2.
@@ -30,6 +32,7 @@ const RANDOM_STEPS: [Drawing; 2] = both((0x7374_6570, 1_000), (0x7374_6571, 300)
 const RANDOM_RUNS: [Drawing; 2] = both((0x0072_756e, 300), (0x0072_756f, 150));
 const RANDOM_REWRITINGS: [Drawing; 2] = both((0x7265_7772, 250), (0x7265_7773, 40));
 const RANDOM_PLAINS: [Drawing; 2] = both((0x706c_6169, 300), (0x706c_616a, 40));
+const RANDOM_CLEARINGS: [Drawing; 2] = both((0x636c_6561, 200), (0x636c_6562, 30));
 
 /// What makes the calls of a drawing.
 type Make = fn(Drawing) -> Vec<Command>;
@@ -59,6 +62,7 @@ impl Kind {
             "run" => Some(Kind::Run),
             "rewrite" => Some(Kind::Rewrite),
             "plain" => Some(Kind::Plain),
+            "clear" => Some(Kind::Clear),
             _ => None,
         }
     }
@@ -80,6 +84,7 @@ pub fn named(kind: Kind) -> Vec<Case> {
         Kind::Run => vec![cases::run::cases(), cases::second::run_cases()],
         Kind::Rewrite => vec![cases::rewrite::cases(), cases::second::rewrite_cases()],
         Kind::Plain => vec![cases::plain::cases(), cases::second::plain_cases()],
+        Kind::Clear => vec![cases::clear::cases(), cases::second::clear_cases()],
     };
     lists.into_iter().flatten().collect()
 }
@@ -92,6 +97,7 @@ pub fn random(kind: Kind) -> Vec<Command> {
         Kind::Run => (RANDOM_RUNS, generate::run_commands),
         Kind::Rewrite => (RANDOM_REWRITINGS, generate::rewrite_commands),
         Kind::Plain => (RANDOM_PLAINS, generate::plain_commands),
+        Kind::Clear => (RANDOM_CLEARINGS, generate::clear_commands),
     };
     drawings.into_iter().flat_map(make).collect()
 }

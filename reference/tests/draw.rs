@@ -23,6 +23,7 @@ fn own_refusals(op: Op) -> &'static [u8] {
         Op::Step => &[20, 21, 22, 23],
         Op::Run => &[20, 21, 27],
         Op::Rewrite => &[40, 41, 42, 44, 45, 46],
+        Op::Clear => &[45, 46],
     }
 }
 

@@ -5,7 +5,7 @@
 //! What the page says of edition 2 is compared as soon as this engine accepts a file of edition 2.
 
 use reference::limits::refusal;
-use reference::{check, interface, plain, rewrite, run, step, Set};
+use reference::{check, clear, interface, plain, rewrite, run, step, Set};
 
 const PAGE: &str = include_str!("../../docs/EXAMPLES.md");
 
@@ -309,7 +309,7 @@ fn steps(after: &str, edition: u8) -> usize {
 fn every_file_of_the_page_is_accepted() {
     let blocks = PAGE.split("```\nfile ").skip(1);
     let names: Vec<&str> = blocks.map(|block| block.lines().next().unwrap()).collect();
-    assert_eq!(names.len(), 16);
+    assert_eq!(names.len(), 20);
     for name in names {
         assert_eq!(checked(&file(name).bytes()), refusal::SUCCESS, "{name}");
     }
@@ -338,9 +338,18 @@ fn a_fed_back_signal_as_input_in_both_editions() {
 
 #[test]
 fn other_calls() {
-    let rows = table("## 5 Other calls");
-    assert_eq!(rows.len(), 11);
-    for row in rows {
+    assert_eq!(calls("## 5 Other calls"), 11);
+}
+
+#[test]
+fn clearing() {
+    assert_eq!(calls("## 8 Clearing"), 8);
+}
+
+/// Compares the calls of a table. How many there were.
+fn calls(after: &str) -> usize {
+    let rows = table(after);
+    for row in &rows {
         let [call, of, edition, expected, _] = &row[..] else {
             panic!("{row:?}");
         };
@@ -363,19 +372,29 @@ fn other_calls() {
                 assert_eq!(found.refusal, refusal::SUCCESS);
                 if found.plain { "yes" } else { "no" }.to_string()
             }
-            "rewriting" => {
+            "rewriting" | "clear" => {
                 let mut room = vec![FILL; 1_000];
-                let done = rewrite(&bytes, &mut room);
+                let (refusal, length) = match call.as_str() {
+                    "clear" => {
+                        let done = clear(&bytes, &mut room);
+                        (done.refusal, done.length)
+                    }
+                    _ => {
+                        let done = rewrite(&bytes, &mut room);
+                        (done.refusal, done.length)
+                    }
+                };
                 if let Some(name) = expected.strip_prefix("file ") {
-                    assert_eq!(room[..done.length], file(name).bytes(), "{of}");
+                    assert_eq!(room[..length], file(name).bytes(), "{of}");
                     continue;
                 }
-                format!("refused {}", done.refusal)
+                format!("refused {refusal}")
             }
             other => panic!("{other}"),
         };
         assert_eq!(&found, expected, "{call} {of}");
     }
+    rows.len()
 }
 
 #[test]

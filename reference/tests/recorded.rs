@@ -56,6 +56,7 @@ fn every_refusal_of_every_call_is_reached() {
     reach_exactly(Kind::Run, &|_| true, &[20, 21, 27]);
     reach_exactly(Kind::Rewrite, &|_| true, &[40, 41, 42, 44, 45, 46]);
     reach_exactly(Kind::Plain, &|_| true, &[]);
+    reach_exactly(Kind::Clear, &|_| true, &[45, 46]);
 }
 
 #[test]
@@ -65,6 +66,7 @@ fn random_calls_alone_reach_most_refusals() {
         (Kind::Step, vec![20, 21, 22, 23]),
         (Kind::Run, vec![20, 21, 27]),
         (Kind::Rewrite, vec![40, 41, 45, 46]),
+        (Kind::Clear, vec![45, 46]),
     ] {
         for number in numbers {
             let reaches = |r: &Recorded| r.is_random && r.answer.refusal == number;
@@ -136,6 +138,7 @@ fn a_refusal_leaves_all_lent_bytes_and_gives_empty_answers() {
                 Op::Run => format!("{name} run {number} {zeros} {untouched}\n"),
                 Op::Rewrite => format!("{name} rewrite {number} 0 {untouched}\n"),
                 Op::Plain => format!("{name} plain {number} 0\n"),
+                Op::Clear => format!("{name} clear {number} 0 {untouched}\n"),
             };
             assert_eq!(answer.line, expected);
         }
@@ -153,6 +156,7 @@ fn there_are_enough_of_each_kind() {
     assert!(count(Kind::Run, false) > 50 && count(Kind::Run, true) >= 300);
     assert!(count(Kind::Rewrite, false) > 50 && count(Kind::Rewrite, true) >= 250);
     assert!(count(Kind::Plain, false) > 80 && count(Kind::Plain, true) >= 300);
+    assert!(count(Kind::Clear, false) > 70 && count(Kind::Clear, true) >= 200);
 }
 
 /// The random steps that are given, with their models and marks.
@@ -257,6 +261,12 @@ fn lines_by_hand() {
     assert_eq!(line(Command::plain("p", d().file())), "p plain 0 1\n");
     assert_eq!(line(Command::plain("p", n1().file())), "p plain 0 0\n");
     assert_eq!(line(Command::plain("p", vec![])), "p plain 1 0\n");
+    let whole = line(Command::clear("c", p1().file(), length));
+    assert!(whole.starts_with(&format!("c clear 0 {length} 020001")));
+    assert_eq!(
+        line(Command::clear("c", n1().file(), 2)),
+        "c clear 45 0 a5a5\n"
+    );
 }
 
 #[test]
@@ -265,7 +275,7 @@ fn broken_recordings_are_told() {
     assert!(decode_all(&good[..good.len() - 1]).is_err());
     assert!(decode_all(&good[..10]).is_err());
     let mut other = good.clone();
-    other[0] = 7;
+    other[0] = 8;
     assert!(decode_all(&other).is_err());
     other[0] = 3;
     assert!(decode_all(&other).is_err());

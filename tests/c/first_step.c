@@ -1,5 +1,6 @@
 /* The whole file of docs/FORMAT.md: checks it, takes its first configuration, asks for its interface, makes its three steps one by one, then as one
- * run and as two, rewrites it, asks whether it is plain; then, under edition 2, steps, rewrites and asks again. Prints what it got. */
+ * run and as two, rewrites it, clears it, asks whether it is plain; then, under edition 2, steps, rewrites, clears and asks again. Prints what it
+ * got. */
 #include <stdio.h>
 #include "mestecur.h"
 #include "whole_case.h"
@@ -39,6 +40,18 @@ static uint64_t run(uint8_t state, uint64_t carried, size_t from, size_t count) 
     return carried_on;
 }
 
+/* Clears the file as it is, and with the second transition dead: it needs {1}, and now bars {1} as well. */
+static void clear(void) {
+    uint8_t out[sizeof file];
+    size_t length = 9, barred = 24 + 28 + 12;
+    printf("clear: %d", mestecur_clear(file, sizeof file, out, sizeof out, &length));
+    printf(", %zu bytes\n", length);
+    file[barred] = 2;
+    printf("clear a dead one: %d", mestecur_clear(file, sizeof file, out, sizeof out, &length));
+    printf(", %zu bytes\n", length);
+    file[barred] = 0;
+}
+
 int main(void) {
     uint8_t state = 9, plain = 9, out[sizeof file];
     uint64_t input = 9, output = 9;
@@ -59,6 +72,7 @@ int main(void) {
     printf(", %zu bytes\n", length);
     printf("rewrite without room: %d", mestecur_rewrite(file, sizeof file, out, sizeof out - 1, &length));
     printf(", %zu bytes\n", length);
+    clear();
     printf("plain: %d", mestecur_plain(file, sizeof file, &plain));
     printf(", %d\n", plain);
     printf("plain without the first byte: %d", mestecur_plain(file + 1, sizeof file - 1, &plain));
@@ -69,6 +83,7 @@ int main(void) {
     run(state, 0, 0, INPUTS);
     printf("rewrite: %d", mestecur_rewrite(file, sizeof file, out, sizeof out, &length));
     printf(", %zu bytes\n", length);
+    clear();
     printf("plain: %d", mestecur_plain(file, sizeof file, &plain));
     printf(", %d\n", plain);
     file[sizeof file - EDITION_FROM_END] = 3;

@@ -62,6 +62,15 @@ extern "C" {
     /// Gives whether a file is plain.
     pub fn mestecur_plain(file: *const u8, file_len: usize, plain: *mut u8) -> u8;
 
+    /// Writes the file without its dead transitions.
+    pub fn mestecur_clear(
+        file: *const u8,
+        file_len: usize,
+        out: *mut u8,
+        out_len: usize,
+        length: *mut usize,
+    ) -> u8;
+
     /// Posts a day for a book of cases.
     pub fn mestecur_post(
         file: *const u8,

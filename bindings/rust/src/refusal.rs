@@ -63,10 +63,10 @@ const WORDS: [(u8, &str); 26] = [
     ),
     (42, "rewriting: a chart would have more than 64 transitions"),
     (44, "rewriting: there would be more than 64 nodes"),
-    (45, "rewriting: the buffer is shorter than the result"),
+    (45, "the buffer is shorter than the result"),
     (
         46,
-        "rewriting: edition 2, in which charts may stay; only edition 1 can be rewritten",
+        "edition 2, in which charts may stay; only edition 1 can be rewritten or cleared",
     ),
     (60, "posting: a book needs 1 to 64 cases"),
     (

@@ -3,7 +3,9 @@
 mod charts;
 
 use charts::{d, edition_2, whole_case};
-use mestecur::{check, first, interface, plain, post, rewrite, run, step, Case, Refusal, Set};
+use mestecur::{
+    check, clear, first, interface, plain, post, rewrite, run, step, Case, Refusal, Set,
+};
 
 /// The number of a refused call.
 fn number<T: std::fmt::Debug>(answer: Result<T, Refusal>) -> u8 {
@@ -20,6 +22,7 @@ fn every_call_refuses(file: &[u8], refusal: u8) {
     let ran = run(file, &[0], Set(4), &[Set(1)], &mut buffer);
     assert_eq!(number(ran), refusal);
     assert_eq!(number(rewrite(file, &mut buffer)), refusal);
+    assert_eq!(number(clear(file, &mut buffer)), refusal);
     assert_eq!(number(plain(file)), refusal);
     let mut cases = [Case::new(&[0]).unwrap()];
     assert_eq!(number(post(file, &mut cases, &[], &mut buffer)), refusal);
@@ -123,7 +126,7 @@ fn a_refusal_prints_its_number_and_why() {
     assert_eq!(words(2), "the edition is neither 1 nor 2");
     assert_eq!(
         words(46),
-        "rewriting: edition 2, in which charts may stay; only edition 1 can be rewritten"
+        "edition 2, in which charts may stay; only edition 1 can be rewritten or cleared"
     );
     assert_eq!(Refusal::of(0), None);
     let unknown = Refusal::of(99).unwrap().words();

@@ -146,6 +146,15 @@ fn print_rewriting(file: &[u8], out: &mut [u8]) {
     end_line();
 }
 
+fn print_clearing(file: &[u8], out: &mut [u8]) {
+    let w = engine::clear::clear(file, out);
+    print_refusal(b" clear ", w.refusal);
+    space();
+    io::print_decimal(STDOUT_FILENO, w.length as u64);
+    print_buffer(out);
+    end_line();
+}
+
 // A step's input; none is the empty set.
 fn first_of(inputs: &[u64]) -> u64 {
     if inputs.len() == 0 {
@@ -163,6 +172,7 @@ fn print_call(op: u8, file: &[u8], config: &[u8], carried: u64, inputs: &[u64], 
         3 => print_step(file, config, first_of(inputs), lent),
         4 => print_run(file, config, carried, inputs, lent),
         5 => print_rewriting(file, lent),
+        7 => print_clearing(file, lent),
         _ => print_plain(file),
     }
 }

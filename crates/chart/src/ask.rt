@@ -15,6 +15,7 @@ pub enum Command {
     Step,
     Run,
     Rewrite,
+    Clear,
     Other,
 }
 
@@ -56,6 +57,9 @@ fn command_of(word: &[u8]) -> Command {
     if typed::is(word, b"rewrite") {
         return Command::Rewrite;
     }
+    if typed::is(word, b"clear") {
+        return Command::Clear;
+    }
     Command::Other
 }
 
@@ -76,6 +80,7 @@ fn fewest(c: Command) -> usize {
         Command::Step => 5,
         Command::Run => 5,
         Command::Rewrite => 4,
+        Command::Clear => 4,
         _ => 3,
     }
 }

@@ -28,6 +28,7 @@ fn answer(c: Command, file: &[u8]) {
         Command::Step => tell::run(file, true),
         Command::Run => tell::run(file, false),
         Command::Rewrite => tell::rewrite(file),
+        Command::Clear => tell::clear(file),
         Command::Other => {}
     }
 }

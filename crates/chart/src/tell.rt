@@ -2,17 +2,19 @@
 ghost use mathlib.Core.Path.{_≡_};
 ghost use Prim.Native.Nat.{_+_, _*_, _≤_};
 ghost use lib.ListN.{length};
+ghost use Rattle.layout.specs.Body.{Holds};
 ghost use Rattle.meaning.specs.Numbers.{mostCharts};
 use crate::ask;
 use crate::words;
 use crate::words::say;
 use checks::limits;
+use layout::body::Shape;
 use libc::STDOUT_FILENO;
 
 // The most sets of one run.
 const MOST_SETS: usize = 1024;
 
-// Room for a line or a set as signals, for the sets of a run, for their rows, and for a rewritten file.
+// Room for a line or a set as signals, for the sets of a run, for their rows, and for a file that is written.
 fn text_room() -> [u8; 256]
     ensures { λ r. ⌜ 256 ≡ length r ⌝ }
 {
@@ -254,15 +256,22 @@ fn write_file(path: &[u8], bytes: &[u8]) -> bool {
     is_written & is_closed
 }
 
-// Writes a rewritten file to where it was asked for.
-fn save(bytes: &[u8]) {
+// Writes a file to where it was asked for.
+fn is_saved(bytes: &[u8]) -> bool {
     let mut path = io::buffer();
     let n = ask::word(ask::OUT, &mut path);
-    if write_file(&path[..n], bytes) {
+    let is_written = write_file(&path[..n], bytes);
+    if !is_written {
+        words::failed(&path[..n]);
+    }
+    is_written
+}
+
+// The same, and says how long the file is.
+fn save(bytes: &[u8]) {
+    if is_saved(bytes) {
         io::print_decimal(STDOUT_FILENO, bytes.len() as u64);
         say(b" bytes written\n");
-    } else {
-        words::failed(&path[..n]);
     }
 }
 
@@ -276,4 +285,72 @@ pub fn rewrite(file: &[u8]) {
     }
     let n = w.length;
     save(&out[..n]);
+}
+
+// Says how many transitions chart c lost, if it had more before.
+fn lost(c: usize, before: u8, after: u8) {
+    if after >= before {
+        return;
+    }
+    let n = before - after;
+    say(b"chart ");
+    io::print_decimal(STDOUT_FILENO, c as u64);
+    say(b" lost ");
+    io::print_decimal(STDOUT_FILENO, n as u64);
+    if n == 1 {
+        say(b" transition\n");
+    } else {
+        say(b" transitions\n");
+    }
+}
+
+// The same of each chart, from the bodies of a file and of the cleared file.
+fn lost_in_bodies(n: Shape, body: &[u8], m: Shape, cleared: &[u8])
+    requires { ⌜ Holds n (now body) × Holds m (now cleared) × (n .charts ≤ m .charts) ⌝ }
+{
+    let charts = n.charts;
+    let mut c: usize = 0;
+    while c < charts {
+        let h = layout::body::head_at(n, body, c);
+        let k = layout::body::head_at(m, cleared, c);
+        lost(c, h.transitions, k.transitions);
+        c += 1;
+    }
+}
+
+// The same of each chart, from the files.
+fn lost_in_charts(file: &[u8], cleared: &[u8]) {
+    let o = checks::opening::opened(file);
+    if o.refusal != limits::ACCEPTED {
+        return;
+    }
+    let p = checks::opening::opened(cleared);
+    if p.refusal != limits::ACCEPTED {
+        return;
+    }
+    let n = o.shape;
+    let m = p.shape;
+    if m.charts < n.charts {
+        return;
+    }
+    let start = o.start;
+    let end = o.end;
+    let new_start = p.start;
+    let new_end = p.end;
+    lost_in_bodies(n, &file[start..end], m, &cleared[new_start..new_end]);
+}
+
+// Nothing is said of charts that lost none.
+pub fn clear(file: &[u8]) {
+    let mut out = out_room();
+    let w = engine::clear::clear(file, &mut out);
+    let r = w.refusal;
+    if r != limits::ACCEPTED {
+        words::clearing_refusal(r);
+        return;
+    }
+    let n = w.length;
+    if is_saved(&out[..n]) {
+        lost_in_charts(file, &out[..n]);
+    }
 }

@@ -90,7 +90,7 @@ fn say_step(refusal: u8) {
     }
 }
 
-// Why a rewriting is refused (RULES 3.5).
+// Why a rewriting or a clearing is refused (RULES 3.5).
 fn say_rewriting(refusal: u8) {
     if refusal == limits::NO_FREE_SIGNAL {
         say(b"there are fewer free signals than slaves");
@@ -108,7 +108,7 @@ fn say_rewriting(refusal: u8) {
         say(b"the buffer is shorter than the result");
     }
     if refusal == limits::MAY_STAY {
-        say(b"edition 2, in which charts may stay; only edition 1 can be rewritten");
+        say(b"edition 2, in which charts may stay; only edition 1 can be rewritten or cleared");
     }
 }
 
@@ -140,6 +140,15 @@ pub fn refusal(r: u8) {
     }
 }
 
+// The same where a file was to be cleared.
+pub fn clearing_refusal(r: u8) {
+    if r < limits::WRONG_LENGTH {
+        refused(b"file", r);
+    } else {
+        refused(b"clearing", r);
+    }
+}
+
 // A word that is not what was expected there.
 pub fn wrong(word: &[u8], text: &[u8]) {
     complain(b"chart: \"");
@@ -164,7 +173,8 @@ pub fn help(fd: i32) {
           chart plain FILE               whether it is plain: no step of a plain file is marked n\n  \
           chart step FILE CONFIG SET     one step from a configuration, and what each chart did\n  \
           chart run FILE CONFIG SET..    one step for each set, in order\n  \
-          chart rewrite FILE OUT         writes the same chart without slaves to the file OUT\n\
+          chart rewrite FILE OUT         writes the same chart without slaves to the file OUT\n  \
+          chart clear FILE OUT           writes the same chart without dead transitions to the file OUT\n\
           \n\
           CONFIG is the state of each chart, such as 0.1. SET is a list of signals, such as s0,s3; a number in hex, such as 0x9; or - for none.\n\
           A step is shown as its number, its output in hex, the configuration after it, y if all permitted choices agree or else n, and its\n\

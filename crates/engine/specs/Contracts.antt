@@ -11,7 +11,9 @@ use Rattle.meaning.specs.Calls.{firstRefusal, firstBytes, inputOf, outputOf, st
 use Rattle.meaning.specs.Calls.{runBytes, runCarried}
 use Rattle.meaning.specs.Rewriting.{rewriteRefusal, rewriteLength, rewriteOut}
 use Rattle.meaning.specs.Plain.{plainOf}
+use Rattle.clearing.specs.Clearing.{clearRefusal, clearLength, clearOut}
 use Rattle.engine.specs.States.{statesOf}
+use Rattle.engine.specs.declared.clear.Cleared.{Cleared}
 use Rattle.engine.specs.declared.file.StateCounts.{StateCounts}
 use Rattle.engine.specs.declared.interface.Faces.{Faces}
 use Rattle.engine.specs.declared.plainness.Plainness.{Plainness}
@@ -65,3 +67,8 @@ RunSays f config carried inputs b r c =
 abbrev pub RewritingSays : List ℕ → List ℕ → Rewritten → List ℕ → Type 0
 RewritingSays f b r c =
     (r ≡ record { refusal = rewriteRefusal f (length b); length = rewriteLength f (length b) }) × (c ≡ rewriteOut f b)
+
+-- clearing (RULES 12)
+abbrev pub ClearSays : List ℕ → List ℕ → Cleared → List ℕ → Type 0
+ClearSays f b r c =
+    (r ≡ record { refusal = clearRefusal f (length b); length = clearLength f (length b) }) × (c ≡ clearOut f b)

@@ -1,4 +1,5 @@
 // The public calls of the chart engine over files in bytes. None has a `requires`: what is wrong is refused by number.
+pub mod clear;
 pub mod file;
 pub mod interface;
 pub mod plainness;

@@ -11,6 +11,7 @@ use Rattle.meaning.specs.Calls.{firstRefusal, firstBytes, inputOf, outputOf, st
 use Rattle.meaning.specs.Calls.{runBytes, runCarried}
 use Rattle.meaning.specs.Rewriting.{rewriteRefusal, rewriteLength, rewriteOut}
 use Rattle.meaning.specs.Plain.{plainOf}
+use Rattle.clearing.specs.Clearing.{clearRefusal, clearLength, clearOut}
 pub mod Laws
 
 abbrev pub CheckReturns : List ℕ → ℕ → Type 0
@@ -40,3 +41,6 @@ RunReturns f config carried inputs b r c left =
 abbrev pub RewriteReturns : List ℕ → List ℕ → ℕ → List ℕ → ℕ → Type 0
 RewriteReturns f b r c size =
     (r ≡ rewriteRefusal f (length b)) × (c ≡ rewriteOut f b) × (size ≡ rewriteLength f (length b))
+
+abbrev pub ClearReturns : List ℕ → List ℕ → ℕ → List ℕ → ℕ → Type 0
+ClearReturns f b r c size = (r ≡ clearRefusal f (length b)) × (c ≡ clearOut f b) × (size ≡ clearLength f (length b))

@@ -3,7 +3,7 @@
 ghost use mathlib.Core.Path.{_≡_};
 ghost use Rattle.meaning.specs.Count.{one};
 ghost use Rattle.exports.specs.Contracts.{CheckReturns, FirstReturns, InterfaceReturns, PlainReturns, StepReturns};
-ghost use Rattle.exports.specs.Contracts.{RunReturns, RewriteReturns};
+ghost use Rattle.exports.specs.Contracts.{RunReturns, RewriteReturns, ClearReturns};
 ghost use Rattle.posting.specs.Posting.{PostSays};
 use posting::Case;
 use posting::Entry;
@@ -106,4 +106,13 @@ pub extern "C" fn mestecur_post(
         r (now (cases .exit)) (now (rows .exit)) ⌝ }
 {
     posting::post(file, cases, entries, rows)
+}
+
+#[no_mangle]
+pub extern "C" fn mestecur_clear(file: &[u8], out: &mut [u8], size: &mut usize) -> u8
+    ensures { λ r. ⌜ ClearReturns (now (file .entry)) (now (out .entry)) r (now (out .exit)) (now (size .exit)) ⌝ }
+{
+    let w = engine::clear::clear(file, out);
+    *size = w.length;
+    w.refusal
 }

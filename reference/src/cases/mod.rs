@@ -2,6 +2,7 @@
 //! tests compare the engine's with it.
 
 pub mod charts;
+pub mod clear;
 pub mod damage;
 pub mod file;
 pub mod first_interface;

@@ -61,6 +61,10 @@ pub fn raw(command: &Command, lent: &mut [u8]) -> (u8, Numbers) {
                 let refusal = mestecur_plain(file, long, &mut plain);
                 (refusal, Numbers::two(u64::from(plain), 0))
             }
+            Op::Clear => {
+                let refusal = mestecur_clear(file, long, out, room, &mut length);
+                (refusal, Numbers::two(length as u64, 0))
+            }
         }
     }
 }
@@ -83,6 +87,7 @@ pub fn binding(command: &Command, lent: &mut [u8]) -> (u8, Numbers) {
             .map(|carried| Numbers::two(carried.0, 0)),
         Op::Rewrite => mestecur::rewrite(file, lent).map(|length| Numbers::two(length as u64, 0)),
         Op::Plain => mestecur::plain(file).map(|plain| Numbers::two(u64::from(plain), 0)),
+        Op::Clear => mestecur::clear(file, lent).map(|length| Numbers::two(length as u64, 0)),
     };
     answer.map_or_else(
         |refusal: Refusal| (refusal.number(), Numbers::NONE),

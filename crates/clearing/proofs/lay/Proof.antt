@@ -15,12 +15,11 @@ use Rattle.layout.specs.Put.{Room, Put}
 use Rattle.layout.specs.Put.Laws.{put-append, put-over, put-length, room-first, room-next}
 use Rattle.meaning.specs.Calls.{laidOver}
 use Rattle.meaning.specs.File.{File, fileAt}
-use Rattle.meaning.specs.Rewriting.{headFor, inTurn, transitionsBytes, transitionsIn, shapeIn, bodyBytes, encode}
-use Rattle.checks.specs.Known.{Sized, Summed}
-use Rattle.laying.specs.Trailer.{Small, trailerWith}
+use Rattle.meaning.specs.Rewriting.{headFor, inTurn, transitionsBytes, shapeIn, bodyBytes, encode}
+use Rattle.laying.specs.Trailer.{trailerWith}
 use Rattle.laying.specs.Turn.{put-one, put-is, room-last}
 use Rattle.clearing.specs.Clearing.{clearedChart, clear}
-use Rattle.clearing.specs.Left.Laws.{no-more}
+use Rattle.clearing.specs.Left.Laws.{shape-small}
 use Rattle.clearing.proofs.lay.Statement.{statement}
 use Rattle.clearing.proofs.lay.Tie as tie
 
@@ -49,20 +48,6 @@ module _ (n : Shape) (b : List ℕ) (m : Shape) (em : m ≡ shapeIn (clear (file
   unfolding encode bodyBytes fileAt shapeIn trailerWith
   all-is = simp append-assoc
       (ap (λ (s : Shape). hs ++ (ts ++ (ss ++ (ns ++ trailerBytes (trailerWith s 1))))) (sym em))
-
-  small : Sized n b → Summed n b → Small m
-  unfolding shapeIn fileAt
-  small w q =
-      let t : m .transitions ≡ transitionsIn (clear F) = ap (λ (s : Shape). s .transitions) em in
-      let c : m .charts ≡ n .charts = ap (λ (s : Shape). s .charts) em in
-      let s : m .slaves ≡ n .slaves = ap (λ (s : Shape). s .slaves) em in
-      let j : m .nodes ≡ n .nodes = ap (λ (s : Shape). s .nodes) em in
-      let l = no-more n b q in
-      let k = w .transitions in
-      let c′ = w .charts in
-      let s′ = w .slaves in
-      let j′ = w .nodes in
-      (omega arith, omega arith, omega arith, omega arith)
 
   module _ (out : List ℕ) (r : length (encode (clear F)) ≤ length out) where
     room₀ : Room out 0 (hs ++ (ts ++ (ss ++ (ns ++ end))))
@@ -157,7 +142,7 @@ trailer-requires c κs =
     let h = t .before .before .before .before in
     let s = h .before .before .before .before in
     let a = s .args in (
-      small (a .n) (a .body .now) (a .m) (s .pre .2) (s .pre .0) (s .pre .1),
+      shape-small (a .n) (a .body .now) (a .m) (s .pre .2) (s .pre .0) (s .pre .1),
       room₄ (a .n) (a .body .now) (a .m) (s .pre .2) (a .out .now) (s .pre .3) (h .heads .ensures) (t .transitions .ensures)
           (v .slaves .ensures) (w .nodes .ensures),
     )

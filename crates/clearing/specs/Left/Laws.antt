@@ -20,7 +20,9 @@ use Rattle.layout.specs.declared.record.Transition.{Transition}
 use Rattle.meaning.specs.Count.{tally}
 use Rattle.meaning.specs.Meaning.{Set, guards}
 use Rattle.meaning.specs.File.{fileAt, chartOf}
-use Rattle.meaning.specs.Rewriting.{headFor, inTurn, transitionsBytes, transitionsIn}
+use Rattle.meaning.specs.Rewriting.{headFor, inTurn, transitionsBytes, transitionsIn, shapeIn}
+use Rattle.checks.specs.Known.{Sized, Summed}
+use Rattle.laying.specs.Trailer.{Small}
 use Rattle.clearing.specs.declared.Left.{Left}
 use Rattle.clearing.specs.Clearing.{dead, alive, lost, clearedChart, clear}
 use Rattle.clearing.specs.Alive.{alive-most}
@@ -170,3 +172,18 @@ module _ (n : Shape) (b : List ℕ) where
   pub no-more : startOf n b (n .charts) ≡ n .transitions → transitionsIn (clear (fileAt n b)) ≤ n .transitions
   unfolding transitionsIn fileAt
   no-more e = let a = fewer (n .charts) in omega arith
+
+  -- so its counts fit their bytes; m is its shape
+  pub shape-small : (m : Shape) → m ≡ shapeIn (clear (fileAt n b)) → Sized n b → Summed n b → Small m
+  unfolding shapeIn fileAt
+  shape-small m em w q =
+      let t : m .transitions ≡ transitionsIn (clear (fileAt n b)) = ap (λ (s : Shape). s .transitions) em in
+      let c : m .charts ≡ n .charts = ap (λ (s : Shape). s .charts) em in
+      let s : m .slaves ≡ n .slaves = ap (λ (s : Shape). s .slaves) em in
+      let j : m .nodes ≡ n .nodes = ap (λ (s : Shape). s .nodes) em in
+      let l = no-more q in
+      let k = w .transitions in
+      let c′ = w .charts in
+      let s′ = w .slaves in
+      let j′ = w .nodes in
+      (omega arith, omega arith, omega arith, omega arith)

@@ -4,6 +4,8 @@ use mathlib.Core.List.{List}
 use Prim.Native.Nat.{ℕ}
 use Rattle.meaning.specs.Meaning.{Set}
 use Rattle.engine.specs.Contracts.{CheckSays, FirstSays, StatesSays, InterfaceSays, PlainSays, StepSays, RunSays, RewritingSays}
+use Rattle.engine.specs.Contracts.{ClearSays}
+use Rattle.engine.specs.declared.clear.Cleared.{Cleared}
 use Rattle.engine.specs.declared.file.StateCounts.{StateCounts}
 use Rattle.engine.specs.declared.interface.Faces.{Faces}
 use Rattle.engine.specs.declared.plainness.Plainness.{Plainness}
@@ -48,3 +50,7 @@ module _ (f : List ℕ) where
   pub rewriting-determined : (b : List ℕ) (r r′ : Rewritten) (c c′ : List ℕ) → RewritingSays f b r c
       → RewritingSays f b r′ c′ → (r ≡ r′) × (c ≡ c′)
   rewriting-determined b = both
+
+  pub clear-determined : (b : List ℕ) (r r′ : Cleared) (c c′ : List ℕ) → ClearSays f b r c → ClearSays f b r′ c′
+      → (r ≡ r′) × (c ≡ c′)
+  clear-determined b = both

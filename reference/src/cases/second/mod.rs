@@ -362,6 +362,28 @@ pub fn rewrite_cases() -> Vec<Case> {
     cases
 }
 
+/// Clearing refuses edition 2 with 46: after 1 to 11, before 45, also where nothing is dead. There a
+/// dead transition can keep its chart from staying, so its clearing would change answers.
+pub fn clear_cases() -> Vec<Case> {
+    let case = |name: &str, file: Vec<u8>, room: usize, number: u8| {
+        let name = format!("clear-edition-2-{name}");
+        Case::new(Command::clear(&name, file, room), number)
+    };
+    let bad = refusal::REWRITING_EDITION;
+    let mut cases = vec![
+        case("none", second(d()), 300, bad),
+        case("L2", second(l2()), 100, bad),
+        case("behind-front", behind(&[1; 9], second(l2())), 100, bad),
+        case("before-45", second(d()), 5, bad),
+        case("before-45-no-buffer", second(l2()), 0, bad),
+    ];
+    let faults = one_fault_under(Edition::Second).into_iter();
+    for (number, file) in faults.filter(|&(number, _)| number > refusal::EDITION) {
+        cases.push(case(&format!("behind-{number}"), file, 6, number));
+    }
+    cases
+}
+
 /// No file of edition 2 is plain, however its transitions are told apart; that is no refusal.
 pub fn plain_cases() -> Vec<Case> {
     let command = |name: &str, file: Vec<u8>, number: u8| {
