@@ -9,6 +9,7 @@ ghost use Rattle.engine.specs.Contracts.{RewritingSays};
 ghost use Rattle.engine.specs.Rewriting.{limitTests, BodyRewrites};
 use checks::limits;
 use layout::body::Shape;
+use layout::limits::CHARTS;
 
 // 0 or the refusal, and how long the rewritten file is.
 pub struct Rewritten {
@@ -26,7 +27,7 @@ fn refused(r: u8) -> Rewritten
 }
 
 // 41 to 44: a state or a chart would have too many transitions, or there would be too many nodes. The result has the shape m.
-fn limit_refusal(n: Shape, body: &[u8], inner: &[u64; 8], m: Shape) -> u8
+fn limit_refusal(n: Shape, body: &[u8], inner: &[u64; CHARTS], m: Shape) -> u8
     requires { ⌜ Checked n (now body) × InnerIn (fileAt n (now body)) (now inner) × (m ≡ shapeIn (rewrite (fileAt n (now body)))) ⌝ }
     ensures { λ r. ⌜ r ≡ firstOf (limitTests (fileAt n (now (body .entry)))) ⌝ }
 {

@@ -49,7 +49,7 @@ pub extern "C" fn mestecur_step(
     next: &mut [u8],
     output: &mut u64,
     mark: &mut u8,
-    places: &mut [u8; 8],
+    places: &mut [u8; layout::limits::CHARTS],
 ) -> u8
     ensures { λ r. ⌜ StepReturns (now (file .entry)) (now (config .entry)) input (now (next .entry)) r (now (next .exit))
         (now (output .exit)) (now (mark .exit)) (now (places .exit)) ⌝ }

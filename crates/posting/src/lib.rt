@@ -19,7 +19,7 @@ pub const CASES: usize = 64;
 pub const WIDTH: usize = 16;
 
 // The most charts that a file has.
-const CHARTS: usize = 8;
+const CHARTS: usize = layout::limits::CHARTS;
 
 // The last row number: four bytes have no higher one.
 pub const LAST_ROW: u32 = 4294967295;

@@ -7,11 +7,12 @@ ghost use lib.ListN.{getD};
 ghost use Rattle.signals.specs.Mask.{_∪_};
 ghost use Rattle.layout.specs.Body.{Holds, from, transitionAt};
 ghost use Rattle.meaning.specs.Meaning.{guards, actions};
-ghost use Rattle.meaning.specs.Numbers.{mostSlaves};
+ghost use Rattle.meaning.specs.Numbers.{mostCharts, mostSlaves};
 ghost use Rattle.meaning.specs.File.{fileAt};
 ghost use Rattle.meaning.specs.Rewriting.{unionUpTo, used};
 ghost use Rattle.rewrite.specs.Known.{Checked, Calling, CallsIn, InnerIn, Upward};
 use layout::body::Shape;
+use layout::limits::CHARTS;
 use signals::Found;
 
 // The signals of `count` transitions from `start` on.
@@ -77,15 +78,15 @@ pub fn used(n: Shape, body: &[u8]) -> u64
 // Of each slave the set of its call signal alone, if there are enough free signals.
 pub struct Calls {
     pub enough: bool,
-    pub sets: [u64; 8],
+    pub sets: [u64; CHARTS],
 }
 
 // The slaves get the lowest free signals for their call signals, in the order of their records (RULES 9.2).
 pub fn given(slaves: usize, used: u64) -> Calls
-    requires { ⌜ slaves ≤ 8 ⌝ }
+    requires { ⌜ slaves ≤ mostCharts ⌝ }
     ensures { λ r. ⌜ Calling used slaves r ⌝ }
 {
-    let mut sets = [0u64; 8];
+    let mut sets = [0u64; CHARTS];
     let mut left = used;
     let mut i: usize = 0;
     while i < slaves {
@@ -106,7 +107,7 @@ pub fn given(slaves: usize, used: u64) -> Calls
 }
 
 // The call signal of slave i; none for a number that is no slave's.
-fn call_of(calls: &[u64; 8], slaves: usize, i: u8) -> u64
+fn call_of(calls: &[u64; CHARTS], slaves: usize, i: u8) -> u64
     requires { ⌜ slaves ≤ mostSlaves ⌝ }
     ensures { λ r. ⌜ r ≡ cond (ltb i slaves) (getD (now (calls .entry)) i 0) 0 ⌝ }
 {
@@ -115,14 +116,14 @@ fn call_of(calls: &[u64; 8], slaves: usize, i: u8) -> u64
 }
 
 // Of each chart the call signal of its nearest slave (RULES 9.3).
-pub fn inner(n: Shape, body: &[u8], calls: &[u64; 8]) -> [u64; 8]
+pub fn inner(n: Shape, body: &[u8], calls: &[u64; CHARTS]) -> [u64; CHARTS]
     requires { ⌜ Checked n (now body) × CallsIn (fileAt n (now body)) (now calls) × Upward (fileAt n (now body)) ⌝ }
     ensures { λ r. ⌜ InnerIn (fileAt n (now (body .entry))) r ⌝ }
 {
     let near = nesting::enclosers(n, body);
     let nodes = n.nodes;
     let slaves = n.slaves;
-    let mut inner = [0u64; 8];
+    let mut inner = [0u64; CHARTS];
     let mut j: usize = 0;
     while j < nodes {
         let node = layout::body::node_at(n, body, j);

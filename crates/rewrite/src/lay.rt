@@ -13,12 +13,14 @@ ghost use Rattle.layout.specs.Put.{Room, Put};
 ghost use Rattle.rewrite.specs.Records.{calledWith, idleWith, partBytes, masterBytes, heldBytes, nodesBytes};
 use checks::limits;
 use layout::body::Shape;
+use layout::limits::CHARTS;
+use layout::limits::NODES;
 use layout::record::Head;
 use layout::record::Node;
 use layout::record::Transition;
 
 // Each chart's head: more transitions, the rest as it was.
-fn heads(n: Shape, body: &[u8], inner: &[u64; 8], out: &mut [u8], at: usize) -> usize
+fn heads(n: Shape, body: &[u8], inner: &[u64; CHARTS], out: &mut [u8], at: usize) -> usize
     requires { ⌜ Checked n (now body) × InnerIn (fileAt n (now body)) (now inner) × Fits (fileAt n (now body))
         × Room (now out) at (inTurn (n .charts) (λ c. headBytes (headFor (rewrittenChart (fileAt n (now body)) c)))) ⌝ }
     ensures { λ r. ⌜ Put (now (out .entry)) at (inTurn (n .charts) (λ c. headBytes (headFor (rewrittenChart (fileAt n (now (body .entry))) c))))
@@ -44,7 +46,7 @@ fn heads(n: Shape, body: &[u8], inner: &[u64; 8], out: &mut [u8], at: usize) -> 
 }
 
 // The call signals that a transition of chart c also outputs: of each slave of c whose state it leaves or enters (RULES 9.3).
-fn calls_by(n: Shape, body: &[u8], calls: &[u64; 8], c: usize, t: Transition) -> u64
+fn calls_by(n: Shape, body: &[u8], calls: &[u64; CHARTS], c: usize, t: Transition) -> u64
     requires { ⌜ Checked n (now body) × CallsIn (fileAt n (now body)) (now calls) ⌝ }
     ensures { λ r. ⌜ r ≡ callsBy (fileAt n (now (body .entry))) c t ⌝ }
 {
@@ -62,7 +64,7 @@ fn calls_by(n: Shape, body: &[u8], calls: &[u64; 8], c: usize, t: Transition) ->
 }
 
 // The call signals of all slaves of chart c (RULES 9.4).
-fn calls_of(n: Shape, body: &[u8], calls: &[u64; 8], c: usize) -> u64
+fn calls_of(n: Shape, body: &[u8], calls: &[u64; CHARTS], c: usize) -> u64
     requires { ⌜ Checked n (now body) × CallsIn (fileAt n (now body)) (now calls) ⌝ }
     ensures { λ r. ⌜ r ≡ callsOf (fileAt n (now (body .entry))) c ⌝ }
 {
@@ -96,7 +98,7 @@ fn called(t: Transition, inner: u64, added: u64) -> Transition
 fn own(
     n: Shape,
     body: &[u8],
-    calls: &[u64; 8],
+    calls: &[u64; CHARTS],
     inner: u64,
     c: usize,
     start: usize,
@@ -150,7 +152,7 @@ fn idles(inner: u64, count: u8, out: &mut [u8], at: usize) -> usize
 fn chart(
     n: Shape,
     body: &[u8],
-    calls: &[u64; 8],
+    calls: &[u64; CHARTS],
     inner: u64,
     c: usize,
     h: Head,
@@ -182,8 +184,8 @@ fn chart(
 fn transitions(
     n: Shape,
     body: &[u8],
-    calls: &[u64; 8],
-    inner: &[u64; 8],
+    calls: &[u64; CHARTS],
+    inner: &[u64; CHARTS],
     out: &mut [u8],
     at: usize,
 ) -> usize
@@ -206,12 +208,12 @@ fn transitions(
 }
 
 // The names that nodes get.
-fn names(n: Shape, body: &[u8]) -> [u8; 64]
+fn names(n: Shape, body: &[u8]) -> [u8; NODES]
     requires { ⌜ Checked n (now body) × Fits (fileAt n (now body)) ⌝ }
     ensures { λ r. ⌜ NamesIn (fileAt n (now (body .entry))) r ⌝ }
 {
     let nodes = n.nodes;
-    let mut names = [0u8; 64];
+    let mut names = [0u8; NODES];
     let mut first: usize = 0;
     let mut j: usize = 0;
     while j < nodes {
@@ -227,7 +229,7 @@ fn names(n: Shape, body: &[u8]) -> [u8; 64]
 fn parts(
     n: Shape,
     body: &[u8],
-    names: &[u8; 64],
+    names: &[u8; NODES],
     c: usize,
     x: u64,
     first: u8,
@@ -265,8 +267,8 @@ fn parts(
 fn master(
     n: Shape,
     body: &[u8],
-    calls: &[u64; 8],
-    names: &[u8; 64],
+    calls: &[u64; CHARTS],
+    names: &[u8; NODES],
     c: usize,
     slaves: usize,
     first: usize,
@@ -302,8 +304,8 @@ fn master(
 fn holder(
     n: Shape,
     body: &[u8],
-    calls: &[u64; 8],
-    names: &[u8; 64],
+    calls: &[u64; CHARTS],
+    names: &[u8; NODES],
     c: usize,
     first: usize,
     out: &mut [u8],
@@ -333,8 +335,8 @@ fn holder(
 fn node(
     n: Shape,
     body: &[u8],
-    calls: &[u64; 8],
-    names: &[u8; 64],
+    calls: &[u64; CHARTS],
+    names: &[u8; NODES],
     j: usize,
     first: usize,
     out: &mut [u8],
@@ -375,8 +377,8 @@ fn node(
 fn nodes(
     n: Shape,
     body: &[u8],
-    calls: &[u64; 8],
-    names: &[u8; 64],
+    calls: &[u64; CHARTS],
+    names: &[u8; NODES],
     out: &mut [u8],
     at: usize,
 ) -> usize
@@ -401,8 +403,8 @@ fn nodes(
 pub fn lay(
     n: Shape,
     body: &[u8],
-    calls: &[u64; 8],
-    inner: &[u64; 8],
+    calls: &[u64; CHARTS],
+    inner: &[u64; CHARTS],
     m: Shape,
     edition: u8,
     out: &mut [u8],

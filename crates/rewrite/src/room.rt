@@ -3,6 +3,7 @@ ghost use mathlib.Core.Path.{_≡_};
 ghost use Prim.Native.Nat.{_+_, _≤_, _<_};
 ghost use lib.Dec.{ltb};
 ghost use Rattle.layout.specs.Body.{Holds, from, transitionAt};
+ghost use Rattle.meaning.specs.Numbers.{mostSlaves};
 ghost use Rattle.meaning.specs.Count.{anyUpTo};
 ghost use Rattle.meaning.specs.File.{fileAt};
 ghost use Rattle.meaning.specs.Rewriting.{count, beforeLast, start, rewrite, leavingIn, transitionsIn, shapeIn};
@@ -10,6 +11,7 @@ ghost use lib.ListN.{length};
 ghost use Rattle.rewrite.specs.Known.{Checked, InnerIn};
 ghost use Rattle.rewrite.specs.Records.{idleCount};
 use layout::body::Shape;
+use layout::limits::CHARTS;
 use layout::record::Head;
 
 // How many idle transitions there are for `states` of a chart with the call signal `inner`.
@@ -55,7 +57,7 @@ fn over_from_states(n: Shape, body: &[u8], start: usize, h: Head, idle: usize, m
 }
 
 // 41: more than `most` transitions would leave one state.
-pub fn over_from(n: Shape, body: &[u8], inner: &[u64; 8], most: usize) -> bool
+pub fn over_from(n: Shape, body: &[u8], inner: &[u64; CHARTS], most: usize) -> bool
     requires { ⌜ Checked n (now body) × InnerIn (fileAt n (now body)) (now inner) ⌝ }
     ensures { λ r. ⌜ r ≡ anyUpTo (n .charts) (λ c. anyUpTo (rewrite (fileAt n (now (body .entry))) .chart c .states)
         (λ s. ltb most (leavingIn (rewrite (fileAt n (now (body .entry))) .chart c .transitions) s))) ⌝ }
@@ -82,7 +84,7 @@ pub fn in_chart(h: Head, inner: u64) -> usize
 }
 
 // 42: more than `most` transitions would be in one chart.
-pub fn over_in_chart(n: Shape, body: &[u8], inner: &[u64; 8], most: usize) -> bool
+pub fn over_in_chart(n: Shape, body: &[u8], inner: &[u64; CHARTS], most: usize) -> bool
     requires { ⌜ Checked n (now body) × InnerIn (fileAt n (now body)) (now inner) ⌝ }
     ensures { λ r. ⌜ r ≡ anyUpTo (n .charts) (λ c. ltb most (length (rewrite (fileAt n (now (body .entry))) .chart c .transitions))) ⌝ }
 {
@@ -98,7 +100,7 @@ pub fn over_in_chart(n: Shape, body: &[u8], inner: &[u64; 8], most: usize) -> bo
 }
 
 // How many transitions all charts have.
-fn in_all(n: Shape, body: &[u8], inner: &[u64; 8]) -> usize
+fn in_all(n: Shape, body: &[u8], inner: &[u64; CHARTS]) -> usize
     requires { ⌜ Checked n (now body) × InnerIn (fileAt n (now body)) (now inner) ⌝ }
     ensures { λ r. ⌜ r ≡ transitionsIn (rewrite (fileAt n (now (body .entry)))) ⌝ }
 {
@@ -132,7 +134,7 @@ pub fn slaves_of(n: Shape, body: &[u8], c: usize) -> usize
 // How many nodes come before the last one that is made for node j.
 pub fn before_last(n: Shape, body: &[u8], j: usize) -> usize
     requires { ⌜ Checked n (now body) × (j < n .nodes) ⌝ }
-    ensures { λ r. ⌜ (r ≡ beforeLast (fileAt n (now (body .entry))) j) × (r ≤ 8) ⌝ }
+    ensures { λ r. ⌜ (r ≡ beforeLast (fileAt n (now (body .entry))) j) × (r ≤ mostSlaves + 1) ⌝ }
 {
     let node = layout::body::node_at(n, body, j);
     if node.kind != 0 {
@@ -157,7 +159,7 @@ fn nodes(n: Shape, body: &[u8]) -> usize
 }
 
 // How many records of each kind the rewritten file has.
-pub fn shape(n: Shape, body: &[u8], inner: &[u64; 8]) -> Shape
+pub fn shape(n: Shape, body: &[u8], inner: &[u64; CHARTS]) -> Shape
     requires { ⌜ Checked n (now body) × InnerIn (fileAt n (now body)) (now inner) ⌝ }
     ensures { λ r. ⌜ r ≡ shapeIn (rewrite (fileAt n (now (body .entry)))) ⌝ }
 {

@@ -17,7 +17,7 @@ use Rattle.signals.specs.Mask.Laws.{bit-union, bit-single}
 use Rattle.signals.specs.All.{bit-all}
 use Rattle.signals.specs.Lowest.{IsLowestFree}
 use Rattle.signals.specs.declared.Found.the-variants.{At, Nothing}
-use Rattle.meaning.specs.Numbers.{mostSignals}
+use Rattle.meaning.specs.Numbers.{mostCharts, mostSignals}
 use Rattle.meaning.specs.Count.Laws.{below-suc}
 use Rattle.meaning.specs.Laws.Bools.{or-r}
 use Rattle.meaning.specs.Rewriting.{lacking}
@@ -66,7 +66,7 @@ lacks-lowest s m free low (suc n) l = ⊎-elim here (λ h. later h (lacks-lowest
 
 -- the first i of the numbers that `used` lacks are given, and `left` lacks the others
 record Gives (used i left : ℕ) (l : List ℕ) : Type 0 where
-  pub long : length l ≡ 8
+  pub long : length l ≡ mostCharts
   pub most : i ≤ length (lacking used mostSignals)
   pub rest : drop i (lacking used mostSignals) ≡ lacking left mostSignals
   pub given : (k : ℕ) → k < i → getD l k 0 ≡ single (getD (lacking used mostSignals) k (mostSignals + k))
@@ -82,7 +82,7 @@ module _ (used i left s : ℕ) (l : List ℕ) (h : Gives used i left l) (free : 
   next-is : (d : ℕ) → getD L i d ≡ s
   next-is d = ap (λ (k : ℕ). getD L k d) (sym (add-zero i)) ∙ sym (getD-drop i L 0 d) ∙ ap (λ (xs : List ℕ). getD xs 0 d) next
 
-  gives-more : i < 8 → (v : ℕ) → v ≡ single s → Gives used (i + 1) (left ∪ single s) (set l i v)
+  gives-more : i < mostCharts → (v : ℕ) → v ≡ single s → Gives used (i + 1) (left ∪ single s) (set l i v)
   gives-more m v e =
       record {
         long = simp length-set (h .long);

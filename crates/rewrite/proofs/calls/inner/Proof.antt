@@ -16,7 +16,7 @@ use lib.Seq.{getD-set-same, getD-set-other}
 use Rattle.layout.specs.Body.{nodeAt}
 use Rattle.layout.specs.declared.body.Shape.{Shape}
 use Rattle.layout.specs.declared.record.Node.{Node}
-use Rattle.meaning.specs.Numbers.{mostSlaves}
+use Rattle.meaning.specs.Numbers.{mostCharts, mostSlaves}
 use Rattle.meaning.specs.File.{File, fileAt}
 use Rattle.meaning.specs.Check.Nodes.{Sound}
 use Rattle.meaning.specs.Check.Laws.{eq-or-not}
@@ -54,7 +54,7 @@ module _ (F : File) (s : Sound F) where
 
 -- the charts of the first j nodes have theirs
 record Filled (F : File) (j : ℕ) (l : List ℕ) : Type 0 where
-  pub long : length l ≡ 8
+  pub long : length l ≡ mostCharts
   pub has : (k : ℕ) → k < j → F .kind k ≡ 0 → Has F l (F .a k)
 
 -- r is node j
@@ -71,7 +71,7 @@ module _ (n : Shape) (b : List ℕ) (w : Checked n b) (j : ℕ) (p : j < n .node
   unfolding fileAt
   kind-is = ap (λ (x : Node). x .kind) e
 
-  there : r .kind ≡ 0 → r .a < 8
+  there : r .kind ≡ 0 → r .a < mostCharts
   unfolding fileAt
   there k = let c = w .sound .chart-there j p (sym kind-is ∙ k) in let q = a-is in let m = w .sized .charts in omega arith
 

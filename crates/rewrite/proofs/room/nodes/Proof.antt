@@ -2,6 +2,7 @@
 use mathlib.Core.Path.{_≡_, ap, _∙_}
 use Prim.Native.Nat.{ℕ, _+_, _*_, _-_, _≤_}
 use native.Mathlib.Omega.{arith}
+use Rattle.meaning.specs.Numbers.{mostSlaves}
 use Rattle.meaning.specs.File.{fileAt}
 use Rattle.meaning.specs.Rewriting.{start}
 use Rattle.rewrite.proofs.Laws.{nodes-none, nodes-more}
@@ -9,7 +10,7 @@ use Rattle.rewrite.proofs.room.nodes.Statement.{statement}
 use Rattle.rewrite.proofs.room.nodes.Tie as tie
 
 abbrev Inv-loop : tie.InvT-loop
-Inv-loop n body sum₀ j₀ sum j = (j ≤ n .nodes) × (sum ≤ 9 * j) × (sum ≡ start (fileAt n body) j)
+Inv-loop n body sum₀ j₀ sum j = (j ≤ n .nodes) × (sum ≤ (mostSlaves + 2) * j) × (sum ≡ start (fileAt n body) j)
 
 abbrev μ-loop : tie.MeasureT-loop
 μ-loop n body sum₀ j₀ sum j = n .nodes - j
