@@ -13,7 +13,7 @@ use Rattle.meaning.specs.Meaning.{Set}
 use Rattle.meaning.specs.File.{chartOf}
 use Rattle.meaning.specs.Check.{leaving}
 use Rattle.wiring.specs.Hunt.{mayOf}
-use Rattle.cells.specs.Table.{backFrom, aheadFrom, masksFor, masterFrom, stateFrom, smallSize, stateAt}
+use Rattle.cells.specs.Table.{SameWiring, masksFor, masterFrom, stateFrom, smallSize, stateAt}
 use Rattle.tables.specs.Fill.{Filling, considered, listing, Raised, Until, Chosen}
 use Rattle.checks.specs.Known.{Sized, Summed}
 use Rattle.candidates.specs.declared.Around.{Around}
@@ -84,7 +84,6 @@ pub record Stated (config : List ℕ) (k : ℕ) (s₀ s : List ℕ) : Type 0 whe
 pub record Chooses (n : Shape) (b config base lows m₀ s₀ m s : List ℕ) : Type 0 where
   pub chosen : Chosen (chartOf n b) (λ c. getD config c 0) (n .charts) lows m s
   pub raised : Raised (chartOf n b) (λ c. getD config c 0) (n .charts) m s base lows
-  pub wires : (i : ℕ) → backFrom ≤ i → i < aheadFrom → getD m i 0 ≡ getD m₀ i 0
-  pub ups : (i : ℕ) → i < backFrom → getD m i 0 ≡ getD m₀ i 0
+  pub wires : SameWiring m₀ m
   pub masters : (i : ℕ) → masterFrom ≤ i → i < stateFrom → getD s i 0 ≡ getD s₀ i 0
   pub tabled : Tabled (n .charts) m s

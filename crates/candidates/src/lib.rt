@@ -89,7 +89,7 @@ fn puts_of(n: Shape, body: &[u8], start: usize, count: usize, state: u8) -> Puts
 
 // Each chart is surely offered what it gets of u, which chart c puts out.
 fn raise_all(masks: &[u64], low: &mut [u64], c: usize, u: u64)
-    requires { ⌜ (masksFor 0 ≤ length (now masks)) × (length (now low) ≡ mostCharts) × (c < mostCharts) ⌝ }
+    requires { ⌜ (masksFor (c + 1) ≤ length (now masks)) × (length (now low) ≡ mostCharts) × (c < mostCharts) ⌝ }
     ensures { λ _. ⌜ Row (now (low .exit)) (λ d. getD (now (low .entry)) d 0 ∪ u ∩ backAt (now (masks .entry)) d c) ⌝ }
 {
     let mut d: usize = 0;
@@ -101,7 +101,7 @@ fn raise_all(masks: &[u64], low: &mut [u64], c: usize, u: u64)
 
 // The same where u is what chart c puts out if it is active: in a slave it need not be.
 fn raise(masks: &[u64], small: &[u8], low: &mut [u64], c: usize, u: u64)
-    requires { ⌜ Tabled 0 (now masks) (now small) × (length (now low) ≡ mostCharts) × (c < mostCharts) ⌝ }
+    requires { ⌜ Tabled (c + 1) (now masks) (now small) × (length (now low) ≡ mostCharts) × (c < mostCharts) ⌝ }
     ensures { λ _. ⌜ Row (now (low .exit)) (λ d. getD (now (low .entry)) d 0 ∪ sureAt (now (small .entry)) c u ∩ backAt (now (masks .entry)) d c) ⌝ }
 {
     if small::master(small, c) < CHARTS {
@@ -131,7 +131,7 @@ fn sides_of(
     masks: &[u64],
     small: &[u8],
 ) -> Sides
-    requires { ⌜ Ready n (now body) (now config) × Tabled 0 (now masks) (now small) ⌝ }
+    requires { ⌜ Ready n (now body) (now config) × Tabled (n .charts) (now masks) (now small) ⌝ }
     ensures { λ r. ⌜ Sided n (now (body .entry)) (now (config .entry)) base (now (masks .entry)) (now (small .entry)) (n .charts) (r .may) (r .low) ⌝ }
 {
     let mut may = [0u64; CHARTS];
@@ -153,7 +153,7 @@ fn sides_of(
 
 // What the charts other than c might put in for it.
 pub fn others(masks: &[u64], charts: usize, may: [u64; CHARTS], c: usize) -> u64
-    requires { ⌜ (masksFor 0 ≤ length (now masks)) × (charts ≤ mostCharts) × (c < charts) ⌝ }
+    requires { ⌜ (masksFor charts ≤ length (now masks)) × (charts ≤ mostCharts) × (c < charts) ⌝ }
     ensures { λ r. ⌜ r ≡ othersAt (now (masks .entry)) charts (λ e. getD may e 0) c ⌝ }
 {
     let mut rest = may;
@@ -325,7 +325,7 @@ fn puts_out(masks: &[u64], small: &[u8], c: usize) -> u64
 
 // Nothing is left to put out after the last chart.
 fn clear_row(masks: &mut [u64], charts: usize)
-    requires { ⌜ (masksFor 0 ≤ length (now masks)) × (charts ≤ mostCharts) ⌝ }
+    requires { ⌜ (masksFor charts ≤ length (now masks)) × (charts ≤ mostCharts) ⌝ }
     ensures { λ _. ⌜ AheadRow charts (λ c. 0) charts (now (masks .entry)) (now (masks .exit)) ⌝ }
 {
     let mut c: usize = 0;
@@ -337,7 +337,7 @@ fn clear_row(masks: &mut [u64], charts: usize)
 
 // What chart k, whose candidates put out u, and the later ones may put in for each chart.
 fn ahead_row(masks: &mut [u64], charts: usize, k: usize, u: u64)
-    requires { ⌜ (masksFor 0 ≤ length (now masks)) × (charts ≤ mostCharts) × (k < mostCharts) ⌝ }
+    requires { ⌜ (masksFor charts ≤ length (now masks)) × (charts ≤ mostCharts) × (k < charts) ⌝ }
     ensures { λ _. ⌜ AheadRow k (aheadBy (now (masks .entry)) k u) charts (now (masks .entry)) (now (masks .exit)) ⌝ }
 {
     let mut c: usize = 0;

@@ -1,5 +1,5 @@
 -- The tables that a search reads, by chart c, candidate v and chart d, and where each cell stands. A chart has at most mostFromState candidates: the
--- transitions that it may take now. What candidates have among the masks stands last, chart by chart, so that tables for fewer charts are shorter.
+-- transitions that it may take now. The masks stand chart by chart, so that tables for fewer charts are shorter and begin alike.
 use mathlib.Core.List.{List}
 use Prim.Native.Nat.{ℕ, _+_, _*_, _≤_, _<_}
 use mathlib.Core.Path.{_≡_}
@@ -9,46 +9,51 @@ use Rattle.meaning.specs.Numbers.{mostCharts, mostFromState}
 
 -- ── where the masks stand ──
 
--- what of chart d's action comes out of the whole; then, a row for each chart d, what each chart is offered of d's action; then, a row for each
--- number of charts that are settled, what each chart may still be offered; then, for each chart, what its candidates need, bar and put out
+-- a block for each chart k: what each chart may still be offered by k and the charts after it; what each chart is offered of k's action; what of it comes
+-- out of the whole; what k's candidates need, bar and put out
 abbrev pub backFrom : ℕ
 backFrom = mostCharts
 
-abbrev pub aheadFrom : ℕ
-aheadFrom = backFrom + mostCharts * mostCharts
+abbrev pub upFrom : ℕ
+upFrom = backFrom + mostCharts
 
-abbrev pub listsFrom : ℕ
-listsFrom = aheadFrom + mostCharts * (mostCharts + 1)
+abbrev pub neededFrom : ℕ
+neededFrom = upFrom + 1
 
--- the masks of one chart's candidates
-abbrev pub span : ℕ
-span = 3 * mostFromState
+abbrev pub barredFrom : ℕ
+barredFrom = neededFrom + mostFromState
 
-abbrev pub upCell : ℕ → ℕ
-upCell d = 0 + d
+abbrev pub actionFrom : ℕ
+actionFrom = barredFrom + mostFromState
+
+abbrev pub block : ℕ
+block = actionFrom + mostFromState
+
+abbrev pub aheadCell : ℕ → ℕ → ℕ
+aheadCell k c = block * k + c
 
 -- where chart d's row begins
 abbrev pub backRow : ℕ → ℕ
-backRow d = backFrom + mostCharts * d
+backRow d = block * d + backFrom
 
 abbrev pub backCell : ℕ → ℕ → ℕ
 backCell c d = backRow d + c
 
-abbrev pub aheadCell : ℕ → ℕ → ℕ
-aheadCell k c = aheadFrom + mostCharts * k + c
+abbrev pub upCell : ℕ → ℕ
+upCell d = block * d + upFrom
 
 abbrev pub neededCell : ℕ → ℕ → ℕ
-neededCell c v = listsFrom + span * c + v
+neededCell c v = block * c + neededFrom + v
 
 abbrev pub barredCell : ℕ → ℕ → ℕ
-barredCell c v = listsFrom + mostFromState + span * c + v
+barredCell c v = block * c + barredFrom + v
 
 abbrev pub actionCell : ℕ → ℕ → ℕ
-actionCell c v = listsFrom + 2 * mostFromState + span * c + v
+actionCell c v = block * c + actionFrom + v
 
--- how many masks the tables of N charts have
+-- how many masks the tables of N charts have: behind the last chart's block nothing may be offered any more, which is a row too
 abbrev pub masksFor : ℕ → ℕ
-masksFor N = listsFrom + span * N
+masksFor N = block * N + mostCharts
 
 -- ── masks ──
 module _ (m : List ℕ) where
@@ -77,6 +82,17 @@ module _ (m : List ℕ) where
   -- candidate v of chart c is the transition
   unfoldable pub putMasks : ℕ → ℕ → Transition → List ℕ
   putMasks c v t = set (set (set m (neededCell c v) (t .needed)) (barredCell c v) (t .barred)) (actionCell c v) (t .action)
+
+-- m has the wiring of m₀: what each chart is offered of each chart's action, and what comes out of the whole
+pub record SameWiring (m₀ m : List ℕ) : Type 0 where
+  pub backs : (c d : ℕ) → c < mostCharts → d < mostCharts → backAt m c d ≡ backAt m₀ c d
+  pub ups : (d : ℕ) → d < mostCharts → upAt m d ≡ upAt m₀ d
+
+-- m has the candidates of m₀
+pub record SameLists (m₀ m : List ℕ) : Type 0 where
+  pub needed : (c v : ℕ) → c < mostCharts → v < mostFromState → neededAt m c v ≡ neededAt m₀ c v
+  pub barred : (c v : ℕ) → c < mostCharts → v < mostFromState → barredAt m c v ≡ barredAt m₀ c v
+  pub action : (c v : ℕ) → c < mostCharts → v < mostFromState → actionAt m c v ≡ actionAt m₀ c v
 
 -- a row has a mask for each chart: l has f's
 abbrev pub Row : List ℕ → (ℕ → ℕ) → Type 0

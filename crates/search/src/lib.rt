@@ -87,7 +87,7 @@ fn holds(g: Guard, low: u64, high: u64) -> bool
 // What the charts below k ask of chart k's action: what only it can put in for them, and what it must not. It contradicts itself where one of them
 // cannot be met whatever the action is.
 fn asks(masks: &[u64], trail: &[u64; trail::SIZE], k: usize) -> Guard
-    requires { ⌜ (masksFor 0 ≤ length (now masks)) × (k < mostCharts) ⌝ }
+    requires { ⌜ (masksFor (k + 1) ≤ length (now masks)) × (k < mostCharts) ⌝ }
     ensures { λ r. ⌜ r ≡ asksOf (now (masks .entry)) (now (trail .entry)) k ⌝ }
 {
     let mut needed: u64 = 0;
@@ -126,7 +126,7 @@ fn fits(masks: &[u64], trail: &[u64; trail::SIZE], asked: Guard, k: usize, v: us
 
 // What each chart is surely offered once chart k has this action. It is a row of its own, so that its masks are computed side by side.
 fn lowered(masks: &[u64], trail: &[u64; trail::SIZE], action: u64, k: usize) -> [u64; CHARTS]
-    requires { ⌜ (masksFor 0 ≤ length (now masks)) × (k < mostCharts) ⌝ }
+    requires { ⌜ (masksFor (k + 1) ≤ length (now masks)) × (k < mostCharts) ⌝ }
     ensures { λ r. ⌜ r ≡ made mostCharts (λ c. lowIn (now (trail .entry)) k c ∪ action ∩ backAt (now (masks .entry)) c k) ⌝ }
 {
     let mut row = [0u64; CHARTS];
@@ -152,7 +152,7 @@ fn put_row(trail: &mut [u64; trail::SIZE], row: [u64; CHARTS], k: usize)
 
 // Chart k has this action.
 fn lower(masks: &[u64], trail: &mut [u64; trail::SIZE], action: u64, k: usize)
-    requires { ⌜ (masksFor 0 ≤ length (now masks)) × (length (now trail) ≡ trailSize) × (k < mostCharts) ⌝ }
+    requires { ⌜ (masksFor (k + 1) ≤ length (now masks)) × (length (now trail) ≡ trailSize) × (k < mostCharts) ⌝ }
     ensures { λ _. ⌜ Lowers (now (masks .entry)) action k (now (trail .entry)) (now (trail .exit)) ⌝ }
 {
     let row = lowered(masks, trail, action, k);
@@ -192,7 +192,7 @@ fn idle(
     active: u8,
     place: u8,
 )
-    requires { ⌜ (masksFor 0 ≤ length (now masks)) × (length (now small) ≡ smallSize) × Room (now trail) (now moves) × (k < mostCharts) ⌝ }
+    requires { ⌜ (masksFor (k + 1) ≤ length (now masks)) × (length (now small) ≡ smallSize) × Room (now trail) (now moves) × (k < mostCharts) ⌝ }
     ensures { λ _. ⌜ Idles active place (now (small .entry)) k (now (trail .entry)) (now (moves .entry)) (now (trail .exit)) (now (moves .exit)) ⌝ }
 {
     trail::put_asked(trail, k, 0, 0);
@@ -209,7 +209,7 @@ fn rest(
     moves: &mut [u8; moves::SIZE],
     k: usize,
 )
-    requires { ⌜ (masksFor 0 ≤ length (now masks)) × (length (now small) ≡ smallSize) × Room (now trail) (now moves) × (k < mostCharts) ⌝ }
+    requires { ⌜ (masksFor (k + 1) ≤ length (now masks)) × (length (now small) ≡ smallSize) × Room (now trail) (now moves) × (k < mostCharts) ⌝ }
     ensures { λ _. ⌜ Idles 0 noPlace (now (small .entry)) k (now (trail .entry)) (now (moves .entry)) (now (trail .exit)) (now (moves .exit)) ⌝ }
 {
     idle(masks, small, trail, moves, k, 0, NO_PLACE);
@@ -223,7 +223,7 @@ fn stay(
     moves: &mut [u8; moves::SIZE],
     k: usize,
 )
-    requires { ⌜ (masksFor 0 ≤ length (now masks)) × (length (now small) ≡ smallSize) × Room (now trail) (now moves) × (k < mostCharts) ⌝ }
+    requires { ⌜ (masksFor (k + 1) ≤ length (now masks)) × (length (now small) ≡ smallSize) × Room (now trail) (now moves) × (k < mostCharts) ⌝ }
     ensures { λ _. ⌜ Idles 1 stayPlace (now (small .entry)) k (now (trail .entry)) (now (moves .entry)) (now (trail .exit)) (now (moves .exit)) ⌝ }
 {
     idle(masks, small, trail, moves, k, 1, STAY_PLACE);
@@ -258,7 +258,7 @@ fn calm(
     k: usize,
     d: usize,
 ) -> bool
-    requires { ⌜ (masksFor 0 ≤ length (now masks)) × Guards (now guards) (now stays) × (k ≤ mostCharts) × (d < k) ⌝ }
+    requires { ⌜ (masksFor k ≤ length (now masks)) × Guards (now guards) (now stays) × (k ≤ mostCharts) × (d < k) ⌝ }
     ensures { λ r. ⌜ ((s : List ℕ) (o : ℕ) →
         r ≡ calmAt (now (masks .entry)) s (now (guards .entry)) (now (stays .entry)) (trailIn (now (trail .entry)) (now (moves .entry)) k o) k d) ⌝ }
 {
@@ -283,7 +283,7 @@ fn all_calm(
     moves: &[u8; moves::SIZE],
     k: usize,
 ) -> bool
-    requires { ⌜ (masksFor 0 ≤ length (now masks)) × Guards (now guards) (now stays) × (k ≤ mostCharts) ⌝ }
+    requires { ⌜ (masksFor k ≤ length (now masks)) × Guards (now guards) (now stays) × (k ≤ mostCharts) ⌝ }
     ensures { λ r. ⌜ ((s : List ℕ) (o : ℕ) →
         r ≡ calmAll (now (masks .entry)) s (now (guards .entry)) (now (stays .entry)) (trailIn (now (trail .entry)) (now (moves .entry)) k o) k) ⌝ }
 {

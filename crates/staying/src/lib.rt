@@ -95,7 +95,7 @@ fn tell_all(
     masks: &[u64],
     guards: &mut [u64],
 ) -> [u8; triggers::STAYS]
-    requires { ⌜ Ready n (now body) (now config) × (masksFor 0 ≤ length (now masks)) × (triggersFor (n .charts) ≤ length (now guards)) ⌝ }
+    requires { ⌜ Ready n (now body) (now config) × (masksFor (n .charts) ≤ length (now masks)) × (triggersFor (n .charts) ≤ length (now guards)) ⌝ }
     ensures { λ r. ⌜ Telling n (now (body .entry)) (now (config .entry)) low may (now (masks .entry)) (n .charts) (now (guards .exit)) r ⌝ }
 {
     let mut stays = [0u8; triggers::STAYS];
@@ -124,7 +124,7 @@ pub fn stays(
     masks: &[u64],
     guards: &mut [u64],
 ) -> [u8; triggers::STAYS]
-    requires { ⌜ Ready n (now body) (now config) × (masksFor 0 ≤ length (now masks)) × Mays n (now body) (now config) (n .charts) may
+    requires { ⌜ Ready n (now body) (now config) × (masksFor (n .charts) ≤ length (now masks)) × Mays n (now body) (now config) (n .charts) may
         × (n .edition ≡ stayEdition → triggersFor (n .charts) ≤ length (now guards)) ⌝ }
     ensures { λ r. ⌜ Stays n (now (body .entry)) (now (config .entry)) low (now (masks .entry)) (now (guards .exit)) r ⌝ }
 {

@@ -3,6 +3,7 @@
 use mathlib.Core.Path.{_≡_}
 use mathlib.Core.Bool.{Bool, true, false, _&&_, not, cond}
 use mathlib.Core.List.{List}
+use mathlib.Core.Logic.{_≢_}
 use Prim.Native.Nat.{ℕ, zero, suc, _+_, _*_, _-_, _≤_, _<_}
 use lib.Dec.{ltb}
 use lib.ListN.{length, getD, set}
@@ -15,7 +16,7 @@ use Rattle.wiring.specs.Wire.{join}
 use Rattle.wiring.specs.Dropped.{ahead, test}
 use Rattle.wiring.specs.Sure.{sureOf, sureIn}
 use Rattle.wiring.specs.Hunt.{mayOf}
-use Rattle.cells.specs.Table.{aheadFrom, listsFrom, aheadCell, neededAt, barredAt, actionAt, backAt, aheadAt, putMasks, placeFrom, countCell, smallSize, toAt, countAt, masterAt, stateAt, putSmall}
+use Rattle.cells.specs.Table.{SameWiring, SameLists, aheadCell, neededAt, barredAt, actionAt, backAt, aheadAt, putMasks, placeFrom, countCell, smallSize, toAt, countAt, masterAt, stateAt, putSmall}
 use Rattle.search.specs.Stays.{staysAt}
 use Rattle.tables.specs.Filled.{Listed, mayAt}
 pub mod Laws
@@ -90,7 +91,7 @@ module _ (E : ℕ → Chart) (cfg : ℕ → ℕ) (N : ℕ) (lows : List ℕ) whe
   pub record Until (m₀ s₀ : List ℕ) (k : ℕ) (m s : List ℕ) : Type 0 where
     pub listed : (c : ℕ) → c < k → Listed m s c (E c .transitions) (cfg c) (keepAt m₀ c) (length (E c .transitions)) (countAt s c)
     pub counts : (c : ℕ) → c < k → countAt s c ≤ mostFromState
-    pub wires : (i : ℕ) → i < listsFrom → getD m i 0 ≡ getD m₀ i 0
+    pub wires : SameWiring m₀ m
     pub rest : (i : ℕ) → countCell k ≤ i → i < placeFrom → getD s i 0 ≡ getD s₀ i 0
     pub masks : length m ≡ length m₀
     pub small : length s ≡ smallSize
@@ -107,8 +108,7 @@ module _ (E : ℕ → Chart) (cfg : ℕ → ℕ) (N : ℕ) (lows : List ℕ) whe
 -- row k of the first n charts is w, the rest as it was
 pub record AheadRow (k : ℕ) (w : ℕ → Set) (n : ℕ) (m₀ m : List ℕ) : Type 0 where
   pub row : (c : ℕ) → c < n → aheadAt m k c ≡ w c
-  pub below : (i : ℕ) → i < aheadCell k 0 → getD m i 0 ≡ getD m₀ i 0
-  pub above : (i : ℕ) → aheadCell k n ≤ i → getD m i 0 ≡ getD m₀ i 0
+  pub rest : (i : ℕ) → ((c : ℕ) → c < n → i ≢ aheadCell k c) → getD m i 0 ≡ getD m₀ i 0
   pub masks : length m ≡ length m₀
 
 -- row k from row k + 1: chart k's candidates put out u
@@ -118,8 +118,8 @@ aheadBy m k u c = u ∩ backAt m c k ∪ aheadAt m (suc k) c
 -- the rows from k on
 pub record AheadFrom (N : ℕ) (s : List ℕ) (k : ℕ) (m₀ m : List ℕ) : Type 0 where
   pub rows : (j c : ℕ) → k ≤ j → j ≤ N → c < N → aheadAt m j c ≡ ahead (N - j) j (λ e. mayAt m₀ s e ∩ backAt m₀ c e)
-  pub below : (i : ℕ) → i < aheadFrom → getD m i 0 ≡ getD m₀ i 0
-  pub above : (i : ℕ) → listsFrom ≤ i → getD m i 0 ≡ getD m₀ i 0
+  pub wires : SameWiring m₀ m
+  pub lists : SameLists m₀ m
   pub masks : length m ≡ length m₀
 
 -- ── no search is needed ──

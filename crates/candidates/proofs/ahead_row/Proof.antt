@@ -20,6 +20,10 @@ abbrev μ-loop : tie.MeasureT-loop
 loop-holds : tie.Need-loop-holds Inv-loop μ-loop
 loop-holds c = (search needs, row-none _ _ _)
 
+-- the masks are as many as they were
+roomy : (t : tie.At-loop Inv-loop μ-loop) → masksFor (t .before .before .args .charts) ≤ length (t .loop .masks)
+roomy t = rw (t .loop .inv .1 .masks) (t .before .before .pre .0)
+
 loop-again : tie.Need-loop-again Inv-loop μ-loop
 loop-again c =
     let p = c .before .before in
@@ -31,11 +35,7 @@ loop-again c =
     let e : a .u ∩ b .back .result ∪ h .ahead .result ≡ aheadBy (a .masks .now) (a .k) (a .u) (l .c) =
     ap₂ (λ (x y : ℕ). a .u ∩ x ∪ y) (b .back .ensures) (h .ahead .ensures)
     ∙ row-value (a .k) _ (l .c) _ (l .masks) (a .u) (l .inv .1) (omega arith) (omega arith) in
-    (omega arith, rw (p .put-ahead .ensures) (row-next (a .k) _ (l .c) _ (l .masks) _ (l .inv .1) (omega arith) e))
-
--- the masks are as many as they were
-roomy : (t : tie.At-loop Inv-loop μ-loop) → masksFor 0 ≤ length (t .loop .masks)
-roomy t = rw (t .loop .inv .1 .masks) (t .before .before .pre .0)
+    (omega arith, rw (p .put-ahead .ensures) (row-next (a .k) _ (l .c) _ (l .masks) _ (l .inv .1) (omega (arith, roomy t, l .inv .1 .masks)) e))
 
 returns : tie.Need-returns Inv-loop μ-loop
 returns c =
@@ -52,9 +52,9 @@ ahead-row-spec =
     μ-loop
     loop-holds
     (λ c. omega arith)
-    (λ c κs. (roomy (c .before .before), omega arith, omega arith))
-    (λ c κs. (roomy (c .before .before .before .before), omega arith, omega arith))
-    (λ c κs. (roomy (c .before .before .before .before .before .before), omega arith, omega arith))
+    (λ c κs. (omega (arith, roomy (c .before .before)), omega arith, omega arith))
+    (λ c κs. (omega (arith, roomy (c .before .before .before .before)), omega arith, omega arith))
+    (λ c κs. (omega (arith, roomy (c .before .before .before .before .before .before)), omega arith, omega arith))
     (λ c. omega arith)
     (λ c. omega arith)
     loop-again

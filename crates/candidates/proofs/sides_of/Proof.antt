@@ -1,7 +1,7 @@
 -- `sides_of` meets its contract. The loop: the charts below c have put theirs in, and chart c's transitions begin at `start`.
 -- Assumes nothing.
 use mathlib.Core.Path.{_≡_, refl, _∙_, subst}
-use Prim.Native.Nat.{_-_, _≤_}
+use Prim.Native.Nat.{_+_, _-_, _≤_}
 use native.Mathlib.Omega.{arith}
 use borrow.Author.Needs.{needs}
 use lib.ListN.{length, length-set}
@@ -9,7 +9,7 @@ use Rattle.layout.specs.Body.{startOf}
 use Rattle.meaning.specs.Numbers.{mostCharts}
 use Rattle.checks.specs.Known.Laws.{in-all, start-next}
 use Rattle.candidates.specs.Candidates.{Sided}
-use Rattle.candidates.specs.Candidates.Laws.{sided-none, sided-next}
+use Rattle.candidates.specs.Candidates.Laws.{sided-none, sided-next, tabled-fewer}
 use Rattle.candidates.proofs.sides_of.Statement.{statement}
 use Rattle.candidates.proofs.sides_of.Tie as tie
 
@@ -66,7 +66,8 @@ sides-of-spec =
     (λ c. omega (arith, c .before .before .before .before .before .before .loop .inv .2, c .before .before .before .before .before .before .before .before .before .before .before .pre .0 .sized .charts))
     (λ c κs. search needs)
     (λ c. search needs)
-    (λ c κs. (c .before .before .before .before .before .before .before .before .before .before .before .before .before .pre .1, search needs, omega (arith, c .before .before .before .before .before .before .if1 .taken, c .before .before .before .before .before .before .before .before .before .before .before .before .before .pre .0 .sized .charts)))
+    (λ c κs. let t = c .before .before .before .before .before .before in let s = t .before .before .before .before .before .before .before in
+    (tabled-fewer (t .before .before .loop .c + 1) (s .pre .1) (omega (arith, t .if1 .taken)), search needs, omega (arith, t .if1 .taken, s .pre .0 .sized .charts)))
     (λ c. let s = c .before .before .before .before .before .before .before .before .before .before .before .before .before .before .before in let l = c .before .before .before .before .before .before .before .before .before .before .loop in omega (
       arith,
       s .pre .0 .sized .transitions,

@@ -35,7 +35,7 @@ use Rattle.wiring.specs.Sure.{sureOf, sureIn, sure-small}
 use Rattle.wiring.specs.Hunt.{mayOf, behind-empty}
 use Rattle.cells.specs.Table.{backAt, putMasks, Row, countCell, stateCell, putSmall}
 use Rattle.tables.specs.Fill.{Filling, considered, listing, lastsBy, isAgain, put, pickFilling, othersAt, sureAt, Raised, Until, AheadFrom}
-use Rattle.tables.specs.Fill.Laws.{length-masks, length-small, leave-room, count-few, until-next, chosen, raised-none, raised-next, raised-same}
+use Rattle.tables.specs.Fill.Laws.{wiring-trans, length-masks, length-small, leave-room, count-few, until-next, chosen, raised-none, raised-next, raised-same}
 use Rattle.candidates.specs.declared.Around.{Around}
 use Rattle.candidates.specs.declared.Puts.{Puts}
 use Rattle.candidates.specs.Candidates.{Ready, Tabled, Left, filling, consideredBy, listingBy, fromStart, withOne, Mays, Sided, UntilChart, NextChart, Stated, Chooses}
@@ -281,9 +281,8 @@ pub chooses : (n : Shape) (b config base lows m₀ s₀ s₁ m s m′ : List ℕ
 chooses n b config base lows m₀ s₀ s₁ m s m′ r tb st ra un ah = let few = r .sized .charts in
     record {
       chosen = chosen (chartOf n b) (λ c. getD config c 0) (n .charts) lows m₀ s₁ few m m′ s un ah (st .states);
-      raised = raised-same (chartOf n b) (λ c. getD config c 0) base (n .charts) m₀ s₁ m′ s lows few (λ i p q. ah .below i q ∙ un .wires i (omega arith)) (λ i p q. un .rest i (omega arith) (omega arith)) ra;
-      wires = λ i p q. ah .below i q ∙ un .wires i (omega arith);
-      ups = λ i p. ah .below i (omega arith) ∙ un .wires i (omega arith);
+      raised = raised-same (chartOf n b) (λ c. getD config c 0) base (n .charts) m₀ s₁ m′ s lows few (λ c d p q. ah .wires .backs c d p q ∙ un .wires .backs c d p q) (λ i p q. un .rest i (omega arith) (omega arith)) ra;
+      wires = wiring-trans (un .wires) (ah .wires);
       masters = λ i p q. un .rest i (omega arith) (omega arith) ∙ st .below i q;
       tabled = record { masks = rw (ah .masks, un .masks) (tb .masks); small = un .small };
     }

@@ -25,7 +25,7 @@ use Rattle.meaning.specs.Calls.{configTests, stepRefusal, stepIn, stepOf, allPl
 use Rattle.meaning.specs.Calls.Laws.{behind-refused as places-refused}
 use Rattle.meaning.specs.Laws.Names.{kap}
 use Rattle.wiring.specs.Wire.{Small, full, down}
-use Rattle.cells.specs.Table.{upCell, backCell, Row, masterCell, slaveStateCell, masterAt}
+use Rattle.cells.specs.Table.{Row, masterCell, slaveStateCell, masterAt}
 use Rattle.search.specs.declared.Found.{Found}
 use Rattle.tables.specs.Filled.{Rows, answerOf, trimmed}
 use Rattle.tables.specs.Step.{step-found, step-places}
@@ -152,8 +152,8 @@ module _ (n : Shape) (b a m s m′ s′ config base lows : List ℕ) (sz : Sized
   wired-again =
       record {
         down-is = p .wired .down-is;
-        up-is = λ d l. ch .ups (upCell d) (omega (arith, sz .charts)) ∙ p .wired .up-is d l;
-        back-is = λ c d l r. ch .wires (backCell c d) (omega arith) (omega (arith, sz .charts)) ∙ p .wired .back-is c d l r;
+        up-is = λ d l. ch .wires .ups d (omega (arith, sz .charts)) ∙ p .wired .up-is d l;
+        back-is = λ c d l r. ch .wires .backs c d l (omega (arith, sz .charts)) ∙ p .wired .back-is c d l r;
         nearest-is = λ c l. let q = p .wired .nearest-is c l in
             (ch .masters (masterCell c) (omega (arith, sz .charts)) (omega (arith, sz .charts)) ∙ q .0, ch .masters (slaveStateCell c) (omega (arith, sz .charts)) (omega (arith, sz .charts)) ∙ q .1);
       }

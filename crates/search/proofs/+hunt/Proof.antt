@@ -278,7 +278,7 @@ module _ (t : ℕ) where
   all-calm-requires : lts.Need-all-calm-requires (callees t) (at t) hunt.Post Inv-loop μ-loop
   all-calm-requires c κs =
       let b = c .before .before .before .before .before .before in
-      (omega (arith, b .pre .1 .0 .masks), b .pre .1 .5, omega (arith, b .pre .1 .3))
+      (omega (arith, b .pre .1 .0 .masks, b .pre .1 .4), b .pre .1 .5, omega (arith, b .pre .1 .3))
 
   returns : lts.Need-returns (callees t) (at t) hunt.Post Inv-loop μ-loop
   returns c =
@@ -295,7 +295,7 @@ module _ (t : ℕ) where
   asks-requires c κs =
       let b = c .before .before .before .before .before .before .before .before .before .before in
       let some = c .before .if2 .left in
-      (omega (arith, b .pre .1 .0 .masks), omega (arith, b .pre .1 .3, b .pre .1 .4))
+      (omega (arith, b .pre .1 .0 .masks, b .pre .1 .4), omega (arith, b .pre .1 .3, b .pre .1 .4))
 
   returns-3 : lts.Need-returns-3 (callees t) (at t) hunt.Post Inv-loop μ-loop
   returns-3 c =
@@ -347,7 +347,7 @@ module _ (t : ℕ) where
       let p = c .before .before .before .before .before .before .before .before in
       let b = entry p in
       let some = some-left p in
-      (omega (arith, b .pre .1 .0 .masks), b .pre .1 .0 .small, b .pre .1 .1, omega (arith, b .pre .1 .3, b .pre .1 .4))
+      (omega (arith, b .pre .1 .0 .masks, b .pre .1 .4), b .pre .1 .0 .small, b .pre .1 .1, omega (arith, b .pre .1 .3, b .pre .1 .4))
 
   hunt-requires : lts.Need-hunt-requires (callees t) (at t) hunt.Post Inv-loop μ-loop
   hunt-requires c κs =
@@ -597,7 +597,7 @@ module _ (t : ℕ) where
   stay-requires c κs =
       let l = c .before .before .before .before .before .before .before in
       let b = entry (tested l) in
-      (omega (arith, b .pre .1 .0 .masks), b .pre .1 .0 .small, keeps-room (l .loop .inv .1) (b .pre .1 .1), few l)
+      (roomy l, b .pre .1 .0 .small, keeps-room (l .loop .inv .1) (b .pre .1 .1), few l)
 
   hunt-requires-3 : lts.Need-hunt-requires-3 (callees t) (at t) hunt.Post Inv-loop μ-loop
   hunt-requires-3 c κs =

@@ -29,7 +29,7 @@ use Rattle.wiring.specs.Dropped.{ahead, test, join-cong}
 use Rattle.wiring.specs.Hunt.{mayOf}
 use Rattle.wiring.specs.Filter.{lasts}
 use Rattle.wiring.specs.Sure.{sureOf, sureIn, surely, outside}
-use Rattle.cells.specs.Table.{backFrom, aheadFrom, listsFrom, backCell, aheadCell, neededCell, barredCell, actionCell, masksFor, neededAt, barredAt, actionAt, backAt, aheadAt, putMasks, countFrom, masterFrom, stateFrom, placeFrom, toCell, countCell, masterCell, stateCell, placeCell, smallSize, toAt, countAt, masterAt, stateAt, placeAt, putSmall}
+use Rattle.cells.specs.Table.{SameWiring, SameLists, block, upCell, backCell, aheadCell, neededCell, barredCell, actionCell, masksFor, neededAt, barredAt, actionAt, backAt, aheadAt, putMasks, countFrom, masterFrom, stateFrom, placeFrom, toCell, countCell, masterCell, stateCell, placeCell, smallSize, toAt, countAt, masterAt, stateAt, placeAt, putSmall}
 use Rattle.search.specs.Trail.{Trail}
 use Rattle.search.specs.Hunt.{each, wakes, taken, rested, fineAt}
 use Rattle.search.specs.Stays.{staysAt, stayed, quietAt, huntsBoth}
@@ -69,6 +69,20 @@ stays-trans m₀ s₀ m₁ s₁ m s d v a b = record { needed = b .needed ∙ a 
 -- ── put ──
 
 -- at other places of the masks nothing changes
+wiring-refl : (m : List ℕ) → SameWiring m m
+wiring-refl m = record { backs = λ c d p q. refl; ups = λ d p. refl }
+
+pub wiring-trans : {m₀ m₁ m₂ : List ℕ} → SameWiring m₀ m₁ → SameWiring m₁ m₂ → SameWiring m₀ m₂
+wiring-trans a b = record { backs = λ c d p q. b .backs c d p q ∙ a .backs c d p q; ups = λ d p. b .ups d p ∙ a .ups d p }
+
+lists-trans : {m₀ m₁ m₂ : List ℕ} → SameLists m₀ m₁ → SameLists m₁ m₂ → SameLists m₀ m₂
+lists-trans a b =
+    record {
+      needed = λ c v p q. b .needed c v p q ∙ a .needed c v p q;
+      barred = λ c v p q. b .barred c v p q ∙ a .barred c v p q;
+      action = λ c v p q. b .action c v p q ∙ a .action c v p q;
+    }
+
 put-masks-off : (m : List ℕ) (c v : ℕ) (t : Transition) (i : ℕ) → i ≢ neededCell c v → i ≢ barredCell c v → i ≢ actionCell c v → getD (putMasks m c v t) i 0 ≡ getD m i 0
 unfolding putMasks
 put-masks-off m c v t i a b d = getD-set-other (set (set m (neededCell c v) (t .needed)) (barredCell c v) (t .barred)) (actionCell c v) i (t .action) 0 d
@@ -207,7 +221,7 @@ module _ (c q : ℕ) (low own others : Set) where
     pub record Lists (p : ℕ) (f : Filling) : Type 0 where
       pub listed : Listed (f .masks) (f .small) c ts q keep p (f .count)
       pub stays : (d u : ℕ) → d < mostCharts → u < mostFromState → d ≢ c → Stays (f₀ .masks) (f₀ .small) (f .masks) (f .small) d u
-      pub wires : (i : ℕ) → i < listsFrom → getD (f .masks) i 0 ≡ getD (f₀ .masks) i 0
+      pub wires : SameWiring (f₀ .masks) (f .masks)
       pub rest : (i : ℕ) → countFrom ≤ i → i < placeFrom → getD (f .small) i 0 ≡ getD (f₀ .small) i 0
 
     lists-next : (p : ℕ) (t : Transition) (f : Filling) → nth noMove ts p ≡ takes t → keep (suc p) ≡ lastsBy low own others t → masksFor (c + 1) ≤ length (f .masks) → length (f .small) ≡ smallSize
@@ -231,28 +245,36 @@ module _ (c q : ℕ) (low own others : Set) where
                   (λ v r. put-earlier (f .masks) (f .small) c (f .count) p t lc lv v r)) t e h b (put-is (f .masks) (f .small) c (f .count) p t lc lv lm ls)
                   (put-place (f .masks) (f .small) c (f .count) p t lc lv ls));
               stays = λ d u ld lu n. stays-trans (f₀ .masks) (f₀ .small) (f .masks) (f .small) _ _ d u (l .stays d u ld lu n) (put-stays (f .masks) (f .small) c (f .count) p t lc lv d u ld lu n);
-              wires = λ i r. put-masks-off (f .masks) c (f .count) t i (λ x. omega arith) (λ x. omega arith) (λ x. omega arith) ∙ l .wires i r;
+              wires = record {
+                backs = λ a d p r. put-masks-off (f .masks) c (f .count) t (backCell a d) (λ x. omega arith) (λ x. omega arith) (λ x. omega arith) ∙ l .wires .backs a d p r;
+                ups = λ d r. put-masks-off (f .masks) c (f .count) t (upCell d) (λ x. omega arith) (λ x. omega arith) (λ x. omega arith) ∙ l .wires .ups d r;
+              };
               rest = λ i r r₂. put-small-off (f .small) c (f .count) p t i (λ x. omega arith) (λ x. omega arith) ∙ l .rest i r r₂;
             }
 
     pub listing-lists : (g : ℕ → Transition) (k p : ℕ) → p ≤ k → leave g k ≤ mostFromState → ((u : ℕ) → u < k → nth noMove ts u ≡ takes (g u)) → ((u : ℕ) → u < k → keep (suc u) ≡ lastsBy low own others (g u))
         → masksFor (c + 1) ≤ length (f₀ .masks) → length (f₀ .small) ≡ smallSize → f₀ .count ≡ 0 → Lists p (listing c q low own others g p f₀)
     unfolding listing
-    listing-lists g k zero l few at kp lm ls z = record { listed = rw z start; stays = λ d u ld lu n. stays-refl (f₀ .masks) (f₀ .small) d u; wires = λ i r. refl; rest = λ i r r₂. refl }
+    listing-lists g k zero l few at kp lm ls z = record { listed = rw z start; stays = λ d u ld lu n. stays-refl (f₀ .masks) (f₀ .small) d u; wires = wiring-refl (f₀ .masks); rest = λ i r r₂. refl }
     listing-lists g k (suc p) l few at kp lm ls z = lists-next p (g p) (listing c q low own others g p f₀) (at p l) (kp p l) (let e = length-masks g p f₀ in omega arith) (length-small g p f₀ ∙ ls)
         (λ e. leave-room g p k f₀ z l few e) (listing-lists g k p (omega arith) few at kp lm ls z)
+
+-- ── the wiring stays ──
+
+abbrev Backs : List ℕ → List ℕ → Type 0
+Backs m m₁ = (c d : ℕ) → c < mostCharts → d < mostCharts → backAt m c d ≡ backAt m₁ c d
 
 -- ── one chart more ──
 
 module _ (E : ℕ → Chart) (cfg : ℕ → ℕ) (N : ℕ) (lows m₀ s₀ : List ℕ) (few : N ≤ mostCharts) where
   -- the wiring of chart c is the same in tables that agree on it
-  others-same : (m m₁ : List ℕ) (may : ℕ → Set) (c : ℕ) → c < N → ((i : ℕ) → backFrom ≤ i → i < aheadFrom → getD m i 0 ≡ getD m₁ i 0) → othersAt m N may c ≡ othersAt m₁ N may c
+  others-same : (m m₁ : List ℕ) (may : ℕ → Set) (c : ℕ) → c < N → Backs m m₁ → othersAt m N may c ≡ othersAt m₁ N may c
   unfolding othersAt
-  others-same m m₁ may c l h = join-cong N _ _ (λ e r. ap (λ z. cond (same e c) 0 (may e) ∩ z) (h (backCell c e) (omega arith) (omega arith)))
+  others-same m m₁ may c l h = join-cong N _ _ (λ e r. ap (λ z. cond (same e c) 0 (may e) ∩ z) (h c e (omega arith) (omega arith)))
 
-  keep-same : (m m₁ : List ℕ) (c v : ℕ) → c < N → ((i : ℕ) → backFrom ≤ i → i < aheadFrom → getD m i 0 ≡ getD m₁ i 0) → keepAt E cfg N lows m c v ≡ keepAt E cfg N lows m₁ c v
+  keep-same : (m m₁ : List ℕ) (c v : ℕ) → c < N → Backs m m₁ → keepAt E cfg N lows m c v ≡ keepAt E cfg N lows m₁ c v
   unfolding keepAt
-  keep-same m m₁ c v l h = ap₂ (λ a b. keptBy (getD lows c 0) a b (E c) (cfg c) (pick (E c) v)) (h (backCell c c) (omega arith) (omega arith)) (others-same m m₁ _ c l h)
+  keep-same m m₁ c v l h = ap₂ (λ a b. keptBy (getD lows c 0) a b (E c) (cfg c) (pick (E c) v)) (h c c (omega arith) (omega arith)) (others-same m m₁ _ c l h)
 
   keep-by : (m : List ℕ) (c : ℕ) (low own others : Set) (u : ℕ) (t : Transition) → low ≡ getD lows c 0 → own ≡ backAt m c c → others ≡ othersAt m N (λ e. mayOf (E e .transitions) (cfg e)) c
       → nth noMove (E c .transitions) u ≡ takes t → keepAt E cfg N lows m c (suc u) ≡ lastsBy low own others t
@@ -260,7 +282,7 @@ module _ (E : ℕ → Chart) (cfg : ℕ → ℕ) (N : ℕ) (lows m₀ s₀ : Lis
   keep-by m c low own others u t el eo es e = rw (el, eo, es, nth-takes (behind (E c)) (E c .transitions) u t e)
 
   pub until-none : length s₀ ≡ smallSize → Until E cfg N lows m₀ s₀ 0 m₀ s₀
-  until-none ls = record { listed = λ c l. absurd (omega arith); counts = λ c l. absurd (omega arith); wires = λ i l. refl; rest = λ i l b. refl; masks = refl; small = ls }
+  until-none ls = record { listed = λ c l. absurd (omega arith); counts = λ c l. absurd (omega arith); wires = wiring-refl m₀; rest = λ i l b. refl; masks = refl; small = ls }
 
   module _ (k : ℕ) (lk : k < N) (m s : List ℕ) (low own others : Set) (g : ℕ → Transition) where
     abbrev done : Filling
@@ -276,7 +298,7 @@ module _ (E : ℕ → Chart) (cfg : ℕ → ℕ) (N : ℕ) (lows m₀ s₀ : Lis
         record {
           listed = λ c l. go c l (same c k) refl;
           counts = λ c l. go′ c l (same c k) refl;
-          wires = λ i l. li .wires i l ∙ un .wires i l;
+          wires = wiring-trans (un .wires) (li .wires);
           rest = λ i l b. getD-set-other (done .small) (countCell k) i (done .count) 0 (λ e. omega arith) ∙ li .rest i (omega arith) b ∙ un .rest i (omega arith) b;
           masks = length-masks k (cfg k) low own others g (length (E k .transitions)) f₀ ∙ un .masks;
           small = length-set (done .small) (countCell k) (done .count) ∙ ls;
@@ -289,7 +311,7 @@ module _ (E : ℕ → Chart) (cfg : ℕ → ℕ) (N : ℕ) (lows m₀ s₀ : Lis
         ls = length-small k (cfg k) low own others g (length (E k .transitions)) f₀ ∙ un .small
 
         kept : (u : ℕ) → u < length (E k .transitions) → keepAt E cfg N lows m₀ k (suc u) ≡ lastsBy low own others (g u)
-        kept u l = keep-same m₀ m k (suc u) lk (λ i _ r. sym (un .wires i (omega arith))) ∙ keep-by m k low own others u (g u) el eo es (at u l)
+        kept u l = keep-same m₀ m k (suc u) lk (λ a d p r. sym (un .wires .backs a d p r)) ∙ keep-by m k low own others u (g u) el eo es (at u l)
 
         li : Lists k (cfg k) low own others (let h = few in omega arith) (E k .transitions) (keepAt E cfg N lows m₀ k) f₀ (length (E k .transitions)) done
         li = listing-lists k (cfg k) low own others (let h = few in omega arith) (E k .transitions) (keepAt E cfg N lows m₀ k) f₀ g (length (E k .transitions)) (length (E k .transitions)) (omega arith) room at kept (omega arith) (un .small) refl
@@ -322,15 +344,27 @@ module _ (E : ℕ → Chart) (cfg : ℕ → ℕ) (N : ℕ) (lows m₀ s₀ : Lis
 
 -- ── the rows ahead ──
 
+-- a row ahead leaves the wiring and the candidates
+module _ (k : ℕ) (w : ℕ → Set) (n : ℕ) (m₀ m : List ℕ) (lk : k ≤ mostCharts) (ln : n ≤ mostCharts) (a : AheadRow k w n m₀ m) where
+  row-wiring : SameWiring m₀ m
+  row-wiring = record { backs = λ c d p q. a .rest (backCell c d) (λ e r x. omega arith); ups = λ d p. a .rest (upCell d) (λ e r x. omega arith) }
+
+  row-lists : SameLists m₀ m
+  row-lists =
+      record {
+        needed = λ c v p q. a .rest (neededCell c v) (λ e r x. omega arith);
+        barred = λ c v p q. a .rest (barredCell c v) (λ e r x. omega arith);
+        action = λ c v p q. a .rest (actionCell c v) (λ e r x. omega arith);
+      }
+
 pub row-none : (k : ℕ) (w : ℕ → Set) (m : List ℕ) → AheadRow k w 0 m m
-row-none k w m = record { row = λ c l. absurd (omega arith); below = λ i l. refl; above = λ i l. refl; masks = refl }
+row-none k w m = record { row = λ c l. absurd (omega arith); rest = λ i q. refl; masks = refl }
 
 pub row-next : (k : ℕ) (w : ℕ → Set) (n : ℕ) (m₀ m : List ℕ) (v : Set) → AheadRow k w n m₀ m → aheadCell k n < length m₀ → v ≡ w n → AheadRow k w (n + 1) m₀ (set m (aheadCell k n) v)
 row-next k w n m₀ m v a l e =
     record {
       row = λ c r. go c r (same c n) refl;
-      below = λ i r. getD-set-other m (aheadCell k n) i v 0 (λ x. omega arith) ∙ a .below i r;
-      above = λ i r. getD-set-other m (aheadCell k n) i v 0 (λ x. omega arith) ∙ a .above i (omega arith);
+      rest = λ i q. getD-set-other m (aheadCell k n) i v 0 (q n (omega arith)) ∙ a .rest i (λ c r. q c (omega arith));
       masks = length-set m (aheadCell k n) v ∙ a .masks;
     }
   where
@@ -339,10 +373,10 @@ row-next k w n m₀ m v a l e =
     go c r false x = let z : c ≢ n = λ y. false≢true (sym x ∙ rw y (same-refl n)) in
         getD-set-other m (aheadCell k n) (aheadCell k c) v 0 (λ y. omega arith) ∙ a .row c (omega arith)
 
--- what stands before and after row k is still there to make it
+-- what row k is made from is still there
 pub row-value : (k : ℕ) (w : ℕ → Set) (c : ℕ) (m₀ m : List ℕ) (u : Set) → AheadRow k w c m₀ m → c < mostCharts → k < mostCharts → u ∩ backAt m c k ∪ aheadAt m (k + 1) c ≡ aheadBy m₀ k u c
 unfolding aheadBy
-row-value k w c m₀ m u a l r = ap₂ (λ x y. u ∩ x ∪ y) (a .below (backCell c k) (omega arith)) (ap (λ z. aheadAt m z c) (add-one k) ∙ a .above (aheadCell (suc k) c) (omega arith))
+row-value k w c m₀ m u a l r = ap₂ (λ x y. u ∩ x ∪ y) (a .rest (backCell c k) (λ d p e. omega arith)) (ap (λ z. aheadAt m z c) (add-one k) ∙ a .rest (aheadCell (suc k) c) (λ d p e. omega arith))
 
 module _ (N : ℕ) (few : N ≤ mostCharts) (s m₀ : List ℕ) where
   -- nothing is left after the last chart
@@ -351,22 +385,22 @@ module _ (N : ℕ) (few : N ≤ mostCharts) (s m₀ : List ℕ) where
   from-last m a =
       record {
         rows = λ j c p q l. let e : j ≡ N = omega arith in let z : N - N ≡ 0 = omega arith in rw (e, z) (a .row c l);
-        below = λ i l. a .below i (omega arith);
-        above = λ i l. a .above i (omega arith);
+        wires = row-wiring N (λ c. 0) N m₀ m few few a;
+        lists = row-lists N (λ c. 0) N m₀ m few few a;
         masks = a .masks;
       }
 
-  may-same : (m : List ℕ) (c : ℕ) → c < N → countAt s c ≤ mostFromState → ((i : ℕ) → listsFrom ≤ i → getD m i 0 ≡ getD m₀ i 0) → mayAt m s c ≡ mayAt m₀ s c
+  may-same : (m : List ℕ) (c : ℕ) → c < N → countAt s c ≤ mostFromState → SameLists m₀ m → mayAt m s c ≡ mayAt m₀ s c
   unfolding mayAt
-  may-same m c l f h = join-cong (countAt s c) _ _ (λ v r. h (actionCell c v) (omega arith))
+  may-same m c l f h = join-cong (countAt s c) _ _ (λ v r. h .action c v (omega arith) (omega arith))
 
   pub from-next : (k : ℕ) (m m′ : List ℕ) (u : Set) → suc k ≤ N → countAt s k ≤ mostFromState → u ≡ mayAt m s k → AheadFrom N s (suc k) m₀ m → AheadRow k (aheadBy m k u) N m m′ → AheadFrom N s k m₀ m′
   unfolding ahead aheadBy
   from-next k m m′ u l f e a r =
       record {
         rows = λ j c p q x. go j c p q x (same j k) refl;
-        below = λ i p. r .below i (omega arith) ∙ a .below i p;
-        above = λ i p. r .above i (omega arith) ∙ a .above i p;
+        wires = wiring-trans (a .wires) (row-wiring k _ N m m′ (omega arith) few r);
+        lists = lists-trans (a .lists) (row-lists k _ N m m′ (omega arith) few r);
         masks = r .masks ∙ a .masks;
       }
     where
@@ -374,9 +408,9 @@ module _ (N : ℕ) (few : N ≤ mostCharts) (s m₀ : List ℕ) where
       part c e = mayAt m₀ s e ∩ backAt m₀ c e
 
       go : (j c : ℕ) → k ≤ j → j ≤ N → c < N → (b : Bool) → same j k ≡ b → aheadAt m′ j c ≡ ahead (N - j) j (part c)
-      go j c p q x true y = rw (same→≡ j k y) (r .row c x ∙ ap₂ _∪_ (ap₂ _∩_ (e ∙ may-same m k (omega arith) f (a .above)) (a .below (backCell c k) (omega arith))) (a .rows (suc k) c (omega arith) (omega arith) x)
+      go j c p q x true y = rw (same→≡ j k y) (r .row c x ∙ ap₂ _∪_ (ap₂ _∩_ (e ∙ may-same m k (omega arith) f (a .lists)) (a .wires .backs c k (omega arith) (omega arith))) (a .rows (suc k) c (omega arith) (omega arith) x)
           ∙ sym (ap (λ n. ahead n k (part c)) (let h : N - k ≡ suc (N - suc k) = omega arith in h)))
-      go j c p q x false y = let z : j ≢ k = λ o. false≢true (sym y ∙ rw o (same-refl k)) in r .above (aheadCell j c) (omega arith) ∙ a .rows j c (omega arith) q x
+      go j c p q x false y = let z : j ≢ k = λ o. false≢true (sym y ∙ rw o (same-refl k)) in r .rest (aheadCell j c) (λ d o w. omega arith) ∙ a .rows j c (omega arith) q x
 
 -- ── all of it ──
 
@@ -393,12 +427,12 @@ module _ (E : ℕ → Chart) (cfg : ℕ → ℕ) (N : ℕ) (lows m₀ s₀ : Lis
   chosen m m′ s un a st =
       record {
         listed = λ c l. listed-kept m′ s c (E c .transitions) (cfg c) (keepAt E cfg N lows m₀ c) (keepAt E cfg N lows m′ c)
-            (λ v. keep-same E cfg N lows m₀ s₀ few m₀ m′ c v l (λ i p q. sym (a .below i q ∙ un .wires i (omega arith))))
+            (λ v. keep-same E cfg N lows m₀ s₀ few m₀ m′ c v l (λ d e p q. sym (a .wires .backs d e p q ∙ un .wires .backs d e p q)))
             (listed-stays m s m′ s c (E c .transitions) (cfg c) (keepAt E cfg N lows m₀ c) (un .listed c l) (λ v r. let h = un .counts c l in
-            record { needed = a .above (neededCell c v) (omega arith); barred = a .above (barredCell c v) (omega arith); action = a .above (actionCell c v) (omega arith); to = refl; place = refl }));
+            record { needed = a .lists .needed c v (omega arith) (omega arith); barred = a .lists .barred c v (omega arith) (omega arith); action = a .lists .action c v (omega arith) (omega arith); to = refl; place = refl }));
         counts = un .counts;
-        ahead-at = λ k c p q. a .rows k c (omega arith) p q ∙ ahead-cong (N - k) k _ _ (λ e x. ap₂ _∩_ (sym (may-same N few s m m′ e (omega arith) (un .counts e (omega arith)) (a .above)))
-            (sym (a .below (backCell c e) (omega arith))));
+        ahead-at = λ k c p q. a .rows k c (omega arith) p q ∙ ahead-cong (N - k) k _ _ (λ e x. ap₂ _∩_ (sym (may-same N few s m m′ e (omega arith) (un .counts e (omega arith)) (a .lists)))
+            (sym (a .wires .backs c e (omega arith) (omega arith))));
         state-at = λ c l. un .rest (stateCell c) (omega arith) (omega arith) ∙ st c l;
       }
 
@@ -499,11 +533,11 @@ module _ (E : ℕ → Chart) (cfg : ℕ → ℕ) (base : List ℕ) where
       (A ≐ B ∪ₑ C ∷ []) (A ∪ₑ D ≐ B ∪ₑ (C ∪ₑ D)) tt (h c l)
 
   -- by tables with the same wiring and the same masters
-  pub raised-same : (k : ℕ) (m s m′ s′ lows : List ℕ) → k ≤ mostCharts → ((i : ℕ) → backFrom ≤ i → i < aheadFrom → getD m′ i 0 ≡ getD m i 0) → ((i : ℕ) → masterFrom ≤ i → i < stateFrom → getD s′ i 0 ≡ getD s i 0)
+  pub raised-same : (k : ℕ) (m s m′ s′ lows : List ℕ) → k ≤ mostCharts → Backs m′ m → ((i : ℕ) → masterFrom ≤ i → i < stateFrom → getD s′ i 0 ≡ getD s i 0)
       → Raised E cfg k m s base lows → Raised E cfg k m′ s′ base lows
   unfolding sureAt
   raised-same k m s m′ s′ lows few f g h c l = h c l ∙ ap (λ z. getD base c 0 ∪ z) (join-cong k _ _ (λ e r.
-      ap₂ (λ x y. cond (ltb x mostCharts) 0 (sureIn (E e .stays) (sureOf (E e .transitions) (cfg e))) ∩ y) (sym (g (masterCell e) (omega arith) (omega arith))) (sym (f (backCell c e) (omega arith) (omega arith)))))
+      ap₂ (λ x y. cond (ltb x mostCharts) 0 (sureIn (E e .stays) (sureOf (E e .transitions) (cfg e))) ∩ y) (sym (g (masterCell e) (omega arith) (omega arith))) (sym (f c e (omega arith) (omega arith)))))
 
 module _ (E : ℕ → Chart) (state : ℕ → ℕ) (cfg : ℕ → ℕ) (N : ℕ) (enc : ℕ → Option ℕ) (sc : ℕ → ℕ) (t : Tree) (inp : Set) (m s base lows : List ℕ)
     (st : Stands N enc sc t) (ro : Rows E state cfg N enc sc t m s) where

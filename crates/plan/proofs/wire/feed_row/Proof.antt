@@ -1,7 +1,7 @@
 -- `wire::feed_row` meets its contract: the masks below c are joined; an empty m feeds nothing. Assumes nothing.
 use mathlib.Core.Path.{_≡_, ap, _∙_}
 use mathlib.Core.List.{[], _∷_}
-use Prim.Native.Nat.{ℕ, _-_, _≤_}
+use Prim.Native.Nat.{ℕ, _+_, _-_, _≤_}
 use native.Mathlib.Omega.{arith}
 use lib.ListN.{length}
 use Rattle.signals.specs.Mask.{_∪_, _∩_}
@@ -29,7 +29,7 @@ loop-holds : tie.Need-loop-holds Inv-loop μ-loop
 loop-holds c = (omega arith, row-none _ _ _)
 
 -- the masks are as many as they were
-roomy : (t : tie.At-loop Inv-loop μ-loop) → masksFor 0 ≤ length (t .loop .masks)
+roomy : (t : tie.At-loop Inv-loop μ-loop) → masksFor (t .before .before .before .args .d + 1) ≤ length (t .loop .masks)
 roomy t = omega (arith, t .loop .inv .1 .long, t .before .before .before .pre .0)
 
 loop-again : tie.Need-loop-again Inv-loop μ-loop
