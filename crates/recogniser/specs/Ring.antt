@@ -5,7 +5,7 @@ use mathlib.Core.List.{List, [], _∷_}
 use Prim.Native.Nat.{ℕ, _+_, _-_, _%_, _≤_, _<_}
 use lib.ListN.{length, take, getD}
 use Rattle.scan.specs.Look.{backTo, levels, rev}
-use Rattle.scan.specs.Laws.Levels.{Closes, onFirst, fresh}
+use Rattle.scan.specs.Levels.{Closes, onFirst, fresh}
 use Rattle.recogniser.specs.declared.levels.Kept.{Kept}
 use Rattle.recogniser.specs.declared.levels.Back.{Back}
 use Rattle.recogniser.specs.declared.levels.Back.the-variants.{On, Found}

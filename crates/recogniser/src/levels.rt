@@ -5,7 +5,7 @@ ghost use mathlib.Core.Bool.{true};
 ghost use Prim.Native.Nat.{_+_, _≤_, _<_};
 ghost use lib.ListN.{length, getD};
 ghost use Rattle.scan.specs.Look.{around};
-ghost use Rattle.scan.specs.Laws.Levels.{secondOf, slaveOf};
+ghost use Rattle.scan.specs.Levels.{secondOf, slaveOf};
 ghost use Rattle.recogniser.specs.Ring.{flag, StepsBack, slotOf, Ring, Opens, Shuts, Changes, Notes};
 ghost use Rattle.recogniser.specs.Ring.{levelsAt, KeepsAt};
 use crate::bytes;

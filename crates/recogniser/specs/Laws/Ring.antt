@@ -12,9 +12,9 @@ use lib.ListN.{length, getD, set, drop, length-set}
 use lib.Seq.{getD-set-same, getD-set-other}
 use Rattle.notation.specs.Spelling.{blank}
 use Rattle.scan.specs.Look.{opener, closer, around, levels}
-use Rattle.scan.specs.Laws.Levels.{Closes, levels-closer, opener-closer, levels-opener, onFirst, secondOf, levels-bar}
-use Rattle.scan.specs.Laws.Levels.{fresh, slaveOf, levels-q, levels-blank, levels-else, fresh-blank, fresh-opener}
-use Rattle.scan.specs.Laws.Levels.{fresh-other}
+use Rattle.scan.specs.Levels.{Closes, onFirst, secondOf, fresh, slaveOf}
+use Rattle.scan.specs.Laws.Levels.{levels-closer, opener-closer, levels-opener, levels-bar, levels-q, levels-blank}
+use Rattle.scan.specs.Laws.Levels.{levels-else, fresh-blank, fresh-opener, fresh-other}
 use Rattle.recogniser.specs.declared.levels.Kept.{Kept}
 use Rattle.recogniser.specs.Ring.{slotOf, Ring, Keeps}
 

@@ -10,6 +10,7 @@ use lib.Dec.{eqb, ltb}
 use lib.ListN.{length, getD}
 use Rattle.notation.specs.Spelling.{blank}
 use Rattle.scan.specs.Look.{opener, closer, around, level, backTo, look, levels}
+use Rattle.scan.specs.Levels.{Closes, secondOf, onFirst, fresh, slaveOf}
 
 true-false : {c : Bool} → c ≡ false → c ≡ true → ⊥
 true-false e f = false≢true (sym e ∙ f)
@@ -56,11 +57,6 @@ levels-some (b ∷ v) n s q = go (closer b) (opener b) (eqb b 124) (blank b) n (
     go false false false false n ih = ih n s (eqb b 113)
 
 -- ── a bracket is closed: the other levels stay ──
-
--- l without its first begins m
-pub record Closes (l m : List ℕ) : Type 0 where
-  pub long : (j : ℕ) → suc j < length l → j < length m
-  pub same : (j : ℕ) → suc j < length l → getD m j 0 ≡ getD l (suc j) 0
 
 closes-cons : (a : ℕ) (l : List ℕ) → Closes (a ∷ l) l
 closes-cons a l = record { long = λ j h. omega arith; same = λ j h. refl }
@@ -111,14 +107,6 @@ levels-opener b v h k = rw (h, k)
 
 -- ── a bar: what follows is a second part ──
 
-unfoldable pub secondOf : ℕ → ℕ
-secondOf a = a / 2 * 2 + 1
-
--- the first level of a list changed
-unfoldable pub onFirst : (ℕ → ℕ) → List ℕ → List ℕ
-onFirst g [] = []
-onFirst g (a ∷ l) = g a ∷ l
-
 second-twice : (l : List ℕ) → onFirst secondOf (onFirst secondOf l) ≡ onFirst secondOf l
 unfolding onFirst secondOf
 second-twice [] = refl
@@ -162,14 +150,6 @@ unfolding levels backTo
 levels-bar b v h k e = rw (h, k, e) (second v 0 false)
 
 -- ── a state's name right behind an open bracket: the level is a slave's pair ──
-
--- the last byte that is no blank opens a bracket
-unfoldable pub fresh : List ℕ → Bool
-fresh [] = false
-fresh (b ∷ v) = cond (blank b) (fresh v) (opener b)
-
-unfoldable pub slaveOf : ℕ → ℕ
-slaveOf a = cond (ltb a 6) a (a - 4)
 
 around-slave : (b : ℕ) → around b 0 true ≡ slaveOf (around b 0 false)
 unfolding around slaveOf

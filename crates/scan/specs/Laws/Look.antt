@@ -1,4 +1,5 @@
--- The look back finds the context: `looked`.
+-- Looking back finds what encloses the part that has just ended: over tokens (`single-look`, `part-look`), and over
+-- bytes as over tokens (`laid-look`).
 use mathlib.Core.Path.{_≡_, refl, sym, ap, _∙_, fun-ext}
 use mathlib.Core.Bool.{Bool, true, false, _||_, cond, false≢true}
 use mathlib.Core.Option.{Option, none, some}

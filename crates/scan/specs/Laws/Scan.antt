@@ -1,4 +1,5 @@
--- Reading without a stack gives the reader's places: `scanned`.
+-- Reading without a stack answers as the reader does (`scan-reader`), and so as the grammar says (`scan-none`,
+-- `scan-right`, `scan-wrong`).
 use mathlib.Core.Path.{_≡_, refl, sym, ap, _∙_}
 use mathlib.Core.Bool.{Bool, true, false, cond, _&&_, _||_}
 use mathlib.Core.Option.{Option, none, some}

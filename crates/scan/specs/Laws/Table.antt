@@ -1,4 +1,4 @@
--- The table is right: the rows of a state's number are the arms of the state.
+-- The table is right: the rows of a state's number are the ways on from the state (`table-right`).
 use mathlib.Core.Path.{_≡_, refl}
 use mathlib.Core.Bool.{Bool, true, false}
 use mathlib.Core.Option.{none, some}

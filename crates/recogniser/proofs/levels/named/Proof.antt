@@ -1,7 +1,7 @@
 -- `levels::named` meets its contract.
 use mathlib.Core.Path.{refl}
 use borrow.Author.Needs.{needs}
-use Rattle.scan.specs.Laws.Levels.{slaveOf}
+use Rattle.scan.specs.Levels.{slaveOf}
 use Rattle.recogniser.specs.Laws.Ring.{ring-first-at}
 use Rattle.recogniser.proofs.levels.named.Statement.{statement}
 use Rattle.recogniser.proofs.levels.named.Tie as tie

@@ -1,7 +1,7 @@
 -- `levels::second` meets its contract.
 use mathlib.Core.Path.{refl}
 use borrow.Author.Needs.{needs}
-use Rattle.scan.specs.Laws.Levels.{secondOf}
+use Rattle.scan.specs.Levels.{secondOf}
 use Rattle.recogniser.specs.Laws.Ring.{ring-first-at}
 use Rattle.recogniser.proofs.levels.second.Statement.{statement}
 use Rattle.recogniser.proofs.levels.second.Tie as tie

@@ -1,7 +1,7 @@
 -- `levels::second_of` meets its contract.
 use mathlib.Core.Path.{refl}
 use native.Mathlib.Omega.{arith}
-use Rattle.scan.specs.Laws.Levels.{secondOf}
+use Rattle.scan.specs.Levels.{secondOf}
 use Rattle.recogniser.proofs.levels.second_of.Statement.{statement}
 use Rattle.recogniser.proofs.levels.second_of.Tie as tie
 

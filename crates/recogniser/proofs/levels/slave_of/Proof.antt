@@ -1,7 +1,7 @@
 -- `levels::slave_of` meets its contract.
 use borrow.Author.Needs.{needs}
 use borrow.Author.Tests.{lt-ltb, le-ltb}
-use Rattle.scan.specs.Laws.Levels.{slaveOf}
+use Rattle.scan.specs.Levels.{slaveOf}
 use Rattle.recogniser.proofs.levels.slave_of.Statement.{statement}
 use Rattle.recogniser.proofs.levels.slave_of.Tie as tie
 
