@@ -50,7 +50,7 @@ module _ (fed : Set) where
       go true q = q
       go false q = (h .0, q)
 
-  leaving-alive : (ts : List Transition) (s : ℕ) → leavingIn (alive fed ts) s ≤ leavingIn ts s
+  pub leaving-alive : (ts : List Transition) (s : ℕ) → leavingIn (alive fed ts) s ≤ leavingIn ts s
   unfolding alive leavingIn
   leaving-alive [] s = omega arith
   leaving-alive (t ∷ ts) s = go (dead fed t) (leaving-alive ts s)

@@ -1,23 +1,22 @@
-// Clearing a body that passed its check: which transitions are dead, how many are left, and the bytes of the cleared file.
+// Clearing a body that passed its check: which transitions are dead, how many are left, the bytes of the cleared file.
 ghost use mathlib.Core.Path.{_≡_};
 ghost use mathlib.Core.List.{[], _∷_};
 ghost use Prim.Native.Nat.{_+_, _≤_, _<_};
 ghost use lib.ListN.{length};
-ghost use Rattle.layout.specs.Record.{headBytes, slaveBytes, nodeBytes};
-ghost use Rattle.layout.specs.Body.{Holds, from, transitionAt, slaveAt, nodeAt};
+ghost use Rattle.layout.specs.Body.{Holds, from, transitionAt};
 ghost use Rattle.layout.specs.Put.{Room, Put};
 ghost use Rattle.meaning.specs.Calls.{laidOver};
 ghost use Rattle.meaning.specs.File.{fileAt};
-ghost use Rattle.meaning.specs.Rewriting.{headFor, inTurn, transitionsBytes, transitionsIn, shapeIn, encode};
+ghost use Rattle.meaning.specs.Rewriting.{inTurn, transitionsIn, shapeIn, encode};
 ghost use Rattle.checks.specs.Known.{Sized, Summed};
-ghost use Rattle.clearing.specs.Clearing.{alive, clearedChart, clear, dead as isDead};
-ghost use Rattle.clearing.specs.Left.{leftOf, headWith, keptBytes};
+ghost use Rattle.clearing.specs.Clearing.{clear, dead as isDead};
+ghost use Rattle.clearing.specs.Left.{leftOf, headWith, keptBytes, headsBytes, listsBytes, slavesBytes, nodesBytes};
 use checks::limits;
 use layout::body::Shape;
 use layout::record::Head;
 use layout::record::Transition;
 
-// What is left of a list of transitions: how many; the signals that guards of the list named, and those that they still name.
+// What is left of a list of transitions: how many; the signals that its guards named, and those that they still name.
 pub struct Left {
     pub count: usize,
     pub was: u64,
@@ -124,9 +123,8 @@ pub fn shape(n: Shape, body: &[u8]) -> Shape
 // The heads of all charts.
 fn heads(n: Shape, body: &[u8], out: &mut [u8], at: usize) -> usize
     requires { ⌜ Sized n (now body) × Summed n (now body)
-        × Room (now out) at (inTurn (n .charts) (λ c. headBytes (headFor (clearedChart (fileAt n (now body) .chart c))))) ⌝ }
-    ensures { λ r. ⌜ Put (now (out .entry)) at
-        (inTurn (n .charts) (λ c. headBytes (headFor (clearedChart (fileAt n (now (body .entry)) .chart c))))) (now (out .exit)) r ⌝ }
+        × Room (now out) at (headsBytes n (now body)) ⌝ }
+    ensures { λ r. ⌜ Put (now (out .entry)) at (headsBytes n (now (body .entry))) (now (out .exit)) r ⌝ }
 {
     let charts = n.charts;
     let mut p = at;
@@ -180,9 +178,8 @@ fn chart(
 // The transitions that are left in all charts.
 fn transitions(n: Shape, body: &[u8], out: &mut [u8], at: usize) -> usize
     requires { ⌜ Sized n (now body) × Summed n (now body)
-        × Room (now out) at (inTurn (n .charts) (λ c. transitionsBytes (clearedChart (fileAt n (now body) .chart c) .transitions))) ⌝ }
-    ensures { λ r. ⌜ Put (now (out .entry)) at
-        (inTurn (n .charts) (λ c. transitionsBytes (clearedChart (fileAt n (now (body .entry)) .chart c) .transitions))) (now (out .exit)) r ⌝ }
+        × Room (now out) at (listsBytes n (now body)) ⌝ }
+    ensures { λ r. ⌜ Put (now (out .entry)) at (listsBytes n (now (body .entry))) (now (out .exit)) r ⌝ }
 {
     let charts = n.charts;
     let mut p = at;
@@ -199,8 +196,8 @@ fn transitions(n: Shape, body: &[u8], out: &mut [u8], at: usize) -> usize
 
 // The slaves, as they were.
 fn slaves(n: Shape, body: &[u8], out: &mut [u8], at: usize) -> usize
-    requires { ⌜ Sized n (now body) × Room (now out) at (inTurn (n .slaves) (λ i. slaveBytes (slaveAt n (now body) i))) ⌝ }
-    ensures { λ r. ⌜ Put (now (out .entry)) at (inTurn (n .slaves) (λ i. slaveBytes (slaveAt n (now (body .entry)) i))) (now (out .exit)) r ⌝ }
+    requires { ⌜ Sized n (now body) × Room (now out) at (slavesBytes n (now body)) ⌝ }
+    ensures { λ r. ⌜ Put (now (out .entry)) at (slavesBytes n (now (body .entry))) (now (out .exit)) r ⌝ }
 {
     let slaves = n.slaves;
     let mut p = at;
@@ -214,8 +211,8 @@ fn slaves(n: Shape, body: &[u8], out: &mut [u8], at: usize) -> usize
 
 // The nodes, as they were.
 fn nodes(n: Shape, body: &[u8], out: &mut [u8], at: usize) -> usize
-    requires { ⌜ Sized n (now body) × Room (now out) at (inTurn (n .nodes) (λ j. nodeBytes (nodeAt n (now body) j))) ⌝ }
-    ensures { λ r. ⌜ Put (now (out .entry)) at (inTurn (n .nodes) (λ j. nodeBytes (nodeAt n (now (body .entry)) j))) (now (out .exit)) r ⌝ }
+    requires { ⌜ Sized n (now body) × Room (now out) at (nodesBytes n (now body)) ⌝ }
+    ensures { λ r. ⌜ Put (now (out .entry)) at (nodesBytes n (now (body .entry))) (now (out .exit)) r ⌝ }
 {
     let nodes = n.nodes;
     let mut p = at;

@@ -1,4 +1,5 @@
-// Records laid down one behind another, for the calls that write a file: each is written at a place, and the place behind it is given back.
+// Records laid down one behind another, for the calls that write a file. Each function writes at a place, and gives the
+// place behind what it wrote.
 ghost use mathlib.Core.Path.{_≡_};
 ghost use Prim.Native.Nat.{_+_, _≤_};
 ghost use lib.ListN.{length};

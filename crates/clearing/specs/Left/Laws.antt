@@ -36,7 +36,8 @@ alive-append fed [] ys = refl
 alive-append fed (t ∷ xs) ys = go (dead fed t) (alive-append fed xs ys)
   where
     go : (b : Bool) → alive fed (xs ++ ys) ≡ alive fed xs ++ alive fed ys
-        → cond b (alive fed (xs ++ ys)) (t ∷ alive fed (xs ++ ys)) ≡ cond b (alive fed xs) (t ∷ alive fed xs) ++ alive fed ys
+        → cond b (alive fed (xs ++ ys)) (t ∷ alive fed (xs ++ ys)) ≡ cond b (alive fed xs) (t ∷ alive fed xs)
+        ++ alive fed ys
     go true e = e
     go false e = ap (λ z. t ∷ z) e
 
@@ -149,7 +150,8 @@ module _ (n : Shape) (b : List ℕ) (c s : ℕ) (h : Head) (eh : h ≡ headAt n 
   pub list-cleared : clearedChart (fileAt n b .chart c) .transitions
       ≡ alive (h .feedback) (from (transitionAt n b) s (h .transitions))
   unfolding clearedChart fileAt chartOf transitionsOf
-  list-cleared = sym (ap₂ (λ (h : Head) (s : ℕ). alive (h .feedback) (from (transitionAt n b) s (h .transitions))) eh es)
+  list-cleared = sym (ap₂ (λ (h : Head) (s : ℕ). alive (h .feedback)
+      (from (transitionAt n b) s (h .transitions))) eh es)
 
   pub count-cleared : (l : Left) → l ≡ leftTo (h .feedback) (transitionAt n b) s (h .transitions)
       → l .count ≡ length (clearedChart (fileAt n b .chart c) .transitions)
@@ -164,7 +166,8 @@ module _ (n : Shape) (b : List ℕ) where
   fewer zero = omega arith
   fewer (suc k) =
       let a = fewer k in
-      let g = alive-most (headAt n b k .feedback) (from (transitionAt n b) (startOf n b k) (headAt n b k .transitions)) in
+      let g = alive-most (headAt n b k .feedback)
+      (from (transitionAt n b) (startOf n b k) (headAt n b k .transitions)) in
       let e = length-from (transitionAt n b) (startOf n b k) (headAt n b k .transitions) in
       omega arith
 

@@ -1,5 +1,5 @@
--- Laws of clearing behind 1 to 11, in this order: a file that is refused, one whose charts may stay, and one that passed;
--- 45 and the result's size; what the call answers.
+-- Laws of clearing behind 1 to 11, in this order: a file that is refused, one whose charts may stay, and one that
+-- passed; 45 and the result's size; what the call answers.
 use mathlib.Core.Path.{_≡_, refl, sym, ap, _∙_}
 use mathlib.Core.List.{List, []}
 use mathlib.Core.Logic.{_≢_}
@@ -33,7 +33,8 @@ module _ (f : List ℕ) where
   unfolding clearRefusal
   stay-refused h two room = call-passed f _ h ∙ firstOf-here (stayTest f) _ (rw two (same-refl stayEdition))
 
-  refusal-is : refusalOf f ≡ 0 → trailer f .edition ≢ stayEdition → (room : ℕ) → clearRefusal f room ≡ clearAfter (fileOf f) room
+  refusal-is : refusalOf f ≡ 0 → trailer f .edition ≢ stayEdition → (room : ℕ)
+      → clearRefusal f room ≡ clearAfter (fileOf f) room
   unfolding clearRefusal clearAfter clearBytes
   refusal-is h one room = call-passed f _ h ∙ firstOf-next (stayTest f) _ (same-≢ (trailer f .edition) stayEdition one)
 
@@ -67,7 +68,8 @@ module _ (F : File) (buffer : List ℕ) where
   unfolding clearAfter
   after-all l = firstOf-next _ [] (le-ltb (length buffer) (length (encode (clear F))) l) ∙ firstOf-[]
 
-  pub body-short : (s : Cleared) → length buffer < length (encode (clear F)) → s ≡ record { refusal = shortOut; length = 0 }
+  pub body-short : (s : Cleared) → length buffer < length (encode (clear F))
+      → s ≡ record { refusal = shortOut; length = 0 }
       → ClearsBody F buffer s buffer
   unfolding same
   body-short s l q = rw (after-short l) (q, refl)
