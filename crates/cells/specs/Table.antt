@@ -1,5 +1,6 @@
--- The tables that a search reads, by chart c, candidate v and chart d, and where each cell stands. A chart has at most mostFromState candidates: the
--- transitions that it may take now. The masks stand chart by chart, so that tables for fewer charts are shorter and begin alike.
+-- The tables that a search reads, by chart c, candidate v and chart d, and where each cell stands. A chart has at
+-- most mostFromState candidates: the transitions that it may take now. The masks stand chart by chart, so that tables
+-- for fewer charts are shorter and begin alike.
 use mathlib.Core.List.{List}
 use Prim.Native.Nat.{ℕ, _+_, _*_, _≤_, _<_}
 use mathlib.Core.Path.{_≡_}
@@ -9,8 +10,8 @@ use Rattle.meaning.specs.Numbers.{mostCharts, mostFromState}
 
 -- ── where the masks stand ──
 
--- a block for each chart k: what each chart may still be offered by k and the charts after it; what each chart is offered of k's action; what of it comes
--- out of the whole; what k's candidates need, bar and put out
+-- a block for each chart k: what each chart may still be offered by k and the charts after it; what each chart is
+-- offered of k's action; what of it comes out of the whole; what k's candidates need, bar and put out
 abbrev pub backFrom : ℕ
 backFrom = mostCharts
 
@@ -51,7 +52,8 @@ barredCell c v = block * c + barredFrom + v
 abbrev pub actionCell : ℕ → ℕ → ℕ
 actionCell c v = block * c + actionFrom + v
 
--- how many masks the tables of N charts have: behind the last chart's block nothing may be offered any more, which is a row too
+-- how many masks the tables of N charts have: behind the last chart's block nothing may be offered any more, which is a
+-- row too
 abbrev pub masksFor : ℕ → ℕ
 masksFor N = block * N + mostCharts
 
@@ -81,7 +83,8 @@ module _ (m : List ℕ) where
 
   -- candidate v of chart c is the transition
   unfoldable pub putMasks : ℕ → ℕ → Transition → List ℕ
-  putMasks c v t = set (set (set m (neededCell c v) (t .needed)) (barredCell c v) (t .barred)) (actionCell c v) (t .action)
+  putMasks c v t =
+      set (set (set m (neededCell c v) (t .needed)) (barredCell c v) (t .barred)) (actionCell c v) (t .action)
 
 -- m has the wiring of m₀: what each chart is offered of each chart's action, and what comes out of the whole
 pub record SameWiring (m₀ m : List ℕ) : Type 0 where
@@ -100,7 +103,8 @@ Row l f = (c : ℕ) → c < mostCharts → getD l c 0 ≡ f c
 
 -- ── where the small numbers stand ──
 
--- where candidates lead; how many there are; the nearest slave's master and state; the present state; the places of candidates
+-- where candidates lead; how many there are; the nearest slave's master and state; the present state; the places of
+-- candidates
 abbrev pub countFrom : ℕ
 countFrom = mostCharts * mostFromState
 

@@ -1,5 +1,5 @@
--- A beginning of a choice, where it stands: in two lists, of masks and of small numbers. What stands there behind it, which earlier tries have left,
--- is no part of it.
+-- A beginning of a choice, where it stands: in two lists, of masks and of small numbers. What stands there behind it,
+-- which earlier tries have left, is no part of it.
 use mathlib.Core.Path.{_≡_}
 use mathlib.Core.List.{List, _++_}
 use Prim.Native.Nat.{ℕ, _+_, _-_, _*_}

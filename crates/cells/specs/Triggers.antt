@@ -1,4 +1,5 @@
--- What triggers charts that may stay, where it stands: all transitions from a chart's present state, also those that are no candidates.
+-- What triggers charts that may stay, where it stands: all transitions from a chart's present state, also those that
+-- are no candidates.
 use mathlib.Core.Path.{_≡_}
 use mathlib.Core.List.{List}
 use mathlib.Core.Logic.{_≢_}
@@ -32,7 +33,8 @@ module _ (g : List ℕ) where
   unfoldable pub putTrigger : ℕ → ℕ → Transition → List ℕ
   putTrigger c v t = set (set g (triggerNeededCell c v) (t .needed)) (triggerBarredCell c v) (t .barred)
 
--- what a search is told: for each chart 0 if it cannot stay, else how many triggers it has and 1; behind them 0 if none can
+-- what a search is told: for each chart 0 if it cannot stay, else how many triggers it has and 1; behind them 0 if none
+-- can
 abbrev pub staysSize : ℕ
 staysSize = mostCharts + 1
 

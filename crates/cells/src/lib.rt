@@ -1,5 +1,5 @@
-// The tables of a search: where each cell stands, by chart and candidate. No other crate computes an index into them or says how long they are. What
-// the cells mean is in specs/.
+// The tables of a search: where each cell stands, by chart and candidate. No other crate computes an index into them or
+// says how long they are. What the cells mean is in specs/.
 ghost use mathlib.Core.Path.{_≡_};
 
 pub mod masks;

@@ -3,7 +3,8 @@ ghost use mathlib.Core.Path.{_≡_};
 ghost use Prim.Native.Nat.{_+_, _≤_, _<_};
 ghost use lib.ListN.{length, set};
 ghost use Rattle.meaning.specs.Numbers.{mostCharts, mostFromState};
-ghost use Rattle.cells.specs.Table.{masksFor, upCell, backCell, aheadCell, upAt, backAt, aheadAt, neededAt, barredAt, actionAt, putMasks};
+ghost use Rattle.cells.specs.Table.{masksFor, upCell, backCell, aheadCell, upAt, backAt, aheadAt};
+ghost use Rattle.cells.specs.Table.{neededAt, barredAt, actionAt, putMasks};
 use crate::CANDIDATES;
 use crate::CHARTS;
 use layout::record::Transition;
@@ -21,7 +22,8 @@ const ACTION: usize = BARRED + CANDIDATES;
 
 const BLOCK: usize = ACTION + CANDIDATES;
 
-// How many masks there are for all charts, and for as few as FEW: to zero them takes a good part of a step. Behind the last chart stands one row more.
+// How many masks there are for all charts, and for as few as FEW: to zero them takes a good part of a step. Behind the
+// last chart stands one row more.
 pub const SIZE: usize = BLOCK * CHARTS + CHARTS;
 
 pub const FEW: usize = 4;
