@@ -1,4 +1,4 @@
--- Clearing: a file of edition 1 without its dead transitions, those that no step can take. In this order: which are
+-- Clearing (RULES 12): a file of edition 1 without its dead transitions, which no step can take. In this order: which are
 -- dead; a list, a chart and a file without them; the places of a step in the new lists; what the call answers. That the
 -- cleared file steps as the file does is in Calls.
 use mathlib.Core.Bool.{Bool, _||_, cond}
@@ -18,23 +18,23 @@ use Rattle.meaning.specs.Rewriting.{encode, stayTest}
 -- ── dead transitions ──
 
 -- the transition needs a signal and bars it too; or it bars one that it outputs, which its chart's own feedback set,
--- fed, offers it again (RULES 5.6). What nodes or an enclosing master feed back does not count.
+-- fed, offers it again (RULES 12.2). What nodes or an enclosing master feed back does not count.
 unfoldable pub dead : Set → Transition → Bool
 dead fed t = differ (t .needed ∩ t .barred) ∅ || differ (t .barred ∩ (t .action ∩ fed)) ∅
 
--- a list without them, in its old order
+-- a list without them, in its old order (RULES 12.3)
 unfoldable pub alive : Set → List Transition → List Transition
 alive fed [] = []
 alive fed (t ∷ ts) = cond (dead fed t) (alive fed ts) (t ∷ alive fed ts)
 
 -- ── the cleared file ──
 
--- the signals that some guard of the chart named before, and none names after
+-- the signals that some guard of the chart named before, and none names after (RULES 12.3)
 unfoldable pub lost : Chart → Set
 lost C = guards (C .transitions) ∖ guards (alive (C .feedback) (C .transitions))
 
 -- a chart without its dead transitions; the lost signals join its extra set, so that its input interface stays (RULES
--- 4.1)
+-- 12.3)
 unfoldable pub clearedChart : Chart → Chart
 clearedChart C =
     record {
@@ -46,7 +46,7 @@ clearedChart C =
       stays = C .stays;
     }
 
--- the file with all its charts cleared; slaves and nodes stay
+-- the file with all its charts cleared; slaves and nodes stay (RULES 12.3)
 abbrev pub clear : File → File
 clear F =
     record {
@@ -66,7 +66,7 @@ clear F =
 
 -- ── places ──
 
--- how many of the first k transitions of a list are left: the place that transition k has in the new list
+-- how many of the first k transitions of a list are left: the place that transition k has in the new list (RULES 12.5)
 unfoldable pub lives : Set → List Transition → ℕ → ℕ
 lives fed [] k = 0
 lives fed (t ∷ ts) zero = 0
@@ -81,9 +81,9 @@ unfoldable pub newPlaces : (ℕ → Chart) → ℕ → List ℕ → List ℕ
 newPlaces E c [] = []
 newPlaces E c (p ∷ ps) = newPlace (E c) p ∷ newPlaces E (suc c) ps
 
--- ── what the call answers: 1 to 11, 46 for edition 2, 45 ──
+-- ── what the call answers: 1 to 11, 46 for edition 2, 45 (RULES 12.4) ──
 
--- the result, without a front
+-- the result, without a front (RULES 12.3)
 unfoldable pub clearBytes : List ℕ → List ℕ
 clearBytes f = encode (clear (fileOf f))
 

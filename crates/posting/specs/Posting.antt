@@ -18,41 +18,41 @@ pub mod Laws
 
 -- ── limits and refusals ──
 
--- cases of a book
+-- cases of a book (RULES 3.7)
 abbrev pub mostCases : ℕ
 mostCases = 64
 
--- the highest number of a row: it has four bytes
+-- the highest number of a row: it has four bytes (RULES 11.4)
 abbrev pub lastRow : ℕ
 lastRow = 4294967295
 
--- the bytes that a record has for its configuration
+-- the bytes that a record has for its configuration (RULES 11.1)
 abbrev pub width : ℕ
 width = 16
 
--- 60: a book has no case, or more than 64
+-- 60: a book has no case, or more than 64 (RULES 3.7)
 abbrev pub badBook : ℕ
 badBook = 60
 
--- 61: an entry is for a case that is not in the book
+-- 61: an entry is for a case that is not in the book (RULES 3.7)
 abbrev pub noSuchCase : ℕ
 noSuchCase = 61
 
--- 62: the number of a case's last row is the highest one
+-- 62: the number of a case's last row is the highest one (RULES 3.7)
 abbrev pub rowsEnd : ℕ
 rowsEnd = 62
 
--- 63: the buffer has no room for a row of each case
+-- 63: the buffer has no room for a row of each case (RULES 3.7)
 abbrev pub shortBook : ℕ
 shortBook = 63
 
 -- ── a case and its entries ──
 
--- the configuration of a record: its first `length` bytes; past those that the record has, they count as 0
+-- the configuration of a record: its first `length` bytes; past those that the record has, they count as 0 (RULES 11.1)
 abbrev pub configOf : Case → List ℕ
 configOf c = made (c .length) (λ k. getD (c .config) k 0)
 
--- all that arrived for case k: its entries joined, and the empty set if it has none
+-- all that arrived for case k: its entries joined, and the empty set if it has none (RULES 11.2)
 unfoldable pub joined : ℕ → List Entry → Set
 joined k [] = ∅
 joined k (e ∷ es) = cond (same (e .number) k) (e .signals ∪ joined k es) (joined k es)
@@ -78,7 +78,7 @@ pub data Alike : List Entry → List Entry → Type 0 where
 
 -- ── the refusals, in order ──
 
--- 20 and 21 of each case in turn: the first bad case decides, also past the cases that a book may have
+-- 20 and 21 of each case in turn: the first bad case decides, also past the cases that a book may have (RULES 11.6)
 unfoldable pub bookTests : List ℕ → List Case → List Test
 bookTests f [] = []
 bookTests f (c ∷ cs) = configTests f (configOf c) ++ bookTests f cs
@@ -93,7 +93,7 @@ unfoldable pub ended? : List Case → Bool
 ended? [] = false
 ended? (c ∷ cs) = leb lastRow (c .last) || ended? cs
 
--- 60 to 63; a row has 14 bytes and one for each chart
+-- 60 to 63; a row has 14 bytes and one for each chart (RULES 3.7, 11.4)
 unfoldable pub dayTests : List ℕ → List Case → List Entry → ℕ → List Test
 dayTests f cases entries room =
     record { number = badBook; applies = same (length cases) 0 || ltb mostCases (length cases) }
@@ -102,21 +102,21 @@ dayTests f cases entries room =
     ∷ record { number = shortBook; applies = ltb room (length cases * (14 + fileOf f .charts)) }
     ∷ []
 
--- 1 to 11; 20 and 21; 60 to 63
+-- 1 to 11; 20 and 21; 60 to 63 (RULES 3.6, 11.6)
 unfoldable pub postRefusal : List ℕ → List Case → List Entry → ℕ → ℕ
 postRefusal f cases entries room = firstOf (fileTests f ++ (bookTests f cases ++ dayTests f cases entries room))
 
 -- ── a case posted: i is what arrived for it ──
 
--- the step from its configuration, under what it carries joined with what arrived
+-- the step from its configuration, under what it carries joined with what arrived (RULES 11.3)
 abbrev pub answerTo : File → Case → Set → Answer
 answerTo F c i = stepIn F (configOf c) (c .carried ∪ i)
 
--- its row, given or refused: the new number in 4 bytes, then a row as a run has it (RULES 6.3)
+-- its row, given or refused: the new number in 4 bytes, then a row as a run has it (RULES 6.3, 11.4)
 unfoldable pub postedRow : File → Case → Set → List ℕ
 postedRow F c i = bytes 4 (c .last + 1) ++ rowOf (answerTo F c i) (configOf c)
 
--- its record then: the next configuration over the front of the old bytes, what is carried on (RULES 6.4), the number of the new row
+-- its record then: the next configuration over the front of the old bytes, what is carried on (RULES 6.4), the number of the new row (RULES 11.5)
 unfoldable pub postedCase : File → Case → Set → Case
 postedCase F c i = record {
   carried = carriedAfter (answerTo F c i) (c .carried ∪ i);
@@ -125,7 +125,7 @@ postedCase F c i = record {
   config = nextIn (answerTo F c i) (c .config);
 }
 
--- ── the book posted: every case has one row, in the order of the cases; the first of them has number k ──
+-- ── the book posted: every case has one row, in the order of the cases; the first of them has number k (RULES 11.3) ──
 
 unfoldable pub rowsFrom : File → ℕ → List Case → List Entry → List ℕ
 rowsFrom F k [] entries = []
