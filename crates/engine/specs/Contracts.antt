@@ -5,21 +5,22 @@ use mathlib.Core.Path.{_≡_}
 use mathlib.Core.List.{List}
 use Prim.Native.Nat.{ℕ}
 use lib.ListN.{length}
-use Rattle.meaning.specs.Meaning.{Set, Answer}
+use Rattle.meaning.specs.Meaning.{Set}
 use Rattle.meaning.specs.Check.{refusalOf}
-use Rattle.meaning.specs.Calls.{firstRefusal, firstBytes, inputOf, outputOf, stepOf, placesOf, nextIn, refusalIn, outputIn, markIn, runRefusal}
+use Rattle.meaning.specs.Calls.{firstRefusal, firstBytes, inputOf, outputOf, stepOf, placesOf, nextIn, runRefusal}
 use Rattle.meaning.specs.Calls.{runBytes, runCarried}
 use Rattle.meaning.specs.Rewriting.{rewriteRefusal, rewriteLength, rewriteOut}
 use Rattle.meaning.specs.Plain.{plainOf}
 use Rattle.clearing.specs.Clearing.{clearRefusal, clearLength, clearOut}
+use Rattle.stepping.specs.Answer.{steppedOf}
 use Rattle.engine.specs.States.{statesOf}
 use Rattle.engine.specs.declared.clear.Cleared.{Cleared}
 use Rattle.engine.specs.declared.file.StateCounts.{StateCounts}
 use Rattle.engine.specs.declared.interface.Faces.{Faces}
 use Rattle.engine.specs.declared.plainness.Plainness.{Plainness}
 use Rattle.engine.specs.declared.rewriting.Rewritten.{Rewritten}
-use Rattle.engine.specs.declared.run.Ran.{Ran}
-use Rattle.engine.specs.declared.step.Stepped.{Stepped}
+use Rattle.stepping.specs.declared.run.Ran.{Ran}
+use Rattle.stepping.specs.declared.step.Stepped.{Stepped}
 pub mod Laws
 
 -- the check (RULES 3.2)
@@ -41,10 +42,6 @@ InterfaceSays f r = r ≡ record { refusal = refusalOf f; input = inputOf f; out
 -- whether the file is plain (RULES 8.2)
 abbrev pub PlainSays : List ℕ → Plainness → Type 0
 PlainSays f r = r ≡ record { refusal = refusalOf f; plain = plainOf f }
-
--- an answer in numbers, and the places of its transitions (RULES 5.9, 5.11)
-abbrev pub steppedOf : Answer → List ℕ → Stepped
-steppedOf a places = record { refusal = refusalIn a; output = outputIn a; mark = markIn a; places = places }
 
 -- the step from a configuration under the input i (RULES 5.9)
 abbrev pub StepSays : List ℕ → List ℕ → Set → List ℕ → Stepped → List ℕ → Type 0

@@ -25,9 +25,9 @@ use Rattle.meaning.specs.Laws.Runs.{Leads, Valid, rows-all}
 use Rattle.checks.specs.Open.{Stands}
 use Rattle.checks.specs.declared.opening.Opening.{Opening}
 use Rattle.engine.specs.Contracts.Laws.{both}
-use Rattle.engine.specs.Step.{configTestsIn}
-use Rattle.engine.specs.Step.Laws.{checked}
-use Rattle.engine.specs.Run.Laws.{leads, bytes-passed, after-rows}
+use Rattle.stepping.specs.Step.{configTestsIn}
+use Rattle.stepping.specs.Step.Laws.{checked}
+use Rattle.stepping.specs.Run.Laws.{leads, bytes-passed, after-rows}
 use Rattle.line.specs.Line.{lineOf, fileRefused, frontOf, dayRefusal, inputsOf, linesOf, dayLines, dayOf, dayFrom}
 use Rattle.day.specs.Day.{Accepted, DaySays}
 

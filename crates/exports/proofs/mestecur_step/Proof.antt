@@ -2,7 +2,7 @@
 use mathlib.Core.Path.{ap, _∙_}
 use borrow.Author.Needs.{needs}
 use Rattle.meaning.specs.Count.{one}
-use Rattle.engine.specs.declared.step.Stepped.{Stepped}
+use Rattle.stepping.specs.declared.step.Stepped.{Stepped}
 use Rattle.exports.proofs.mestecur_step.Statement.{statement}
 use Rattle.exports.proofs.mestecur_step.Tie as tie
 

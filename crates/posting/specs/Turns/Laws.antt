@@ -14,10 +14,10 @@ use lib.Seq.{take-suc, sets, sets-eq, take-at, drop-at, drop-drop, drop-length, 
 use Rattle.layout.specs.Le.{bytes}
 use Rattle.layout.specs.Le.Laws.{length-bytes}
 use Rattle.meaning.specs.Count.{one, anyUpTo}
-use Rattle.engine.specs.declared.step.Stepped.{Stepped}
+use Rattle.stepping.specs.declared.step.Stepped.{Stepped}
 use Rattle.engine.specs.declared.file.StateCounts.{StateCounts}
 use Rattle.engine.specs.States.{statesOf}
-use Rattle.engine.specs.Contracts.{steppedOf}
+use Rattle.stepping.specs.Answer.{steppedOf}
 use Rattle.meaning.specs.Numbers.{mostCharts, wrongLength, badState}
 use Rattle.meaning.specs.Meaning.{Set, same}
 use Rattle.meaning.specs.Check.{notBelow}

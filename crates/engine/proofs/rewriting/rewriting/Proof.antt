@@ -22,7 +22,7 @@ use Rattle.agreement.specs.Step.{nearest-is}
 use Rattle.checks.specs.Open.{Stands}
 use Rattle.checks.specs.Known.{Sized, Summed}
 use Rattle.rewrite.specs.Known.{Checked, Upward}
-use Rattle.engine.specs.Step.Laws.{checked, file-is}
+use Rattle.stepping.specs.Step.Laws.{checked, file-is}
 use Rattle.engine.specs.Contracts.{RewritingSays}
 use Rattle.engine.specs.Rewriting.{BodyRewrites}
 use Rattle.engine.specs.Rewriting.Laws.{file-refused, stay-refused, refusal-is, length-is, out-is}

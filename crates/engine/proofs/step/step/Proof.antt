@@ -13,9 +13,9 @@ use Rattle.meaning.specs.Calls.{stepOf}
 use Rattle.meaning.specs.Calls.Laws.{of-refused}
 use Rattle.checks.specs.Open.{Stands}
 use Rattle.engine.specs.Contracts.{StepSays}
-use Rattle.engine.specs.Step.{BodySteps}
-use Rattle.engine.specs.Step.Laws.{step-refused, step-passed, places-passed, checked, file-is, refuses}
-use Rattle.engine.specs.declared.step.Stepped.{Stepped}
+use Rattle.stepping.specs.Step.{BodySteps}
+use Rattle.stepping.specs.Step.Laws.{step-refused, step-passed, places-passed, checked, file-is, refuses}
+use Rattle.stepping.specs.declared.step.Stepped.{Stepped}
 use Rattle.engine.proofs.step.step.Statement.{statement}
 use Rattle.engine.proofs.step.step.Tie as tie
 

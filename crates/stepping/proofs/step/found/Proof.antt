@@ -1,0 +1,78 @@
+-- `step::found` meets its contract: the tables hold the file's wiring and candidates, and the search is told which charts may stay, none but in the
+-- second edition; so what it finds answers the step.
+use mathlib.Core.Path.{_≡_}
+use mathlib.Core.List.{List, []}
+use Prim.Native.Nat.{ℕ}
+use borrow.Author.Needs.{needs}
+use lib.ListN.{replicate}
+use Rattle.cells.specs.Triggers.{staysSize}
+use Rattle.staying.specs.Staying.{Stays}
+use Rattle.staying.specs.Staying.Laws.{stays-none}
+use Rattle.stepping.specs.Step.Laws.{prepared-again, found-here}
+use Rattle.stepping.proofs.step.found.Statement.{statement}
+use Rattle.stepping.proofs.step.found.Tie as tie
+
+found-staying-requires : tie.Need-found-staying-requires
+found-staying-requires c κs =
+    let d = c .before .before .before .before .before .before .before .before in
+    let s = d .before .before .before .before .before .before .before .before in
+    let k = d .choose .ensures .1 in
+    (s .pre .1, record { masks = k .tabled .masks; small = k .tabled .small; counts = k .chosen .counts }, d .choose .ensures .0)
+
+returns : tie.Need-returns
+returns c =
+    let k = c .before .before .before .before .before .before .before .before .before in
+    let l = k .before .before .before in
+    let s = l .before .before .before .before .before in
+    let q = c .found-staying .ensures in (
+      rw (q .found)
+          (found-here _ _ _ _ _ _ _ _ _ _ (s .pre .0 .sized) (s .pre .2) (k .choose .ensures .1) (λ i. l .before .before .before .before .shared-slice-known .given i .fits) (s .pre .0)
+          _ (s .fits .input .fits) (l .lows .ensures) (q .guards) (q .stays) (q .told)),
+      prepared-again _ _ _ _ _ _ _ _ _ _ (s .pre .0 .sized) (s .pre .2) (k .choose .ensures .1),
+    )
+
+-- no chart may stay
+none : (c : tie.Else1) → let d = c .before .before .before .before .before .before in
+    let s = d .before .before .before .before .before .before .before .before in
+    (m : List ℕ) → Stays (s .args .n) (s .args .body .now) (s .args .config .now) (d .choose .result .low) m [] (replicate staysSize 0)
+none c = let d = c .before .before .before .before .before .before in
+    let s = d .before .before .before .before .before .before .before .before in
+    λ m. stays-none _ _ _ _ (d .choose .result .may) m [] (s .pre .0 .sized .charts) (c .if1 .left)
+
+searched-requires : tie.Need-searched-requires
+searched-requires c κs =
+    let e = c .before .before .before .before .before in
+    let d = e .before .before .before .before .before .before in
+    let s = d .before .before .before .before .before .before .before .before in
+    let k = d .choose .ensures .1 in
+    (record { masks = k .tabled .masks; small = k .tabled .small; counts = k .chosen .counts }, s .pre .0 .sized .charts, none e [] .guards)
+
+returns-2 : tie.Need-returns-2
+returns-2 c =
+    let e = c .before .before .before .before .before .before in
+    let k = e .before .before .before .before .before .before in
+    let l = k .before .before .before in
+    let s = l .before .before .before .before .before in (
+      rw (c .searched .ensures)
+          (found-here _ _ _ _ _ _ _ _ _ _ (s .pre .0 .sized) (s .pre .2) (k .choose .ensures .1) (λ i. l .before .before .before .before .shared-slice-known .given i .fits) (s .pre .0)
+          _ (s .fits .input .fits) (l .lows .ensures) [] (replicate staysSize 0) (none e _)),
+      prepared-again _ _ _ _ _ _ _ _ _ _ (s .pre .0 .sized) (s .pre .2) (k .choose .ensures .1),
+    )
+
+pub found-spec : {M : Type 1} → statement M
+found-spec =
+    tie.close
+    (tie.spec
+    (λ c κs. search needs)
+    (λ c κs. search needs)
+    (λ c. search needs)
+    found-staying-requires
+    (λ c. search needs)
+    (λ c. search needs)
+    returns
+    (λ c. search needs)
+    (λ c. search needs)
+    searched-requires
+    (λ c. search needs)
+    (λ c. search needs)
+    returns-2)

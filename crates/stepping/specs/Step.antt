@@ -1,0 +1,79 @@
+-- What the step's functions ask and leave. A step of a body that passed 1 to 11 (`stepAfter`) is what the list of RULES 3.6 goes on with; the search
+-- over the tables of a wired file answers it (`Prepared`, `Finds`).
+use mathlib.Core.Path.{_≡_}
+use mathlib.Core.Bool.{false, cond}
+use mathlib.Core.List.{List, [], _∷_, _++_}
+use Prim.Native.Nat.{ℕ}
+use lib.Dec.{ltb}
+use lib.ListN.{length, getD}
+use Rattle.layout.specs.declared.body.Shape.{Shape}
+use Rattle.meaning.specs.Numbers.{wrongLength, badState, shortBuffer}
+use Rattle.meaning.specs.Count.{anyUpTo}
+use Rattle.meaning.specs.Meaning.{Set, same, Answer, refused}
+use Rattle.meaning.specs.File.{File, fileAt}
+use Rattle.meaning.specs.Check.{Test, firstOf, differ, notBelow, charts?, transitions?}
+use Rattle.meaning.specs.Check.Nodes.{Sound}
+use Rattle.meaning.specs.Calls.{stepIn, allPlaces, placesIn, nextIn}
+use Rattle.search.specs.Trail.{beginning}
+use Rattle.search.specs.Hunt.{over, nothing}
+use Rattle.search.specs.Stays.{huntsBoth}
+use Rattle.search.specs.declared.Found.{Found}
+use Rattle.tables.specs.Filled.{answerOf}
+use Rattle.checks.specs.Known.{Sized, Summed}
+use Rattle.plan.specs.Wired.{Wired}
+use Rattle.candidates.specs.Candidates.{Tabled}
+use Rattle.staying.specs.Staying.{Stays}
+use Rattle.stepping.specs.Answer.{steppedOf}
+use Rattle.stepping.specs.declared.step.Stepped.{Stepped}
+pub mod Laws
+
+-- 20 and 21
+unfoldable pub configTestsIn : File → List ℕ → List Test
+configTestsIn F config =
+    record { number = wrongLength; applies = differ (length config) (F .charts) }
+    ∷ record { number = badState; applies = anyUpTo (F .charts) (λ c. notBelow (getD config c 0) (F .chart c .states)) }
+    ∷ []
+
+-- 20 to 22
+unfoldable pub refusalAfter : File → List ℕ → ℕ → ℕ
+refusalAfter F config room = firstOf (configTestsIn F config ++ (record { number = shortBuffer; applies = ltb room (F .charts) } ∷ []))
+
+unfoldable pub stepAfter : File → List ℕ → Set → ℕ → Answer
+stepAfter F config i room = cond (same (refusalAfter F config room) 0) (stepIn F config i) (refused (refusalAfter F config room))
+
+unfoldable pub placesAfter : File → List ℕ → Set → ℕ → List ℕ
+placesAfter F config i room = cond (same (refusalAfter F config room) 0) (placesIn F config i) (allPlaces [])
+
+-- what a step of a body that passed 1 to 11 answers, and what it leaves of a buffer b
+abbrev pub BodySteps : File → List ℕ → Set → List ℕ → Stepped → List ℕ → Type 0
+BodySteps F config i b r c =
+    (r ≡ steppedOf (stepAfter F config i (length b)) (placesAfter F config i (length b))) × (c ≡ nextIn (stepAfter F config i (length b)) b)
+
+-- a body that passed 1 to 11
+pub record Checked (n : Shape) (b : List ℕ) : Type 0 where
+  pub sized : Sized n b
+  pub summed : Summed n b
+  pub charts : charts? n b ≡ false
+  pub transitions : transitions? n b ≡ false
+  pub sound : Sound (fileAt n b)
+
+-- a search's tables m and s for a body, wired; a has what of the input gets down to each chart
+pub record Prepared (n : Shape) (b a m s : List ℕ) : Type 0 where
+  pub wired : Wired (fileAt n b) a m s
+  pub tabled : Tabled (n .charts) m s
+
+-- what a search over tables finds, low being what each chart is surely offered before any is settled
+abbrev pub searchedOf : ℕ → List ℕ → List ℕ → List ℕ → List ℕ → List ℕ → Found
+searchedOf N low m s g y = over (huntsBoth m s g y N 0 (beginning low)) nothing
+
+-- what was found is what a search finds that was told which charts may stay
+pub record Searched (n : Shape) (b config low m s : List ℕ) (f : Found) : Type 0 where
+  pub guards : List ℕ
+  pub stays : List ℕ
+  pub told : Stays n b config low m guards stays
+  pub found : f ≡ searchedOf (n .charts) low m s guards stays
+
+-- what was found answers the step, and has its places
+pub record Finds (n : Shape) (b config : List ℕ) (i : Set) (f : Found) : Type 0 where
+  pub answers : answerOf (n .charts) f ≡ stepIn (fileAt n b) config i
+  pub places : f .places ≡ placesIn (fileAt n b) config i

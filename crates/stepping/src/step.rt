@@ -1,0 +1,212 @@
+// A step of a body that passed 1 to 11 (RULES 5): wire, choose candidates, search.
+ghost use mathlib.Core.Path.{_≡_};
+ghost use mathlib.Core.Bool.{false};
+ghost use mathlib.Core.List.{[]};
+ghost use Prim.Native.Nat.{_≤_, _<_};
+ghost use lib.ListN.{length, take, getD};
+ghost use Rattle.signals.specs.Mask.{_∩_};
+ghost use Rattle.layout.specs.Body.{Holds, headAt};
+ghost use Rattle.meaning.specs.Numbers.{mostCharts};
+ghost use Rattle.meaning.specs.Count.{anyUpTo};
+ghost use Rattle.meaning.specs.File.{fileAt};
+ghost use Rattle.meaning.specs.Check.{notBelow, firstOf};
+ghost use Rattle.meaning.specs.Calls.{laidOver, allPlaces};
+ghost use Rattle.cells.specs.Table.{masksFor, Row, Tables};
+ghost use Rattle.cells.specs.Triggers.{triggers, Guards};
+ghost use Rattle.plan.specs.Wire.{Blank};
+ghost use Rattle.candidates.specs.Candidates.{Ready, Mays};
+ghost use Rattle.stepping.specs.Step.{configTestsIn, BodySteps, Checked, Prepared, searchedOf, Searched, Finds};
+use candidates::Sides;
+use cells::CHARTS;
+use cells::masks;
+use cells::small;
+use cells::triggers;
+use checks::limits;
+use layout::body::Shape;
+use search::Found;
+
+// What a step answers, the next configuration aside (RULES 5.9): 0 or the refusal, the output, the mark, and the places, 254 for a chart that stayed
+// and 255 for one that took none.
+pub struct Stepped {
+    pub refusal: u8,
+    pub output: u64,
+    pub mark: bool,
+    pub places: [u8; CHARTS],
+}
+
+pub fn refused(r: u8) -> Stepped
+    ensures { λ s. ⌜ s ≡ record { refusal = r; output = 0; mark = false; places = allPlaces [] } ⌝ }
+{
+    Stepped {
+        refusal: r,
+        output: 0,
+        mark: false,
+        places: [search::NO_PLACE; CHARTS],
+    }
+}
+
+// 21: a state that its chart lacks.
+fn bad_states(n: Shape, body: &[u8], config: &[u8]) -> bool
+    requires { ⌜ Holds n (now body) × (n .charts ≤ length (now config)) ⌝ }
+    ensures { λ r. ⌜ r ≡ anyUpTo (n .charts) (λ c. notBelow (getD (now (config .entry)) c 0) (headAt n (now (body .entry)) c .states)) ⌝ }
+{
+    let charts = n.charts;
+    let mut c: usize = 0;
+    while c < charts {
+        if config[c] >= layout::body::head_at(n, body, c).states {
+            return true;
+        }
+        c += 1;
+    }
+    false
+}
+
+// 20 and 21.
+pub(crate) fn config_refusal(n: Shape, body: &[u8], config: &[u8]) -> u8
+    requires { ⌜ Holds n (now body) ⌝ }
+    ensures { λ r. ⌜ r ≡ firstOf (configTestsIn (fileAt n (now (body .entry))) (now (config .entry))) ⌝ }
+{
+    if config.len() != n.charts {
+        return limits::WRONG_LENGTH;
+    }
+    if bad_states(n, body, config) {
+        return limits::BAD_STATE;
+    }
+    limits::ACCEPTED
+}
+
+// What of the input is offered to each chart.
+fn lows(down: [u64; CHARTS], input: u64) -> [u64; CHARTS]
+    ensures { λ r. ⌜ Row r (λ c. input ∩ getD down c 0) ⌝ }
+{
+    let mut low = down;
+    let mut c: usize = 0;
+    while c < CHARTS {
+        low[c] = input & down[c];
+        c += 1;
+    }
+    low
+}
+
+// What a search over filled tables finds; none is made where a chart is stuck.
+fn searched(
+    masks: &[u64],
+    small: &[u8],
+    guards: &[u64],
+    stays: &[u8],
+    charts: usize,
+    low: [u64; CHARTS],
+) -> Found
+    requires { ⌜ Tables charts (now masks) (now small) × (charts ≤ mostCharts) × Guards (now guards) (now stays) ⌝ }
+    ensures { λ r. ⌜ r ≡ searchedOf charts low (now (masks .entry)) (now (small .entry)) (now (guards .entry)) (now (stays .entry)) ⌝ }
+{
+    if candidates::is_stuck(small, stays, charts) {
+        return search::none();
+    }
+    search::search(masks, small, guards, stays, charts, low)
+}
+
+// The same where charts may stay: their triggers are noted first.
+fn found_staying(
+    n: Shape,
+    body: &[u8],
+    config: &[u8],
+    sides: Sides,
+    masks: &[u64],
+    small: &[u8],
+) -> Found
+    requires { ⌜ Ready n (now body) (now config) × Tables (n .charts) (now masks) (now small) × Mays n (now body) (now config) (n .charts) (sides .may) ⌝ }
+    ensures { λ r. ⌜ Searched n (now (body .entry)) (now (config .entry)) (sides .low) (now (masks .entry)) (now (small .entry)) r ⌝ }
+{
+    let low = sides.low;
+    let may = sides.may;
+    let mut guards = [0u64; triggers::SIZE];
+    let stays = staying::stays(n, body, config, low, may, masks, &mut guards);
+    searched(masks, small, &guards, &stays, n.charts, low)
+}
+
+// One step of a wired body from a configuration. The tables are ready for another. Where no chart may stay there is no trigger to make room for.
+pub(crate) fn found(
+    n: Shape,
+    body: &[u8],
+    config: &[u8],
+    input: u64,
+    down: [u64; CHARTS],
+    masks: &mut [u64],
+    small: &mut [u8],
+) -> Found
+    requires { ⌜ Checked n (now body) × Ready n (now body) (now config) × Prepared n (now body) down (now masks) (now small) ⌝ }
+    ensures { λ r. ⌜ Finds n (now (body .entry)) (now (config .entry)) input r × Prepared n (now (body .entry)) down (now (masks .exit)) (now (small .exit)) ⌝ }
+{
+    let base = lows(down, input);
+    let sides = candidates::choose(n, body, config, base, masks, small);
+    if n.edition == limits::STAY_EDITION as usize {
+        return found_staying(n, body, config, sides, masks, small);
+    }
+    let low = sides.low;
+    let guards = [0u64; 0];
+    let stays = [0u8; triggers::STAYS];
+    searched(masks, small, &guards, &stays, n.charts, low)
+}
+
+// One step of a body, wired for it into masks that are new.
+fn found_in(n: Shape, body: &[u8], config: &[u8], input: u64, masks: &mut [u64]) -> Found
+    requires { ⌜ Checked n (now body) × Ready n (now body) (now config) × (masksFor (n .charts) ≤ length (now masks)) × Blank (now masks) ⌝ }
+    ensures { λ r. ⌜ Finds n (now (body .entry)) (now (config .entry)) input r ⌝ }
+{
+    let mut small = [0u8; small::SIZE];
+    let down = plan::wire::wired(n, body, masks, &mut small);
+    found(n, body, config, input, down, masks, &mut small)
+}
+
+// The same, with masks of its own. For few charts they are fewer: to zero them takes a good part of a step.
+fn found_new(n: Shape, body: &[u8], config: &[u8], input: u64) -> Found
+    requires { ⌜ Checked n (now body) × Ready n (now body) (now config) ⌝ }
+    ensures { λ r. ⌜ Finds n (now (body .entry)) (now (config .entry)) input r ⌝ }
+{
+    if n.charts <= masks::FEW {
+        let mut masks = [0u64; masks::FEW_SIZE];
+        return found_in(n, body, config, input, &mut masks);
+    }
+    let mut masks = [0u64; masks::SIZE];
+    found_in(n, body, config, input, &mut masks)
+}
+
+// The first n states, over the front of the caller's buffer.
+pub(crate) fn put_states(buffer: &mut [u8], states: [u8; CHARTS], n: usize)
+    requires { ⌜ (n ≤ mostCharts) × (n ≤ length (now buffer)) ⌝ }
+    ensures { λ _. ⌜ now (buffer .exit) ≡ laidOver (take n states) (now (buffer .entry)) ⌝ }
+{
+    let mut i: usize = 0;
+    while i < n {
+        buffer[i] = states[i];
+        i += 1;
+    }
+}
+
+// One step from a configuration under an input, after 20 to 22: the next configuration goes to `next`.
+pub fn of_body(n: Shape, body: &[u8], config: &[u8], input: u64, next: &mut [u8]) -> Stepped
+    requires { ⌜ Checked n (now body) ⌝ }
+    ensures { λ r. ⌜ BodySteps (fileAt n (now (body .entry))) (now (config .entry)) input (now (next .entry)) r (now (next .exit)) ⌝ }
+{
+    let r = config_refusal(n, body, config);
+    if r != limits::ACCEPTED {
+        return refused(r);
+    }
+    if next.len() < n.charts {
+        return refused(limits::SHORT_BUFFER);
+    }
+    let f = found_new(n, body, config, input);
+    if !f.has {
+        return refused(limits::NO_STEP);
+    }
+    let states = f.next;
+    put_states(next, states, n.charts);
+    let places = f.places;
+    Stepped {
+        refusal: limits::ACCEPTED,
+        output: f.output,
+        mark: f.agree,
+        places,
+    }
+}
