@@ -80,7 +80,7 @@ unfoldable pub stepOf : List ℕ → List ℕ → Set → ℕ → Answer
 stepOf f config i room =
     cond (same (stepRefusal f config room) 0) (stepIn (fileOf f) config i) (refused (stepRefusal f config room))
 
--- the eight places of an answer (RULES 5.11): those of the file's charts, and 255 for each that is left; a refused step has 255 only
+-- the places of an answer (RULES 5.11): those of the file's charts, and 255 for each that is left; a refused step has 255 only
 abbrev pub allPlaces : List ℕ → List ℕ
 allPlaces ps = ps ++ replicate (mostCharts - length ps) noPlace
 

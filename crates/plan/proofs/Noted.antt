@@ -95,7 +95,7 @@ module _ (F : File) (z : F .slaves ≡ 0) where
       go none = refl
       go (some k) = enc-none k
 
-  pub nearest-none : F .charts ≤ mostCharts → (l : List ℕ) → NotedNone 8 l → NearestIn F l
+  pub nearest-none : F .charts ≤ mostCharts → (l : List ℕ) → NotedNone mostCharts l → NearestIn F l
   unfolding masterBy stateBy
   nearest-none few l h c p = let g = h c (omega arith) in rw (kap-none c) g
 

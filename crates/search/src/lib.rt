@@ -358,7 +358,7 @@ fn same_states(best: &[u8; FOUND_BYTES], moves: &[u8; moves::SIZE], charts: usiz
     true
 }
 
-// The eight bytes from `at` on.
+// One byte for each chart, from `at` on.
 fn bytes_at(best: &[u8; FOUND_BYTES], at: usize) -> [u8; CHARTS]
     requires { ⌜ at ≤ mostCharts + 2 ⌝ }
     ensures { λ r. ⌜ r ≡ made mostCharts (λ c. getD (now (best .entry)) (at + c) 0) ⌝ }

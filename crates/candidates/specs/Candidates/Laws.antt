@@ -25,7 +25,7 @@ use Rattle.layout.specs.declared.record.Transition.{Transition}
 use Rattle.layout.specs.declared.record.Head.{Head}
 use Rattle.meaning.specs.Count.{tally, one}
 use Rattle.meaning.specs.Check.{leaving}
-use Rattle.meaning.specs.Numbers.{mostCharts, mostFromState, stayEdition}
+use Rattle.meaning.specs.Numbers.{mostFromState, stayEdition}
 use Rattle.meaning.specs.Meaning.{Set, same, Move, noMove, takes, stay, nth, pick, actionOf, moves}
 use Rattle.meaning.specs.File.{chartOf, fileAt}
 use Rattle.meaning.specs.Laws.Bools.{same-refl, same→≡, same-≢}
@@ -177,10 +177,10 @@ module _ (a : Around) (g : ℕ → Transition) (f : Filling) where
   left-tabled N p m s k h t = record { masks = rw (left-masks p m s k h) (t .masks); small = left-small p m s k h ∙ t .small }
 
   module _ (z : f .count ≡ 0) (count : ℕ) (few : tally count (λ u. one (same (g u .from) (a .state))) ≤ mostFromState) where
-    pub left-few : (p : ℕ) (m s : List ℕ) (k : ℕ) → Left (listingBy a g p f) m s k → p ≤ count → k ≤ mostCharts
+    pub left-few : (p : ℕ) (m s : List ℕ) (k : ℕ) → Left (listingBy a g p f) m s k → p ≤ count → k ≤ mostFromState
     left-few p m s k h l = rw (h .count) (count-few (a .chart) (a .state) (a .low) (a .own) (a .others) g p count f z l few)
 
-    pub left-room : (p : ℕ) (m s : List ℕ) (k : ℕ) → Left (listingBy a g p f) m s k → p < count → g p .from ≡ a .state → k < mostCharts
+    pub left-room : (p : ℕ) (m s : List ℕ) (k : ℕ) → Left (listingBy a g p f) m s k → p < count → g p .from ≡ a .state → k < mostFromState
     left-room p m s k h l e = rw (h .count) (leave-room (a .chart) (a .state) (a .low) (a .own) (a .others) g p count f z l few e)
 
 -- ── the charts' transitions ──

@@ -3,8 +3,8 @@
 use mathlib.Core.Path.{_≡_, refl}
 use mathlib.Core.Bool.{Bool, true, false}
 use mathlib.Core.List.{List, [], _∷_, _++_}
-use Prim.Native.Nat.{ℕ}
-use lib.ListN.{length}
+use Prim.Native.Nat.{ℕ, _-_}
+use lib.ListN.{length, replicate}
 use Rattle.signals.specs.Mask.{_∪_, single}
 use Rattle.layout.specs.Le.{le, bytes}
 use Rattle.layout.specs.Record.{trailerOf, headOf, transitionOf, slaveOf, nodeOf, trailerBytes, headBytes, transitionBytes, slaveBytes, nodeBytes}
@@ -13,6 +13,7 @@ use Rattle.layout.specs.declared.record.Head.{Head}
 use Rattle.layout.specs.declared.record.Node.{Node}
 use Rattle.layout.specs.declared.record.Slave.{Slave}
 use Rattle.layout.specs.declared.record.Transition.{Transition}
+use Rattle.meaning.specs.Numbers.{mostCharts, noPlace, stayPlace}
 use Rattle.meaning.specs.Count.{anyUpTo, tally}
 use Rattle.meaning.specs.Meaning.{Set, same, Answer, refused, given, nth, pick, lastPlace, actionOf, after, lowestFrom, guard, met?, untriggered, guards, inFaceChart, inFace, inFaces, out, outs, okChart, meets, ok, oks, permitted, upd, moves, nexts, placeOf, placesFrom, upto, outcomeOf, outcome, search, outcomes, eqList, agree, answer, firstPlaces}
 use Rattle.meaning.specs.File.{gather, build, treeOf, Has, HasS, trailer, bodyOf, shapeOf, chartOf, fileAt, fileOf}
@@ -227,6 +228,6 @@ pub places₂ : List ℕ
 unfolding P set
 places₂ = placesOf (P 2 [] []) (0 ∷ 0 ∷ []) (set (0 ∷ [])) 2
 
-pub stayed : places₂ ≡ 0 ∷ 254 ∷ 255 ∷ 255 ∷ 255 ∷ 255 ∷ 255 ∷ 255 ∷ []
+pub stayed : places₂ ≡ 0 ∷ stayPlace ∷ replicate (mostCharts - 2) noPlace
 unfolding places₂ single le bytes trailerOf headOf transitionOf slaveOf nodeOf trailerBytes headBytes transitionBytes slaveBytes nodeBytes headAt transitionAt slaveAt nodeAt startOf from transitionsOf anyUpTo tally same nth pick lastPlace actionOf after lowestFrom guard met? untriggered guards inFaceChart inFace inFaces out outs okChart meets ok oks permitted upd moves nexts placeOf placesFrom upto outcomeOf outcome search outcomes eqList agree answer gather build treeOf Has HasS trailer bodyOf shapeOf chartOf fileAt fileOf firstOf edition? counts? distance? nonzero zeros? chart? charts? ends? leaving transitions? rising slave? slaves? nodeOfKind? nodes? names named held naming? inside? fileTests refusalOf configTests stepRefusal firstPlaces placesIn placesOf
 stayed = refl

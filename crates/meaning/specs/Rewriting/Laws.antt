@@ -68,7 +68,7 @@ unfolding fileOf fileAt shapeOf
 charts-most f e = counted (trailer f) (passed f e .counts) .charts
 
 module _ (number : ℕ) where
-  -- the list with a test for more than 512 transitions of all charts, once number 43 (RULES 3.5)
+  -- the list with a test for more transitions of all charts than a file may have, once number 43 (RULES 3.5)
   abbrev pub testsWithSum : File → List Test
   testsWithSum F =
       record { number = noFreeSignal; applies = noFree? F }

@@ -44,7 +44,7 @@ made-filled x f d l h e =
     let q : l ≡ made d f ++ x ∷ replicate (mostCharts - (d + 1)) x = e ∙ rw z in
     rw (q, set-at (made d f) x (replicate (mostCharts - (d + 1)) x) (f d) d n, add-one, append-assoc)
 
--- eight numbers, those below n made and x behind them: how many, and an entry of either kind
+-- a number for each chart, those below n made and x behind them: how many, and an entry of either kind
 module _ (n : ℕ) (f : ℕ → ℕ) (x : ℕ) where
   pub length-filled : n ≤ mostCharts → length (made n f ++ replicate (mostCharts - n) x) ≡ mostCharts
   length-filled l = length-append (made n f) (replicate (mostCharts - n) x) ∙ rw (length-made n f, length-replicate (mostCharts - n) x) (omega arith)

@@ -37,7 +37,7 @@ use Rattle.staying.specs.Staying.{Notes, Beside, Noting, Tells, quiet, T
 
 -- ── a trigger that is put down ──
 
-module _ (g : List ℕ) (c k : ℕ) (t : Transition) (l : c < mostCharts) (r : k < mostCharts) (z : triggersFor (c + 1) ≤ length g) where
+module _ (g : List ℕ) (c k : ℕ) (t : Transition) (l : c < mostCharts) (r : k < mostFromState) (z : triggersFor (c + 1) ≤ length g) where
   put-needed : triggerNeeded (putTrigger g c k t) c k ≡ t .needed
   unfolding putTrigger
   put-needed = getD-set-other (set g (triggerNeededCell c k) (t .needed)) (triggerBarredCell c k) (triggerNeededCell c k) (t .barred) 0 (λ e. omega arith)
@@ -80,10 +80,10 @@ module _ (f : ℕ → Transition) (start count q c : ℕ) (g₀ : List ℕ) wher
   fromState u = one (same (f (start + u) .from) q)
 
   module _ (few : tally count fromState ≤ mostFromState) (p : ℕ) (g : List ℕ) (k : ℕ) (h : Noting f start count q c p g₀ g k) where
-    pub noting-few : p ≤ count → k ≤ mostCharts
+    pub noting-few : p ≤ count → k ≤ mostFromState
     noting-few l = let a = tally-mono p count fromState l in let b = h .counts in omega arith
 
-    pub noting-room : p < count → f (start + p) .from ≡ q → k < mostCharts
+    pub noting-room : p < count → f (start + p) .from ≡ q → k < mostFromState
     noting-room l e = let a = tally-plus count fromState p l in let b = h .counts in let x : same (f (start + p) .from) q ≡ true = rw e (same-refl q) in let d : fromState p ≡ 1 = ap one x in omega arith
 
     pub noting-next : p < count → c < mostCharts → triggersFor (c + 1) ≤ length g₀ → (g′ : List ℕ) (k′ : ℕ) → Notes (f (start + p)) q c k g g′ k′ → Noting f start count q c (p + 1) g₀ g′ k′
@@ -112,7 +112,7 @@ module _ (f : ℕ → Transition) (start count q c : ℕ) (g₀ : List ℕ) wher
 
   -- ── what a search is told of the chart ──
 
-  module _ (g : List ℕ) (k : ℕ) (h : Noting f start count q c count g₀ g k) (few : k ≤ mostCharts) (low high : Set) where
+  module _ (g : List ℕ) (k : ℕ) (h : Noting f start count q c count g₀ g k) (few : k ≤ mostFromState) (low high : Set) where
     abbrev ts : List Transition
     ts = fromOn f start count
 

@@ -126,7 +126,7 @@ file-is f n b en eb = rw (en, eb)
 -- ── a checked body and a valid configuration ──
 
 module _ (n : Shape) (b : List ℕ) (k : Checked n b) where
-  -- each state of a chart is left by eight transitions at the most
+  -- each state of a chart is left by mostFromState transitions at the most
   few-leave : (c s : ℕ) → c < n .charts → s < headAt n b c .states → leaving n b c s (headAt n b c .transitions) ≤ mostFromState
   unfolding transitions?
   few-leave c s l m =

@@ -1,19 +1,20 @@
--- `tell::states` is safe: eight states have room. Assumes nothing.
+-- `tell::states` is safe: the states of all charts have room. Assumes nothing.
 use mathlib.Core.Path.{sym}
-use Prim.Native.Nat.{_≤_}
+use Prim.Native.Nat.{_*_, _≤_}
 use native.Mathlib.Omega.{arith}
 use borrow.Author.Needs.{needs}
 use lib.ListN.{length}
 use lib.Seq.{length-take-le}
 use denote.Ref.{now}
 use Rattle.layout.specs.Le.{AllBytes}
+use Rattle.meaning.specs.Numbers.{mostCharts}
 use Rattle.line.specs.Line.{dotted}
 use Rattle.line.specs.Line.Laws.{dotted-le}
 use Rattle.layout.specs.Put.Laws.{put-length}
 use Rattle.chart.proofs.tell.states.Statement.{statement}
 use Rattle.chart.proofs.tell.states.Tie as tie
 
-short : (c : tie.After-shared-slice-known) → length (dotted (now (c .before .args .config))) ≤ 32
+short : (c : tie.After-shared-slice-known) → length (dotted (now (c .before .args .config))) ≤ 4 * mostCharts
 short c =
     let bytes : AllBytes (now (c .before .args .config)) = λ i. omega (arith, c .shared-slice-known .given i) in
     omega (arith, dotted-le (now (c .before .args .config)) bytes)

@@ -1,4 +1,4 @@
--- `tell::taken` is safe and ends: it counts up to the charts, which are at most eight. Assumes nothing.
+-- `tell::taken` is safe and ends: it counts up to the charts, which are at most mostCharts. Assumes nothing.
 use Prim.Native.Nat.{_≤_, _-_}
 use native.Mathlib.Omega.{arith}
 use borrow.Author.Needs.{needs}

@@ -1,4 +1,4 @@
--- `file::states` meets its contract: the file's refusal, or the states of its charts over eight zeros.
+-- `file::states` meets its contract: the file's refusal, or the states of its charts over zeros.
 use mathlib.Core.Path.{_≡_, refl, sym, ap, _∙_}
 use mathlib.Core.List.{List}
 use Prim.Native.Nat.{ℕ, _≤_}

@@ -5,15 +5,16 @@ use native.Mathlib.Omega.{arith}
 use borrow.Author.Needs.{needs}
 use lib.ListN.{length, getD, length-set}
 use Rattle.signals.specs.Mask.{_∩_}
+use Rattle.meaning.specs.Numbers.{mostCharts}
 use Rattle.checks.specs.Parts.Laws.{fill-more}
 use Rattle.stepping.proofs.step.lows.Statement.{statement}
 use Rattle.stepping.proofs.step.lows.Tie as tie
 
 abbrev Inv-loop : tie.InvT-loop
-Inv-loop input down low₀ c₀ low c = (c ≤ 8) × (length low ≡ 8) × ((k : ℕ) → k < c → getD low k 0 ≡ input ∩ getD down k 0)
+Inv-loop input down low₀ c₀ low c = (c ≤ mostCharts) × (length low ≡ mostCharts) × ((k : ℕ) → k < c → getD low k 0 ≡ input ∩ getD down k 0)
 
 abbrev μ-loop : tie.MeasureT-loop
-μ-loop input down low₀ c₀ low c = 8 - c
+μ-loop input down low₀ c₀ low c = mostCharts - c
 
 loop-holds : tie.Need-loop-holds Inv-loop μ-loop
 loop-holds c = (omega arith, search needs, λ k l. absurd (omega arith))
