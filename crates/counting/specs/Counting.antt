@@ -11,7 +11,7 @@ use lib.ListN.{length, getD}
 use Rattle.layout.specs.Body.{headAt, transitionAt, startOf}
 use Rattle.layout.specs.declared.body.Shape.{Shape}
 use Rattle.layout.specs.declared.record.Transition.{Transition}
-use Rattle.meaning.specs.Numbers.{stayEdition}
+use Rattle.meaning.specs.Numbers.{mostCharts, stayEdition}
 use Rattle.meaning.specs.Meaning.{same}
 use Rattle.meaning.specs.File.{File, chartOf, fileAt}
 use Rattle.meaning.specs.Check.{transitions?}
@@ -26,11 +26,8 @@ use Rattle.checks.specs.Known.{Sized, Summed}
 use Rattle.nesting.specs.Nearest.{masterBy, stateBy}
 pub mod Laws
 
--- the charts that the count has room for; in the row of masters, this or more says that there is none
-abbrev pub room : ℕ
-room = 16
-
--- 9 ^ 16: no number on the way is larger
+-- a chart's transitions from a state and its staying are 9 at most, and charts 16: 9 ^ 16; no number on the way is
+-- larger
 abbrev pub mostCount : ℕ
 mostCount = 1853020188851841
 
@@ -100,11 +97,11 @@ pub record Smalls (n : Shape) (b m s t : List ℕ) (c q : ℕ) : Type 0 where
 
 -- the product over the charts outside all slaves
 abbrev pub totalIn : Shape → List ℕ → List ℕ → ℕ
-totalIn n m t = totalAt (n .charts) room (at m) (at t)
+totalIn n m t = totalAt (n .charts) mostCharts (at m) (at t)
 
--- one factor of it
+-- one factor of it: a master that is no chart's number says that there is none
 abbrev pub outsideIn : List ℕ → List ℕ → ℕ → ℕ
-outsideIn m t d = cond (ltb (at m d) room) 1 (at t d)
+outsideIn m t d = cond (ltb (at m d) mostCharts) 1 (at t d)
 
 -- it is small as far as it is made
 abbrev pub TotalSmall : Shape → List ℕ → List ℕ → Type 0

@@ -11,9 +11,7 @@ ghost use Rattle.counting.specs.Counting.{Countable, Roomy, factorIn, br
 ghost use Rattle.counting.specs.Counting.{Smalls, totalIn};
 ghost use Rattle.counting.specs.Counting.{outsideIn, TotalSmall, CountsOn, Stored, Filled};
 use layout::body::Shape;
-
-// The charts that the count has room for; in a row of masters, this or more says that there is none.
-pub const ROOM: usize = 16;
+use layout::limits::CHARTS;
 
 fn wide(x: u8) -> usize
     ensures { λ r. ⌜ r ≡ x ⌝ }
@@ -186,12 +184,12 @@ pub fn fill(n: Shape, body: &[u8], config: &[u8], masters: &[u8], states: &[u8],
     }
 }
 
-// Chart d's count, if d is outside all slaves; else 1.
+// Chart d's count, if d is outside all slaves, which a master that is no chart's number says; else 1.
 fn outside(masters: &[u8], counts: &[u64], d: usize) -> u64
     requires { ⌜ (d < length (now masters)) × (d < length (now counts)) ⌝ }
     ensures { λ r. ⌜ r ≡ outsideIn (now (masters .entry)) (now (counts .entry)) d ⌝ }
 {
-    if wide(masters[d]) < ROOM {
+    if wide(masters[d]) < CHARTS {
         return 1;
     }
     counts[d]
@@ -219,7 +217,7 @@ pub fn open_choices(n: Shape, body: &[u8], config: &[u8], masters: &[u8], states
     requires { ⌜ Countable n (now body) (now config) (now masters) (now states) ⌝ }
     ensures { λ r. ⌜ r ≡ openIn (fileAt n (now (body .entry))) (now (config .entry)) ⌝ }
 {
-    let mut counts = [0u64; ROOM];
+    let mut counts = [0u64; CHARTS];
     fill(n, body, config, masters, states, &mut counts);
     total(n, masters, &counts)
 }

@@ -19,7 +19,7 @@ use Rattle.layout.specs.Body.{headAt, transitionAt, startOf, transitionsOf}
 use Rattle.layout.specs.Body.Laws.{length-from, startOf-next, startOf-mono}
 use Rattle.layout.specs.declared.body.Shape.{Shape}
 use Rattle.layout.specs.declared.record.Transition.{Transition}
-use Rattle.meaning.specs.Numbers.{stayEdition}
+use Rattle.meaning.specs.Numbers.{mostCharts, stayEdition}
 use Rattle.meaning.specs.Count.{tally}
 use Rattle.meaning.specs.Count.Laws.{tally-more}
 use Rattle.meaning.specs.Meaning.{same, noMove, takes, nth, behind, pick, lastPlace, after}
@@ -32,7 +32,7 @@ use Rattle.wiring.specs.Entries.{branchAt, addsAt, sumAt, totalAt, Rowed, part-
 use Rattle.wiring.specs.Entries.{total-part-fits, total-at, spared-at}
 use Rattle.wiring.specs.Few.{nth-from, few-from, movesFrom, mostMoves, moves-few, file-stands, open-counted}
 use Rattle.nesting.specs.Nearest.{masterBy, stateBy}
-use Rattle.counting.specs.Counting.{room, mostCount, at, Countable, factorIn, branchIn, Small, stayingIn, addedIn}
+use Rattle.counting.specs.Counting.{mostCount, at, Countable, factorIn, branchIn, Small, stayingIn, addedIn}
 use Rattle.counting.specs.Counting.{sumIn, Smalls}
 use Rattle.counting.specs.Counting.{totalIn, outsideIn, TotalSmall, CountsOn, begins}
 
@@ -142,11 +142,11 @@ module _ (n : Shape) (b config m s : List ℕ) (w : Countable n b config m s) wh
   unfolding fileAt
   lower = file-stands (fileAt n b) (w .sound) (w .sized .some-node) .lower
 
-  few : fileAt n b .charts ≤ room
+  few : fileAt n b .charts ≤ mostCharts
   unfolding fileAt
   few = let h = w .sized .charts in omega arith
 
-  rowed : Rowed (fileAt n b .charts) room (fileAt n b .state) (kap (fileAt n b)) (fileAt n b .master) (at m) (at s)
+  rowed : Rowed (fileAt n b .charts) mostCharts (fileAt n b .state) (kap (fileAt n b)) (fileAt n b .master) (at m) (at s)
   rowed =
       record {
         few = few;
@@ -158,7 +158,7 @@ module _ (n : Shape) (b config m s : List ℕ) (w : Countable n b config m s) wh
         );
       }
     where
-      far : (x : ℕ) → x ≡ masterBy (fileAt n b) none → room ≤ x
+      far : (x : ℕ) → x ≡ masterBy (fileAt n b) none → mostCharts ≤ x
       far x h = unfold masterBy in omega (arith, h)
 
   most : (c : ℕ) → c < fileAt n b .charts → movesFrom (fileAt n b .chart c) (at config c) ≤ mostMoves
@@ -168,7 +168,7 @@ module _ (n : Shape) (b config m s : List ℕ) (w : Countable n b config m s) wh
   -- nine for each chart is small
   small-power : (x : ℕ) → x ≤ mostMoves ^ fileAt n b .charts → x ≤ mostCount
   small-power x h =
-      let k = pow-le-pow-right {n = mostMoves} (lit< tt) few in let e : mostMoves ^ room ≤ mostCount = lit≤ tt in
+      let k = pow-le-pow-right {n = mostMoves} (lit< tt) few in let e : mostMoves ^ mostCharts ≤ mostCount = lit≤ tt in
       omega arith
 
   -- where chart k's transitions start, from where the next chart's do
@@ -186,7 +186,7 @@ module _ (n : Shape) (b config m s : List ℕ) (w : Countable n b config m s) wh
     leads-small : (v : ℕ) → Small (n .charts) m s t k (at config k) (after (at config k) (pick (chartOf n b k) v))
     unfolding fileAt
     leads-small v j r =
-        small-power _ (part-fits (fileAt n b .chart) (fileAt n b .state) (at config) (n .charts) room (kap (fileAt n b))
+        small-power _ (part-fits (fileAt n b .chart) (fileAt n b .state) (at config) (n .charts) mostCharts (kap (fileAt n b))
         (fileAt n b .master) (at m) (at s) rowed mostMoves (lit< tt) most k l (at t) h v j r)
 
     -- nothing on the way to chart k's entry is too large
@@ -211,7 +211,7 @@ module _ (n : Shape) (b config m s : List ℕ) (w : Countable n b config m s) wh
         sums : (p : ℕ) → p ≤ headAt n b k .transitions → sumIn n b m s t k (at config k) p ≤ mostCount
         sums p q =
             unfold fileAt chartOf transitionsOf in
-            small-power _ (sum-part-fits (fileAt n b .chart) (fileAt n b .state) (at config) (n .charts) room
+            small-power _ (sum-part-fits (fileAt n b .chart) (fileAt n b .state) (at config) (n .charts) mostCharts
             (kap (fileAt n b)) (fileAt n b .master) (at m) (at s) rowed mostMoves (lit< tt) most k l (at t) h p
             (rw (length-from (transitionAt n b) (startOf n b k) (headAt n b k .transitions)) q))
 
@@ -221,7 +221,7 @@ module _ (n : Shape) (b config m s : List ℕ) (w : Countable n b config m s) wh
     unfolding fileAt
     stores long count ec x ex =
         rw (ex ∙ ap (sumIn n b m s t k (at config k)) ec ∙ here)
-        (counts-store (fileAt n b .chart) (fileAt n b .state) (at config) (n .charts) room (kap (fileAt n b))
+        (counts-store (fileAt n b .chart) (fileAt n b .state) (at config) (n .charts) mostCharts (kap (fileAt n b))
         (fileAt n b .master) (at m) (at s) rowed t k (omega arith) h l)
       where
         here : sumIn n b m s t k (at config k) (headAt n b k .transitions)
@@ -240,14 +240,14 @@ module _ (n : Shape) (b config m s : List ℕ) (w : Countable n b config m s) wh
         ≡ ltb 0 (branchIn (n .charts) m s t c (at config c) (after (at config c) (pick (chartOf n b c) (suc p))))
     unfolding fileAt
     begins-is p q =
-        spared-at (fileAt n b .chart) (fileAt n b .state) (at config) (n .charts) room (kap (fileAt n b))
+        spared-at (fileAt n b .chart) (fileAt n b .state) (at config) (n .charts) mostCharts (kap (fileAt n b))
         (fileAt n b .master) (at m) (at s) rowed (at t) c p l q
 
   -- the total over the first j charts
   pub total-small : (t : List ℕ) → CountsOn n b config zero t → TotalSmall n m t
   unfolding fileAt
   total-small t h j l =
-      small-power _ (total-part-fits (fileAt n b .chart) (fileAt n b .state) (at config) (n .charts) room
+      small-power _ (total-part-fits (fileAt n b .chart) (fileAt n b .state) (at config) (n .charts) mostCharts
       (kap (fileAt n b)) (fileAt n b .master) (at m) (at s) rowed mostMoves (lit< tt) most (at t) h j l)
 
   -- the total is the number of open choices
@@ -255,7 +255,7 @@ module _ (n : Shape) (b config m s : List ℕ) (w : Countable n b config m s) wh
   unfolding fileAt
   total-is t h =
       open-counted (fileAt n b) (w .sound) (w .sized .some-node) config (at t) (λ c l. h c (omega arith) l)
-      ∙ total-at (fileAt n b .chart) (fileAt n b .state) (at config) (n .charts) room (kap (fileAt n b))
+      ∙ total-at (fileAt n b .chart) (fileAt n b .state) (at config) (n .charts) mostCharts (kap (fileAt n b))
       (fileAt n b .master) (at m) (at s) rowed (at t)
 
 -- no entry is stored yet
@@ -278,8 +278,8 @@ module _ (m t : List ℕ) where
   unfolding totalAt
   total-done n k x a b e = let z : k ≡ n .charts = omega arith in e ∙ ap (λ j. times j (outsideIn m t)) z
 
-  pub outside-no : (d : ℕ) → at m d < room → 1 ≡ outsideIn m t d
-  outside-no d h = sym (ap (λ b. cond b 1 (at t d)) (lt-ltb (at m d) room h))
+  pub outside-no : (d : ℕ) → at m d < mostCharts → 1 ≡ outsideIn m t d
+  outside-no d h = sym (ap (λ b. cond b 1 (at t d)) (lt-ltb (at m d) mostCharts h))
 
-  pub outside-yes : (d : ℕ) → room ≤ at m d → at t d ≡ outsideIn m t d
-  outside-yes d h = sym (ap (λ b. cond b 1 (at t d)) (le-ltb (at m d) room h))
+  pub outside-yes : (d : ℕ) → mostCharts ≤ at m d → at t d ≡ outsideIn m t d
+  outside-yes d h = sym (ap (λ b. cond b 1 (at t d)) (le-ltb (at m d) mostCharts h))
