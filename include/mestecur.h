@@ -6,15 +6,18 @@
  *
  * The caller has to make sure of these, since no call can check them:
  *   - No pointer is null, and each one points to as many bytes, numbers or structs as its length says, even if the length is 0. `places` points to
- *     8 bytes.
+ *     16 bytes.
  *   - Pointers to 64-bit numbers, to lengths and to structs are aligned as C requires.
  *   - Memory that a call writes does not overlap any other memory passed to the same call.
  *
  * Every call returns 0 for success, or the number of its refusal (RULES 3).
  *   - Buffers (`config`, `next`, `rows`, `out`): a call that succeeds writes to the front of the buffer, and leaves the rest of it unchanged. A call
  *     that is refused leaves all of it unchanged, and so does a refused mestecur_post with `cases`.
- *   - Results (`input`, `output`, `mark`, `carried_on`, `length`, `plain`, `places`) are always written. If the call is refused, each place is
- *     MESTECUR_NO_PLACE and every other result is 0.
+ *   - Results (`input`, `output`, `mark`, `carried_on`, `length`, `plain`, `places`, `open`) are always written. If the call is refused, each place is
+ *     MESTECUR_NO_PLACE and every other result is 0. The exception is `open` in refusal 24: it has the number that is too large.
+ *
+ * Limits (RULES 2.8): 16 charts, 15 slaves, 64 nodes and 1,024 transitions in a file; 16 states and 64 transitions in a chart, 8 transitions from a
+ * state; 16,777,216 open choices in a step.
  *
  * A file is edition 1 or edition 2, by a byte of its trailer (RULES 7). Every call takes both, except mestecur_rewrite and mestecur_clear, which take
  * edition 1 only.
@@ -45,21 +48,26 @@ enum {
     MESTECUR_NO_PLACE = 255 /* the chart was inactive, there is no chart of this number, or the step was refused */
 };
 
+/* The most open choices of a step that is not refused with 24 (RULES 2.8). */
+enum { MESTECUR_OPEN_CHOICES = 16777216 };
+
 /* Makes one step from a configuration under an input: the first permitted choice in order (RULES 5). Writes
  *   - to `next` the next configuration;
  *   - to `output` the output;
  *   - to `mark` 1 if all permitted choices have the same output and the same next configuration, otherwise 0 (RULES 5.10);
- *   - to `places[c]` the place of the transition that chart c took, counted from 0 in its own list, or one of the two above.
- * Refusals: 1 to 11, 20, 21, 22, 23. */
+ *   - to `places[c]` the place of the transition that chart c took, counted from 0 in its own list, or one of the two above;
+ *   - to `open` the number of open choices: those that fit the present states and leave no active chart out, whether or not their guards are met
+ *     (RULES 5.15). A step with more than MESTECUR_OPEN_CHOICES of them is refused with 24, and `open` has their number then too.
+ * Refusals: 1 to 11, 20, 21, 22, 24, 23. */
 uint8_t mestecur_step(const uint8_t *file, size_t file_len, const uint8_t *config, size_t config_len, uint64_t input, uint8_t *next,
-                      size_t next_len, uint64_t *output, uint8_t *mark, uint8_t places[8]);
+                      size_t next_len, uint64_t *output, uint8_t *mark, uint8_t places[16], uint64_t *open);
 
 /* Makes one step for each input, in order, starting from a configuration (RULES 6). Writes to `rows` one row for each input, without gaps: the output
  * (8 bytes, little-endian), the mark (1 byte), 0 or the refusal of this step (1 byte), and the configuration after this input (one byte for each
- * chart). A step that is refused (23) has output 0 and mark 0 and keeps the configuration, and the run goes on. Its signals are carried: the following
- * steps are made under their input and the carried signals together, up to the first that is given; after that one, nothing is carried (RULES 6.4).
- * `carried` is the set carried into the run, 0 for none. `carried_on` receives the set carried after the last input; pass it to the run that continues
- * from there. `inputs_len` is the number of inputs, not of bytes. Refusals of the run itself: 1 to 11, 20, 21, 27. */
+ * chart). A step that is refused (24 or 23) has output 0 and mark 0 and keeps the configuration, and the run goes on. Its signals are carried: the
+ * following steps are made under their input and the carried signals together, up to the first that is given; after that one, nothing is carried
+ * (RULES 6.4). `carried` is the set carried into the run, 0 for none. `carried_on` receives the set carried after the last input; pass it to the run
+ * that continues from there. `inputs_len` is the number of inputs, not of bytes. Refusals of the run itself: 1 to 11, 20, 21, 27. */
 uint8_t mestecur_run(const uint8_t *file, size_t file_len, const uint8_t *config, size_t config_len, uint64_t carried, const uint64_t *inputs,
                      size_t inputs_len, uint8_t *rows, size_t rows_len, uint64_t *carried_on);
 
@@ -104,7 +112,7 @@ enum {
 
     MESTECUR_TOO_SHORT = 1,           /* the file is shorter than a trailer, 12 bytes */
     MESTECUR_EDITION = 2,             /* the edition is neither 1 nor 2 */
-    MESTECUR_COUNTS = 3,              /* no chart or more than 8, more than 7 slaves, no node or more than 64, or more than 512 transitions */
+    MESTECUR_COUNTS = 3,              /* no chart or more than 16, more than 15 slaves, no node or more than 64, or more than 1,024 transitions */
     MESTECUR_DISTANCE = 4,            /* the trailer's distance is not the size of the body, or the file is too short for it */
     MESTECUR_ZERO_BYTE = 5,           /* a byte that has to be zero is not */
     MESTECUR_CHART = 6,               /* a chart with no state or more than 16, with an initial state that it does not have, or with more than 64
@@ -121,6 +129,7 @@ enum {
     MESTECUR_CONFIGURATION_STATE = 21,  /* the configuration has a state that its chart does not have */
     MESTECUR_CONFIGURATION_ROOM = 22,   /* the buffer for a configuration has fewer bytes than there are charts */
     MESTECUR_NO_STEP = 23,              /* no choice is permitted */
+    MESTECUR_MANY_OPEN = 24,            /* more than 16,777,216 choices are open; tested before 23 */
     MESTECUR_RUN_ROOM = 27,             /* the buffer for a run is too short for a row for each input */
 
     MESTECUR_REWRITING_SIGNALS = 40, /* there are more slaves than free signals (RULES 9.2) */

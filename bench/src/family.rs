@@ -1,10 +1,9 @@
 //! The files that are measured, the same each time.
 
 use reference::cases::charts::{chart, go, row_of_charts, wrapped};
-use reference::draw::choices;
-use reference::generate::{configuration, model, Random, Shape};
-use reference::limits::{CHARTS, STATE_TRANSITIONS};
-use reference::model::{Chart, Edition, Model, Node, Transition};
+use reference::generate::{choices, configuration, model, Random, Shape};
+use reference::limits::{CHARTS, EARLIER_CHARTS, STATE_TRANSITIONS};
+use reference::model::{Chart, Edition, Model, Node, Slave, Transition};
 use reference::Set;
 
 /// A file, a configuration of it and an input to step with.
@@ -33,7 +32,7 @@ impl Subject {
     }
 
     /// How many choices plain enumeration tries in a step.
-    pub fn choices(&self) -> usize {
+    pub fn choices(&self) -> u64 {
         let command = reference::command::Command::step(
             "",
             self.file.clone(),
@@ -106,16 +105,22 @@ pub fn inputs(seed: u64, count: usize) -> Vec<u64> {
 /// The hard family: 8 charts, 8 transitions from each state, few signals, feedback everywhere.
 pub fn hard() -> Vec<Subject> {
     (0..9)
-        .map(|seed| random_row(seed, CHARTS, STATE_TRANSITIONS))
+        .map(|seed| random_row(seed, EARLIER_CHARTS, STATE_TRANSITIONS))
         .collect()
 }
 
 /// So many charts in a row, so many transitions from each state, full feedback.
 pub fn random_row(seed: u64, charts: usize, out: usize) -> Subject {
+    random_row_of(seed, &vec![out; charts])
+}
+
+/// Charts in a row with so many transitions from each state of each, full feedback.
+pub fn random_row_of(seed: u64, outs: &[usize]) -> Subject {
     let mut random = Random::new(0x6861_7264 + seed);
     let signals: Vec<u32> = (0..4 + seed as u32 % 5).collect();
-    let charts = (0..charts)
-        .map(|_| random_chart(&mut random, &signals, out))
+    let charts = outs
+        .iter()
+        .map(|&out| random_chart(&mut random, &signals, out))
         .collect();
     let mut model = row_of_charts(charts);
     feed_back(&mut model, Set::of(&signals));
@@ -211,38 +216,177 @@ fn last_bars() -> Subject {
     })
 }
 
+/// The families of more than eight charts with feedback everywhere, by a label; each has at most
+/// 16,777,216 open choices.
+pub fn many() -> Vec<(&'static str, Vec<Subject>)> {
+    let family = |outs: &[usize]| (0..9).map(|seed| random_row_of(seed, outs)).collect();
+    let mixed = [3, 3, 3, 3, 3, 3, 3, 3, 3, 3, 3, 3, 3, 2, 2, 2];
+    vec![
+        ("16 charts, 2 from a state", family(&[2; 16])),
+        ("16 charts, 3 or 2 from a state", family(&mixed)),
+        ("12 charts, 4 from a state: 2^24 open", family(&[4; 12])),
+    ]
+}
+
+/// Steps that are answered by their number of open choices: none by the last of sixteen charts, and
+/// too many; by a label.
+pub fn counted() -> Vec<(&'static str, Subject)> {
+    let mut trap = [STATE_TRANSITIONS; CHARTS];
+    trap[CHARTS - 1] = 0;
+    let many = |outs: &[usize]| random_row_of(0, outs);
+    vec![
+        ("15 charts of 8, an active one of none: 23", many(&trap)),
+        ("9 charts of 8: 24", many(&[8; 9])),
+        ("16 charts of 8: 24", many(&[8; 16])),
+        ("edition 2, 16 charts of 2: 24", many(&[2; 16]).staying()),
+    ]
+}
+
+/// Sixteen charts with 8^8 open choices that take long to be told apart: eight charts of eight
+/// transitions, then eight of one, nothing comes out. By a label.
+pub fn bad() -> Vec<(&'static str, Subject)> {
+    vec![
+        ("nothing is read", nothing_read()),
+        ("a dead end that the last chart shows", dead_end()),
+        ("two charts read", two_read()),
+        ("charts of one inside a busy slave", busy_slave()),
+    ]
+}
+
+/// The first signal that the last eight charts output, after those of the first eight.
+const LATER: u32 = 16;
+
+/// The sixteen charts: transition v of one of the first eight outputs signal v, so that no two of its
+/// transitions are equal; each of the others has a signal of its own.
+fn eight_and_eight() -> Vec<Chart> {
+    let all: Vec<u32> = (0..64).collect();
+    let moves = (0..8).map(|signal| go(0, 0, &[], &[], &[signal])).collect();
+    let first = chart(1, &all, moves);
+    let one = |number: u32| chart(1, &all, vec![go(0, 0, &[], &[], &[LATER + number])]);
+    [vec![first; 8], (0..8).map(one).collect()].concat()
+}
+
+/// Charts composed in a row, everything fed back and nothing put out.
+fn silent(charts: Vec<Chart>) -> Subject {
+    let all: Vec<u32> = (0..64).collect();
+    let count = charts.len();
+    let mut model = row_of_charts(charts);
+    feed_back(&mut model, Set::FULL);
+    Subject::new(wrapped(model, &[], &all), vec![0; count], Set::EMPTY)
+}
+
+/// No guard asks for anything.
+fn nothing_read() -> Subject {
+    silent(eight_and_eight())
+}
+
+/// The last chart needs two signals, of which the first chart outputs one or the other.
+fn dead_end() -> Subject {
+    let mut charts = eight_and_eight();
+    for (place, transition) in charts[0].transitions.iter_mut().enumerate() {
+        transition.action = Set::one(40 + place as u32 % 2).joined(transition.action);
+    }
+    charts[CHARTS - 1].transitions[0].needed = Set::of(&[40, 41]);
+    silent(charts)
+}
+
+/// Two of the last charts look at what the first eight output: one needs a signal, one bars another.
+fn two_read() -> Subject {
+    let mut charts = eight_and_eight();
+    charts[CHARTS - 2].transitions[0].needed = Set::one(0);
+    charts[CHARTS - 1].transitions[0].barred = Set::one(7);
+    silent(charts)
+}
+
+/// The charts of one transition are inside a slave that seven of the first chart's eight transitions
+/// activate.
+fn busy_slave() -> Subject {
+    let all: Vec<u32> = (0..64).collect();
+    let mut charts = eight_and_eight();
+    charts[0].states = 3;
+    for (place, transition) in charts[0].transitions.iter_mut().enumerate() {
+        transition.to = if place < 7 { 1 } else { 2 };
+    }
+    let leaf = |chart: u8| Node::Chart { chart };
+    let beside = |a: u8, b: u8| Node::Composed {
+        a,
+        b,
+        feedback: Set::FULL,
+    };
+    // nodes 0 to 7 and 8 to 14: the slave; 15: the master; 16 to 22 and 23 to 29: what is beside it
+    let mut nodes: Vec<Node> = (8..16).map(leaf).collect();
+    nodes.push(beside(0, 1));
+    nodes.extend((2..8).map(|part| beside(part + 6, part)));
+    nodes.extend((0..8).map(leaf));
+    nodes.push(beside(15, 16));
+    nodes.extend((17..23).map(|part| beside(part + 6, part)));
+    let slave = Slave {
+        chart: 0,
+        state: 1,
+        node: 14,
+    };
+    let model = Model {
+        edition: Edition::First,
+        charts,
+        slaves: vec![slave],
+        nodes,
+    };
+    Subject::new(wrapped(model, &[], &all), vec![0; CHARTS], Set::EMPTY)
+}
+
 /// The everyday files under edition 2: what they did they do, and some lose the mark.
 pub fn everyday_staying() -> Vec<Subject> {
     everyday().into_iter().map(Subject::staying).collect()
 }
 
-/// The hard family under edition 2, with so many transitions from each state.
+/// The hard family under edition 2, with so many transitions from each state; with eight it would be
+/// refused with 24.
 pub fn hard_staying(out: usize) -> Vec<Subject> {
     (0..9)
-        .map(|seed| random_row(seed, CHARTS, out).staying())
+        .map(|seed| random_row(seed, EARLIER_CHARTS, out).staying())
         .collect()
 }
 
-/// The worst files that `bench worst` found: among 200,000 with eight transitions from a state, and
-/// among 1,000,000 with two.
-pub fn worst_staying() -> [(&'static str, Subject); 2] {
+/// The worst files that `bench worst` found: of eight charts, among 200,000 with seven transitions from a
+/// state and among 1,000,000 with two; of sixteen charts, among 200,000 with two from a state of all but
+/// the last.
+pub fn worst_staying() -> [(&'static str, Subject); 3] {
     [
-        ("the worst found, 8 from a state", drawn_staying(160_751, 8)),
-        ("the worst found, 2 from a state", drawn_staying(915_855, 2)),
+        (
+            "the worst found, 7 from a state",
+            drawn_staying(WORST[0].1, WORST[0].0),
+        ),
+        (
+            "the worst found, 2 from a state",
+            drawn_staying(WORST[1].1, WORST[1].0),
+        ),
+        (
+            "the worst found, 16 charts",
+            drawn_staying(WORST[2].1, WORST[2].0),
+        ),
     ]
 }
 
-/// A file of edition 2 to look for hard ones among: as many charts as there can be, so many transitions
-/// from the only state of each; how many signals there are, and how many of them stand in guards,
-/// actions, feedback and input, is drawn too.
-pub fn drawn_staying(seed: u64, out: usize) -> Subject {
+/// The transitions from the states of each shape that is looked through, and the seed of the worst file.
+pub const WORST: [(&[usize], u64); 3] =
+    [(&[7; 8], 166_498), (&[2; 8], 915_855), (&FIFTEEN, 14_016)];
+
+/// Fifteen charts with two transitions and one with none: 3^15 open choices under edition 2. With two
+/// for the last one too there would be 3^16, which are too many.
+pub const FIFTEEN: [usize; CHARTS] = [2, 2, 2, 2, 2, 2, 2, 2, 2, 2, 2, 2, 2, 2, 2, 0];
+
+/// A file of edition 2 to look for hard ones among: so many transitions from the only state of each
+/// chart; how many signals there are, and how many of them stand in guards, actions, feedback and
+/// input, is drawn too.
+pub fn drawn_staying(seed: u64, outs: &[usize]) -> Subject {
     let mut random = Random::new(0x776f_7273 + (seed << 8));
     let signals: Vec<u32> = (0..random.between(2, 16) as u32).collect();
     let guard = random.pick(&[5, 10, 20, 30, 50]);
     let action = random.pick(&[5, 10, 20, 30, 50]);
     let feedback = random.pick(&[50, 100, 100]);
-    let charts = (0..CHARTS)
-        .map(|_| {
+    let charts = outs
+        .iter()
+        .map(|&out| {
             let moves = (0..out).map(|_| drawn_transition(&mut random, &signals, guard, action));
             let moves = moves.collect();
             Chart {
@@ -255,7 +399,7 @@ pub fn drawn_staying(seed: u64, out: usize) -> Subject {
     feed_back(&mut model, random.subset(&signals, feedback));
     let percent = random.pick(&[0, 0, 10, 30]);
     let input = random.subset(&signals, percent);
-    Subject::new(model, vec![0; CHARTS], input).staying()
+    Subject::new(model, vec![0; outs.len()], input).staying()
 }
 
 /// A transition of a chart of one state; each signal is in its guard and in its action with a chance.

@@ -1,10 +1,12 @@
-//! `bench [PART] [--picture FILE]`: measures and prints a table of each part, `check`, `step`,
-//! `staying` (steps of edition 2), `run`, `rewriting`, `posting` or `growth`, ratios first; all of them
-//! if none is named. The picture has the ratios of the parts measured as bars on a log scale.
+//! `bench [PART] [--picture FILE]`: measures and prints a table of each part, `check`, `step`, `many`
+//! (steps of nine charts and more), `staying` (steps of edition 2), `run`, `rewriting`, `posting` or
+//! `growth`, ratios first; all of them if none is named. The picture has the ratios of the parts measured
+//! as bars on a log scale.
 //!
-//! `bench worst COUNT`: draws so many files of edition 2 with eight transitions from a state, and as many
-//! with two, and prints which of them has the hardest step.
+//! `bench worst COUNT`: draws so many files of edition 2 of each of three shapes, and prints which of them
+//! has the hardest step.
 
+use bench::family::WORST;
 use bench::parts::{self, Part};
 use bench::picture::{picture, Bar};
 use bench::posting::posting;
@@ -14,13 +16,14 @@ use std::process::ExitCode;
 
 /// What can be said on the command line.
 const USE: &str =
-    "use: bench [check | step | staying | run | rewriting | posting | growth] [--picture FILE] \
-    | worst COUNT";
+    "use: bench [check | step | many | staying | run | rewriting | posting | growth] \
+    [--picture FILE] | worst COUNT";
 
 /// All parts, in the order of the table.
-const NAMES: [&str; 7] = [
+const NAMES: [&str; 8] = [
     "check",
     "step",
+    "many",
     "staying",
     "run",
     "rewriting",
@@ -60,8 +63,8 @@ fn measure(names: &[&str], path: Option<&str>) -> Result<(), String> {
 /// Prints the hardest of so many files.
 fn look_for_worst(count: &str) -> Result<(), String> {
     let count: u64 = count.parse().map_err(|_| USE)?;
-    for out in [8, 2] {
-        println!("{}", worst(out, count));
+    for (outs, _) in WORST {
+        println!("{}", worst(outs, count));
     }
     Ok(())
 }
@@ -71,6 +74,7 @@ fn measured(name: &str) -> Vec<Part> {
     match name {
         "check" => vec![parts::check()],
         "step" => vec![parts::step()],
+        "many" => vec![parts::many()],
         "staying" => vec![parts::staying()],
         "run" => parts::run(),
         "rewriting" => vec![parts::rewriting()],

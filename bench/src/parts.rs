@@ -5,11 +5,12 @@ use crate::hand;
 use crate::measure::{least, median, Call};
 use crate::picture::{Bar, Other};
 use crate::table::{ratio, time, Row, Table, NOTHING};
+use reference::limits::CHARTS;
 use reference::Set;
 use std::hint::black_box;
 
 /// The most choices that plain enumeration is let try where time grows.
-const FEW_CHOICES: usize = 100_000;
+const FEW_CHOICES: u64 = 100_000;
 
 /// A part as text, and its bars.
 pub struct Part {
@@ -175,7 +176,23 @@ pub fn step() -> Part {
     part("step", rows)
 }
 
-/// Steps of edition 2, where every active chart may also stay: 9^8 choices instead of 8^8, and 3^8
+/// Steps of nine charts and more. Plain enumeration is let try few choices only.
+pub fn many() -> Part {
+    let calls = |s: &'_ Subject| s.choices() <= FEW_CHOICES;
+    let mut rows = vec![];
+    for (label, family) in family::many() {
+        rows.push(row_of(label, &family, |s| step_calls(s, calls(s))));
+    }
+    for (label, subject) in family::counted() {
+        rows.push(row_of(label, &[subject], |s| step_calls(s, true)));
+    }
+    for (label, subject) in family::bad() {
+        rows.push(row_of(label, &[subject], |s| step_calls(s, false)));
+    }
+    part("step, 9 to 16 charts", rows)
+}
+
+/// Steps of edition 2, where every active chart may also stay: 8^8 choices instead of 7^8, and 3^8
 /// instead of 2^8.
 pub fn staying() -> Part {
     let row = |label: &str, family: &[Subject]| row_of(label, family, |s| step_calls(s, true));
@@ -183,24 +200,27 @@ pub fn staying() -> Part {
     let mut rows = vec![
         compared("everyday, 1 to 4 charts", &[together(&everyday)]),
         compared("everyday, the median file", &everyday),
-        row("hard, 8 charts, 8 from a state", &family::hard_staying(8)),
+        row("hard, 8 charts, 7 from a state", &family::hard_staying(7)),
         row("hard, 8 charts, 2 from a state", &family::hard_staying(2)),
     ];
     for (label, subject) in family::worst_staying() {
-        rows.push(row(label, &[subject]));
+        rows.push(row_of(label, &[subject], |s| step_calls(s, false)));
     }
     part("step, edition 2", rows)
 }
 
-/// A step's answer and next configuration; a refused one has no answer.
-type Stepped = (Result<mestecur::Step, u8>, Vec<u8>);
+/// A step's answer and next configuration; of a refused one the refusal and the number of open choices.
+type Stepped = (Result<mestecur::Step, (u8, u64)>, Vec<u8>);
 
 /// The engine's step.
 fn engine_step(subject: &Subject) -> Stepped {
     let mut next = vec![0; subject.config.len()];
     let input = mestecur::Set(subject.input);
     let answer = mestecur::step(&subject.file, &subject.config, input, &mut next);
-    (answer.map_err(mestecur::Refusal::number), next)
+    (
+        answer.map_err(|refused| (refused.number(), refused.open)),
+        next,
+    )
 }
 
 /// The step by hand.
@@ -209,12 +229,13 @@ fn hand_step(subject: &Subject) -> Stepped {
     let (file, config) = (&subject.file, &subject.config);
     let stepped = hand::step(file, config, subject.input, &mut next);
     if stepped.refusal != 0 {
-        return (Err(stepped.refusal), next);
+        return (Err((stepped.refusal, stepped.open)), next);
     }
     let step = mestecur::Step {
         output: mestecur::Set(stepped.output),
         mark: stepped.mark,
         places: stepped.places.map(mestecur::Place::of),
+        open: stepped.open,
     };
     (Ok(step), next)
 }
@@ -223,7 +244,7 @@ fn hand_step(subject: &Subject) -> Stepped {
 fn step_calls(subject: &Subject, with_reference: bool) -> Calls<'_> {
     assert_eq!(engine_step(subject), hand_step(subject));
     let (file, config) = (&subject.file[..], &subject.config[..]);
-    let (mut one, mut other, mut third) = ([0; 8], [0; 8], [0; 8]);
+    let (mut one, mut other, mut third) = ([0; CHARTS], [0; CHARTS], [0; CHARTS]);
     let input = subject.input;
     Calls {
         engine: Box::new(move || {
@@ -237,7 +258,12 @@ fn step_calls(subject: &Subject, with_reference: bool) -> Calls<'_> {
         reference: with_reference.then(|| -> Call {
             Box::new(move || {
                 let input = Set(black_box(input));
-                black_box(reference::step(black_box(file), config, input, &mut third));
+                black_box(reference::step_plainly(
+                    black_box(file),
+                    config,
+                    input,
+                    &mut third,
+                ));
             })
         }),
     }
@@ -312,7 +338,7 @@ fn run_calls<'a>(subject: &'a Subject, inputs: &'a [u64], with_reference: bool) 
         reference: with_reference.then(|| -> Call {
             Box::new(move || {
                 let sets = &reference_sets;
-                black_box(reference::run(
+                black_box(reference::run_plainly(
                     black_box(file),
                     config,
                     Set::EMPTY,
@@ -434,6 +460,10 @@ pub fn growth() -> Vec<Part> {
         let label = format!("charts: {n}, 8 from a state");
         (label, family(&move |seed| family::random_row(seed, n, 8)))
     });
+    let more_charts = (8..=16).map(|n| {
+        let label = format!("charts: {n}, 2 from a state");
+        (label, family(&move |seed| family::random_row(seed, n, 2)))
+    });
     let transitions = (1..=8).map(|n| {
         let label = format!("from a state: {n}, 8 charts");
         (label, family(&move |seed| family::random_row(seed, 8, n)))
@@ -444,6 +474,7 @@ pub fn growth() -> Vec<Part> {
     });
     vec![
         grown("growth with charts", charts.collect()),
+        grown("growth from 8 to 16 charts", more_charts.collect()),
         grown("growth with transitions", transitions.collect()),
         grown("growth with nodes", nodes.collect()),
     ]

@@ -59,7 +59,7 @@ fn row(label: &str, family: &[Subject]) -> Row {
 /// of the book is in the subject's configuration before each day.
 fn day(subject: &Subject) -> Day {
     let (file, config) = (&subject.file[..], &subject.config[..]);
-    let book = [Case::new(config).expect("at most eight charts"); CASES];
+    let book = [Case::new(config).expect("at most sixteen charts"); CASES];
     let (few, many) = (entries(subject, FEW), entries(subject, MANY));
     let post = |entries: &[Entry], rows: &mut [u8]| {
         let mut cases = black_box(book);

@@ -8,7 +8,7 @@ use std::fmt::{self, Display, Formatter};
 /// The file of a seed that has the most beginnings among so many.
 pub struct Worst {
     pub seed: u64,
-    pub out: usize,
+    pub outs: Vec<usize>,
     pub files: u64,
     pub beginnings: usize,
 }
@@ -17,19 +17,23 @@ impl Display for Worst {
     fn fmt(&self, out: &mut Formatter) -> fmt::Result {
         write!(
             out,
-            "edition 2, 8 charts, {} from a state: the worst of {} files is that of seed {}, {} beginnings",
-            self.out, self.files, self.seed, self.beginnings
+            "edition 2, {} charts, {} from a state: the worst of {} files is that of seed {}, {} beginnings",
+            self.outs.len(),
+            self.outs[0],
+            self.files,
+            self.seed,
+            self.beginnings
         )
     }
 }
 
-/// The worst of so many random files of edition 2 with so many transitions from each state.
-pub fn worst(out: usize, files: u64) -> Worst {
-    let all = (0..files).map(|seed| (beginnings(&drawn_staying(seed, out)), seed));
+/// The worst of so many random files of edition 2 with so many transitions from each chart's state.
+pub fn worst(outs: &[usize], files: u64) -> Worst {
+    let all = (0..files).map(|seed| (beginnings(&drawn_staying(seed, outs)), seed));
     let (beginnings, seed) = all.max().unwrap_or((0, 0));
     Worst {
         seed,
-        out,
+        outs: outs.to_vec(),
         files,
         beginnings,
     }

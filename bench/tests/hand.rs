@@ -1,6 +1,7 @@
 //! The engine written by hand answers as the reference does, so that its times can be compared.
 
-use bench::family::{drawn_staying, hard_staying, worst_staying};
+use bench::family::{bad, counted, drawn_staying, hard_staying, many, worst_staying, WORST};
+use bench::family::{Subject, FIFTEEN};
 use bench::hand;
 use bench::worst::{beginnings, worst};
 use reference::command::{Command, Numbers, Op, FILL};
@@ -23,11 +24,12 @@ fn by_hand(command: &Command) -> Told {
     let (file, at) = (&command.file, &command.configuration);
     let inputs: Vec<u64> = command.inputs.iter().map(|set| set.0).collect();
     let (refusal, numbers) = match command.op {
-        Op::Step => {
+        Op::Step | Op::Open => {
             let stepped = hand::step(file, at, inputs[0], &mut lent);
             let numbers = Numbers {
                 two: [stepped.output, u64::from(stepped.mark)],
                 places: stepped.places,
+                open: stepped.open,
             };
             (stepped.refusal, numbers)
         }
@@ -62,10 +64,10 @@ fn the_engine_by_hand_agrees_with_the_reference() {
 /// The hard files with two transitions from a state, and files among which the worst was looked for.
 #[test]
 fn hard_steps_of_edition_2_by_hand_agree_with_the_reference() {
-    let drawn = (0..300).map(|seed| drawn_staying(seed, 2));
+    let drawn = (0..300).map(|seed| drawn_staying(seed, &[2; 8]));
     let mut stayed = 0;
     for subject in hard_staying(2).into_iter().chain(drawn) {
-        let (mut one, mut other) = ([9; 8], [9; 8]);
+        let (mut one, mut other) = ([9; 16], [9; 16]);
         let (file, at) = (&subject.file, &subject.config);
         let by_hand = hand::step(file, at, subject.input, &mut one);
         let expected = reference::step(file, at, Set(subject.input), &mut other);
@@ -75,6 +77,7 @@ fn hard_steps_of_edition_2_by_hand_agree_with_the_reference() {
             (expected.output.0, expected.mark)
         );
         assert_eq!(by_hand.places, expected.places);
+        assert_eq!(by_hand.open, expected.open);
         stayed += usize::from(by_hand.places.contains(&hand::STAYED));
     }
     assert!(stayed > 50, "{stayed}");
@@ -83,7 +86,39 @@ fn hard_steps_of_edition_2_by_hand_agree_with_the_reference() {
 /// The worst files are at least as hard as the first ones that the search meets.
 #[test]
 fn the_worst_found_are_hard() {
-    for ((_, subject), out) in worst_staying().into_iter().zip([8, 2]) {
-        assert!(beginnings(&subject) > worst(out, 500).beginnings);
+    for ((_, subject), (outs, _)) in worst_staying().into_iter().zip(WORST) {
+        assert!(beginnings(&subject) > worst(outs, 200).beginnings);
     }
+}
+
+/// How many choices of a file are open, part by part.
+fn open_choices(subject: &Subject) -> u64 {
+    reference::open::by_parts(&subject.model, &subject.config)
+}
+
+/// The families of nine charts and more are what their labels say.
+#[test]
+fn families_have_their_open_choices() {
+    let numbers = |family: &[Subject]| family.iter().map(open_choices).collect::<Vec<u64>>();
+    let expected = [1 << 16, 3_u64.pow(13) * 8, 1 << 24];
+    for ((label, family), number) in many().iter().zip(expected) {
+        assert_eq!(numbers(family), vec![number; family.len()], "{label}");
+    }
+    let expected = [0, 8_u64.pow(9), 8_u64.pow(16), 3_u64.pow(16)];
+    for ((label, subject), number) in counted().iter().zip(expected) {
+        assert_eq!(open_choices(subject), number, "{label}");
+        let refusal = if number == 0 { 23 } else { 24 };
+        let stepped = hand::step(&subject.file, &subject.config, subject.input, &mut [0; 16]);
+        assert_eq!(
+            (stepped.refusal, stepped.open),
+            (refusal, number),
+            "{label}"
+        );
+    }
+    for (label, subject) in bad() {
+        assert_eq!(reference::check(&subject.file), 0, "{label}");
+        assert_eq!(open_choices(&subject), 1 << 24, "{label}");
+    }
+    let fifteen = drawn_staying(0, &FIFTEEN);
+    assert_eq!(open_choices(&fifteen), 3_u64.pow(15));
 }

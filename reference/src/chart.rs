@@ -116,15 +116,27 @@ fn rows_and_carried(file: &[u8], configuration: &[u8], sets: &[Set]) -> Result<S
     ))
 }
 
-/// The line of a run of one set, and a line for each chart: which transition it took, or that it
-/// stayed.
+/// The line of a run of one set; a line for each chart of a step that is given: which transition it
+/// took, or that it stayed; and the number of open choices, if the step is given or refused with 24.
 fn one_step(file: &[u8], configuration: &[u8], set: Set) -> Result<String, Refused> {
     let (row, _) = rows(file, configuration, &[set])?;
     let model = accept(file).map_err(of_file)?;
-    let verdict = step_model(&model, configuration, set);
-    let choice = verdict.map_or(vec![], |verdict| verdict.choice);
-    let took = choice.iter().enumerate().map(took);
-    Ok(row + &took.collect::<String>())
+    let lines = match step_model(&model, configuration, set) {
+        Ok(verdict) => {
+            let took: String = verdict.choice.iter().enumerate().map(took).collect();
+            took + &open(verdict.open)
+        }
+        Err(refused) if refused.number < refusal::MANY_OPEN => String::new(),
+        Err(refused) => open(refused.open),
+    };
+    Ok(row + &lines)
+}
+
+fn open(number: u64) -> String {
+    match number {
+        1 => "1 open choice\n".to_string(),
+        many => format!("{many} open choices\n"),
+    }
 }
 
 fn took((chart, place): (usize, &Place)) -> String {

@@ -5,6 +5,7 @@
 //! of inputs (2), two zero bytes, what is carried into a run (8). Then the name, the file, the
 //! configuration, the inputs (8 bytes each). Before the call each byte of the buffer is [`FILL`].
 
+use crate::limits::EARLIER_CHARTS;
 use crate::set::Set;
 use crate::step::NO_PLACES;
 use crate::{check, clear, first, interface, plain, rewrite, run, step, Places};
@@ -18,21 +19,25 @@ pub const MOST_BYTES: usize = 65_536;
 /// The most inputs of a command.
 pub const MOST_INPUTS: usize = 4_096;
 
-/// Which call is made.
+/// Which call is made, and what its line shows.
 #[derive(Clone, Copy, PartialEq, Eq, Debug)]
 pub enum Op {
     Check,
     First,
     Interface,
+    /// A step, as it was recorded before there were more than eight charts: its line shows the
+    /// places of the first eight.
     Step,
     Run,
     Rewrite,
     Plain,
     Clear,
+    /// A step: its line shows all places, and the number of open choices.
+    Open,
 }
 
 /// All ops; the place of each is its number in the header.
-pub const OPS: [Op; 8] = [
+pub const OPS: [Op; 9] = [
     Op::Check,
     Op::First,
     Op::Interface,
@@ -41,6 +46,7 @@ pub const OPS: [Op; 8] = [
     Op::Rewrite,
     Op::Plain,
     Op::Clear,
+    Op::Open,
 ];
 
 /// One call, with all that is passed to it.
@@ -57,11 +63,12 @@ pub struct Command {
 }
 
 /// What a call answers beside its refusal and its buffer: up to two numbers, 0 where it has none,
-/// and a step's places.
+/// and a step's places and number of open choices.
 #[derive(Clone, Copy, PartialEq, Eq, Debug)]
 pub struct Numbers {
     pub two: [u64; 2],
     pub places: Places,
+    pub open: u64,
 }
 
 impl Numbers {
@@ -73,6 +80,7 @@ impl Numbers {
         Numbers {
             two: [one, other],
             places: NO_PLACES,
+            open: 0,
         }
     }
 }
@@ -133,6 +141,22 @@ impl Command {
             inputs: vec![input],
             ..Command::check(name, file)
         }
+    }
+
+    /// The same call; the line of a step shows all that it answers.
+    pub fn whole_line(self) -> Command {
+        match self.op {
+            Op::Step => Command {
+                op: Op::Open,
+                ..self
+            },
+            _ => self,
+        }
+    }
+
+    /// Whether it is a step.
+    pub fn is_step(&self) -> bool {
+        matches!(self.op, Op::Step | Op::Open)
     }
 
     /// A run of a file with nothing carried into it, into a buffer of this length.
@@ -242,7 +266,14 @@ impl Command {
             Op::First => vec![lent],
             Op::Run => vec![Set(one).hex(), lent],
             Op::Interface => vec![Set(one).hex(), Set(other).hex()],
-            Op::Step => vec![Set(one).hex(), mark.to_string(), hex(&numbers.places), lent],
+            Op::Step => {
+                let places = hex(&numbers.places[..EARLIER_CHARTS]);
+                vec![Set(one).hex(), mark.to_string(), places, lent]
+            }
+            Op::Open => {
+                let (places, open) = (hex(&numbers.places), numbers.open.to_string());
+                vec![Set(one).hex(), mark.to_string(), places, open, lent]
+            }
             Op::Rewrite | Op::Clear => vec![one.to_string(), lent],
             Op::Plain => vec![one.to_string()],
         }
@@ -258,11 +289,12 @@ impl Command {
                 let found = interface(file);
                 (found.refusal, Numbers::two(found.input.0, found.output.0))
             }
-            Op::Step => {
+            Op::Step | Op::Open => {
                 let stepped = step(file, at, self.inputs[0], lent);
                 let numbers = Numbers {
                     two: [stepped.output.0, u64::from(stepped.mark)],
                     places: stepped.places,
+                    open: stepped.open,
                 };
                 (stepped.refusal, numbers)
             }
@@ -298,6 +330,7 @@ fn word(op: Op) -> &'static str {
         Op::Rewrite => "rewrite",
         Op::Plain => "plain",
         Op::Clear => "clear",
+        Op::Open => "open",
     }
 }
 
@@ -335,7 +368,7 @@ fn decode(bytes: &mut &[u8]) -> Result<Command, String> {
     if room > MOST_BYTES || file.len() > MOST_BYTES || inputs.len() > MOST_INPUTS * 8 {
         return Err("too large".to_string());
     }
-    if op == Op::Step && inputs.len() != 8 {
+    if matches!(op, Op::Step | Op::Open) && inputs.len() != 8 {
         return Err("a step has exactly one input".to_string());
     }
     Ok(Command {

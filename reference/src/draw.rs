@@ -1,6 +1,7 @@
 //! Random calls of every kind for a long comparison, the same for the same seed: random files, right
 //! and damaged, the named cases with something altered, and some steps with many choices. A third of
-//! the files are edition 2. Each call is cheap enough for this engine, which tries every choice.
+//! the files are edition 2, and a third of the fresh ones have nine charts or more. Each call is cheap
+//! enough for this engine, which tries every open choice.
 
 use crate::book::{self, Post};
 use crate::check::accept;
@@ -10,12 +11,11 @@ use crate::limits::*;
 use crate::model::Edition;
 use crate::record::{named, KINDS};
 use crate::set::Set;
-use crate::walk::from_any_state;
 
 /// The most choices of one call, those of all inputs of a run together.
-const CHOICES: usize = 5_000;
+const CHOICES: u64 = 5_000;
 /// The choices of a step that is called hard, from and to.
-const HARD_CHOICES: (usize, usize) = (2_000, 60_000);
+const HARD_CHOICES: (u64, u64) = (2_000, 60_000);
 
 /// A source of random calls.
 pub struct Draw {
@@ -45,8 +45,8 @@ impl Draw {
 
     /// The next posting, under a name.
     pub fn post(&mut self, name: &str) -> Post {
-        let edition = edition(&mut self.random);
-        book::draw::post(&mut self.random, edition, name)
+        let files = files(&mut self.random);
+        book::draw::post(&mut self.random, files, name)
     }
 }
 
@@ -55,16 +55,26 @@ fn edition(random: &mut Random) -> Edition {
     random.pick(&[Edition::First, Edition::First, Edition::Second])
 }
 
-/// A call with a random file.
+/// Which files are drawn: in a third of the cases those of nine charts and more.
+fn files(random: &mut Random) -> Files {
+    Files {
+        edition: edition(random),
+        size: random.pick(&[Size::Small, Size::Small, Size::Large]),
+    }
+}
+
+/// A call with a random file; half of the steps are compared with all that they answer in their
+/// lines.
 fn fresh(random: &mut Random, name: &str) -> Command {
-    let (kind, edition) = (random.below(16), edition(random));
+    let (kind, files) = (random.below(16), files(random));
     affordable(random, |random| match kind {
-        0..=3 => file_command(random, edition, name),
-        4..=7 => step_command(random, edition, name),
-        8 | 9 => run_command(random, edition, name),
-        10 | 11 => rewrite_command(random, edition, name),
-        12 | 13 => plain_command(random, edition, name),
-        _ => clear_command(random, edition, name),
+        0..=3 => file_command(random, files, name),
+        4 | 5 => step_command(random, files, name),
+        6 | 7 => step_command(random, files, name).whole_line(),
+        8 | 9 => run_command(random, files, name),
+        10 | 11 => rewrite_command(random, files, name),
+        12 | 13 => plain_command(random, files, name),
+        _ => clear_command(random, files, name),
     })
 }
 
@@ -78,25 +88,20 @@ fn affordable(random: &mut Random, mut draw: impl FnMut(&mut Random) -> Command)
     }
 }
 
-/// How many choices a call has at most; 0 if it makes no step.
-pub fn choices(command: &Command) -> usize {
-    let steps = match command.op {
-        Op::Step | Op::Run => command.inputs.len(),
-        _ => 0,
-    };
-    match accept(&command.file) {
-        Ok(model) if command.op == Op::Run => steps * from_any_state(&model),
-        Ok(model) => steps * most_choices(&model, &command.configuration),
-        Err(_) => 0,
-    }
-}
-
 /// A step with many choices: many charts, many transitions, few signals.
 fn hard_step(random: &mut Random, name: &str) -> Command {
     loop {
         let mut shape = shape(random, CHARTS);
-        shape.charts = random.between(4, CHARTS);
-        shape.out = random.between(4, STATE_TRANSITIONS);
+        (shape.charts, shape.out) = match random.below(2) {
+            0 => (
+                random.between(4, EARLIER_CHARTS),
+                random.between(4, STATE_TRANSITIONS),
+            ),
+            _ => (
+                random.between(EARLIER_CHARTS + 1, CHARTS),
+                random.between(1, 3),
+            ),
+        };
         shape.states = random.between(1, 2);
         let model = model(random, &shape).under(edition(random));
         let at = configuration(random, &model);
@@ -166,7 +171,7 @@ fn other_call(random: &mut Random, command: &mut Command) {
     let charts = model.charts.len();
     command.room = match command.op {
         Op::Check | Op::Interface | Op::Plain => 0,
-        Op::First | Op::Step => room(random, charts),
+        Op::First | Op::Step | Op::Open => room(random, charts),
         Op::Run => room(random, command.inputs.len() * (ROW_HEAD_BYTES + charts)),
         Op::Rewrite => room(random, 2 * command.file.len() + NODES * NODE_BYTES),
         Op::Clear => room(random, command.file.len()),
@@ -175,7 +180,7 @@ fn other_call(random: &mut Random, command: &mut Command) {
 
 /// A step has exactly one input.
 fn fit_inputs(command: &mut Command) {
-    if command.op == Op::Step {
+    if command.is_step() {
         command.inputs.resize(1, Set::EMPTY);
     }
 }

@@ -5,13 +5,16 @@ use crate::cases::rewrite::rewritten_bytes;
 use crate::cases::run::rows_bytes;
 use crate::check::accept;
 use crate::clearing::clear_model;
-use crate::command::Command;
+use crate::command::{Command, Op};
 use crate::file::Records;
 use crate::interface::chart_input;
 use crate::limits::*;
 use crate::model::{Chart, Edition, Model, Node, Slave, Transition};
+use crate::open::by_parts;
 use crate::plain::{feedback_sets, pairs_from_one_state};
+use crate::run::run_model;
 use crate::set::Set;
+use crate::step::accept_configuration;
 
 /// A deterministic source of numbers (splitmix64).
 pub struct Random {
@@ -126,6 +129,21 @@ pub fn shape(random: &mut Random, most_charts: usize) -> Shape {
     }
 }
 
+/// A shape for files of more charts than there could be earlier. A step has few enough choices to be
+/// tried, since few transitions leave a state, or so many that it is refused with 24.
+pub fn large_shape(random: &mut Random) -> Shape {
+    let mut shape = shape(random, CHARTS);
+    shape.charts = random.between(EARLIER_CHARTS + 1, CHARTS);
+    if random.chance(12) {
+        (shape.states, shape.out, shape.complete) = (1, STATE_TRANSITIONS, 100);
+        shape.decompose = random.pick(&[0, 0, 40]);
+    } else {
+        shape.out = random.pick(&[0, 0, 1, 1, 2]);
+        shape.complete = random.pick(&[0, 40, 80, 100]);
+    }
+    shape
+}
+
 /// A random file of a shape, of edition 1; it passes 1 to 11.
 pub fn model(random: &mut Random, shape: &Shape) -> Model {
     let charts: Vec<Chart> = (0..shape.charts).map(|_| chart(random, shape)).collect();
@@ -216,7 +234,7 @@ impl Tree<'_> {
     /// A node with all these charts inside; their numbers rise. It may be hidden.
     fn grow(&mut self, charts: Vec<u8>) -> u8 {
         let mut made = self.grow_unhidden(charts);
-        while self.random.chance(self.shape.hide) && self.nodes.len() < NODES - 2 * CHARTS {
+        while self.random.chance(self.shape.hide) && self.nodes.len() < self.most_before_hidden() {
             let node = Node::Hidden {
                 part: made,
                 filtered: self.random.subset(&self.shape.signals, 25),
@@ -225,6 +243,14 @@ impl Tree<'_> {
             made = self.push(node);
         }
         made
+    }
+
+    /// The nodes from which on none is hidden, so that the others have room.
+    fn most_before_hidden(&self) -> usize {
+        match self.shape.charts {
+            0..=EARLIER_CHARTS => NODES - 2 * EARLIER_CHARTS,
+            _ => NODES - 2 * CHARTS,
+        }
     }
 
     /// A node with all these charts inside: a chart, decomposed or composed.
@@ -326,7 +352,7 @@ pub fn wrong_configuration(random: &mut Random, model: &Model) -> Vec<u8> {
     match random.below(4) {
         0 => right.push(0),
         1 => right.truncate(right.len() - 1),
-        2 => right = vec![0; random.below(10)],
+        2 => right = vec![0; random.below(model.charts.len().max(8) + 2)],
         _ => {
             let chart = random.below(right.len());
             let states = model.charts[chart].states;
@@ -501,6 +527,75 @@ pub fn most_places(edition: Edition, chart: &Chart, state: u8) -> usize {
 /// The most choices of a random step, so that a recording is soon made.
 const CHOICES: usize = 20_000;
 
+/// Which files are drawn.
+#[derive(Clone, Copy)]
+pub struct Files {
+    pub edition: Edition,
+    pub size: Size,
+}
+
+/// How many charts they have.
+#[derive(Clone, Copy, PartialEq, Eq, Debug)]
+pub enum Size {
+    /// As many as there could be earlier, or fewer.
+    Small,
+    /// More than that.
+    Large,
+}
+
+impl Size {
+    /// A shape, and a file of it, of edition 1.
+    pub fn any(self, random: &mut Random) -> (Shape, Model) {
+        match self {
+            Size::Small => any(random, EARLIER_CHARTS),
+            Size::Large => {
+                let shape = large_shape(random);
+                let model = model(random, &shape);
+                (shape, model)
+            }
+        }
+    }
+
+    /// The most bytes of a file, given those of a small one.
+    fn bytes(self, small: usize) -> usize {
+        match self {
+            Size::Small => small,
+            Size::Large => 3 * small,
+        }
+    }
+
+    /// Whether a step from a configuration has few enough choices.
+    fn few(self, model: &Model, at: &[u8], most: usize) -> bool {
+        match self {
+            Size::Small => most_choices(model, at) <= most,
+            Size::Large => tried(model, at) <= most as u64,
+        }
+    }
+}
+
+/// How many choices a step from a configuration tries: the open ones, and none if it is refused with
+/// 24.
+pub fn tried(model: &Model, configuration: &[u8]) -> u64 {
+    match by_parts(model, configuration) {
+        many if many > OPEN_CHOICES => 0,
+        few => few,
+    }
+}
+
+/// How many choices the steps of a run try. The run ends where one of them tries more than so many.
+pub fn tried_in_run(model: &Model, at: &[u8], carried: Set, inputs: &[Set], most: u64) -> u64 {
+    let (mut present, mut carried, mut sum) = (at.to_vec(), carried, 0);
+    for &input in inputs {
+        sum += tried(model, &present);
+        if sum > most {
+            break;
+        }
+        let (rows, left) = run_model(model, &present, carried, &[input]);
+        (present, carried) = (rows[0].configuration.clone(), left);
+    }
+    sum
+}
+
 /// A shape for files of at most so many charts, and a file of it, of edition 1.
 pub fn any(random: &mut Random, most_charts: usize) -> (Shape, Model) {
     let shape = shape(random, most_charts);
@@ -508,12 +603,12 @@ pub fn any(random: &mut Random, most_charts: usize) -> (Shape, Model) {
     (shape, model)
 }
 
-/// A shape and a file of it that is not longer than asked, of this edition.
-pub fn bounded(random: &mut Random, edition: Edition, bytes: usize) -> (Shape, Model) {
+/// A shape and a file of it that is not longer than asked; a large one may be three times as long.
+pub fn bounded(random: &mut Random, files: Files, bytes: usize) -> (Shape, Model) {
     loop {
-        let (shape, model) = any(random, CHARTS);
-        if model.file().len() <= bytes {
-            return (shape, model.under(edition));
+        let (shape, model) = files.size.any(random);
+        if model.file().len() <= files.size.bytes(bytes) {
+            return (shape, model.under(files.edition));
         }
     }
 }
@@ -537,23 +632,25 @@ pub fn room(random: &mut Random, needed: usize) -> usize {
     }
 }
 
-/// What draws one random command with a file of an edition, under a name.
-type Source = fn(&mut Random, Edition, &str) -> Command;
+/// What draws one random command with such a file, under a name.
+type Source = fn(&mut Random, Files, &str) -> Command;
 
-/// What is drawn for a recording: from which seed, how many, and with files of which edition.
+/// What is drawn for a recording: under which name, from which seed, how many, and with which files.
 #[derive(Clone, Copy)]
 pub struct Drawing {
+    pub name: &'static str,
     pub seed: u64,
     pub count: usize,
-    pub edition: Edition,
+    pub files: Files,
 }
 
 impl Drawing {
     /// The name of a random command.
     fn name(&self, number: usize) -> String {
-        match self.edition {
-            Edition::First => format!("random-{number}"),
-            Edition::Second => format!("edition-2-random-{number}"),
+        let name = self.name;
+        match self.files.edition {
+            Edition::First => format!("{name}-{number}"),
+            Edition::Second => format!("edition-2-{name}-{number}"),
         }
     }
 
@@ -561,7 +658,7 @@ impl Drawing {
     fn commands(&self, draw: Source) -> Vec<Command> {
         let mut random = Random::new(self.seed);
         (0..self.count)
-            .map(|number| draw(&mut random, self.edition, &self.name(number)))
+            .map(|number| draw(&mut random, self.files, &self.name(number)))
             .collect()
     }
 
@@ -571,7 +668,7 @@ impl Drawing {
         let mut random = Random::new(self.seed);
         let mut commands = Vec::new();
         while commands.len() < self.count {
-            let command = draw(&mut random, self.edition, &self.name(commands.len()));
+            let command = draw(&mut random, self.files, &self.name(commands.len()));
             let answer = command.answer();
             let chance = match answer.refusal {
                 refusal::NO_STEP => 5,
@@ -591,8 +688,8 @@ pub fn file_commands(drawing: Drawing) -> Vec<Command> {
 }
 
 /// One random check, first configuration or interface; most of the files are damaged.
-pub fn file_command(random: &mut Random, edition: Edition, name: &str) -> Command {
-    let (_, model) = bounded(random, edition, 1_500);
+pub fn file_command(random: &mut Random, files: Files, name: &str) -> Command {
+    let (_, model) = bounded(random, files, 1_500);
     let file = if random.chance(75) {
         damaged(random, &model)
     } else {
@@ -630,12 +727,12 @@ pub fn step_commands(drawing: Drawing) -> Vec<Command> {
 }
 
 /// One random step.
-pub fn step_command(random: &mut Random, edition: Edition, name: &str) -> Command {
+pub fn step_command(random: &mut Random, files: Files, name: &str) -> Command {
     let bytes = random.pick(&[300, 400, 600, 800, 1_000, 1_300]);
     loop {
-        let (shape, model) = bounded(random, edition, bytes);
+        let (shape, model) = bounded(random, files, bytes);
         let right = configuration(random, &model);
-        if most_choices(&model, &right) > CHOICES {
+        if !files.size.few(&model, &right, CHOICES) {
             continue;
         }
         let file = seldom_damaged(random, &model, 30);
@@ -654,15 +751,11 @@ pub fn run_commands(drawing: Drawing) -> Vec<Command> {
 }
 
 /// One random run.
-pub fn run_command(random: &mut Random, edition: Edition, name: &str) -> Command {
+pub fn run_command(random: &mut Random, files: Files, name: &str) -> Command {
     loop {
         let bytes = random.pick(&[300, 500, 700, 1_200]);
-        let (shape, model) = bounded(random, edition, bytes);
-        let states: Vec<Vec<u8>> = (0..STATES as u8).map(|state| vec![state; CHARTS]).collect();
-        if states
-            .iter()
-            .any(|all| most_choices(&model, all) > CHOICES / 10)
-        {
+        let (shape, model) = bounded(random, files, bytes);
+        if files.size == Size::Small && has_many_choices(&model) {
             continue;
         }
         let file = seldom_damaged(random, &model, 20);
@@ -677,7 +770,30 @@ pub fn run_command(random: &mut Random, edition: Edition, name: &str) -> Command
             0 => Set::EMPTY,
             _ => input(random, &shape),
         };
-        return Command::run(name, file, &at, &inputs, room).carrying(carried);
+        let command = Command::run(name, file, &at, &inputs, room).carrying(carried);
+        if files.size == Size::Small || choices(&command) <= CHOICES as u64 {
+            return command;
+        }
+    }
+}
+
+/// Whether a file has many choices where all its charts are in states of one number.
+fn has_many_choices(model: &Model) -> bool {
+    let mut states = 0..STATES as u8;
+    states.any(|state| most_choices(model, &[state; CHARTS]) > CHOICES / 10)
+}
+
+/// How many choices a call tries; those of a run up to the step with which there are too many.
+pub fn choices(command: &Command) -> u64 {
+    let Ok(model) = accept(&command.file) else {
+        return 0;
+    };
+    let (at, inputs) = (&command.configuration, &command.inputs);
+    match command.op {
+        _ if accept_configuration(&model, at).is_err() => 0,
+        Op::Step | Op::Open => tried(&model, at),
+        Op::Run => tried_in_run(&model, at, command.carried, inputs, CHOICES as u64),
+        _ => 0,
     }
 }
 
@@ -687,10 +803,10 @@ pub fn rewrite_commands(drawing: Drawing) -> Vec<Command> {
 }
 
 /// One random rewriting.
-pub fn rewrite_command(random: &mut Random, edition: Edition, name: &str) -> Command {
+pub fn rewrite_command(random: &mut Random, files: Files, name: &str) -> Command {
     let bytes = random.pick(&[300, 400, 600, 900, 1_300]);
     let (_, mut model) = loop {
-        let (shape, model) = bounded(random, edition, bytes);
+        let (shape, model) = bounded(random, files, bytes);
         if !model.slaves.is_empty() {
             break (shape, model);
         }
@@ -738,7 +854,12 @@ fn transitions_of_one_state(chart: &Chart) -> Vec<Transition> {
 /// A random file in which the transitions from each state are told apart by signals of no feedback
 /// set, and its shape with these signals. Some of the guards are empty but for that.
 pub fn divided(random: &mut Random, most_charts: usize) -> (Shape, Model) {
-    let (mut shape, mut model) = any(random, most_charts);
+    let drawn = any(random, most_charts);
+    tell_apart(random, drawn)
+}
+
+/// The same of a file that is drawn.
+fn tell_apart(random: &mut Random, (mut shape, mut model): (Shape, Model)) -> (Shape, Model) {
     let own = Set::of(&shape.signals);
     let mut others: Vec<u32> = Set::FULL.less(own).signals().collect();
     random.shuffle(&mut others);
@@ -793,21 +914,24 @@ pub fn plain_commands(drawing: Drawing) -> Vec<Command> {
 
 /// One random question whether a file is plain. The file has two transitions from one state, and is
 /// mostly plain or nearly so, its edition aside.
-pub fn plain_command(random: &mut Random, edition: Edition, name: &str) -> Command {
+pub fn plain_command(random: &mut Random, files: Files, name: &str) -> Command {
     let bytes = random.pick(&[300, 500, 800, 1_300]);
     let (shape, mut model) = loop {
         let drawn = match random.below(5) {
-            0 => any(random, CHARTS),
-            _ => divided(random, CHARTS),
+            0 => files.size.any(random),
+            _ => {
+                let drawn = files.size.any(random);
+                tell_apart(random, drawn)
+            }
         };
-        if drawn.1.file().len() <= bytes && has_pair(&drawn.1) {
+        if drawn.1.file().len() <= files.size.bytes(bytes) && has_pair(&drawn.1) {
             break drawn;
         }
     };
     for _ in 0..random.pick(&[0, 1, 1, 2, 4]) {
         disturb(random, &shape, &mut model);
     }
-    let model = model.under(edition);
+    let model = model.under(files.edition);
     Command::plain(name, seldom_damaged(random, &model, 6))
 }
 
@@ -868,9 +992,9 @@ pub fn clear_commands(drawing: Drawing) -> Vec<Command> {
 }
 
 /// One random clearing; its buffer is often just long enough for the cleared file, or a byte short.
-pub fn clear_command(random: &mut Random, edition: Edition, name: &str) -> Command {
+pub fn clear_command(random: &mut Random, files: Files, name: &str) -> Command {
     let bytes = random.pick(&[300, 500, 800, 1_300]);
-    let (shape, mut model) = bounded(random, edition, bytes);
+    let (shape, mut model) = bounded(random, files, bytes);
     deaden(random, &shape, &mut model);
     let needed = clear_model(&model).file().len();
     let file = seldom_damaged(random, &model, 15);

@@ -11,13 +11,13 @@
 use crate::cases::run::rows_bytes;
 use crate::command::{hex, Answer, Call, Command};
 use crate::file::Trailer;
-use crate::generate::{any, configuration, damaged, front, input, Random, Shape};
+use crate::generate::{configuration, damaged, front, input, Random, Shape};
 use crate::interface::node_input;
 use crate::limits::*;
 use crate::model::{Edition, Model, Node};
 use crate::set::Set;
 use crate::step::{Outcome, Place, Situation};
-use crate::walk::{configurations, from_any_state};
+use crate::walk::{any_size, configurations, from_any_state, has_few_configurations};
 use std::fmt::{self, Display, Formatter};
 
 /// The most configurations of a file.
@@ -154,7 +154,7 @@ fn composed_file(random: &mut Random) -> (Shape, Model) {
         _ => |model| composed_inside_slaves(model) > 0,
     };
     loop {
-        let (shape, model) = any(random, CHARTS);
+        let (shape, model) = any_size(random);
         if has_composed(&model) && is_small(&model) {
             return (shape, model.under(edition));
         }
@@ -168,8 +168,7 @@ fn is_composed(node: &Node) -> bool {
 
 /// Whether every configuration, choice and input can be listed.
 fn is_small(model: &Model) -> bool {
-    let states = model.charts.iter().map(|chart| usize::from(chart.states));
-    states.product::<usize>() <= CONFIGURATIONS
+    has_few_configurations(model, CONFIGURATIONS)
         && from_any_state(model) <= CHOICES
         && interface(model).signals().count() <= INTERFACE
 }
@@ -243,7 +242,7 @@ fn calls(
     ];
     let offered = [Set::EMPTY, Set::FULL, inputs[0], inputs[1]];
     for at in configurations {
-        let step = |input| Command::step("step", file(), at, input, charts + 1);
+        let step = |input| Command::step("step", file(), at, input, charts + 1).whole_line();
         calls.extend(offered.into_iter().map(step));
     }
     calls

@@ -11,7 +11,8 @@
 //! - [`check`]: refusals 1 to 11 (RULES 3.2).
 //! - [`first`]: the first configuration (RULES 6.1).
 //! - [`interface`]: input and output interface (RULES 4).
-//! - [`step`]: a step of either edition, its places, refusals 20 to 23 (RULES 5).
+//! - [`step`]: a step of either edition, its places, refusals 20 to 24 (RULES 5).
+//! - [`open`]: the number of open choices (RULES 5.15).
 //! - [`run`]: a run, what it carries, refusal 27 (RULES 6).
 //! - [`rewriting`]: the rewriting, refusals 40 to 46 (RULES 9).
 //! - [`clearing`]: the file without its dead transitions, refusals 46 and 45 (RULES 12).
@@ -47,6 +48,7 @@ pub mod interface;
 pub mod laws;
 pub mod limits;
 pub mod model;
+pub mod open;
 pub mod plain;
 pub mod posting;
 pub mod record;
@@ -65,6 +67,6 @@ pub use interface::{interface, Interface};
 pub use plain::{plain, Plain};
 pub use posting::{post, CaseRecord, Entry};
 pub use rewriting::{rewrite, Rewritten};
-pub use run::{run, Ran};
+pub use run::{run, run_plainly, Ran};
 pub use set::Set;
-pub use step::{step, Places, Stepped};
+pub use step::{step, step_plainly, Places, Refused, Stepped};

@@ -7,19 +7,25 @@ pub const FIRST_EDITION: u8 = 1;
 pub const SECOND_EDITION: u8 = 2;
 
 /// RULES 2.8: the most charts of a file.
-pub const CHARTS: usize = 8;
+pub const CHARTS: usize = 16;
 /// RULES 2.8: the most slaves of a file.
-pub const SLAVES: usize = 7;
+pub const SLAVES: usize = 15;
 /// RULES 2.8: the most nodes of a file.
 pub const NODES: usize = 64;
 /// RULES 2.8: the most transitions of all charts.
-pub const TRANSITIONS: usize = 512;
+pub const TRANSITIONS: usize = 1_024;
 /// RULES 2.8: the most states of a chart.
 pub const STATES: usize = 16;
 /// RULES 2.8: the most transitions of one chart.
 pub const CHART_TRANSITIONS: usize = 64;
 /// RULES 2.8: the most transitions from one state.
 pub const STATE_TRANSITIONS: usize = 8;
+/// RULES 2.8: the most open choices of a step that is not refused with 24.
+pub const OPEN_CHOICES: u64 = 16_777_216;
+/// The most charts and slaves of a file before the limits were raised. Calls that were drawn or
+/// written under these limits are kept as they were.
+pub const EARLIER_CHARTS: usize = 8;
+pub const EARLIER_SLAVES: usize = 7;
 /// RULES 1.2: how many signals there are, the highest being 63.
 pub const SIGNALS: u32 = 64;
 /// RULES 5.11: the place of a chart that took no transition and did not stay.
@@ -96,6 +102,8 @@ pub mod refusal {
     pub const CONFIGURATION_ROOM: u8 = 22;
     /// no choice is permitted
     pub const NO_STEP: u8 = 23;
+    /// there are more open choices than a step may have
+    pub const MANY_OPEN: u8 = 24;
     /// the buffer is too short for the rows
     pub const RUN_ROOM: u8 = 27;
     /// the front is not made of whole inputs

@@ -2,7 +2,7 @@
 
 use crate::cases::{self, Case};
 use crate::command::Command;
-use crate::generate::{self, Drawing};
+use crate::generate::{self, Drawing, Files, Size};
 use crate::model::Edition;
 
 /// The kinds of recordings.
@@ -34,23 +34,53 @@ const RANDOM_REWRITINGS: [Drawing; 2] = both((0x7265_7772, 250), (0x7265_7773, 4
 const RANDOM_PLAINS: [Drawing; 2] = both((0x706c_6169, 300), (0x706c_616a, 40));
 const RANDOM_CLEARINGS: [Drawing; 2] = both((0x636c_6561, 200), (0x636c_6562, 30));
 
+/// Steps whose lines show all that they answer, and after them the calls with files of nine charts
+/// and more.
+const OPEN_STEPS: [Drawing; 2] = named_both("open-random", (0x6f70_656e, 200), (0x6f70_656f, 100));
+const LARGE_FILES: [Drawing; 2] = large((0x1669_6c65, 60), (0x1669_6c66, 20));
+const LARGE_STEPS: [Drawing; 2] = large((0x1674_6570, 150), (0x1674_6571, 80));
+const LARGE_RUNS: [Drawing; 2] = large((0x1672_756e, 50), (0x1672_756f, 30));
+const LARGE_REWRITINGS: [Drawing; 2] = large((0x1665_7772, 40), (0x1665_7773, 5));
+const LARGE_PLAINS: [Drawing; 2] = large((0x166c_6169, 40), (0x166c_616a, 10));
+const LARGE_CLEARINGS: [Drawing; 2] = large((0x166c_6561, 40), (0x166c_6562, 5));
+
 /// What makes the calls of a drawing.
 type Make = fn(Drawing) -> Vec<Command>;
 
 /// Seed and number of calls with files of edition 1, and of edition 2.
 const fn both(first: (u64, usize), second: (u64, usize)) -> [Drawing; 2] {
+    named_both("random", first, second)
+}
+
+/// The same under a name.
+const fn named_both(name: &'static str, first: (u64, usize), second: (u64, usize)) -> [Drawing; 2] {
     [
-        Drawing {
-            seed: first.0,
-            count: first.1,
-            edition: Edition::First,
-        },
-        Drawing {
-            seed: second.0,
-            count: second.1,
-            edition: Edition::Second,
-        },
+        drawing(name, first, Edition::First, Size::Small),
+        drawing(name, second, Edition::Second, Size::Small),
     ]
+}
+
+/// The same with large files.
+const fn large(first: (u64, usize), second: (u64, usize)) -> [Drawing; 2] {
+    [
+        drawing("large-random", first, Edition::First, Size::Large),
+        drawing("large-random", second, Edition::Second, Size::Large),
+    ]
+}
+
+/// One drawing.
+const fn drawing(
+    name: &'static str,
+    (seed, count): (u64, usize),
+    edition: Edition,
+    size: Size,
+) -> Drawing {
+    Drawing {
+        name,
+        seed,
+        count,
+        files: Files { edition, size },
+    }
 }
 
 impl Kind {
@@ -68,28 +98,47 @@ impl Kind {
     }
 }
 
-/// The named cases of a kind: of edition 1, then of edition 2.
+/// The named cases of a kind: of edition 1, then of edition 2, then those of files with nine charts
+/// and more and of open choices.
 pub fn named(kind: Kind) -> Vec<Case> {
     let lists = match kind {
         Kind::File => vec![
             cases::file::cases(),
             cases::first_interface::cases(),
             cases::second::file_cases(),
+            cases::many::file_cases(),
         ],
         Kind::Step => vec![
             cases::rows::cases(),
             cases::step::cases(),
             cases::second::step_cases(),
+            cases::many::step_cases(),
         ],
-        Kind::Run => vec![cases::run::cases(), cases::second::run_cases()],
-        Kind::Rewrite => vec![cases::rewrite::cases(), cases::second::rewrite_cases()],
-        Kind::Plain => vec![cases::plain::cases(), cases::second::plain_cases()],
-        Kind::Clear => vec![cases::clear::cases(), cases::second::clear_cases()],
+        Kind::Run => vec![
+            cases::run::cases(),
+            cases::second::run_cases(),
+            cases::many::run_cases(),
+        ],
+        Kind::Rewrite => vec![
+            cases::rewrite::cases(),
+            cases::second::rewrite_cases(),
+            cases::many::rewrite_cases(),
+        ],
+        Kind::Plain => vec![
+            cases::plain::cases(),
+            cases::second::plain_cases(),
+            cases::many::plain_cases(),
+        ],
+        Kind::Clear => vec![
+            cases::clear::cases(),
+            cases::second::clear_cases(),
+            cases::many::clear_cases(),
+        ],
     };
     lists.into_iter().flatten().collect()
 }
 
-/// The random calls of a kind.
+/// The random calls of a kind: those with files of up to eight charts, then the others.
 pub fn random(kind: Kind) -> Vec<Command> {
     let (drawings, make): ([Drawing; 2], Make) = match kind {
         Kind::File => (RANDOM_FILES, generate::file_commands),
@@ -99,7 +148,17 @@ pub fn random(kind: Kind) -> Vec<Command> {
         Kind::Plain => (RANDOM_PLAINS, generate::plain_commands),
         Kind::Clear => (RANDOM_CLEARINGS, generate::clear_commands),
     };
-    drawings.into_iter().flat_map(make).collect()
+    let later: Vec<Drawing> = match kind {
+        Kind::File => LARGE_FILES.to_vec(),
+        Kind::Step => [OPEN_STEPS, LARGE_STEPS].concat(),
+        Kind::Run => LARGE_RUNS.to_vec(),
+        Kind::Rewrite => LARGE_REWRITINGS.to_vec(),
+        Kind::Plain => LARGE_PLAINS.to_vec(),
+        Kind::Clear => LARGE_CLEARINGS.to_vec(),
+    };
+    let earlier = drawings.into_iter().flat_map(make);
+    let later = later.into_iter().flat_map(make).map(Command::whole_line);
+    earlier.chain(later).collect()
 }
 
 /// All calls of a kind, in the order of the recording.

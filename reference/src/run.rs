@@ -4,7 +4,7 @@ use crate::check::{accept, refuse_if};
 use crate::limits::{refusal, ROW_HEAD_BYTES};
 use crate::model::Model;
 use crate::set::Set;
-use crate::step::{accept_configuration, step_model};
+use crate::step::{accept_configuration, enumerate, step_model, StepModel};
 
 /// One row of a run (RULES 6.3).
 #[derive(Clone, PartialEq, Eq, Debug)]
@@ -42,7 +42,30 @@ pub fn run(
     inputs: &[Set],
     rows: &mut [u8],
 ) -> Ran {
-    match try_run(file, configuration, carried, inputs, rows.len()) {
+    run_by(step_model, file, configuration, carried, inputs, rows)
+}
+
+/// The same run by plain enumeration, with which bench/ compares speed.
+pub fn run_plainly(
+    file: &[u8],
+    configuration: &[u8],
+    carried: Set,
+    inputs: &[Set],
+    rows: &mut [u8],
+) -> Ran {
+    run_by(enumerate, file, configuration, carried, inputs, rows)
+}
+
+/// The run with its steps made in one of the two ways.
+fn run_by(
+    made: StepModel,
+    file: &[u8],
+    configuration: &[u8],
+    carried: Set,
+    inputs: &[Set],
+    rows: &mut [u8],
+) -> Ran {
+    match try_run(made, file, configuration, carried, inputs, rows.len()) {
         Ok((all, carried)) => {
             let written: Vec<u8> = all.iter().flat_map(Row::bytes).collect();
             rows[..written.len()].copy_from_slice(&written);
@@ -61,6 +84,7 @@ pub fn run(
 /// The rows to be written and the new carried set, or the refusal. 27: the buffer is too short for
 /// the rows.
 fn try_run(
+    made: StepModel,
     file: &[u8],
     configuration: &[u8],
     carried: Set,
@@ -71,7 +95,7 @@ fn try_run(
     accept_configuration(&model, configuration)?;
     let row_bytes = ROW_HEAD_BYTES + model.charts.len();
     refuse_if(room < inputs.len() * row_bytes, refusal::RUN_ROOM)?;
-    Ok(run_model(&model, configuration, carried, inputs))
+    Ok(run_model_by(made, &model, configuration, carried, inputs))
 }
 
 /// The rows of a run, and what is carried after the last (RULES 6.2, 6.4). A refused step leaves
@@ -83,12 +107,23 @@ pub fn run_model(
     carried: Set,
     inputs: &[Set],
 ) -> (Vec<Row>, Set) {
+    run_model_by(step_model, model, configuration, carried, inputs)
+}
+
+/// The same with its steps made in one of the two ways.
+fn run_model_by(
+    made: StepModel,
+    model: &Model,
+    configuration: &[u8],
+    carried: Set,
+    inputs: &[Set],
+) -> (Vec<Row>, Set) {
     let mut rows = Vec::new();
     let mut present = configuration.to_vec();
     let mut carried = carried;
     for &input in inputs {
         let joined = carried.joined(input);
-        let row = one_row(model, &present, joined);
+        let row = one_row(made, model, &present, joined);
         carried = match row.refusal {
             refusal::SUCCESS => Set::EMPTY,
             _ => joined,
@@ -99,19 +134,19 @@ pub fn run_model(
     (rows, carried)
 }
 
-/// The row of one step. After tests 1 to 21, 23 is the only refusal left.
-fn one_row(model: &Model, present: &[u8], joined: Set) -> Row {
-    match step_model(model, present, joined) {
-        Some(verdict) => Row {
+/// The row of one step. After tests 1 to 21, 24 and 23 are the only refusals left.
+fn one_row(made: StepModel, model: &Model, present: &[u8], joined: Set) -> Row {
+    match made(model, present, joined) {
+        Ok(verdict) => Row {
             output: verdict.outcome.output,
             mark: verdict.mark,
             refusal: refusal::SUCCESS,
             configuration: verdict.outcome.next,
         },
-        None => Row {
+        Err(refused) => Row {
             output: Set::EMPTY,
             mark: false,
-            refusal: refusal::NO_STEP,
+            refusal: refused.number,
             configuration: present.to_vec(),
         },
     }

@@ -3,9 +3,11 @@
 
 use crate::check::{accept, refuse_if};
 use crate::interface::{chart_input, node_input};
-use crate::limits::{refusal, CHARTS, NO_PLACE, STAYED};
+use crate::limits::{refusal, CHARTS, NO_PLACE, OPEN_CHOICES, STAYED};
 use crate::model::{Chart, Edition, Model, Node, Transition};
+use crate::open::{open_choices, ways, ways_of_slaves};
 use crate::set::Set;
+use std::ops::ControlFlow;
 
 /// The answer of [`step`].
 #[derive(Clone, PartialEq, Eq, Debug)]
@@ -14,6 +16,8 @@ pub struct Stepped {
     pub output: Set,
     pub mark: bool,
     pub places: Places,
+    /// The number of open choices, as the answer has it (RULES 5.15).
+    pub open: u64,
 }
 
 /// The places of a step, by chart (RULES 5.11).
@@ -51,19 +55,54 @@ pub struct Outcome {
 }
 
 /// What all permitted choices together lead to: the first one, its outcome, and the mark
-/// (RULES 5.9).
+/// (RULES 5.9); and how many choices are open.
 #[derive(Clone, PartialEq, Eq, Debug)]
 pub struct Verdict {
     pub choice: Vec<Place>,
     pub outcome: Outcome,
     pub mark: bool,
+    pub open: u64,
 }
 
-/// The call `step`, with the tests 1 to 11 and 20 to 23 (RULES 3.6). It writes the next
-/// configuration to the front of the buffer. The other bytes are unchanged, and if it is refused
-/// all of them (RULES 1.4).
+/// The refusal of a step, and the number of open choices that is answered with it: 0 in a refusal
+/// below 24, the true number in 24 (RULES 5.15).
+#[derive(Clone, Copy, PartialEq, Eq, Debug)]
+pub struct Refused {
+    pub number: u8,
+    pub open: u64,
+}
+
+/// A refusal below 24.
+impl From<u8> for Refused {
+    fn from(number: u8) -> Refused {
+        Refused { number, open: 0 }
+    }
+}
+
+/// The call `step`, with the tests 1 to 11, 20 to 22, 24 and 23, in this order (RULES 3.6). It
+/// writes the next configuration to the front of the buffer. The other bytes are unchanged, and if
+/// it is refused all of them (RULES 1.4).
 pub fn step(file: &[u8], configuration: &[u8], input: Set, next: &mut [u8]) -> Stepped {
-    match try_step(file, configuration, input, next.len()) {
+    step_by(step_model, file, configuration, input, next)
+}
+
+/// The same step by plain enumeration, with which bench/ compares speed.
+pub fn step_plainly(file: &[u8], configuration: &[u8], input: Set, next: &mut [u8]) -> Stepped {
+    step_by(enumerate, file, configuration, input, next)
+}
+
+/// How a step of a file is made from a configuration that have passed the tests before 24.
+pub type StepModel = fn(&Model, &[u8], Set) -> Result<Verdict, Refused>;
+
+/// The step as it is made in one of the two ways.
+fn step_by(
+    made: StepModel,
+    file: &[u8],
+    configuration: &[u8],
+    input: Set,
+    next: &mut [u8],
+) -> Stepped {
+    match try_step(made, file, configuration, input, next.len()) {
         Ok(verdict) => {
             let written = &verdict.outcome.next;
             next[..written.len()].copy_from_slice(written);
@@ -72,13 +111,15 @@ pub fn step(file: &[u8], configuration: &[u8], input: Set, next: &mut [u8]) -> S
                 output: verdict.outcome.output,
                 mark: verdict.mark,
                 places: places(&verdict.choice),
+                open: verdict.open,
             }
         }
-        Err(number) => Stepped {
+        Err(Refused { number, open }) => Stepped {
             refusal: number,
             output: Set::EMPTY,
             mark: false,
             places: NO_PLACES,
+            open,
         },
     }
 }
@@ -93,11 +134,17 @@ fn places(choice: &[Place]) -> Places {
 }
 
 /// The verdict of a step, or the refusal.
-fn try_step(file: &[u8], configuration: &[u8], input: Set, room: usize) -> Result<Verdict, u8> {
+fn try_step(
+    made: StepModel,
+    file: &[u8],
+    configuration: &[u8],
+    input: Set,
+    room: usize,
+) -> Result<Verdict, Refused> {
     let model = accept(file)?;
     accept_configuration(&model, configuration)?;
     refuse_if(room < model.charts.len(), refusal::CONFIGURATION_ROOM)?;
-    step_model(&model, configuration, input).ok_or(refusal::NO_STEP)
+    made(&model, configuration, input)
 }
 
 /// 20 and 21 (RULES 3.3): one byte for each chart, each a state of its chart.
@@ -111,30 +158,73 @@ pub fn accept_configuration(model: &Model, configuration: &[u8]) -> Result<(), u
     refuse_if(wrong_state, refusal::CONFIGURATION_STATE)
 }
 
-/// The first permitted choice in order, and the mark (RULES 5.9, 5.10). None at all is refusal 23.
-pub fn step_model(model: &Model, configuration: &[u8], input: Set) -> Option<Verdict> {
+/// The step of a file from a configuration that have passed the tests before 24: 24 if there are
+/// too many open choices, 23 if none of them is permitted (RULES 5.9).
+pub fn step_model(model: &Model, configuration: &[u8], input: Set) -> Result<Verdict, Refused> {
+    let open = open_choices(model, configuration);
+    refuse_many(open)?;
     let situation = Situation::new(model, configuration, input);
-    let mut verdict: Option<Verdict> = None;
+    let mut permitted = Permitted(None);
+    situation.while_open(&mut |choice| permitted.join(&situation, choice));
+    permitted.verdict(open)
+}
+
+/// The same by plain enumeration: every open choice is tried, and counted on the way.
+pub fn enumerate(model: &Model, configuration: &[u8], input: Set) -> Result<Verdict, Refused> {
+    let situation = Situation::new(model, configuration, input);
+    refuse_many(situation.ways[model.whole()])?;
+    let (mut permitted, mut open) = (Permitted(None), 0);
     situation.each_open_choice(&mut |choice| {
-        if let Some(outcome) = situation.permitted(choice) {
-            match &mut verdict {
-                None => {
-                    let (choice, mark) = (choice.to_vec(), true);
-                    verdict = Some(Verdict {
-                        choice,
-                        outcome,
-                        mark,
-                    });
-                }
-                Some(first) => first.mark &= first.outcome == outcome,
-            }
-        }
+        open += 1;
+        let _ = permitted.join(&situation, choice);
     });
-    verdict
+    permitted.verdict(open)
+}
+
+/// 24 (RULES 3.3): too many choices are open.
+fn refuse_many(open: u64) -> Result<(), Refused> {
+    let number = refusal::MANY_OPEN;
+    match open > OPEN_CHOICES {
+        true => Err(Refused { number, open }),
+        false => Ok(()),
+    }
+}
+
+/// The first permitted choice so far, its outcome, and whether all permitted ones agree with it.
+struct Permitted(Option<(Vec<Place>, Outcome, bool)>);
+
+impl Permitted {
+    /// The step of so many open choices, or 23.
+    fn verdict(self, open: u64) -> Result<Verdict, Refused> {
+        let (choice, outcome, mark) = self.0.ok_or(refusal::NO_STEP)?;
+        Ok(Verdict {
+            choice,
+            outcome,
+            mark,
+            open,
+        })
+    }
+
+    /// Joins the next open choice. Once two disagree, the ones after them make no difference.
+    fn join(&mut self, situation: &Situation, choice: &[Place]) -> ControlFlow<()> {
+        let Some(outcome) = situation.permitted(choice) else {
+            return ControlFlow::Continue(());
+        };
+        match &mut self.0 {
+            None => self.0 = Some((choice.to_vec(), outcome, true)),
+            Some((_, first, mark)) if *first != outcome => {
+                *mark = false;
+                return ControlFlow::Break(());
+            }
+            Some(_) => {}
+        }
+        ControlFlow::Continue(())
+    }
 }
 
 /// A file at a configuration under an input, and what is looked up often: the input interface of
-/// each node and of each chart alone, and each chart's nearest slave.
+/// each node and of each chart alone, each chart's nearest slave, and how many open choices there
+/// are in each node.
 pub struct Situation<'a> {
     model: &'a Model,
     configuration: &'a [u8],
@@ -142,6 +232,7 @@ pub struct Situation<'a> {
     node_inputs: Vec<Set>,
     chart_inputs: Vec<Set>,
     nearest_slaves: Vec<Option<usize>>,
+    ways: Vec<u64>,
 }
 
 impl<'a> Situation<'a> {
@@ -156,6 +247,7 @@ impl<'a> Situation<'a> {
             node_inputs: nodes.map(|node| node_input(model, node)).collect(),
             chart_inputs: model.charts.iter().map(chart_input).collect(),
             nearest_slaves: charts.map(|chart| model.nearest_slave(chart)).collect(),
+            ways: ways(model, configuration),
         }
     }
 
@@ -306,29 +398,59 @@ impl<'a> Situation<'a> {
         !out.any(|transition| transition.from == state && guard_met(transition, offered))
     }
 
-    /// Every choice that satisfies RULES 5.7 apart from its guards, in order (RULES 5.8). The
-    /// others are not permitted whatever is offered. There are at most 8^8 of these in edition 1,
-    /// and 9^8 in edition 2.
+    /// Whether a choice is open (RULES 5.15): every chart keeps RULES 5.7, guards aside.
+    pub fn is_open(&self, choice: &[Place]) -> bool {
+        let mut charts = 0..self.model.charts.len() as u8;
+        charts.all(|chart| {
+            let active = self.chart_active(chart, choice);
+            match choice[usize::from(chart)] {
+                Place::None => !active,
+                Place::Transition(place) => {
+                    active && self.chart(chart).transitions[place].from == self.before(chart)
+                }
+                Place::Stay => active && self.may_stay(),
+            }
+        })
+    }
+
+    /// Every open choice, in order (RULES 5.8). The others are not permitted whatever is offered.
     pub fn each_open_choice(&self, visit: &mut dyn FnMut(&[Place])) {
-        self.settle(&mut Vec::new(), visit);
+        self.while_open(&mut |choice| {
+            visit(choice);
+            ControlFlow::Continue(())
+        });
+    }
+
+    /// The open choices, in order, until one of them ends it. If there are none, no chart's moves
+    /// are looked at.
+    fn while_open(&self, visit: &mut dyn FnMut(&[Place]) -> ControlFlow<()>) {
+        if self.ways[self.model.whole()] > 0 {
+            let _ = self.settle(&mut Vec::new(), visit);
+        }
     }
 
     /// Gives the next chart each of its moves in turn, and the charts after it theirs.
-    fn settle(&self, chosen: &mut Vec<Place>, visit: &mut dyn FnMut(&[Place])) {
+    fn settle(
+        &self,
+        chosen: &mut Vec<Place>,
+        visit: &mut dyn FnMut(&[Place]) -> ControlFlow<()>,
+    ) -> ControlFlow<()> {
         let chart = chosen.len();
         if chart == self.model.charts.len() {
-            visit(chosen);
-            return;
+            return visit(chosen);
         }
         for place in self.open_places(chart as u8, chosen) {
             chosen.push(place);
-            self.settle(chosen, visit);
+            let goes_on = self.settle(chosen, visit);
             chosen.pop();
+            goes_on?;
         }
+        ControlFlow::Continue(())
     }
 
     /// The moves of a chart, in order, once all lower charts have theirs: none if it is inactive;
-    /// if it is active the transitions from its present state, and in edition 2 staying.
+    /// if it is active the transitions from its present state, and in edition 2 staying. A move
+    /// that activates a slave without an open choice is left out.
     fn open_places(&self, chart: u8, chosen: &[Place]) -> Vec<Place> {
         if !self.chart_active(chart, chosen) {
             return vec![Place::None];
@@ -338,7 +460,17 @@ impl<'a> Situation<'a> {
             .filter(|&place| transitions[place].from == self.before(chart))
             .map(Place::Transition);
         let stay = self.may_stay().then_some(Place::Stay);
-        taken.chain(stay).collect()
+        let places = taken.chain(stay);
+        places.filter(|&place| self.goes_on(chart, place)).collect()
+    }
+
+    /// Whether every slave that a chart's move activates has an open choice.
+    fn goes_on(&self, chart: u8, place: Place) -> bool {
+        let after = match place {
+            Place::Transition(place) => self.chart(chart).transitions[place].to,
+            Place::None | Place::Stay => self.before(chart),
+        };
+        ways_of_slaves(self.model, self.configuration, chart, after, &self.ways) > 0
     }
 
     /// Whether a chart is active (RULES 5.3): its nearest slave is, or there is none. The slave's

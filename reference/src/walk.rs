@@ -1,9 +1,8 @@
 //! Random files with slaves that are small enough to be walked through all their configurations, and
 //! what is offered to them on the way.
 
-use crate::generate::{any, input, most_places, Random, Shape};
+use crate::generate::{input, most_places, Random, Shape, Size};
 use crate::interface::node_input;
-use crate::limits::CHARTS;
 use crate::model::{Model, Node, Slave};
 use crate::rewriting::calls;
 use crate::set::Set;
@@ -11,12 +10,24 @@ use crate::set::Set;
 /// A random file with slaves, and its shape; it has at most so many configurations.
 pub fn with_slaves(random: &mut Random, most: usize) -> (Shape, Model) {
     loop {
-        let (shape, model) = any(random, CHARTS);
-        let states = model.charts.iter().map(|c| usize::from(c.states));
-        if !model.slaves.is_empty() && states.product::<usize>() <= most {
+        let (shape, model) = any_size(random);
+        if !model.slaves.is_empty() && has_few_configurations(&model, most) {
             return (shape, model);
         }
     }
+}
+
+/// A random file of up to eight charts, or of more: one in four.
+pub fn any_size(random: &mut Random) -> (Shape, Model) {
+    let size = random.pick(&[Size::Small, Size::Small, Size::Small, Size::Large]);
+    size.any(random)
+}
+
+/// Whether a file has at most so many configurations.
+pub fn has_few_configurations(model: &Model, most: usize) -> bool {
+    let mut states = model.charts.iter().map(|c| usize::from(c.states));
+    let product = states.try_fold(1_usize, |all, states| all.checked_mul(states));
+    product.is_some_and(|all| all <= most)
 }
 
 /// Every configuration that passes 20 and 21, in order.
@@ -25,7 +36,8 @@ pub fn configurations(model: &Model) -> Vec<Vec<u8>> {
     every(states.map(Iterator::collect).collect())
 }
 
-/// How many choices there are at most, each chart being in the state with the most transitions.
+/// How many choices there are at most, each chart being in the state with the most transitions;
+/// there are at most 9^16.
 pub fn from_any_state(model: &Model) -> usize {
     let charts = model.charts.iter();
     let most = charts.map(|chart| {

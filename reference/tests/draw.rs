@@ -2,8 +2,9 @@
 
 use reference::check::accept;
 use reference::command::{Command, Op, OPS};
-use reference::draw::{choices, Draw};
-use reference::limits::refusal;
+use reference::draw::Draw;
+use reference::generate::choices;
+use reference::limits::{refusal, CHARTS, EARLIER_CHARTS};
 use reference::model::{Edition, Model};
 use std::collections::BTreeSet;
 
@@ -20,7 +21,7 @@ fn own_refusals(op: Op) -> &'static [u8] {
     match op {
         Op::Check | Op::Interface | Op::Plain => &[],
         Op::First => &[22],
-        Op::Step => &[20, 21, 22, 23],
+        Op::Step | Op::Open => &[20, 21, 22, 23, 24],
         Op::Run => &[20, 21, 27],
         Op::Rewrite => &[40, 41, 42, 44, 45, 46],
         Op::Clear => &[45, 46],
@@ -47,6 +48,22 @@ fn some_steps_are_hard_and_few_are() {
     assert!((20..=500).contains(&hard), "{hard}");
 }
 
+/// Of nine charts and more, in every call.
+#[test]
+fn many_files_are_large() {
+    let commands = drawn(7, 9_000);
+    for op in OPS {
+        let calls = commands.iter().filter(|command| command.op == op);
+        let accepted: Vec<Model> = calls.filter_map(|c| accept(&c.file).ok()).collect();
+        let large = accepted.iter().filter(|m| m.charts.len() > EARLIER_CHARTS);
+        let (count, all) = (large.count(), accepted.len());
+        assert!(5 * count > all, "{op:?}: {count} of {all}");
+    }
+    let full = |m: &Model| m.charts.len() == CHARTS;
+    let sixteen = commands.iter().filter_map(|c| accept(&c.file).ok());
+    assert!(sixteen.filter(full).count() > 200);
+}
+
 /// About a third of the accepted files, in every call.
 #[test]
 fn a_third_of_the_files_are_edition_2() {
@@ -71,7 +88,11 @@ fn calls_are_the_same_for_the_same_seed() {
 
 #[test]
 fn calls_can_be_recorded() {
-    for command in drawn(5, 3_000) {
+    // a front may be longer than a record holds
+    let mut commands = drawn(5, 3_000);
+    commands.retain(Command::can_be_recorded);
+    assert!(commands.len() > 2_900);
+    for command in commands {
         let read = reference::command::decode_all(&command.encode());
         assert_eq!(read, Ok(vec![command]));
     }

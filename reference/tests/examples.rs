@@ -100,6 +100,10 @@ impl Built {
                 };
                 self.nodes.push([&head[..], &sets(["x", "y"])].concat());
             }
+            times if words[1] == "times" => {
+                let (_, one) = line.split_once("times ").unwrap();
+                (0..times.parse().unwrap()).for_each(|_: u8| self.push(one));
+            }
             from => {
                 assert_eq!(words[1], "to", "{line}");
                 let head = [from.parse().unwrap(), words[2].parse().unwrap(), 0, 0];
@@ -217,24 +221,28 @@ fn states_of(cell: &str) -> Vec<u8> {
         .collect()
 }
 
-/// A step by this engine, with one byte to spare: its answer and all its places.
-fn step_here(file: &[u8], from: &[u8], input: u64) -> (Answer, Vec<u8>) {
+/// A step's answer, all its places, and the number of open choices.
+type Stepped = (Answer, Vec<u8>, u64);
+
+/// A step by this engine, with one byte to spare.
+fn step_here(file: &[u8], from: &[u8], input: u64) -> Stepped {
     let mut next = vec![FILL; from.len() + 1];
     let done = step(file, from, Set(input), &mut next);
     assert_eq!(next.pop(), Some(FILL));
     let places = done.places.to_vec();
     if done.refusal != refusal::SUCCESS {
         assert_eq!(next, vec![FILL; from.len()]);
-        return (Answer::Refused(done.refusal), places);
+        return (Answer::Refused(done.refusal), places, done.open);
     }
-    (Answer::Given(next, done.output.0, done.mark), places)
+    let answer = Answer::Given(next, done.output.0, done.mark);
+    (answer, places, done.open)
 }
 
 /// A step by the proved engine.
 #[cfg(feature = "engine")]
-fn step_there(file: &[u8], from: &[u8], input: u64) -> (Answer, Vec<u8>) {
+fn step_there(file: &[u8], from: &[u8], input: u64) -> Stepped {
     let mut next = vec![FILL; from.len() + 1];
-    let (mut output, mut mark, mut places) = (0, 0, [0; 8]);
+    let (mut output, mut mark, mut places, mut open) = (0, 0, [0; 16], 7);
     // SAFETY: each pointer is that of a slice with the length beside it, or of numbers of our own;
     // what is written overlaps nothing else.
     let refusal = unsafe {
@@ -249,17 +257,19 @@ fn step_there(file: &[u8], from: &[u8], input: u64) -> (Answer, Vec<u8>) {
             &mut output,
             &mut mark,
             &mut places,
+            &mut open,
         )
     };
     assert_eq!(next.pop(), Some(FILL));
     if refusal != 0 {
         assert_eq!(next, vec![FILL; from.len()]);
-        return (Answer::Refused(refusal), places.to_vec());
+        return (Answer::Refused(refusal), places.to_vec(), open);
     }
-    (Answer::Given(next, output, mark == 1), places.to_vec())
+    let answer = Answer::Given(next, output, mark == 1);
+    (answer, places.to_vec(), open)
 }
 
-type Step = fn(&[u8], &[u8], u64) -> (Answer, Vec<u8>);
+type Step = fn(&[u8], &[u8], u64) -> Stepped;
 
 #[cfg(not(feature = "engine"))]
 const STEPS: &[Step] = &[step_here];
@@ -292,7 +302,7 @@ fn steps(after: &str, edition: u8) -> usize {
         };
         let (from, bytes) = (states_of(from), file(of).with_edition(edition));
         for made in STEPS {
-            let (found, mut found_places) = made(&bytes, &from, signals(input));
+            let (found, mut found_places, _) = made(&bytes, &from, signals(input));
             assert_eq!(found, answer(expected), "{name}, edition {edition}");
             let rest = found_places.split_off(from.len());
             let listed: Vec<u8> = places.split(' ').map(|p| p.parse().unwrap()).collect();
@@ -309,7 +319,7 @@ fn steps(after: &str, edition: u8) -> usize {
 fn every_file_of_the_page_is_accepted() {
     let blocks = PAGE.split("```\nfile ").skip(1);
     let names: Vec<&str> = blocks.map(|block| block.lines().next().unwrap()).collect();
-    assert_eq!(names.len(), 20);
+    assert_eq!(names.len(), 21);
     for name in names {
         assert_eq!(checked(&file(name).bytes()), refusal::SUCCESS, "{name}");
     }
@@ -333,6 +343,29 @@ fn a_fed_back_signal_as_input_in_both_editions() {
     let section = "## 7 A fed-back signal given as input";
     for edition in [1, 2] {
         assert_eq!(steps(section, edition), 2);
+    }
+}
+
+#[test]
+fn open_choices() {
+    let rows = table("## 9 Open choices");
+    assert_eq!(rows.len(), 16);
+    for row in rows {
+        let [name, of, edition, from, input, answer, open, _] = &row[..] else {
+            panic!("{row:?}");
+        };
+        let (from, bytes) = (
+            states_of(from),
+            file(of).with_edition(edition.parse().unwrap()),
+        );
+        for made in STEPS {
+            let (found, _, found_open) = made(&bytes, &from, signals(input));
+            let found = match found {
+                Answer::Given(..) => "given".to_string(),
+                Answer::Refused(number) => format!("refused {number}"),
+            };
+            assert_eq!((&found, &found_open.to_string()), (answer, open), "{name}");
+        }
     }
 }
 

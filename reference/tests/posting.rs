@@ -5,6 +5,7 @@ use reference::book::{decode_all, draw, encode, recorded, Post, Posted};
 use reference::cases::charts::{d, whole_case};
 use reference::command::FILL;
 use reference::generate::Random;
+use reference::generate::{Files, Size};
 use reference::limits::*;
 use reference::model::Edition;
 use reference::posting::input_of;
@@ -18,7 +19,12 @@ const POSTINGS: usize = 400;
 fn random_posts(seed: u64) -> Vec<Post> {
     let mut random = Random::new(seed);
     let editions = [Edition::First, Edition::Second];
-    let posts = (0..POSTINGS).map(|number| draw::post(&mut random, editions[number % 2], "random"));
+    let sizes = [Size::Small, Size::Small, Size::Small, Size::Large];
+    let files = |number: usize| Files {
+        edition: editions[number % 2],
+        size: sizes[number / 2 % 4],
+    };
+    let posts = (0..POSTINGS).map(|number| draw::post(&mut random, files(number), "random"));
     posts.collect()
 }
 

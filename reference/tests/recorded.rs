@@ -4,6 +4,7 @@ use reference::check::accept;
 use reference::command::{decode_all, Answer, Command, Op, FILL};
 use reference::limits::refusal;
 use reference::model::{Model, Node, Slave};
+use reference::open::by_parts;
 use reference::record::{commands, encode, named, Kind, KINDS};
 use reference::walk::{has_several, hides_inside, is_nested};
 use reference::Set;
@@ -46,13 +47,23 @@ fn reach_exactly(kind: Kind, which: &dyn Fn(&Recorded) -> bool, others: &[u8]) {
     assert_eq!(found, expected, "{kind:?}");
 }
 
+/// Holds that some calls of a kind give each of the refusals listed.
+fn reach(kind: Kind, which: &dyn Fn(&Recorded) -> bool, numbers: &[u8]) {
+    for &number in numbers {
+        let reaches = |r: &Recorded| which(r) && r.answer.refusal == number;
+        assert!(recording(kind).iter().any(reaches), "{kind:?} {number}");
+    }
+}
+
 /// What each call tests (RULES 3.6). There is no 43.
 #[test]
 fn every_refusal_of_every_call_is_reached() {
     reach_exactly(Kind::File, &|r| r.command.op == Op::Check, &[]);
     reach_exactly(Kind::File, &|r| r.command.op == Op::First, &[22]);
     reach_exactly(Kind::File, &|r| r.command.op == Op::Interface, &[]);
-    reach_exactly(Kind::Step, &|_| true, &[20, 21, 22, 23]);
+    reach_exactly(Kind::Step, &|_| true, &[20, 21, 22, 23, 24]);
+    let shows_all = |r: &Recorded| r.command.op == Op::Open;
+    reach(Kind::Step, &shows_all, &[20, 21, 22, 23, 24]);
     reach_exactly(Kind::Run, &|_| true, &[20, 21, 27]);
     reach_exactly(Kind::Rewrite, &|_| true, &[40, 41, 42, 44, 45, 46]);
     reach_exactly(Kind::Plain, &|_| true, &[]);
@@ -63,15 +74,12 @@ fn every_refusal_of_every_call_is_reached() {
 fn random_calls_alone_reach_most_refusals() {
     reach_exactly(Kind::File, &|r| r.is_random, &[22]);
     for (kind, numbers) in [
-        (Kind::Step, vec![20, 21, 22, 23]),
+        (Kind::Step, vec![20, 21, 22, 23, 24]),
         (Kind::Run, vec![20, 21, 27]),
         (Kind::Rewrite, vec![40, 41, 45, 46]),
         (Kind::Clear, vec![45, 46]),
     ] {
-        for number in numbers {
-            let reaches = |r: &Recorded| r.is_random && r.answer.refusal == number;
-            assert!(recording(kind).iter().any(reaches), "{kind:?} {number}");
-        }
+        reach(kind, &|r| r.is_random, &numbers);
     }
 }
 
@@ -108,12 +116,13 @@ fn recordings_are_of_moderate_size() {
         let all = recording(kind).iter();
         let calls: usize = all.clone().map(|r| r.command.encode().len()).sum();
         let lines: usize = all.map(|r| r.answer.line.len()).sum();
-        assert!(calls < 800_000 && lines < 800_000, "{kind:?}");
+        assert!(calls < 1_700_000 && lines < 800_000, "{kind:?}");
     }
 }
 
 /// A refused call leaves the buffer unchanged, and its other results are those of RULES 1.4: sets
-/// are empty, the mark is no, the length is 0 and places are 255.
+/// are empty, the mark is no, the length is 0 and places are 255. The number of open choices is 0 but
+/// in 24.
 #[test]
 fn a_refusal_leaves_all_lent_bytes_and_gives_empty_answers() {
     for kind in KINDS {
@@ -130,6 +139,10 @@ fn a_refusal_leaves_all_lent_bytes_and_gives_empty_answers() {
             };
             let (zeros, none) = ("0".repeat(16), "f".repeat(16));
             let (name, number) = (&command.name, answer.refusal);
+            let open = match number {
+                refusal::MANY_OPEN => open_of(command),
+                _ => 0,
+            };
             let expected = match command.op {
                 Op::Check => format!("{name} check {number}\n"),
                 Op::First => format!("{name} first {number} {untouched}\n"),
@@ -139,10 +152,19 @@ fn a_refusal_leaves_all_lent_bytes_and_gives_empty_answers() {
                 Op::Rewrite => format!("{name} rewrite {number} 0 {untouched}\n"),
                 Op::Plain => format!("{name} plain {number} 0\n"),
                 Op::Clear => format!("{name} clear {number} 0 {untouched}\n"),
+                Op::Open => {
+                    format!("{name} open {number} {zeros} n {none}{none} {open} {untouched}\n")
+                }
             };
             assert_eq!(answer.line, expected);
         }
     }
+}
+
+/// The number of open choices of a step, part by part.
+fn open_of(command: &Command) -> u64 {
+    let model = accept(&command.file).unwrap();
+    by_parts(&model, &command.configuration)
 }
 
 #[test]
@@ -220,7 +242,7 @@ fn a_command_byte_by_byte() {
 
 #[test]
 fn lines_by_hand() {
-    use reference::cases::charts::{d, n1, p1};
+    use reference::cases::charts::{d, free_row, n1, p1};
     let file = d().file();
     let line = |command: Command| command.answer().line;
     assert_eq!(line(Command::check("c", file.clone())), "c check 0\n");
@@ -241,6 +263,14 @@ fn lines_by_hand() {
     assert_eq!(
         line(Command::step("s", file.clone(), &[0, 1], Set(1), 2)),
         "s step 23 0000000000000000 n ffffffffffffffff a5a5\n"
+    );
+    assert_eq!(
+        line(Command::step("s", file.clone(), &[0, 0], Set(1), 2).whole_line()),
+        "s open 0 0000000000000006 y 0000ffffffffffffffffffffffffffff 2 0101\n"
+    );
+    assert_eq!(
+        line(Command::step("s", free_row(&[8; 9]).file(), &[0; 9], Set(1), 9).whole_line()),
+        "s open 24 0000000000000000 n ffffffffffffffffffffffffffffffff 134217728 a5a5a5a5a5a5a5a5a5\n"
     );
     assert_eq!(
         line(Command::run("r", file.clone(), &[0, 1], &[Set(1)], 13)),
@@ -275,7 +305,7 @@ fn broken_recordings_are_told() {
     assert!(decode_all(&good[..good.len() - 1]).is_err());
     assert!(decode_all(&good[..10]).is_err());
     let mut other = good.clone();
-    other[0] = 8;
+    other[0] = 9;
     assert!(decode_all(&other).is_err());
     other[0] = 3;
     assert!(decode_all(&other).is_err());

@@ -291,7 +291,7 @@ fn the_nodes_of_two_masters_by_hand() {
     assert_eq!(new.nodes, expected);
 }
 
-/// Charts that pass 42 have at most 8 times 64 transitions, so the sum is never above 512
+/// Charts that pass 42 have at most 16 times 64 transitions, so the sum is never above 1,024
 /// (RULES 3.5).
 #[test]
 fn charts_within_their_limit_are_within_the_limit_in_all() {

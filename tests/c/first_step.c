@@ -5,7 +5,7 @@
 #include "mestecur.h"
 #include "whole_case.h"
 
-enum { CHARTS = 1, INPUTS = 3, ROW = 10 + CHARTS, PLACES = 8, EDITION_FROM_END = 5 };
+enum { CHARTS = 1, INPUTS = 3, ROW = 10 + CHARTS, PLACES = 16, EDITION_FROM_END = 5 };
 
 static const uint64_t inputs[INPUTS] = {1, 0, 2};
 
@@ -17,11 +17,11 @@ static void print_set(const char *words, uint64_t set) {
 /* One step from `state`; the state after it. */
 static uint8_t step(uint8_t state, uint64_t input) {
     uint8_t next = state, mark = 9, places[PLACES] = {0};
-    uint64_t output = 9;
-    uint8_t refusal = mestecur_step(file, sizeof file, &state, CHARTS, input, &next, CHARTS, &output, &mark, places);
+    uint64_t output = 9, open = 9;
+    uint8_t refusal = mestecur_step(file, sizeof file, &state, CHARTS, input, &next, CHARTS, &output, &mark, places, &open);
     printf("step %d: %d", (int)input, refusal);
     print_set(", output ", output);
-    printf(", state %d, mark %d, places", next, mark);
+    printf(", state %d, mark %d, open %d, places", next, mark, (int)open);
     for (size_t c = 0; c < PLACES; c++) printf(" %d", places[c]);
     printf("\n");
     return next;

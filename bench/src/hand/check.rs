@@ -41,10 +41,10 @@ fn found(file: &[u8]) -> Result<Body<'_>, u8> {
         slaves: usize::from(trailer[5]),
         nodes: usize::from(trailer[6]),
     };
-    let counted = (1..=8).contains(&body.charts)
-        && body.slaves <= 7
-        && (1..=64).contains(&body.nodes)
-        && body.transitions <= 512;
+    let counted = (1..=CHARTS).contains(&body.charts)
+        && body.slaves <= SLAVES
+        && (1..=NODES).contains(&body.nodes)
+        && body.transitions <= TRANSITIONS;
     refuse(!counted, 3)?;
     let distance = u32::from_le_bytes(trailer[..4].try_into().unwrap()) as usize;
     refuse(distance != body.size() || distance > start, 4)?;
@@ -86,11 +86,11 @@ fn bad_transitions(body: &Body) -> bool {
     for chart in (0..body.charts).map(|c| body.chart(c)) {
         let first = next;
         next += usize::from(chart.transitions);
-        let mut out = [0; 16];
+        let mut out = [0_usize; 16];
         for number in first..next {
             let at = body.transition_at(number);
             let (from, to) = (body.bytes[at], body.bytes[at + 1]);
-            if from >= chart.states || to >= chart.states || out[usize::from(from)] == 8 {
+            if from >= chart.states || to >= chart.states || out[usize::from(from)] == FROM_STATE {
                 return true;
             }
             out[usize::from(from)] += 1;
@@ -129,16 +129,16 @@ fn bad_nodes(body: &Body) -> bool {
 
 /// What one walk over slaves and nodes counts: how often each node is named, how many nodes hold each chart, and which was the last of them.
 struct Walked {
-    named: [u8; 64],
-    held: [u8; 8],
-    holder: [u8; 8],
+    named: [u8; NODES],
+    held: [u8; CHARTS],
+    holder: [u8; CHARTS],
 }
 
 fn walked(body: &Body) -> Walked {
     let mut to = Walked {
-        named: [0; 64],
-        held: [0; 8],
-        holder: [0; 8],
+        named: [0; NODES],
+        held: [0; CHARTS],
+        holder: [0; CHARTS],
     };
     for slave in body.all_slaves() {
         to.named[usize::from(slave.node)] += 1;
@@ -184,8 +184,8 @@ fn bad_inside(body: &Body) -> bool {
 }
 
 /// Of each node the lowest chart, slaves left out: if all slaves pass, they have none that is lower.
-fn lowest(body: &Body) -> [u8; 64] {
-    let mut lowest = [0; 64];
+fn lowest(body: &Body) -> [u8; NODES] {
+    let mut lowest = [0; NODES];
     for number in 0..body.nodes {
         let node = body.node(number);
         lowest[number] = match node.kind {
@@ -198,9 +198,9 @@ fn lowest(body: &Body) -> [u8; 64] {
 }
 
 /// The number of each chart's nearest slave, from the last node down.
-pub fn nearest(body: &Body) -> [u8; 8] {
-    let mut of_node = [NONE; 64];
-    let mut of_chart = [NONE; 8];
+pub fn nearest(body: &Body) -> [u8; CHARTS] {
+    let mut of_node = [NONE; NODES];
+    let mut of_chart = [NONE; CHARTS];
     for (number, slave) in body.all_slaves().enumerate() {
         of_node[usize::from(slave.node)] = number as u8;
     }

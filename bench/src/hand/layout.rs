@@ -11,6 +11,15 @@ pub const SLAVE: usize = 4;
 /// The bytes of a node record.
 pub const NODE: usize = 20;
 
+/// The most charts, slaves, nodes and transitions of a file, and transitions from a state.
+pub const CHARTS: usize = 16;
+pub const SLAVES: usize = 15;
+pub const NODES: usize = 64;
+pub const TRANSITIONS: usize = 1_024;
+pub const FROM_STATE: usize = 8;
+/// The most open choices of a step.
+pub const OPEN: u64 = 16_777_216;
+
 /// The edition whose charts may stay; the other one is 1.
 pub const STAY_EDITION: u8 = 2;
 

@@ -14,8 +14,8 @@ pub fn rewrite(file: &[u8], out: &mut [u8]) -> (u8, usize) {
 /// What the rewriting goes by: the file, each slave's call signal, and each chart's own.
 struct Plan<'a> {
     body: Body<'a>,
-    calls: [u64; 7],
-    own: [u64; 8],
+    calls: [u64; SLAVES],
+    own: [u64; CHARTS],
 }
 
 /// The length of what was written, or the refusal.
@@ -34,9 +34,9 @@ fn rewritten(file: &[u8], out: &mut [u8]) -> Result<usize, u8> {
 }
 
 /// The lowest free signals, one for each slave, if there are enough.
-fn calls(body: &Body) -> Option<[u64; 7]> {
+fn calls(body: &Body) -> Option<[u64; SLAVES]> {
     let mut free = !used(body);
-    let mut calls = [0; 7];
+    let mut calls = [0; SLAVES];
     for call in calls.iter_mut().take(body.slaves) {
         if free == 0 {
             return None;
@@ -106,7 +106,7 @@ impl<'a> Plan<'a> {
 
     /// How many charts are masters.
     fn masters(&self) -> usize {
-        let mut charts = 0_u8;
+        let mut charts = 0_u16;
         for slave in self.body.all_slaves() {
             charts |= 1 << slave.chart;
         }

@@ -3,25 +3,25 @@
 use super::check::{nearest, NONE};
 use super::layout::Body;
 
-/// A mask for each chart.
-pub type Row = [u64; 8];
+/// A mask for each of so many charts, which is as many as a file has or more.
+pub type Row<const N: usize> = [u64; N];
 
 /// What a step needs of a file's tree.
-pub struct Wiring {
+pub struct Wiring<const N: usize> {
     /// What of the input gets down to each chart.
-    pub down: Row,
+    pub down: Row<N>,
     /// What of each chart's action gets up to the output.
-    pub up: Row,
+    pub up: Row<N>,
     /// What of chart d's action gets to chart c, at `back[d][c]`.
-    pub back: [Row; 8],
+    pub back: [Row<N>; N],
     /// Of each chart the master and the state of its nearest slave; no master outside all slaves.
-    pub masters: [Option<(usize, u8)>; 8],
+    pub masters: [Option<(usize, u8)>; N],
 }
 
 /// The wiring of a checked file.
-pub fn wired(body: &Body) -> Wiring {
-    let mut back = [[0; 8]; 8];
-    let mut rows = Rows::default();
+pub fn wired<const N: usize>(body: &Body) -> Wiring<N> {
+    let mut back = [[0; N]; N];
+    let mut rows = Rows::EMPTY;
     wire(body, body.nodes - 1, &mut back, &mut rows);
     Wiring {
         down: rows.down,
@@ -32,16 +32,22 @@ pub fn wired(body: &Body) -> Wiring {
 }
 
 /// What of a set offered to a part gets down to each chart, and what of each chart's action gets up.
-#[derive(Clone, Copy, Default)]
-struct Rows {
-    down: Row,
-    up: Row,
+#[derive(Clone, Copy)]
+struct Rows<const N: usize> {
+    down: Row<N>,
+    up: Row<N>,
 }
 
-impl Rows {
+impl<const N: usize> Rows<N> {
+    /// Nothing gets down, nothing up.
+    const EMPTY: Rows<N> = Rows {
+        down: [0; N],
+        up: [0; N],
+    };
+
     /// Joins the rows of a part, without x of its input and y of its output.
-    fn join(&mut self, part: &Rows, x: u64, y: u64) {
-        for c in 0..8 {
+    fn join(&mut self, part: &Rows<N>, x: u64, y: u64) {
+        for c in 0..N {
             self.down[c] |= part.down[c] & !x;
             self.up[c] |= part.up[c] & !y;
         }
@@ -49,9 +55,9 @@ impl Rows {
 }
 
 /// Joins the rows of a node's part to `rows`, and its feedback to `back`.
-fn wire(body: &Body, number: usize, back: &mut [Row; 8], rows: &mut Rows) {
+fn wire<const N: usize>(body: &Body, number: usize, back: &mut [Row<N>; N], rows: &mut Rows<N>) {
     let node = body.node(number);
-    let mut part = Rows::default();
+    let mut part = Rows::EMPTY;
     match node.kind {
         0 => wire_chart(body, usize::from(node.a), back, rows),
         1 => {
@@ -68,7 +74,12 @@ fn wire(body: &Body, number: usize, back: &mut [Row; 8], rows: &mut Rows) {
 }
 
 /// Joins the rows of a chart and its slaves. Without slaves of its own a single mask of each is not empty.
-fn wire_chart(body: &Body, chart: usize, back: &mut [Row; 8], rows: &mut Rows) {
+fn wire_chart<const N: usize>(
+    body: &Body,
+    chart: usize,
+    back: &mut [Row<N>; N],
+    rows: &mut Rows<N>,
+) {
     let feedback = body.chart(chart).feedback;
     if body
         .all_slaves()
@@ -91,7 +102,7 @@ fn wire_chart(body: &Body, chart: usize, back: &mut [Row; 8], rows: &mut Rows) {
 }
 
 /// Feedback of a set over a part.
-fn feed(back: &mut [Row; 8], part: &Rows, set: u64) {
+fn feed<const N: usize>(back: &mut [Row<N>; N], part: &Rows<N>, set: u64) {
     if set == 0 {
         return;
     }
@@ -106,14 +117,16 @@ fn feed(back: &mut [Row; 8], part: &Rows, set: u64) {
 }
 
 /// The masters of all charts.
-fn masters(body: &Body) -> [Option<(usize, u8)>; 8] {
+fn masters<const N: usize>(body: &Body) -> [Option<(usize, u8)>; N] {
+    let mut masters = [None; N];
     if body.slaves == 0 {
-        return [None; 8];
+        return masters;
     }
-    nearest(body).map(|slave| {
-        (slave != NONE).then(|| {
+    for (master, slave) in masters.iter_mut().zip(nearest(body)) {
+        if slave != NONE {
             let slave = body.slave(usize::from(slave));
-            (usize::from(slave.chart), slave.state)
-        })
-    })
+            *master = Some((usize::from(slave.chart), slave.state));
+        }
+    }
+    masters
 }

@@ -29,9 +29,9 @@ mod refusal;
 mod row;
 mod set;
 
-pub use place::{Place, Places};
+pub use place::{Place, Places, CHARTS};
 pub use posting::{post, posted_bytes, posted_rows, Case, Entry, PostedRow, CASES, CONFIGURATION};
-pub use refusal::Refusal;
+pub use refusal::{Refusal, RefusedStep};
 pub use row::{rows, rows_bytes, Given, Row};
 pub use set::{Set, Signals};
 
@@ -42,13 +42,21 @@ pub struct Interface {
     pub output: Set,
 }
 
-/// What a step gives beside the next configuration: the output, whether all permitted choices have
-/// the same output and the same next configuration (RULES 5.10), and what each chart did.
+/// The most open choices of a step that is not refused with 24 (RULES 2.8).
+pub const OPEN_CHOICES: u64 = 16_777_216;
+
+/// What a step gives beside the next configuration.
 #[derive(Clone, Copy, PartialEq, Eq, Debug)]
 pub struct Step {
     pub output: Set,
+    /// Whether all permitted choices have the same output and the same next configuration (RULES
+    /// 5.10).
     pub mark: bool,
+    /// What each chart did.
     pub places: Places,
+    /// The number of open choices: those that fit the present states and leave no active chart out,
+    /// whether or not their guards are met (RULES 5.15).
+    pub open: u64,
 }
 
 /// Tests whether a file is accepted. Refusals 1 to 11.
@@ -81,12 +89,13 @@ pub fn interface(file: &[u8]) -> Result<Interface, Refusal> {
 }
 
 /// Makes one step from a configuration under an input (RULES 5), and writes the next configuration
-/// to the front of the buffer. Refusals 1 to 11, 20 to 23.
-pub fn step(file: &[u8], config: &[u8], input: Set, next: &mut [u8]) -> Result<Step, Refusal> {
-    let (mut output, mut mark, mut places) = (0, 0, [Place::NO_PLACE; 8]);
-    // SAFETY: the pointers are those of slices with these lengths, of two numbers and of eight bytes of
-    // our own; the slice written overlaps nothing else.
-    Refusal::unless_zero(unsafe {
+/// to the front of the buffer. Refusals 1 to 11, 20, 21, 22, 24, 23. A step with more than
+/// [`OPEN_CHOICES`] open choices is refused with 24, and the error has their number.
+pub fn step(file: &[u8], config: &[u8], input: Set, next: &mut [u8]) -> Result<Step, RefusedStep> {
+    let (mut output, mut mark, mut places, mut open) = (0, 0, [Place::NO_PLACE; CHARTS], 0);
+    // SAFETY: the pointers are those of slices with these lengths, of three numbers and of as many bytes
+    // as there can be charts, of our own; the slice written overlaps nothing else.
+    let answer = Refusal::unless_zero(unsafe {
         raw::mestecur_step(
             file.as_ptr(),
             file.len(),
@@ -98,12 +107,15 @@ pub fn step(file: &[u8], config: &[u8], input: Set, next: &mut [u8]) -> Result<S
             &mut output,
             &mut mark,
             &mut places,
+            &mut open,
         )
-    })?;
+    });
+    answer.map_err(|refusal| RefusedStep { refusal, open })?;
     Ok(Step {
         output: Set(output),
         mark: mark == 1,
         places: places.map(Place::of),
+        open,
     })
 }
 

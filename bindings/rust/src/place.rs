@@ -11,8 +11,11 @@ pub enum Place {
     Stayed,
 }
 
+/// The most charts of a file (RULES 2.8).
+pub const CHARTS: usize = 16;
+
 /// What each chart did, by its number; none for numbers that no chart has.
-pub type Places = [Place; 8];
+pub type Places = [Place; CHARTS];
 
 impl Place {
     /// The byte for no transition (RULES 5.11).

@@ -53,7 +53,7 @@ pub struct Entry {
 /// Posts a day: makes one step for each case of a book, in case order, under its carried signals and
 /// all its entries together. Writes one row for each case to the front of the buffer, and the new
 /// configuration, carried set and row number to the case; [`posted_rows`] reads the rows. A step that
-/// is refused (23) has a row as well. Refusals, which change nothing: 1 to 11; 20 or 21 of the first
+/// is refused (24 or 23) has a row as well. Refusals, which change nothing: 1 to 11; 20 or 21 of the first
 /// case whose configuration is wrong; 60 to 63.
 pub fn post(
     file: &[u8],

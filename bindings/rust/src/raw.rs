@@ -33,7 +33,8 @@ extern "C" {
         next_len: usize,
         output: *mut u64,
         mark: *mut u8,
-        places: *mut [u8; 8],
+        places: *mut [u8; 16],
+        open: *mut u64,
     ) -> u8;
 
     /// Makes a step for each input in turn.

@@ -9,13 +9,13 @@ use std::num::NonZeroU8;
 pub struct Refusal(NonZeroU8);
 
 /// Why a call is refused, by number (RULES 3). The day program's numbers are not here: no call gives them.
-const WORDS: [(u8, &str); 26] = [
+const WORDS: [(u8, &str); 27] = [
     (1, "fewer than 12 bytes, so there is no trailer"),
     (2, "the edition is neither 1 nor 2"),
     (
         3,
-        "a count in the trailer is out of range: 1 to 8 charts, up to 7 slaves, 1 to 64 \
-         nodes, up to 512 transitions",
+        "a count in the trailer is out of range: 1 to 16 charts, up to 15 slaves, 1 to 64 \
+         nodes, up to 1024 transitions",
     ),
     (
         4,
@@ -55,6 +55,7 @@ const WORDS: [(u8, &str); 26] = [
     (21, "a state is not one of its chart's"),
     (22, "the buffer is shorter than a configuration"),
     (23, "no choice is permitted"),
+    (24, "more than 16777216 choices are open"),
     (27, "run: the buffer is shorter than a row for each input"),
     (40, "rewriting: there are fewer free signals than slaves"),
     (
@@ -116,3 +117,36 @@ impl Display for Refusal {
 }
 
 impl Error for Refusal {}
+
+/// A step that was refused: why, and the number of open choices that was answered with it, which is
+/// 0 unless the refusal is 24 (RULES 5.15). It prints as the refusal does, and in 24 with the number.
+#[derive(Clone, Copy, PartialEq, Eq, Debug)]
+pub struct RefusedStep {
+    pub refusal: Refusal,
+    pub open: u64,
+}
+
+impl RefusedStep {
+    /// The refusal's number.
+    pub fn number(self) -> u8 {
+        self.refusal.number()
+    }
+}
+
+impl Display for RefusedStep {
+    fn fmt(&self, out: &mut Formatter) -> fmt::Result {
+        match self.open {
+            0 => self.refusal.fmt(out),
+            open => write!(out, "{}: {open}", self.refusal),
+        }
+    }
+}
+
+impl Error for RefusedStep {}
+
+/// The refusal alone, as other calls give it.
+impl From<RefusedStep> for Refusal {
+    fn from(refused: RefusedStep) -> Refusal {
+        refused.refusal
+    }
+}

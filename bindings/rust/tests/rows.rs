@@ -3,7 +3,7 @@
 mod charts;
 
 use charts::*;
-use mestecur::{step, Place, Set};
+use mestecur::{step, Place, Set, CHARTS};
 
 /// What is expected of one input: the next configuration, the output and the mark, or refusal 23.
 type Says<'a> = Option<(&'a [u8], &'a [u8], bool)>;
@@ -103,7 +103,7 @@ fn the_transitions_of_a_master_and_its_slave() {
         step(&d(), at, input, &mut [0; 2]).unwrap().places
     };
     let places = |master: u8, slave: Place| {
-        let mut places = [Place::None; 8];
+        let mut places = [Place::None; CHARTS];
         (places[0], places[1]) = (Place::Transition(master), slave);
         places
     };

@@ -5,6 +5,7 @@ mod charts;
 use charts::*;
 use mestecur::{
     check, first, interface, rows, rows_bytes, run, step, Given, Place, Places, Refusal, Set,
+    CHARTS,
 };
 
 /// What a step says: the next configuration, the output, the mark and the places of the first charts.
@@ -140,7 +141,10 @@ fn calls_that_take_both_editions() {
 
 #[test]
 fn places_and_their_bytes() {
-    let places: Places = [0, 63, 253, 254, 255, 255, 255, 255].map(Place::of);
+    let mut places: Places = [Place::None; CHARTS];
+    for (place, number) in places.iter_mut().zip([0, 63, 253, 254, 255]) {
+        *place = Place::of(number);
+    }
     assert_eq!(places[..2], [FIRST, Place::Transition(63)]);
     assert_eq!(places[2..5], [Place::Transition(253), STAYED, Place::None]);
     for number in 0..=255 {

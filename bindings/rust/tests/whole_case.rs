@@ -5,7 +5,7 @@ mod charts;
 use charts::{d, whole_case};
 use mestecur::{
     check, first, interface, rewrite, rows, rows_bytes, run, step, Given, Place, Refusal, Row, Set,
-    Step,
+    Step, CHARTS,
 };
 
 /// A row's answer for a step with this output, all choices agreeing.
@@ -19,12 +19,13 @@ fn puts_out<const N: usize>(signals: [u8; N]) -> Given {
 /// The answer of a step with this output by this transition, all choices agreeing.
 fn by<const N: usize>(place: u8, signals: [u8; N]) -> Step {
     let Given { output, mark } = puts_out(signals);
-    let mut places = [Place::None; 8];
+    let mut places = [Place::None; CHARTS];
     places[0] = Place::Transition(place);
     Step {
         output,
         mark,
         places,
+        open: 1,
     }
 }
 
@@ -135,16 +136,22 @@ fn d_rewritten_makes_the_same_steps() {
         let before = step(&d(), &config, Set(input), &mut one);
         let after = step(rewritten, &config, Set(input), &mut other);
         let before = before.map(|step| with_idle(step, config[1]));
+        let after = after.map(|step| Step { open: 0, ..step });
         assert_eq!((before, one), (after, other), "{config:?} {input}");
     }
 }
 
-/// The answer of the rewritten D: where the old chart 1 took none, the new one takes the idle
-/// transition of its state, whose place is after those of its two own transitions.
+/// The answer of the rewritten D, the number of open choices aside: where the old chart 1 took none,
+/// the new one takes the idle transition of its state, whose place is after those of its two own
+/// transitions.
 fn with_idle(step: Step, state: u8) -> Step {
     let mut places = step.places;
     if places[1] == Place::None {
         places[1] = Place::Transition(2 + state);
     }
-    Step { places, ..step }
+    Step {
+        places,
+        open: 0,
+        ..step
+    }
 }

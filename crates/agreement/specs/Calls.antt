@@ -1,34 +1,36 @@
--- What the rewriting promises (RULES 9.8), over the calls: where it is not refused, its bytes are a file that passes 1 to 11, has no slaves, and is
--- answered like the file by every other call, for every configuration, input and buffer.
+-- What the rewriting promises (RULES 9.8), over the calls: where it is not refused, its bytes are a file that passes 1
+-- to 11, has no slaves, and is answered like the file by every other call, for every configuration, input and buffer,
+-- up to the first step at which either is refused with 24.
 use mathlib.Core.Path.{_≡_, refl, sym, _∙_, ap, ap₂}
 use mathlib.Core.Bool.{Bool, true, false, cond, false≢true}
-use mathlib.Core.Logic.{inl, _↔_}
-use mathlib.Core.List.{List, [], _∷_, _++_, append-assoc}
+use mathlib.Core.Logic.{inl, _↔_, _≢_}
+use mathlib.Core.List.{List, [], _∷_, append-assoc}
 use Prim.Native.Nat.{ℕ, _+_, _*_, _-_, _≤_, _<_}
 use native.Mathlib.Omega.{arith}
 use borrow.Author.Tests.{ltb-false}
-use lib.Dec.{ltb, lit<}
-use lib.ListN.{length, getD, drop}
+use lib.Dec.{lit<}
+use lib.ListN.{length, take, drop}
 use Rattle.layout.specs.Le.{AllBytes}
 use Rattle.layout.specs.Body.{sizeOf}
 use Rattle.layout.specs.Body.Laws.{headAt-fits, nodeAt-fits}
-use Rattle.meaning.specs.Count.{anyUpTo}
-use Rattle.meaning.specs.Count.Laws.{any-cong}
 use Rattle.meaning.specs.Meaning.{Set, ∅, same, refused, given}
 use Rattle.meaning.specs.File.{endOf, trailer, bodyOf, shapeOf, chartOf, fileAt, fileOf}
-use Rattle.meaning.specs.Numbers.{firstEdition, mostNodes, wrongLength, badState, shortBuffer, shortRows}
-use Rattle.meaning.specs.Check.Laws.{firstOf-passes, Passed, passed, call-passed, in-front, counted, charted}
-use Rattle.meaning.specs.Check.{Test, firstOf, differ, notBelow, fileTests, refusalOf}
-use Rattle.meaning.specs.Calls.{made, laidOver, firstRefusal, initials, firstBytes, inputOf, outputOf, configTests, stepRefusal, stepIn, stepOf, allPlaces, placesIn, placesOf, runRefusal, rowsOf, carriedOf, runBytes, runCarried}
-use Rattle.meaning.specs.Calls.Laws.{made-cong, call-allowed}
+use Rattle.meaning.specs.Numbers.{firstEdition, mostNodes, manyOpen}
+use Rattle.meaning.specs.Check.Laws.{firstOf-passes, Passed, passed, in-front, counted, charted}
+use Rattle.meaning.specs.Check.{firstOf, fileTests, refusalOf}
+use Rattle.meaning.specs.Calls.{firstRefusal, firstBytes, inputOf, outputOf, stepRefusal, stepIn, stepOf, allPlaces}
+use Rattle.meaning.specs.Calls.{placesIn, placesOf, runRefusal, runBytes, runCarried}
+use Rattle.meaning.specs.Calls.Laws.{step-allowed}
 use Rattle.meaning.specs.Rewriting.{free, call, LowestLeft, noFree?, chartWith, rewrittenChart, rewriteTests, rewriteBytes, stayTest, rewriteRefusal, rewrite, rewriteLength, shapeIn}
-use Rattle.meaning.specs.Words.{PlacesAgree}
+use Rattle.meaning.specs.Words.{AgreeUnless, Until, PlacesAgree}
 use Rattle.meaning.specs.Laws.Bools.{same-refl, same→≡}
-use Rattle.meaning.specs.Laws.Runs.{Valid}
+use Rattle.meaning.specs.Laws.Alike.{ConfigsAlike, first-refusal-alike, first-alike, step-refusal-alike}
+use Rattle.meaning.specs.Laws.Alike.{run-refusal-alike}
+use Rattle.meaning.specs.Laws.Until.{StepsAgreeUnless, same-step-until, same-rows-until, same-run-until}
+use Rattle.meaning.specs.Laws.Until.{same-carried-until}
 use Rattle.meaning.specs.Laws.Editions.{edition-left}
-use Rattle.agreement.specs.Step.{Rewritten, step-is}
+use Rattle.agreement.specs.Step.{Rewritten, steps-agree}
 use Rattle.agreement.specs.Taken.{taken-agree}
-use Rattle.agreement.specs.Run.{run-is, carried-is}
 use Rattle.agreement.specs.Faces.{input-is, output-is}
 use Rattle.agreement.specs.Passed.{ended, smalls, body-bytes, ready}
 use Rattle.agreement.specs.New.{Regular}
@@ -125,21 +127,26 @@ module _ (f : List ℕ) (ab : AllBytes f) (room : ℕ) (ok : rewriteRefusal f ro
   no-front = let ft = fits (fileOf f) rg (allowed f room ok .given) in
       ap₂ _-_ (end-is (rewrite (fileOf f)) ft) (ap (λ t. t .distance) (trailer-is (rewrite (fileOf f)) ft)) ∙ omega arith
 
-  states-same : (c : ℕ) → c < fileOf f .charts → fileOf f′ .chart c .states ≡ fileOf f .chart c .states
+  alike : ConfigsAlike (fileOf f) (fileOf f′)
   unfolding rewrittenChart chartWith
-  states-same c l = ap (λ C. C .states) (r .chart c l)
+  alike = record {
+    charts = r .charts;
+    states = λ c l. ap (λ C. C .states) (r .chart c l);
+    initials = λ c l. ap (λ C. C .initial) (r .chart c l);
+  }
+
+  rs : refusalOf f′ ≡ refusalOf f
+  rs = same-check ∙ sym h
+
+  agree : StepsAgreeUnless manyOpen (fileOf f) (fileOf f′)
+  agree = steps-agree (fileOf f) (rg .ready) (fileOf f′) r
 
   -- the first configuration
   pub same-first-refusal : (left : ℕ) → firstRefusal f′ left ≡ firstRefusal f left
-  unfolding firstRefusal
-  same-first-refusal left = call-passed f′ _ same-check ∙ ap (λ n. firstOf (record { number = shortBuffer; applies = ltb left n } ∷ [])) (r .charts)
-      ∙ sym (call-passed f _ h)
+  same-first-refusal = first-refusal-alike f f′ rs (λ e. alike)
 
   pub same-first : (buffer : List ℕ) → firstBytes f′ buffer ≡ firstBytes f buffer
-  unfolding firstBytes initials rewrittenChart chartWith
-  same-first buffer = ap₂ (λ n xs. cond (same n 0) (laidOver xs buffer) buffer) (same-first-refusal (length buffer))
-      (ap (λ n. made n (λ c. fileOf f′ .chart c .initial)) (r .charts)
-      ∙ made-cong (fileOf f .charts) _ _ (λ c l. ap (λ C. C .initial) (r .chart c l)))
+  same-first = first-alike f f′ rs (λ e. alike)
 
   -- the interface
   pub same-input : inputOf f′ ≡ inputOf f
@@ -150,88 +157,68 @@ module _ (f : List ℕ) (ab : AllBytes f) (room : ℕ) (ok : rewriteRefusal f ro
   unfolding outputOf
   same-output = ap₂ (λ n s. cond (same n 0) s ∅) (same-check ∙ sym h) (output-is (fileOf f) (rg .ready) (fileOf f′) r)
 
-  -- configurations: 20 and 21
-  config-same : (config : List ℕ) → configTests f′ config ≡ configTests f config
-  unfolding configTests
-  config-same config = ap₂ (λ n b. record { number = wrongLength; applies = differ (length config) n } ∷ record { number = badState; applies = b }
-      ∷ []) (r .charts)
-      (ap (λ n. anyUpTo n (λ c. notBelow (getD config c 0) (fileOf f′ .chart c .states))) (r .charts)
-      ∙ any-cong (fileOf f .charts) _ _ (λ c l. ap (notBelow (getD config c 0)) (states-same c l)))
+  -- a step, unless one of the two is refused with 24; its tests before 24
+  pub same-step-refusal : (config : List ℕ) (left : ℕ) → stepRefusal f′ config left ≡ stepRefusal f config left
+  same-step-refusal = step-refusal-alike f f′ rs (λ e. alike)
 
-  -- a call whose tests are 1 to 11, 20, 21 and one more: its refusal, and what it answers
-  module _ (config : List ℕ) (u u′ : Test) (us : u′ ≡ u) where
-    abbrev n : ℕ
-    n = firstOf ((fileTests f ++ configTests f config) ++ (u ∷ []))
-
-    abbrev n′ : ℕ
-    n′ = firstOf ((fileTests f′ ++ configTests f′ config) ++ (u′ ∷ []))
-
-    tests : n ≡ firstOf (configTests f config ++ (u ∷ []))
-    tests = ap firstOf (append-assoc (fileTests f) (configTests f config) (u ∷ [])) ∙ call-passed f _ h
-
-    tests-same : n′ ≡ n
-    tests-same = ap firstOf (append-assoc (fileTests f′) (configTests f′ config) (u′ ∷ [])) ∙ call-passed f′ _ same-check
-        ∙ ap₂ (λ ts u. firstOf (ts ++ (u ∷ []))) (config-same config) us ∙ sym tests
-
-    valid : n ≡ 0 → Valid (fileOf f) config
-    valid e = call-allowed f config (u ∷ []) e .1
-
-    answer-same : {A : Type 0} (x x′ : A) (other : ℕ → A) → (Valid (fileOf f) config → x′ ≡ x)
-        → cond (same n′ 0) x′ (other n′) ≡ cond (same n 0) x (other n)
-    answer-same {A} x x′ other xs = ap (λ k. cond (same k 0) x′ (other k)) tests-same ∙ go (same n 0) refl
-      where
-        go : (b : Bool) → same n 0 ≡ b → cond b x′ (other n) ≡ cond b x (other n)
-        go true e = xs (valid (same→≡ n 0 e))
-        go false e = refl
-
-  -- the step
-  pub same-step : (config : List ℕ) (i : Set) (left : ℕ) → stepOf f′ config i left ≡ stepOf f config i left
-  unfolding stepOf stepRefusal
+  pub same-step : (config : List ℕ) (i : Set) (left : ℕ)
+      → AgreeUnless manyOpen (stepOf f config i left) (stepOf f′ config i left)
   same-step config i left =
-      answer-same config _ _ (ap (λ n. record { number = shortBuffer; applies = ltb left n }) (r .charts)) (stepIn (fileOf f) config i)
-      (stepIn (fileOf f′) config i) refused
-      (λ v. step-is (fileOf f) (rg .ready) (fileOf f′) r config v i)
+      same-step-until manyOpen f f′ agree config i left (same-step-refusal config left)
 
-  -- the places of a step's transitions
-  pub same-places : (config : List ℕ) (i : Set) (left : ℕ)
-      → PlacesAgree (fileOf f) (fileOf f′) config (stepOf f config i left) (placesOf f config i left) (placesOf f′ config i left)
-  unfolding stepOf placesOf stepRefusal
-  same-places config i left = rw (tests-same config u u′ us) (go (same (n config u u′ us) 0) refl)
+  -- the places of its transitions
+  pub same-places : (config : List ℕ) (i : Set) (left : ℕ) → stepOf f config i left ≢ refused manyOpen
+      → stepOf f′ config i left ≢ refused manyOpen
+      → PlacesAgree (fileOf f) (fileOf f′) config (stepOf f config i left) (placesOf f config i left)
+      (placesOf f′ config i left)
+  unfolding stepOf placesOf
+  same-places config i left p q =
+      let e = same-step-refusal config left in
+      rw e (go (same n 0) refl p (λ z. q (ap (λ k. cond (same k 0) (stepIn (fileOf f′) config i) (refused k)) e ∙ z)))
     where
-      u : Test
-      u = record { number = shortBuffer; applies = ltb left (fileOf f .charts) }
+      n : ℕ
+      n = stepRefusal f config left
 
-      u′ : Test
-      u′ = record { number = shortBuffer; applies = ltb left (fileOf f′ .charts) }
-
-      us : u′ ≡ u
-      us = ap (λ n. record { number = shortBuffer; applies = ltb left n }) (r .charts)
-
-      go : (b : Bool) → same (n config u u′ us) 0 ≡ b
-          → PlacesAgree (fileOf f) (fileOf f′) config (cond b (stepIn (fileOf f) config i) (refused (n config u u′ us)))
+      go : (b : Bool) → same n 0 ≡ b → cond b (stepIn (fileOf f) config i) (refused n) ≢ refused manyOpen
+          → cond b (stepIn (fileOf f′) config i) (refused n) ≢ refused manyOpen
+          → PlacesAgree (fileOf f) (fileOf f′) config (cond b (stepIn (fileOf f) config i) (refused n))
           (cond b (placesIn (fileOf f) config i) (allPlaces [])) (cond b (placesIn (fileOf f′) config i) (allPlaces []))
-      go true e = taken-agree (fileOf f) (fileOf f′) (rg .ready) r config (valid config u u′ us (same→≡ _ 0 e)) i
-      go false e = record { long = refl; each = λ c. inl refl; taken = λ z. absurd (false≢true (sym e ∙ ap (λ n. same n 0) z ∙ same-refl 0)) }
+      go true e p q =
+          taken-agree (fileOf f) (fileOf f′) (rg .ready) r config (step-allowed f config left (same→≡ n 0 e) .1) i p q
+      go false e p q = record {
+        long = refl;
+        each = λ c. inl refl;
+        taken = λ z. absurd (false≢true (sym e ∙ ap (λ n. same n 0) z ∙ same-refl 0));
+      }
 
-  -- the run
-  rowsTest : ℕ → ℕ → ℕ → Test
-  rowsTest inputs left n = record { number = shortRows; applies = ltb left (inputs * (10 + n)) }
+  -- a run: its refusal; its rows, all or the first k of them, and what it carries, as long as no step of either run is
+  -- refused with 24
+  pub same-refusal : (config : List ℕ) (inputs left : ℕ)
+      → runRefusal f′ config inputs left ≡ runRefusal f config inputs left
+  same-refusal = run-refusal-alike f f′ rs (λ e. alike)
 
-  pub same-refusal : (config : List ℕ) (inputs left : ℕ) → runRefusal f′ config inputs left ≡ runRefusal f config inputs left
-  unfolding runRefusal rowsTest
-  same-refusal config inputs left = tests-same config _ _ (ap (rowsTest inputs left) (r .charts))
+  module _ (config : List ℕ) (carried : Set) (inputs : List Set) (rows : List ℕ) where
+    pub same-rows : (k : ℕ) → k ≤ length inputs → Until manyOpen f config carried inputs rows k
+        → Until manyOpen f′ config carried inputs rows k
+        → take (k * (10 + fileOf f .charts)) (runBytes f′ config carried inputs rows)
+        ≡ take (k * (10 + fileOf f .charts)) (runBytes f config carried inputs rows)
+    same-rows =
+        same-rows-until manyOpen f f′ agree config carried inputs rows
+        (same-refusal config (length inputs) (length rows))
 
-  module _ (config : List ℕ) (carried : Set) (inputs : List Set) where
-    pub same-run : (rows : List ℕ) → runBytes f′ config carried inputs rows ≡ runBytes f config carried inputs rows
-    unfolding runBytes runRefusal rowsTest
-    same-run rows = answer-same config _ _ (ap (rowsTest (length inputs) (length rows)) (r .charts))
-        (laidOver (rowsOf (fileOf f) config carried inputs) rows) (laidOver (rowsOf (fileOf f′) config carried inputs) rows) (λ n. rows)
-        (λ v. ap (λ z. laidOver z rows) (run-is (fileOf f) (rg .ready) (fileOf f′) r inputs config carried v))
+    pub same-run : Until manyOpen f config carried inputs rows (length inputs)
+        → Until manyOpen f′ config carried inputs rows (length inputs)
+        → runBytes f′ config carried inputs rows ≡ runBytes f config carried inputs rows
+    same-run =
+        same-run-until manyOpen f f′ agree config carried inputs rows
+        (same-refusal config (length inputs) (length rows))
 
-    pub same-carried : (left : ℕ) → runCarried f′ config carried inputs left ≡ runCarried f config carried inputs left
-    unfolding runCarried runRefusal rowsTest
-    same-carried left = answer-same config _ _ (ap (rowsTest (length inputs) left) (r .charts)) (carriedOf (fileOf f) config carried inputs)
-        (carriedOf (fileOf f′) config carried inputs) (λ n. ∅) (λ v. carried-is (fileOf f) (rg .ready) (fileOf f′) r inputs config carried v)
+    pub same-carried : Until manyOpen f config carried inputs rows (length inputs)
+        → Until manyOpen f′ config carried inputs rows (length inputs)
+        → runCarried f′ config carried inputs (length rows) ≡ runCarried f config carried inputs (length rows)
+    same-carried =
+        same-carried-until manyOpen f f′ agree config carried inputs rows
+        (same-refusal config (length inputs) (length rows))
 
 -- the call signal of a slave is the lowest number that is left for it, and no other number is
 pub call-exactly : (f : List ℕ) (room : ℕ) → rewriteRefusal f room ≡ 0 → (i : ℕ) → i < fileOf f .slaves

@@ -1,10 +1,11 @@
--- What agrees (RULES 9.8): the rewritten file steps as the file does, and is a file again. The promises are in Calls; what leads to them, in this
--- order: over a tree, the rewriting (Tree), what is offered, put out and permitted (Same), activity (Active), lists of outcomes (Upto), lists of
--- transitions (Every), a rewritten chart (Charts), how charts stand (Fit), places (Places), the same outcomes in the same order (Outcomes); over
--- records, the call signals (Free), nodes renumbered (Renamed), laid down (Laid) and checked again (Recheck), the step (Step) and its places (Taken),
--- the run (Run), the interfaces (Faces); over bytes, a file written and read back (Encoded, Reads), what passing 1 to 11 gives (Passed), the new
--- records (New), the new file passes (Again) and is made of bytes (Bytes); a file without slaves (Slaveless) and bytes read and written again
--- (Written); two files computed (Examples).
+-- What agrees (RULES 9.8): the rewritten file steps as the file does, and is a file again. The promises are in Calls;
+-- what leads to them, in this order: over a tree, the rewriting (Tree), what is offered, put out and permitted (Same),
+-- activity (Active), lists of outcomes (Upto), lists of transitions (Every), a rewritten chart (Charts), how charts
+-- stand (Fit), places (Places), the same outcomes in the same order (Outcomes); over records, the call signals (Free),
+-- nodes renumbered (Renamed), laid down (Laid) and checked again (Recheck), the step (Step) and its places (Taken), the
+-- interfaces (Faces); over bytes, a file written and read back (Encoded, Reads), what passing 1 to 11 gives (Passed),
+-- the new records (New), the new file passes (Again) and is made of bytes (Bytes); a file without slaves (Slaveless)
+-- and bytes read and written again (Written); two files computed (Examples).
 pub mod Tree
 pub mod Same
 pub mod Active
@@ -20,7 +21,6 @@ pub mod Laid
 pub mod Recheck
 pub mod Step
 pub mod Taken
-pub mod Run
 pub mod Faces
 pub mod Encoded
 pub mod Reads

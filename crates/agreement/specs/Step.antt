@@ -1,5 +1,6 @@
--- The rewritten file steps as the file does, from each valid configuration and for each input (`step-is`), and takes the same transitions but for
--- idle ones (`places-are`, and Taken). What is asked of the file is in Ready; its runs are in Run, its interfaces in Faces.
+-- From each valid configuration and for each input, the same is found in the rewritten file as in the file
+-- (`found-is`), with the same transitions but for idle ones (`places-are`, and Taken). So their steps agree, unless one
+-- is refused with 24 (`steps-agree`). What is asked of the file is in Ready; its interfaces are in Faces.
 use mathlib.Core.Path.{_≡_, refl, sym, _∙_, ap, ap₂, subst, fun-ext}
 use mathlib.Core.Bool.{true, false, _&&_}
 use mathlib.Core.Option.{none}
@@ -10,11 +11,12 @@ use lib.ListN.{length, getD}
 use Rattle.signals.specs.Mask.{_∪_, _∩_, _∖_}
 use Rattle.meaning.specs.Meaning.{Set, Chart, Move, Tree, Slaves, leaf, comp, hide, dec, nil, snoc, lastPlace, inFace, ok, permitted, moves, upd, upto, Outcome, outcome, search, outcomes, answer, firstPlaces}
 use Rattle.meaning.specs.File.{File, treeOf, wholeOf, Has}
-use Rattle.meaning.specs.Numbers.{noPlace}
-use Rattle.meaning.specs.Calls.{outcomesIn, stepIn}
+use Rattle.meaning.specs.Numbers.{noPlace, manyOpen}
+use Rattle.meaning.specs.Calls.{outcomesIn, foundIn, manyOpen?, stepIn}
 use Rattle.meaning.specs.Rewriting.{used, call, chartWith, nearestSlave, rewrittenChart, start, newName, rewrite}
 use Rattle.meaning.specs.Check.Nodes.{Sound}
 use Rattle.meaning.specs.Laws.Runs.{Valid}
+use Rattle.meaning.specs.Laws.Until.{step-until, StepsAgreeUnless}
 use Rattle.meaning.specs.Laws.Trees.{above-node, all-there}
 use Rattle.meaning.specs.Laws.Names.{enc, kap, placed, joined, enc-last}
 use Rattle.agreement.specs.Every.{Every}
@@ -135,10 +137,17 @@ module _ (F : File) (rd : Ready F) where
         T : Tree
         T = tree (call F) (λ c. F .chart c .feedback) (wholeOf F)
 
-    pub step-is : (config : List ℕ) → Valid F config → (inp : Set) → stepIn F′ config inp ≡ stepIn F config inp
-    unfolding stepIn
-    step-is config v inp = ap answer (outcomes-are config v inp)
+    pub found-is : (config : List ℕ) → Valid F config → (inp : Set) → foundIn F′ config inp ≡ foundIn F config inp
+    unfolding foundIn
+    found-is config v inp = ap answer (outcomes-are config v inp)
         ∙ answer-turned (kap F) (λ c. length (F .chart c .transitions)) (λ c. getD config c 0) (outcomesIn F config inp)
+
+    -- idle transitions add open choices, so either file may have too many where the other has not
+    pub steps-agree : StepsAgreeUnless manyOpen F F′
+    unfolding stepIn
+    steps-agree config v inp =
+        step-until manyOpen (manyOpen? F config) (manyOpen? F′ config) (foundIn F config inp) (foundIn F′ config inp)
+        (found-is config v inp)
 
     -- ── the places ──
 

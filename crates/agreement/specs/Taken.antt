@@ -1,4 +1,5 @@
--- Which transitions a step of the rewritten file takes (RULES 9.8): the places of the two steps agree (`taken-agree`).
+-- Which transitions a step of the rewritten file takes (RULES 9.8): the places of what is found in the two files agree
+-- (`found-agree`), and so do those of the two steps, unless one is refused with 24 (`taken-agree`).
 use mathlib.Core.Path.{_≡_, refl, sym, _∙_, ap, subst}
 use mathlib.Core.Bool.{true, false}
 use mathlib.Core.Logic.{_⊎_, inl, inr, ⊎-elim, _≢_}
@@ -11,11 +12,12 @@ use native.Mathlib.Decide.{decLt}
 use lib.ListN.{length, getD, length-append, List·getD-eq-default}
 use Rattle.signals.specs.Mask.{_∩_}
 use Rattle.layout.specs.declared.record.Transition.{Transition}
-use Rattle.meaning.specs.Numbers.{noPlace}
-use Rattle.meaning.specs.Meaning.{Set, Outcome, Answer, noMove, takes, nth, pick, lastPlace, inFace, ok, permitted, moves, placeOf, firstPlaces, agree, answer}
+use Rattle.meaning.specs.Numbers.{noPlace, manyOpen}
+use Rattle.meaning.specs.Meaning.{Set, Outcome, refused, noMove, takes, nth, pick, lastPlace, inFace, ok, permitted}
+use Rattle.meaning.specs.Meaning.{moves, placeOf, firstPlaces, agree, answer}
 use Rattle.meaning.specs.File.{File, wholeOf}
-use Rattle.meaning.specs.Calls.{outcomesIn, stepIn, placesIn, refusalIn}
-use Rattle.meaning.specs.Calls.Laws.{getD-all}
+use Rattle.meaning.specs.Calls.{outcomesIn, foundIn, stepIn, placesFound, placesIn, refusalIn}
+use Rattle.meaning.specs.Calls.Laws.{getD-all, places-by}
 use Rattle.meaning.specs.Rewriting.{call, chartWith, idle}
 use Rattle.meaning.specs.Words.{IdleStands, PlacesAgree}
 use Rattle.meaning.specs.Laws.Choices.{place-own, length-places, getD-places}
@@ -23,12 +25,13 @@ use Rattle.meaning.specs.Laws.Editions.{places-one}
 use Rattle.meaning.specs.Laws.Names.{kap}
 use Rattle.meaning.specs.Laws.Runs.{Valid}
 use Rattle.meaning.specs.Laws.Demand2.{given-first}
+use Rattle.meaning.specs.Laws.Many.{Decided, found-or-many}
 use Rattle.agreement.specs.Tree.{touch}
 use Rattle.agreement.specs.Fit.{slavesOf}
 use Rattle.agreement.specs.Charts.{nth-idle, places, places-none}
 use Rattle.agreement.specs.Active.{Live, live}
 use Rattle.agreement.specs.Places.{turnedPlace, turned-or-idle, turnedPlaces, length-turned}
-use Rattle.agreement.specs.Step.{Ready, Rewritten, has, whole-is, chart-is, step-is, places-are}
+use Rattle.agreement.specs.Step.{Ready, Rewritten, has, whole-is, chart-is, found-is, places-are}
 
 -- ── places, one by one ──
 
@@ -51,8 +54,8 @@ module _ (F F′ : File) (rd : Ready F) (rw′ : Rewritten F F′) (config : Lis
       ∙ ap (λ z. turnedPlace (kap F z) (own z) (cfg z) (getD ps c noPlace)) (let e : suc k + c ≡ k + suc c = omega arith in e)
 
   -- places are there only where a step is given, one for each chart
-  some-given : (c : ℕ) → c < length (firstPlaces os) → (refusalIn (stepIn F config inp) ≡ 0) × (c < F .charts)
-  unfolding stepIn firstPlaces answer
+  some-given : (c : ℕ) → c < length (firstPlaces os) → (refusalIn (foundIn F config inp) ≡ 0) × (c < F .charts)
+  unfolding foundIn firstPlaces answer
   some-given c l = go os refl l
     where
       go : (l : List Outcome) → os ≡ l → c < length (firstPlaces l) → (refusalIn (answer os) ≡ 0) × (c < F .charts)
@@ -72,12 +75,12 @@ module _ (F F′ : File) (rd : Ready F) (rw′ : Rewritten F F′) (config : Lis
   are = places-are F rd F′ rw′ config v inp
 
   -- the place in the rewritten file, and in the file
-  new-place : (c : ℕ) → getD (placesIn F′ config inp) c noPlace ≡ getD turns c noPlace
-  unfolding placesIn
+  new-place : (c : ℕ) → getD (placesFound F′ config inp) c noPlace ≡ getD turns c noPlace
+  unfolding placesFound
   new-place c = getD-all (firstPlaces (outcomesIn F′ config inp)) c ∙ ap (λ l. getD l c noPlace) are
 
-  old-place : (c : ℕ) → getD (placesIn F config inp) c noPlace ≡ getD (firstPlaces os) c noPlace
-  unfolding placesIn
+  old-place : (c : ℕ) → getD (placesFound F config inp) c noPlace ≡ getD (firstPlaces os) c noPlace
+  unfolding placesFound
   old-place c = getD-all (firstPlaces os) c
 
   -- chart c's idle transition for its present state
@@ -87,9 +90,10 @@ module _ (F F′ : File) (rd : Ready F) (rw′ : Rewritten F F′) (config : Lis
       (sym e) (nth-idle (call F) noMove i (touch (call F) (F .state) (slavesOf F c)) (F .chart c) (cfg c) (v .states c l))
 
   abbrev Idles : ℕ → Type 0
-  Idles c = IdleStands F F′ config (stepIn F config inp) (placesIn F config inp) (placesIn F′ config inp) c
+  Idles c = IdleStands F F′ config (foundIn F config inp) (placesFound F config inp) (placesFound F′ config inp) c
 
-  one-place : (c : ℕ) → Dec (c < length (firstPlaces os)) → (getD (placesIn F′ config inp) c noPlace ≡ getD (placesIn F config inp) c noPlace) ⊎ Idles c
+  one-place : (c : ℕ) → Dec (c < length (firstPlaces os))
+      → (getD (placesFound F′ config inp) c noPlace ≡ getD (placesFound F config inp) c noPlace) ⊎ Idles c
   one-place c (no l) = inl (new-place c ∙ none-there turns (length-turned (kap F) own cfg zero (firstPlaces os)) ∙ sym (none-there (firstPlaces os) refl)
       ∙ sym (old-place c))
     where
@@ -133,9 +137,10 @@ module _ (F F′ : File) (rd : Ready F) (rw′ : Rewritten F F′) (config : Lis
       let p = place-own (F′ .chart c) k (omega arith) in
       let a = new-length c l in let f = rd .few c l in omega arith
 
-  always : refusalIn (stepIn F config inp) ≡ 0 → (c : ℕ) → c < F .charts → getD (placesIn F′ config inp) c noPlace ≢ noPlace
-  unfolding stepIn answer permitted moves placesIn
-  always z c l q = go (outcomesIn F′ config inp) refl (ap refusalIn (step-is F rd F′ rw′ config v inp) ∙ z)
+  always : refusalIn (foundIn F config inp) ≡ 0 → (c : ℕ) → c < F .charts
+      → getD (placesFound F′ config inp) c noPlace ≢ noPlace
+  unfolding foundIn answer permitted moves placesFound
+  always z c l q = go (outcomesIn F′ config inp) refl (ap refusalIn (found-is F rd F′ rw′ config v inp) ∙ z)
     where
       go : (os′ : List Outcome) → outcomesIn F′ config inp ≡ os′ → refusalIn (answer (outcomesIn F′ config inp)) ≡ 0 → ⊥
       go [] e r = absurd (let y : _≡_ {A = ℕ} 23 0 = sym (ap (λ os. refusalIn (answer os)) e) ∙ r in omega arith)
@@ -150,13 +155,26 @@ module _ (F F′ : File) (rd : Ready F) (rw′ : Rewritten F F′) (config : Lis
           ∙ getD-places (F′ .chart) (g .choice) zero (F′ .charts) c l′
           ∙ ap (λ z. placeOf (pick (F′ .chart z) (g .choice z)) (g .choice z)) (zero-add c)) ∙ q)
 
-  pub taken-agree : PlacesAgree F F′ config (stepIn F config inp) (placesIn F config inp) (placesIn F′ config inp)
-  unfolding placesIn
-  taken-agree = record { long = long; each = λ c. one-place c (decLt c (length (firstPlaces os))); taken = always }
+  pub found-agree : PlacesAgree F F′ config (foundIn F config inp) (placesFound F config inp)
+      (placesFound F′ config inp)
+  unfolding placesFound
+  found-agree = record { long = long; each = λ c. one-place c (decLt c (length (firstPlaces os))); taken = always }
     where
       same-length : length (firstPlaces (outcomesIn F′ config inp)) ≡ length (firstPlaces os)
       same-length = ap length are ∙ length-turned (kap F) own cfg zero (firstPlaces os)
 
-      long : length (placesIn F′ config inp) ≡ length (placesIn F config inp)
+      long : length (placesFound F′ config inp) ≡ length (placesFound F config inp)
       long = length-append (firstPlaces (outcomesIn F′ config inp)) _
           ∙ rw (same-length) (sym (length-append (firstPlaces os) _))
+
+  -- neither is refused with 24
+  pub taken-agree : stepIn F config inp ≢ refused manyOpen → stepIn F′ config inp ≢ refused manyOpen
+      → PlacesAgree F F′ config (stepIn F config inp) (placesIn F config inp) (placesIn F′ config inp)
+  taken-agree p q = go (found-or-many F config inp) (found-or-many F′ config inp)
+    where
+      go : Decided F config inp → Decided F′ config inp
+          → PlacesAgree F F′ config (stepIn F config inp) (placesIn F config inp) (placesIn F′ config inp)
+      go (inl a) b = absurd (p (a .1))
+      go (inr a) (inl b) = absurd (q (b .1))
+      go (inr a) (inr b) =
+          rw (a .1, places-by F config inp false (a .0), places-by F′ config inp false (b .0)) found-agree

@@ -43,10 +43,10 @@ filling m s k = record { masks = m; small = s; count = k }
 
 module _ (a : Around) where
   abbrev pub consideredBy : ℕ → Transition → Filling → Filling
-  consideredBy p t f = considered (a .chart) (a .state) (a .low) (a .own) (a .others) p t f
+  consideredBy p t f = considered (a .chart) (a .state) (a .low) (a .own) (a .others) (a .shut) p t f
 
   abbrev pub listingBy : (ℕ → Transition) → ℕ → Filling → Filling
-  listingBy g p f = listing (a .chart) (a .state) (a .low) (a .own) (a .others) g p f
+  listingBy g p f = listing (a .chart) (a .state) (a .low) (a .own) (a .others) (a .shut) g p f
 
 -- transition u from `start` on
 abbrev pub fromStart : Shape → List ℕ → ℕ → ℕ → Transition
@@ -67,12 +67,14 @@ pub record Sided (n : Shape) (b config base m s : List ℕ) (k : ℕ) (may lows 
   pub raised : Raised (chartOf n b) (λ c. getD config c 0) k m s base lows
 
 -- the first k charts have their candidates
-abbrev pub UntilChart : Shape → List ℕ → List ℕ → List ℕ → List ℕ → List ℕ → ℕ → List ℕ → List ℕ → Type 0
-UntilChart n b config lows m₀ s₀ k m s = Until (chartOf n b) (λ c. getD config c 0) (n .charts) lows m₀ s₀ k m s
+abbrev pub UntilChart : Shape → List ℕ → List ℕ → List ℕ → List ℕ → List ℕ → List ℕ → ℕ → List ℕ → List ℕ → Type 0
+UntilChart n b config lows shuts m₀ s₀ k m s =
+    Until (chartOf n b) (λ c. getD config c 0) (n .charts) lows shuts m₀ s₀ k m s
 
 -- chart c gets its candidates
-abbrev pub NextChart : Shape → List ℕ → List ℕ → List ℕ → ℕ → List ℕ → List ℕ → List ℕ → List ℕ → Type 0
-NextChart n b config lows c m s m′ s′ = (m₀ s₀ : List ℕ) → UntilChart n b config lows m₀ s₀ c m s → UntilChart n b config lows m₀ s₀ (c + 1) m′ s′
+abbrev pub NextChart : Shape → List ℕ → List ℕ → List ℕ → List ℕ → ℕ → List ℕ → List ℕ → List ℕ → List ℕ → Type 0
+NextChart n b config lows shuts c m s m′ s′ =
+    (m₀ s₀ : List ℕ) → UntilChart n b config lows shuts m₀ s₀ c m s → UntilChart n b config lows shuts m₀ s₀ (c + 1) m′ s′
 
 -- the states of the first k charts are in the table, the rest as it was
 pub record Stated (config : List ℕ) (k : ℕ) (s₀ s : List ℕ) : Type 0 where
@@ -81,8 +83,8 @@ pub record Stated (config : List ℕ) (k : ℕ) (s₀ s : List ℕ) : Type 0 whe
   pub small : length s ≡ length s₀
 
 -- all charts have theirs, and the rest of the tables m₀ and s₀ is as it was: the wiring, the masters and their states
-pub record Chooses (n : Shape) (b config base lows m₀ s₀ m s : List ℕ) : Type 0 where
-  pub chosen : Chosen (chartOf n b) (λ c. getD config c 0) (n .charts) lows m s
+pub record Chooses (n : Shape) (b config base shuts lows m₀ s₀ m s : List ℕ) : Type 0 where
+  pub chosen : Chosen (chartOf n b) (λ c. getD config c 0) (n .charts) lows shuts m s
   pub raised : Raised (chartOf n b) (λ c. getD config c 0) (n .charts) m s base lows
   pub wires : SameWiring m₀ m
   pub masters : (i : ℕ) → masterFrom ≤ i → i < stateFrom → getD s i 0 ≡ getD s₀ i 0

@@ -8,7 +8,7 @@ ghost use Rattle.layout.specs.Body.{Holds, transitionAt, startOf};
 ghost use Rattle.layout.specs.Body.{from as fromOn};
 ghost use Rattle.meaning.specs.Count.{tally, one};
 ghost use Rattle.meaning.specs.Meaning.{same};
-ghost use Rattle.signals.specs.Mask.{_∪_, _∩_};
+ghost use Rattle.signals.specs.Mask.{_∪_, _∩_, bit};
 ghost use Rattle.cells.specs.Triggers.{triggers, staysSize};
 ghost use Rattle.wiring.specs.Sure.{sureOf, sureIn};
 ghost use Rattle.meaning.specs.Numbers.{mostCharts, mostFromState, stayEdition};
@@ -26,14 +26,19 @@ use layout::limits::HEAD_BYTES;
 use layout::limits::TRANSITION_BYTES;
 use layout::record::Transition;
 
-// The chart whose candidates are chosen, its present state, and what it may be offered: surely, of its own action, and of all others'.
+// The chart whose candidates are chosen, its present state, what it may be offered: surely, of its own action, and of
+// all others'; and the states that it must not go to, as a mask.
 pub struct Around {
     pub chart: usize,
     pub state: u8,
     pub low: u64,
     pub own: u64,
     pub others: u64,
+    pub shut: u64,
 }
+
+// The states that a mask has room for.
+const BITS: u8 = 64;
 
 // What the transitions from a state put out: some of them, and all of them.
 pub struct Puts {
@@ -167,12 +172,23 @@ pub fn others(masks: &[u64], charts: usize, may: [u64; CHARTS], c: usize) -> u64
     u
 }
 
-// Whether a transition can be met, its own action counted, whatever the others do.
-fn lasts(t: Transition, low: u64, own: u64, others: u64) -> bool
-    ensures { λ r. ⌜ r ≡ lastsBy low own others t ⌝ }
+// Whether a mask of states has the state. States from BITS on are in none.
+pub fn is_shut(shut: u64, state: u8) -> bool
+    ensures { λ r. ⌜ r ≡ bit shut state ⌝ }
+{
+    if state >= BITS {
+        return false;
+    }
+    signals::has(shut, state as u32)
+}
+
+// Whether a transition can be met, its own action counted, whatever the others do, and its target is not shut.
+fn lasts(t: Transition, low: u64, own: u64, others: u64, shut: u64) -> bool
+    ensures { λ r. ⌜ r ≡ lastsBy low own others shut t ⌝ }
 {
     let sure = low | t.action & own;
-    signals::within(t.needed, sure | others) & signals::apart(t.barred, sure)
+    (signals::within(t.needed, sure | others) & signals::apart(t.barred, sure))
+        & !is_shut(shut, t.to)
 }
 
 fn is_at(masks: &[u64], small: &[u8], c: usize, v: usize, t: Transition) -> bool
@@ -225,7 +241,7 @@ fn consider(
         return have;
     }
     let r = layout::body::transition_at(n, body, t);
-    if !lasts(r, a.low, a.own, a.others) {
+    if !lasts(r, a.low, a.own, a.others, a.shut) {
         return have;
     }
     if is_again(masks, small, a.chart, have, r) {
@@ -264,13 +280,14 @@ fn list_chart(
     config: &[u8],
     lows: [u64; CHARTS],
     may: [u64; CHARTS],
+    shuts: [u64; CHARTS],
     masks: &mut [u64],
     small: &mut [u8],
     c: usize,
     start: usize,
 ) -> usize
     requires { ⌜ Ready n (now body) (now config) × Mays n (now body) (now config) (n .charts) may × Tabled (n .charts) (now masks) (now small) × (c < n .charts) × (start ≡ startOf n (now body) c) ⌝ }
-    ensures { λ r. ⌜ (r ≡ startOf n (now (body .entry)) (c + 1)) × Tabled (n .charts) (now (masks .exit)) (now (small .exit)) × NextChart n (now (body .entry)) (now (config .entry)) lows c (now (masks .entry)) (now (small .entry)) (now (masks .exit)) (now (small .exit)) ⌝ }
+    ensures { λ r. ⌜ (r ≡ startOf n (now (body .entry)) (c + 1)) × Tabled (n .charts) (now (masks .exit)) (now (small .exit)) × NextChart n (now (body .entry)) (now (config .entry)) lows shuts c (now (masks .entry)) (now (small .entry)) (now (masks .exit)) (now (small .exit)) ⌝ }
 {
     let head = layout::body::head_at(n, body, c);
     let count = head.transitions as usize;
@@ -282,6 +299,7 @@ fn list_chart(
         low: lows[c],
         own: own,
         others: rest,
+        shut: shuts[c],
     };
     let have = list(n, body, start, count, masks, small, a);
     small::put_count(small, c, have as u8);
@@ -294,16 +312,17 @@ fn list_all(
     config: &[u8],
     lows: [u64; CHARTS],
     may: [u64; CHARTS],
+    shuts: [u64; CHARTS],
     masks: &mut [u64],
     small: &mut [u8],
 )
     requires { ⌜ Ready n (now body) (now config) × Mays n (now body) (now config) (n .charts) may × Tabled (n .charts) (now masks) (now small) ⌝ }
-    ensures { λ _. ⌜ UntilChart n (now (body .entry)) (now (config .entry)) lows (now (masks .entry)) (now (small .entry)) (n .charts) (now (masks .exit)) (now (small .exit)) ⌝ }
+    ensures { λ _. ⌜ UntilChart n (now (body .entry)) (now (config .entry)) lows shuts (now (masks .entry)) (now (small .entry)) (n .charts) (now (masks .exit)) (now (small .exit)) ⌝ }
 {
     let mut start: usize = 0;
     let mut c: usize = 0;
     while c < n.charts {
-        start = list_chart(n, body, config, lows, may, masks, small, c, start);
+        start = list_chart(n, body, config, lows, may, shuts, masks, small, c, start);
         c += 1;
     }
 }
@@ -374,25 +393,27 @@ fn put_states(small: &mut [u8], config: &[u8], charts: usize)
     }
 }
 
-// Fills in all that a search needs of a configuration and of what each chart is offered of the input, `base`. The wiring and the masters are there.
+// Fills in all that a search needs of a configuration and of what each chart is offered of the input, `base`. `shuts`
+// has the states that each chart must not go to, since no open choice begins so. The wiring and the masters are there.
 // The result has what each chart might put out, and what each is surely offered: of the input, and of what other charts put out whatever they do.
 pub fn choose(
     n: Shape,
     body: &[u8],
     config: &[u8],
     base: [u64; CHARTS],
+    shuts: [u64; CHARTS],
     masks: &mut [u64],
     small: &mut [u8],
 ) -> Sides
     requires { ⌜ Ready n (now body) (now config) × Tabled (n .charts) (now masks) (now small) ⌝ }
     ensures { λ r. ⌜ Mays n (now (body .entry)) (now (config .entry)) (n .charts) (r .may)
-        × Chooses n (now (body .entry)) (now (config .entry)) base (r .low) (now (masks .entry)) (now (small .entry)) (now (masks .exit)) (now (small .exit)) ⌝ }
+        × Chooses n (now (body .entry)) (now (config .entry)) base shuts (r .low) (now (masks .entry)) (now (small .entry)) (now (masks .exit)) (now (small .exit)) ⌝ }
 {
     put_states(small, config, n.charts);
     let known = sides_of(n, body, config, base, masks, small);
     let low = known.low;
     let may = known.may;
-    list_all(n, body, config, low, may, masks, small);
+    list_all(n, body, config, low, may, shuts, masks, small);
     ahead_all(masks, small, n.charts);
     known
 }

@@ -15,6 +15,9 @@ const MOST_INPUTS: usize = 4096;
 
 const FILL: u8 = 0xA5;
 
+// How many places the line of a step shows that was recorded while a file had at most eight charts.
+const EARLIER_PLACES: usize = 8;
+
 // A command's header: which call, how many bytes of each kind follow it, and what is carried into a run.
 struct Command {
     op: u8,
@@ -118,13 +121,36 @@ fn print_mark(mark: bool) {
     }
 }
 
+// The first n places of a step; none if there are fewer.
+fn print_places(places: &[u8], n: usize) {
+    if n > places.len() {
+        return;
+    }
+    print_buffer(&places[..n]);
+}
+
+// A step with the places of the first eight charts.
 fn print_step(file: &[u8], config: &[u8], input: u64, next: &mut [u8]) {
     let s = engine::step::step(file, config, input, next);
     print_refusal(b" step ", s.refusal);
     print_set(s.output);
     print_mark(s.mark);
     let places = s.places;
+    print_places(&places, EARLIER_PLACES);
+    print_buffer(next);
+    end_line();
+}
+
+// A step with all that it answers.
+fn print_open(file: &[u8], config: &[u8], input: u64, next: &mut [u8]) {
+    let s = engine::step::step(file, config, input, next);
+    print_refusal(b" open ", s.refusal);
+    print_set(s.output);
+    print_mark(s.mark);
+    let places = s.places;
     print_buffer(&places);
+    space();
+    io::print_decimal(STDOUT_FILENO, s.open_choices);
     print_buffer(next);
     end_line();
 }
@@ -173,6 +199,7 @@ fn print_call(op: u8, file: &[u8], config: &[u8], carried: u64, inputs: &[u64], 
         4 => print_run(file, config, carried, inputs, lent),
         5 => print_rewriting(file, lent),
         7 => print_clearing(file, lent),
+        8 => print_open(file, config, first_of(inputs), lent),
         _ => print_plain(file),
     }
 }

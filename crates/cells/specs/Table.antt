@@ -7,6 +7,7 @@ use mathlib.Core.Path.{_≡_}
 use lib.ListN.{length, getD, set}
 use Rattle.layout.specs.declared.record.Transition.{Transition}
 use Rattle.meaning.specs.Numbers.{mostCharts, mostFromState}
+pub mod Laws
 
 -- ── where the masks stand ──
 
@@ -100,6 +101,11 @@ pub record SameLists (m₀ m : List ℕ) : Type 0 where
 -- a row has a mask for each chart: l has f's
 abbrev pub Row : List ℕ → (ℕ → ℕ) → Type 0
 Row l f = (c : ℕ) → c < mostCharts → getD l c 0 ≡ f c
+
+-- the same of a row with an entry for each chart and no more
+pub record InRow (l : List ℕ) (f : ℕ → ℕ) : Type 0 where
+  pub long : length l ≡ mostCharts
+  pub each : Row l f
 
 -- ── where the small numbers stand ──
 

@@ -2,7 +2,7 @@
 -- which earlier tries have left, is no part of it.
 use mathlib.Core.Path.{_≡_}
 use mathlib.Core.List.{List, _++_}
-use Prim.Native.Nat.{ℕ, _+_, _-_, _*_}
+use Prim.Native.Nat.{ℕ, _+_, _-_, _*_, _≤_}
 use lib.ListN.{length, getD, set, replicate}
 use Rattle.meaning.specs.Numbers.{mostCharts}
 use Rattle.meaning.specs.Calls.{made}
@@ -20,9 +20,10 @@ needsCell k = width * k + mostCharts
 abbrev pub barsCell : ℕ → ℕ
 barsCell k = width * k + (mostCharts + 1)
 
--- behind the last chart stands what each chart is offered once all are settled
-abbrev pub trailSize : ℕ
-trailSize = width * mostCharts + mostCharts
+-- how many masks the beginnings of N charts need: behind the last chart stands what each chart is offered once all are
+-- settled. They stand chart by chart, so that fewer charts need fewer
+abbrev pub trailFor : ℕ → ℕ
+trailFor N = width * N + mostCharts
 
 module _ (w : List ℕ) where
   abbrev pub lowIn : ℕ → ℕ → ℕ
@@ -72,7 +73,7 @@ module _ (b : List ℕ) where
   abbrev pub putMove : ℕ → ℕ → ℕ → ℕ → List ℕ
   putMove k x z t = set (set (set b (nextCell k) x) (awakeCell k) z) (takenCell k) t
 
--- the room that is lent for it
-pub record Room (w b : List ℕ) : Type 0 where
-  pub masks : length w ≡ trailSize
+-- the room that is lent for it, if there are N charts
+pub record Room (N : ℕ) (w b : List ℕ) : Type 0 where
+  pub masks : trailFor N ≤ length w
   pub small : length b ≡ movesSize

@@ -13,6 +13,13 @@ pub const CHARTS: usize = layout::limits::CHARTS;
 
 pub const CANDIDATES: usize = layout::limits::MOST_FROM_STATE as usize;
 
+// Tables of masks for few charts are shorter than those for all, and begin alike: to zero them takes a good part of a step.
+pub const PAIR: usize = 2;
+
+pub const FEW: usize = 4;
+
+pub const HALF: usize = CHARTS / 2;
+
 // A small number, to count with.
 fn wide(x: u8) -> usize
     ensures { λ r. ⌜ r ≡ x ⌝ }

@@ -7,6 +7,9 @@ ghost use Rattle.cells.specs.Table.{masksFor, upCell, backCell, aheadCel
 ghost use Rattle.cells.specs.Table.{neededAt, barredAt, actionAt, putMasks};
 use crate::CANDIDATES;
 use crate::CHARTS;
+use crate::FEW;
+use crate::HALF;
+use crate::PAIR;
 use layout::record::Transition;
 
 // Where a chart's block has each of its parts. What may still be offered stands first.
@@ -22,13 +25,14 @@ const ACTION: usize = BARRED + CANDIDATES;
 
 const BLOCK: usize = ACTION + CANDIDATES;
 
-// How many masks there are for all charts, and for as few as FEW: to zero them takes a good part of a step. Behind the
-// last chart stands one row more.
+// How many masks there are for all charts, and for fewer. Behind the last chart stands one row more.
 pub const SIZE: usize = BLOCK * CHARTS + CHARTS;
 
-pub const FEW: usize = 4;
+pub const HALF_SIZE: usize = BLOCK * HALF + CHARTS;
 
 pub const FEW_SIZE: usize = BLOCK * FEW + CHARTS;
+
+pub const PAIR_SIZE: usize = BLOCK * PAIR + CHARTS;
 
 // What of chart d's action comes out of the whole.
 pub fn up(masks: &[u64], d: usize) -> u64

@@ -4,7 +4,7 @@ ghost use Prim.Native.Nat.{_<_};
 ghost use lib.ListN.{length, set};
 ghost use Rattle.meaning.specs.Numbers.{mostCharts, mostFromState};
 ghost use Rattle.cells.specs.Table.{smallSize, countCell, stateCell, putSmall, putNearest};
-ghost use Rattle.cells.specs.Table.{toAt, countAt, masterAt, slaveStateAt, stateAt, placeAt};
+ghost use Rattle.cells.specs.Table.{InRow, toAt, countAt, masterAt, slaveStateAt, stateAt, placeAt};
 use crate::CANDIDATES;
 use crate::CHARTS;
 use layout::record::Transition;
@@ -76,6 +76,22 @@ pub fn slave_state(small: &[u8], c: usize) -> u8
     ensures { λ r. ⌜ r ≡ slaveStateAt (now (small .entry)) c ⌝ }
 {
     small[SLAVE_STATE + c]
+}
+
+// The masters of all charts' nearest slaves, in a row.
+pub fn masters(small: &[u8]) -> &[u8]
+    requires { ⌜ length (now small) ≡ smallSize ⌝ }
+    ensures { λ r. ⌜ InRow (now r) (masterAt (now (small .entry))) ⌝ }
+{
+    &small[MASTER..SLAVE_STATE]
+}
+
+// The states of these slaves, in a row.
+pub fn slave_states(small: &[u8]) -> &[u8]
+    requires { ⌜ length (now small) ≡ smallSize ⌝ }
+    ensures { λ r. ⌜ InRow (now r) (slaveStateAt (now (small .entry))) ⌝ }
+{
+    &small[SLAVE_STATE..STATE]
 }
 
 pub fn put_nearest(small: &mut [u8], c: usize, master: u8, state: u8)

@@ -190,16 +190,10 @@ fn took(chart: usize, place: u8) {
     say(b"\n");
 }
 
-// What each of so many charts did in a step that is given, a line each.
-fn taken(file: &[u8], charts: usize, config: &[u8], input: u64)
+// What each of so many charts did, a line each.
+fn taken(charts: usize, places: [u8; layout::limits::CHARTS])
     requires { ⌜ charts ≤ mostCharts ⌝ }
 {
-    let mut next = [0u8; layout::limits::CHARTS];
-    let s = engine::step::step(file, config, input, &mut next);
-    if s.refusal != limits::ACCEPTED {
-        return;
-    }
-    let places = s.places;
     let mut c: usize = 0;
     while c < charts {
         took(c, places[c]);
@@ -207,7 +201,33 @@ fn taken(file: &[u8], charts: usize, config: &[u8], input: u64)
     }
 }
 
-// A run of the sets that were typed, as many as there is room for. It also says what is left to carry; a step says what each chart took.
+// How many choices are open.
+fn open_choices(n: u64) {
+    io::print_decimal(STDOUT_FILENO, n);
+    if n == 1 {
+        say(b" open choice\n");
+    } else {
+        say(b" open choices\n");
+    }
+}
+
+// What each of so many charts did in a step that is given; and how many choices are open, if the answer says it.
+fn step_of(file: &[u8], charts: usize, config: &[u8], input: u64)
+    requires { ⌜ charts ≤ mostCharts ⌝ }
+{
+    let mut next = [0u8; layout::limits::CHARTS];
+    let s = engine::step::step(file, config, input, &mut next);
+    if s.refusal == limits::ACCEPTED {
+        let places = s.places;
+        taken(charts, places);
+    }
+    if s.open_choices > 0 {
+        open_choices(s.open_choices);
+    }
+}
+
+// A run of the sets that were typed, as many as there is room for. It also says what is left to carry; a step says what each chart took and how
+// many choices are open.
 fn run_typed(file: &[u8], charts: usize, config: &[u8], inputs: &mut [u64], is_step: bool)
     requires { ⌜ (charts ≤ mostCharts) × (length (now inputs) ≤ 1024) ⌝ }
 {
@@ -220,7 +240,7 @@ fn run_typed(file: &[u8], charts: usize, config: &[u8], inputs: &mut [u64], is_s
         return;
     }
     if inputs.len() > 0 {
-        taken(file, charts, config, inputs[0]);
+        step_of(file, charts, config, inputs[0]);
     }
 }
 

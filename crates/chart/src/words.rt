@@ -23,8 +23,8 @@ fn say_file(refusal: u8) {
     }
     if refusal == limits::BAD_COUNTS {
         say(
-            b"a count in the trailer is out of range: 1 to 8 charts, up to 7 slaves, 1 to 64 \
-              nodes, up to 512 transitions",
+            b"a count in the trailer is out of range: 1 to 16 charts, up to 15 slaves, 1 to 64 \
+              nodes, up to 1024 transitions",
         );
     }
     if refusal == limits::BAD_DISTANCE {
@@ -84,6 +84,9 @@ fn say_step(refusal: u8) {
     }
     if refusal == limits::NO_STEP {
         say(b"no choice is permitted");
+    }
+    if refusal == limits::MANY_OPEN {
+        say(b"more than 16777216 choices are open");
     }
     if refusal == limits::SHORT_ROWS {
         say(b"the buffer is shorter than a row for each input");
@@ -171,7 +174,7 @@ pub fn help(fd: i32) {
           chart first FILE               the first configuration\n  \
           chart interface FILE           the signals that it looks at, and those that it can output\n  \
           chart plain FILE               whether it is plain: no step of a plain file is marked n\n  \
-          chart step FILE CONFIG SET     one step from a configuration, and what each chart did\n  \
+          chart step FILE CONFIG SET     one step from a configuration, what each chart did, and how many choices are open\n  \
           chart run FILE CONFIG SET..    one step for each set, in order\n  \
           chart rewrite FILE OUT         writes the same chart without slaves to the file OUT\n  \
           chart clear FILE OUT           writes the same chart without dead transitions to the file OUT\n\

@@ -18,6 +18,8 @@ pub const MOST_STATES: u8 = layout::limits::MOST_STATES;
 pub const MOST_IN_CHART: u8 = layout::limits::MOST_IN_CHART;
 // Transitions from one state.
 pub const MOST_FROM_STATE: u8 = layout::limits::MOST_FROM_STATE;
+// Open choices of a step.
+pub const MOST_OPEN: u64 = 16777216;
 // Bytes on the day program's standard input.
 pub const MOST_INPUT: usize = 65536;
 
@@ -63,6 +65,8 @@ pub const BAD_STATE: u8 = 21;
 pub const SHORT_BUFFER: u8 = 22;
 
 pub const NO_STEP: u8 = 23;
+
+pub const MANY_OPEN: u8 = 24;
 
 pub const SHORT_ROWS: u8 = 27;
 

@@ -1,15 +1,16 @@
 -- A list without its dead transitions. In this order: how many of the first k are left (`lives`), and that transition k
--- is at this place of the new list; lists of outcomes, of which those of dead transitions are empty; the sets that the
--- list names; lists cleared twice.
+-- is at this place of the new list; lists of outcomes, of which those of dead transitions are empty; sums over places,
+-- which do not rise; the sets that the list names; lists cleared twice.
 use mathlib.Core.Path.{_≡_, refl, sym, _∙_, ap, ap₂}
 use mathlib.Core.Bool.{Bool, true, false, cond}
 use mathlib.Core.List.{List, [], _∷_, _++_, map, map-append, append-nil}
-use Prim.Native.Nat.{ℕ, zero, suc, _≤_, _<_}
+use Prim.Native.Nat.{ℕ, zero, suc, _+_, _≤_, _<_}
 use native.Mathlib.Omega.{arith}
 use lib.ListN.{length}
 use Rattle.signals.specs.Mask.{_∪_, _∖_}
 use Rattle.signals.specs.Decide.{sets, A, B, C, ∅ₑ, _∪ₑ_, _⊑_}
 use Rattle.layout.specs.declared.record.Transition.{Transition}
+use Rattle.meaning.specs.Count.{tally}
 use Rattle.meaning.specs.Meaning.{Set, ∅, Move, takes, nth, guards, actions, upto}
 use Rattle.clearing.specs.Clearing.{dead, alive, lives}
 
@@ -121,6 +122,24 @@ module _ (fed : Set) where
 
     pub upto-alive : upto (length (alive fed ts)) f′ ≡ map g (upto (length ts) f)
     upto-alive = ap (λ z. upto z f′) (sym (lives-all ts)) ∙ upto-lives (length ts) (omega arith)
+
+  -- ── sums over the places of a list, and none ──
+
+  module _ (f f′ : ℕ → ℕ) (ts : List Transition) (none : f′ 0 ≤ f 0)
+      (stays : (k : ℕ) → k < length ts → deadAt ts k ≡ false → f′ (suc (lives fed ts k)) ≤ f (suc k)) where
+    tally-lives : (m : ℕ) → m ≤ length ts → tally (suc (lives fed ts m)) f′ ≤ tally (suc m) f
+    unfolding tally
+    tally-lives zero l = rw (lives-none ts) (omega (arith, none))
+    tally-lives (suc m) l = go (deadAt ts m) refl (tally-lives m (omega arith))
+      where
+        go : (b : Bool) → deadAt ts m ≡ b → tally (suc (lives fed ts m)) f′ ≤ tally (suc m) f
+            → tally (suc (lives fed ts (suc m))) f′ ≤ f (suc m) + tally (suc m) f
+        go true e q = rw (lives-same ts m (omega arith) e) (omega arith)
+        go false e q =
+            let h = stays m (omega arith) e in rw (lives-more ts m (omega arith) e) (omega arith)
+
+    pub tally-alive : tally (suc (length (alive fed ts))) f′ ≤ tally (suc (length ts)) f
+    tally-alive = rw (← lives-all ts) (tally-lives (length ts) (omega arith))
 
   -- ── sets ──
 

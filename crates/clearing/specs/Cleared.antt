@@ -1,23 +1,30 @@
--- A cleared file, over its records. In this order: its trees; its steps, places and interfaces; tests 8 to 11; a file
--- cleared twice.
-use mathlib.Core.Path.{_≡_, refl, _∙_, ap, fun-ext}
+-- A cleared file, over its records. In this order: its trees; its steps, places, open choices and interfaces; tests 8
+-- to 11; a file cleared twice.
+use mathlib.Core.Path.{_≡_, refl, sym, _∙_, ap, subst, fun-ext}
 use mathlib.Core.Bool.{true, false, _&&_, _||_, not}
+use mathlib.Core.Logic.{_≢_, inl, inr}
 use mathlib.Core.List.{List, [], _∷_, map}
 use Prim.Native.Nat.{ℕ, zero, suc, _-_, _≤_, _<_}
+use native.Mathlib.Omega.{arith}
 use lib.ListN.{length, getD}
 use Rattle.signals.specs.Mask.{_∪_, _∖_}
 use Rattle.signals.specs.Decide.{sets, A, B, _∪ₑ_, _∖ₑ_, _≐_}
 use Rattle.layout.specs.declared.record.Transition.{Transition}
-use Rattle.meaning.specs.Numbers.{noPlace}
+use Rattle.meaning.specs.Numbers.{noPlace, manyOpen}
 use Rattle.meaning.specs.Count.Laws.{any-cong}
-use Rattle.meaning.specs.Meaning.{Set, ∅, Chart, Tree, comp, hide, guards, inFace, outFace, outcomes, answer, firstPlaces}
+use Rattle.meaning.specs.Meaning.{Set, ∅, Chart, Tree, comp, hide, guards, inFace, outFace, outcomes, refused, answer}
+use Rattle.meaning.specs.Meaning.{firstPlaces}
 use Rattle.meaning.specs.File.{File, byKind, whole, gather, build, treeOf, wholeOf, Has}
 use Rattle.meaning.specs.Check.{notBelow, rising, inOrder, slave?, slaves?, nodeOfKind?, nodes?, names, named, held, naming?, inside?}
-use Rattle.meaning.specs.Calls.{outcomesIn, stepIn, allPlaces, placesIn}
+use Rattle.meaning.specs.Open.{openChoices, openIn}
+use Rattle.meaning.specs.Calls.{outcomesIn, foundIn, manyOpen?, stepIn, allPlaces, placesFound}
+use Rattle.meaning.specs.Calls.Laws.{step-by}
 use Rattle.clearing.specs.Clearing.{alive, lost, clearedChart, newPlaces, clear}
-use Rattle.meaning.specs.Laws.Alike.{StepsAlike}
+use Rattle.meaning.specs.Laws.Alike.{ConfigsAlike}
+use Rattle.meaning.specs.Laws.Many.{Decided, found-or-many, few-is, is-few}
 use Rattle.clearing.specs.Alive.{alive-twice}
-use Rattle.clearing.specs.Outcomes.{in-cleared, out-cleared, renewed, answer-renewed, first-renewed, outcomes-cleared}
+use Rattle.clearing.specs.Outcomes.{in-cleared, out-cleared, renewed, answer-renewed, first-renewed}
+use Rattle.clearing.specs.Outcomes.{outcomes-cleared, open-fewer}
 
 module _ (F : File) where
   -- ── the trees: no chart's list is in them ──
@@ -53,20 +60,43 @@ module _ (F : File) where
         ∙ outcomes-cleared (F .chart) (h .one) (F .state) (λ c. getD config c 0) (wholeOf F) i (F .charts) (h .there)
         (h .few)
 
-    pub step-is : (config : List ℕ) (i : Set) → stepIn (clear F) config i ≡ stepIn F config i
-    unfolding stepIn
-    step-is config i = ap answer (outcomes-are config i) ∙ answer-renewed (F .chart) (outcomesIn F config i)
+    -- the same is found
+    pub found-is : (config : List ℕ) (i : Set) → foundIn (clear F) config i ≡ foundIn F config i
+    unfolding foundIn
+    found-is config i = ap answer (outcomes-are config i) ∙ answer-renewed (F .chart) (outcomesIn F config i)
 
-    -- the places, in the new lists
+    -- with the places of the new lists
     pub places-are : (config : List ℕ) (i : Set)
-        → placesIn (clear F) config i ≡ allPlaces (newPlaces (F .chart) zero (firstPlaces (outcomesIn F config i)))
-    unfolding placesIn
+        → placesFound (clear F) config i ≡ allPlaces (newPlaces (F .chart) zero (firstPlaces (outcomesIn F config i)))
+    unfolding placesFound
     places-are config i = ap (λ os. allPlaces (firstPlaces os)) (outcomes-are config i)
         ∙ ap allPlaces (first-renewed (F .chart) (outcomesIn F config i))
 
-    pub steps-cleared : StepsAlike F (clear F)
-    unfolding clearedChart
-    steps-cleared = record { charts = refl; states = λ c l. refl; initials = λ c l. refl; step = step-is }
+    -- and no more choices are open
+    pub open-is : (config : List ℕ) → openIn (clear F) config ≤ openIn F config
+    open-is config = subst
+        (λ t. openChoices (clear F .chart) (F .state) (λ c. getD config c 0) t (F .charts) ≤ openIn F config)
+        (sym (tree-cleared (F .nodes - 1)))
+        (open-fewer (F .chart) (h .one) (F .state) (λ c. getD config c 0) (wholeOf F) 0 (F .charts) (h .there)
+        (h .few))
+
+    pub few-cleared : (config : List ℕ) → manyOpen? F config ≡ false → manyOpen? (clear F) config ≡ false
+    few-cleared config e =
+        let l = is-few F config 0 e in let m = open-is config in few-is (clear F) config 0 (omega arith)
+
+    -- so each step that is not refused with 24 is the same
+    pub step-is : (config : List ℕ) (i : Set) → stepIn F config i ≢ refused manyOpen
+        → stepIn (clear F) config i ≡ stepIn F config i
+    step-is config i p = go (found-or-many F config i)
+      where
+        go : Decided F config i → stepIn (clear F) config i ≡ stepIn F config i
+        go (inl q) = absurd (p (q .1))
+        go (inr q) =
+            step-by (clear F) config i false (few-cleared config (q .0)) ∙ found-is config i ∙ sym (q .1)
+
+  pub configs-cleared : ConfigsAlike F (clear F)
+  unfolding clearedChart
+  configs-cleared = record { charts = refl; states = λ c l. refl; initials = λ c l. refl }
 
   -- ── interfaces ──
 

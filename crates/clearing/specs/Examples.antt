@@ -12,7 +12,8 @@ use Rattle.meaning.specs.Count.{anyUpTo, tally}
 use Rattle.meaning.specs.Meaning.{∅, same, Chart, stay, untriggered, nth, pick, lastPlace, actionOf, after, guard, met?, guards, inFaceChart, inFace, out, okChart, meets, ok, permitted, upd, moves, nexts, placeOf, placesFrom, outcomeOf, upto, outcome, search, outcomes, firstPlaces}
 use Rattle.meaning.specs.File.{gather, build, treeOf, Has, trailer, bodyOf, shapeOf, chartOf, fileAt, fileOf}
 use Rattle.meaning.specs.Check.{firstOf, edition?, counts?, distance?, nonzero, zeros?, chart?, charts?, ends?, leaving, transitions?, rising, slave?, slaves?, nodeOfKind?, nodes?, names, named, held, naming?, inside?, fileTests}
-use Rattle.meaning.specs.Calls.{configTests, stepRefusal, placesIn, placesOf}
+use Rattle.meaning.specs.Open.{openChart, openTree, isOpen, choices, howMany, openChoices}
+use Rattle.meaning.specs.Calls.{configTests, stepRefusal, manyOpen?, placesFound, placesIn, placesOf}
 use Rattle.meaning.specs.Rewriting.{inTurn, headFor, transitionsBytes, transitionsIn, shapeIn, bodyBytes, encode}
 use Rattle.clearing.specs.Clearing.{dead, alive, lost, clearedChart, clearBytes, clearRefusal}
 
@@ -51,7 +52,7 @@ chart0 (p ∷ ps) = p ∷ []
 
 sample-places : (chart0 (placesOf sample (0 ∷ []) 1 1) ≡ 1 ∷ []) × (chart0 (placesOf sample′ (0 ∷ []) 1 1) ≡ 0 ∷ [])
     × (chart0 (placesOf sample (1 ∷ []) 0 1) ≡ 3 ∷ []) × (chart0 (placesOf sample′ (1 ∷ []) 0 1) ≡ 1 ∷ [])
-unfolding le trailerOf headOf transitionOf slaveOf nodeOf headAt transitionAt slaveAt nodeAt startOf from transitionsOf trailer bodyOf shapeOf chartOf fileAt fileOf same gather build treeOf Has tally guards anyUpTo firstOf edition? counts? distance? nonzero zeros? chart? charts? ends? leaving transitions? rising slave? slaves? nodeOfKind? nodes? names named held naming? inside? fileTests configTests stepRefusal placesIn placesOf nth pick lastPlace actionOf after guard met? inFaceChart inFace out okChart meets ok permitted upd moves nexts placeOf placesFrom outcomeOf upto outcome search outcomes firstPlaces
+unfolding le trailerOf headOf transitionOf slaveOf nodeOf headAt transitionAt slaveAt nodeAt startOf from transitionsOf trailer bodyOf shapeOf chartOf fileAt fileOf same gather build treeOf Has tally guards anyUpTo firstOf edition? counts? distance? nonzero zeros? chart? charts? ends? leaving transitions? rising slave? slaves? nodeOfKind? nodes? names named held naming? inside? fileTests configTests stepRefusal openChart openTree isOpen choices howMany openChoices manyOpen? placesFound placesIn placesOf nth pick lastPlace actionOf after guard met? inFaceChart inFace out okChart meets ok permitted upd moves nexts placeOf placesFrom outcomeOf upto outcome search outcomes firstPlaces
 sample-places = (refl, refl, refl, refl)
 
 -- Why edition 2 is refused: there a dead transition can still forbid staying, which is tested without its own output

@@ -1,6 +1,6 @@
 -- A tree over cleared charts. In this order: interfaces, of which the input interface is the same and the output
--- interface within the old one; permitted choices; places; the same outcomes in the same order, with the places of the
--- new lists (`outcomes-cleared`).
+-- interface within the old one; permitted choices, and open ones; places; the same outcomes in the same order, with the
+-- places of the new lists (`outcomes-cleared`); no more open choices than there were (`open-fewer`).
 use mathlib.Core.Path.{_≡_, refl, sym, _∙_, ap, ap₂, fun-ext, subst}
 use mathlib.Core.Bool.{Bool, true, false, _&&_, cond, true≢false}
 use mathlib.Core.List.{List, [], _∷_, map}
@@ -11,13 +11,17 @@ use Rattle.signals.specs.Mask.{_∪_, _∩_, _∖_}
 use Rattle.signals.specs.Decide.{sets, A, B, C, D, ∅ₑ, _∪ₑ_, _∖ₑ_, _≐_, _⊑_}
 use Rattle.meaning.specs.Numbers.{noPlace}
 use Rattle.meaning.specs.Meaning.{Set, ∅, same, Chart, Tree, Slaves, leaf, comp, hide, dec, nil, snoc, Move, noMove, takes, stay, behind, pick, lastPlace, actionOf, guards, actions, inFaceChart, inFace, inFaces, outFace, outFaces, out, outs, okChart, meets, ok, oks, permitted, untriggered, upd, moves, placeOf, placesFrom, Outcome, outcomeOf, upto, outcome, search, outcomes, eqList, agree, answer, given, firstPlaces}
+use Rattle.meaning.specs.Count.{one as ones}
 use Rattle.meaning.specs.File.{Has}
+use Rattle.meaning.specs.Open.{openChart, openTree, openSlaves, isOpen, choices, howMany, openChoices}
+use Rattle.meaning.specs.Laws.Open.{howMany-next, howMany-last}
 use Rattle.clearing.specs.Clearing.{alive, lost, clearedChart, lives, newPlace, newPlaces}
 use Rattle.meaning.specs.Laws.Bools.{same-refl, same→≡, same-≢, not-true}
 use Rattle.meaning.specs.Laws.Choices.{upd-at, search-empty, place-own}
 use Rattle.agreement.specs.Places.{map-cond}
 use Rattle.clearing.specs.Dead.{never-dead}
-use Rattle.clearing.specs.Alive.{deadAt, lives-below, nth-alive, nth-dead, upto-alive, guards-alive, actions-alive}
+use Rattle.clearing.specs.Alive.{deadAt, lives-below, nth-alive, nth-dead, upto-alive, tally-alive}
+use Rattle.clearing.specs.Alive.{guards-alive, actions-alive}
 
 -- ── interfaces ──
 
@@ -116,6 +120,36 @@ module _ (E : ℕ → Chart) (one : (c : ℕ) → E c .stays ≡ false) (state :
   unfolding permitted
   permitted-cleared t i = ap (λ f. ok E′ state cfg M t true (i ∩ f)) (in-cleared E t)
       ∙ ok-cleared t true (i ∩ inFace E t)
+
+-- ── open choices: nothing looks at a list there either ──
+
+open-chart : (K : Chart) (a : Bool) (s : ℕ) (m : Move) → openChart (clearedChart K) a s m ≡ openChart K a s m
+unfolding openChart clearedChart
+open-chart K false s noMove = refl
+open-chart K false s (takes t) = refl
+open-chart K false s stay = refl
+open-chart K true s noMove = refl
+open-chart K true s (takes t) = refl
+open-chart K true s stay = refl
+
+module _ (E : ℕ → Chart) (state : ℕ → ℕ) (cfg : ℕ → ℕ) (M : ℕ → Move) where
+  mutual
+    unfolding openTree
+
+    open-tree : (t : Tree) (a : Bool) → openTree (cleared E) state cfg M t a ≡ openTree E state cfg M t a
+    open-tree (leaf c) a = open-chart (E c) a (cfg c) (M c)
+    open-tree (comp l r x) a = ap₂ _&&_ (open-tree l a) (open-tree r a)
+    open-tree (hide l x y) a = open-tree l a
+    open-tree (dec c ss) a =
+        ap₂ _&&_ (open-chart (E c) a (cfg c) (M c)) (open-slaves ss (λ q. a && meets (cfg c) (M c) q))
+
+    open-slaves : (ss : Slaves) (f : ℕ → Bool) → openSlaves (cleared E) state cfg M ss f ≡ openSlaves E state cfg M ss f
+    open-slaves nil f = refl
+    open-slaves (snoc ss i t) f = ap₂ _&&_ (open-slaves ss f) (open-tree t (f (state i)))
+
+  pub open-cleared : (t : Tree) → isOpen (cleared E) state cfg M t ≡ isOpen E state cfg M t
+  unfolding isOpen
+  open-cleared t = open-tree t true
 
 -- ── places ──
 
@@ -244,3 +278,33 @@ module _ (E : ℕ → Chart) (one : (c : ℕ) → E c .stays ≡ false) where
     pub outcomes-cleared : outcomes F′ state cfg t inp N ≡ map (renewed E) (outcomes E state cfg t inp N)
     unfolding outcomes
     outcomes-cleared = search-cleared N zero (λ c. zero) (λ c. zero) (omega arith) (λ i. linked-none i)
+
+    -- ── no more open choices ──
+
+    abbrev opens : (ℕ → ℕ) → Bool
+    opens ch = isOpen E state cfg (moves E ch) t
+
+    abbrev opens′ : (ℕ → ℕ) → Bool
+    opens′ ch = isOpen F′ state cfg (moves F′ ch) t
+
+    beginnings-fewer : (n c : ℕ) (ch ch′ : ℕ → ℕ) → c + n ≡ N → ((i : ℕ) → Linked i (ch i) (ch′ i))
+        → howMany opens′ (choices F′ n c ch′) ≤ howMany opens (choices E n c ch)
+    beginnings-fewer zero c ch ch′ e h =
+        let q : opens′ ch′ ≡ opens ch =
+        ap (λ M. isOpen F′ state cfg M t) (moves-linked ch ch′ h) ∙ open-cleared E state cfg (moves E ch) t in
+        let z : ones (opens′ ch′) ≡ ones (opens ch) = ap ones q in
+        rw (howMany-last F′ opens′ c ch′, howMany-last E opens c ch) (omega arith)
+    beginnings-fewer (suc n) c ch ch′ e h =
+        rw (howMany-next F′ opens′ n c ch′, howMany-next E opens n c ch, last-new c, last-is c)
+        (tally-alive (E c .feedback) (λ v. howMany opens (choices E n (suc c) (upd ch c v)))
+        (λ v. howMany opens′ (choices F′ n (suc c) (upd ch′ c v))) (E c .transitions)
+        (beginnings-fewer n (suc c) (upd ch c 0) (upd ch′ c 0) (omega arith)
+        (linked-upd ch ch′ c 0 0 h (linked-none c)))
+        (λ k l d. beginnings-fewer n (suc c) (upd ch c (suc k))
+        (upd ch′ c (suc (lives (E c .feedback) (E c .transitions) k))) (omega arith)
+        (linked-upd ch ch′ c (suc k) (suc (lives (E c .feedback) (E c .transitions) k)) h
+        (linked-some c k (few c (omega arith)) l d))))
+
+    pub open-fewer : openChoices F′ state cfg t N ≤ openChoices E state cfg t N
+    unfolding openChoices
+    open-fewer = beginnings-fewer N zero (λ c. zero) (λ c. zero) (omega arith) (λ i. linked-none i)

@@ -1,17 +1,19 @@
 -- The count of open choices over rows of bytes and a table: wiring's Entries, over lists. In this order: what the count
 -- asks of a file (Countable); a product (`branchIn`), a chart's sum (`sumIn`) and the total (`totalIn`), with what each
 -- needs so as not to overflow; the table while it is filled (CountsOn, Stored, Filled); the places that begin an open
--- choice (`begins`).
+-- choice (`begins`), and the states by which one is left out (Shuts).
 use mathlib.Core.Path.{_≡_}
-use mathlib.Core.Bool.{Bool, false, cond}
+use mathlib.Core.Bool.{Bool, false, _&&_, _||_, cond}
 use mathlib.Core.List.{List}
 use Prim.Native.Nat.{ℕ, _+_, _≤_, _<_}
 use lib.Dec.{ltb}
 use lib.ListN.{length, getD}
+use Rattle.signals.specs.Mask.{bit}
 use Rattle.layout.specs.Body.{headAt, transitionAt, startOf}
 use Rattle.layout.specs.declared.body.Shape.{Shape}
 use Rattle.layout.specs.declared.record.Transition.{Transition}
-use Rattle.meaning.specs.Numbers.{mostCharts, stayEdition}
+use Rattle.meaning.specs.Numbers.{mostCharts, mostSignals, stayEdition}
+use Rattle.meaning.specs.Count.{anyUpTo, tally, one}
 use Rattle.meaning.specs.Meaning.{same}
 use Rattle.meaning.specs.File.{File, chartOf, fileAt}
 use Rattle.meaning.specs.Check.{transitions?}
@@ -86,6 +88,14 @@ addedIn n m s t c q u = cond (same (u .from) q) (branchIn n m s t c q (u .to)) 0
 abbrev pub sumIn : Shape → List ℕ → List ℕ → List ℕ → List ℕ → ℕ → ℕ → ℕ → ℕ
 sumIn n b m s t c q p = sumAt (n .charts) (at m) (at s) (at t) (chartOf n b c) c q p
 
+-- how many of p transitions from `start` on leave state q
+abbrev pub leavingIn : Shape → List ℕ → ℕ → ℕ → ℕ → ℕ
+leavingIn n b start q p = tally p (λ j. one (same (transitionAt n b (start + j) .from) q))
+
+-- some chart stands nearest in a slave of chart c
+abbrev pub enclosesIn : ℕ → List ℕ → ℕ → Bool
+enclosesIn n m c = anyUpTo n (λ d. same (at m d) c)
+
 -- each product and each sum on the way to the entry of chart c is small
 pub record Smalls (n : Shape) (b m s t : List ℕ) (c q : ℕ) : Type 0 where
   pub staying : Small (n .charts) m s t c q q
@@ -138,3 +148,25 @@ abbrev pub begins : File → List ℕ → List ℕ → ℕ → ℕ → Bool
 begins F config t c v =
     spared (F .charts) (kap F) (F .master) (hitsOf (F .chart) (at config) (F .state) (F .master)) (at t)
     (ruleOf (F .chart) (at config)) c v
+
+-- ── states that are shut: going there begins none ──
+
+-- a mask of the states by which a chart at q activates the slave of state s, before the step or after it
+abbrev pub ShutTo : ℕ → ℕ → ℕ → Type 0
+ShutTo q s x = (u : ℕ) → bit x u ≡ (ltb u mostSignals && (same q s || same u s))
+
+-- chart d has no open choice, and chart c activates it by going from state q to state u
+abbrev pub shutBy : List ℕ → List ℕ → List ℕ → ℕ → ℕ → ℕ → ℕ → Bool
+shutBy m s t c q u d = same (at t d) 0 && (same (at m d) c && (same q (at s d) || same u (at s d)))
+
+module _ (n : ℕ) (config m s t : List ℕ) where
+  -- r has of each chart the states that are shut by the first k charts
+  abbrev pub Shuts : ℕ → List ℕ → Type 0
+  Shuts k r =
+      (c u : ℕ) → c < n → bit (at r c) u ≡ (ltb u mostSignals && anyUpTo k (shutBy m s t c (at config c) u))
+
+  -- r has those of r₀, and those that are shut by chart d
+  abbrev pub ShutOne : ℕ → List ℕ → List ℕ → Type 0
+  ShutOne d r₀ r =
+      (c u : ℕ) → c < n
+      → bit (at r c) u ≡ (bit (at r₀ c) u || (ltb u mostSignals && shutBy m s t c (at config c) u d))

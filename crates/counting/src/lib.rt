@@ -2,16 +2,22 @@
 // is open is said in the crate meaning (Open); that this is its number, in the crate wiring (Counted to Few).
 ghost use mathlib.Core.Path.{_≡_};
 ghost use Prim.Native.Nat.{_+_, _≤_, _<_};
-ghost use lib.Dec.{ltb};
 ghost use lib.ListN.{length};
 ghost use Rattle.layout.specs.Body.{Holds, headAt, transitionAt, startOf};
+ghost use Rattle.meaning.specs.Numbers.{mostCharts};
+ghost use Rattle.meaning.specs.Count.{one};
+ghost use Rattle.meaning.specs.Meaning.{same};
 ghost use Rattle.meaning.specs.File.{fileAt};
 ghost use Rattle.meaning.specs.Open.{openIn};
 ghost use Rattle.counting.specs.Counting.{Countable, Roomy, factorIn, branchIn, Small, stayingIn, addedIn, sumIn};
+ghost use Rattle.counting.specs.Counting.{leavingIn, enclosesIn};
 ghost use Rattle.counting.specs.Counting.{Smalls, totalIn};
-ghost use Rattle.counting.specs.Counting.{outsideIn, TotalSmall, CountsOn, Stored, Filled};
+ghost use Rattle.counting.specs.Counting.{outsideIn, TotalSmall, CountsOn, Stored, Filled, ShutTo, ShutOne, Shuts};
 use layout::body::Shape;
 use layout::limits::CHARTS;
+
+// The states that a mask has room for.
+const BITS: u8 = 64;
 
 fn wide(x: u8) -> usize
     ensures { λ r. ⌜ r ≡ x ⌝ }
@@ -60,24 +66,6 @@ fn branch(
     product
 }
 
-// Whether chart c begins an open choice by going from state q to state u, by a table that is filled.
-pub fn begins_open(
-    charts: usize,
-    masters: &[u8],
-    states: &[u8],
-    counts: &[u64],
-    c: usize,
-    q: u8,
-    u: u8,
-) -> bool
-    requires { ⌜ Roomy charts (now masters) (now states) (now counts)
-        × Small charts (now masters) (now states) (now counts) c q u ⌝ }
-    ensures { λ r. ⌜ r ≡ ltb 0 (branchIn charts (now (masters .entry)) (now (states .entry)) (now (counts .entry))
-        c q u) ⌝ }
-{
-    0 < branch(charts, masters, states, counts, c, q, u)
-}
-
 // What staying adds to the entry of chart c in state q: only in the edition in which charts may stay.
 fn staying(n: Shape, masters: &[u8], states: &[u8], counts: &[u64], c: usize, q: u8) -> u64
     requires { ⌜ Roomy (n .charts) (now masters) (now states) (now counts)
@@ -117,8 +105,8 @@ fn added(
     branch(charts, masters, states, counts, c, q, to)
 }
 
-// The entry of chart c in state q: the sum over staying and its transitions, `count` from `start` on.
-fn entry(
+// The sum over staying and the transitions of chart c in state q, `count` from `start` on.
+fn summed(
     n: Shape,
     body: &[u8],
     start: usize,
@@ -142,6 +130,74 @@ fn entry(
         p += 1;
     }
     total
+}
+
+// 1 if transition t leaves state q, else 0.
+fn leaves(n: Shape, body: &[u8], t: usize, q: u8) -> u64
+    requires { ⌜ Holds n (now body) × (t < n .transitions) ⌝ }
+    ensures { λ r. ⌜ r ≡ one (same (transitionAt n (now (body .entry)) t .from) q) ⌝ }
+{
+    let r = layout::body::transition_at(n, body, t);
+    let from = r.from;
+    if from == q {
+        return 1;
+    }
+    0
+}
+
+// How many of a chart's transitions, `count` from `start` on, leave state q.
+fn leaving(n: Shape, body: &[u8], start: usize, count: usize, q: u8) -> u64
+    requires { ⌜ Holds n (now body) × (start + count ≤ n .transitions) ⌝ }
+    ensures { λ r. ⌜ r ≡ leavingIn n (now (body .entry)) start q count ⌝ }
+{
+    let mut total: u64 = 0;
+    let mut p: usize = 0;
+    while p < count {
+        total = leaves(n, body, start + p, q) + total;
+        p += 1;
+    }
+    total
+}
+
+// Whether some chart stands nearest in a slave of chart c.
+fn encloses(charts: usize, masters: &[u8], c: usize) -> bool
+    requires { ⌜ charts ≤ length (now masters) ⌝ }
+    ensures { λ r. ⌜ r ≡ enclosesIn charts (now (masters .entry)) c ⌝ }
+{
+    let mut d: usize = 0;
+    while d < charts {
+        if wide(masters[d]) == c {
+            return true;
+        }
+        d += 1;
+    }
+    false
+}
+
+// The entry of chart c in state q. Where it encloses no other chart, each of its moves counts once.
+fn entry(
+    n: Shape,
+    body: &[u8],
+    start: usize,
+    count: usize,
+    masters: &[u8],
+    states: &[u8],
+    counts: &[u64],
+    c: usize,
+    q: u8,
+) -> u64
+    requires { ⌜ Holds n (now body) × (start ≡ startOf n (now body) c) × (count ≡ headAt n (now body) c .transitions)
+        × (start + count ≤ n .transitions) × Roomy (n .charts) (now masters) (now states) (now counts)
+        × Smalls n (now body) (now masters) (now states) (now counts) c q ⌝ }
+    ensures { λ r. ⌜ r ≡ sumIn n (now (body .entry)) (now (masters .entry)) (now (states .entry))
+        (now (counts .entry)) c q count ⌝ }
+{
+    let charts = n.charts;
+    if encloses(charts, masters, c) {
+        return summed(n, body, start, count, masters, states, counts, c, q);
+    }
+    let stays = staying(n, masters, states, counts, c, q);
+    leaving(n, body, start, count, q) + stays
 }
 
 // Stores chart k's entry, made of those above it. Answers where its transitions start; `end` is where the next chart's
@@ -212,12 +268,80 @@ fn total(n: Shape, masters: &[u8], counts: &[u64]) -> u64
 }
 
 // How many choices are open, from a configuration: those that keep the present states and the rules of activity, guards
-// aside.
-pub fn open_choices(n: Shape, body: &[u8], config: &[u8], masters: &[u8], states: &[u8]) -> u64
-    requires { ⌜ Countable n (now body) (now config) (now masters) (now states) ⌝ }
-    ensures { λ r. ⌜ r ≡ openIn (fileAt n (now (body .entry))) (now (config .entry)) ⌝ }
+// aside. Leaves the counts of all charts in `counts`.
+pub fn open_choices(
+    n: Shape,
+    body: &[u8],
+    config: &[u8],
+    masters: &[u8],
+    states: &[u8],
+    counts: &mut [u64],
+) -> u64
+    requires { ⌜ Countable n (now body) (now config) (now masters) (now states) × (n .charts ≤ length (now counts)) ⌝ }
+    ensures { λ r. ⌜ (r ≡ openIn (fileAt n (now (body .entry))) (now (config .entry)))
+        × Filled n (now (body .entry)) (now (config .entry)) (now (counts .entry)) (now (counts .exit)) ⌝ }
 {
-    let mut counts = [0u64; CHARTS];
-    fill(n, body, config, masters, states, &mut counts);
-    total(n, masters, &counts)
+    fill(n, body, config, masters, states, counts);
+    total(n, masters, counts)
+}
+
+// The states to which a chart at q must not go, so as not to activate the slave of state s: all, if q does so already.
+fn shut_by(q: u8, s: u8) -> u64
+    ensures { λ r. ⌜ ShutTo q s r ⌝ }
+{
+    if q == s {
+        return signals::ALL;
+    }
+    if s >= BITS {
+        return 0;
+    }
+    signals::single(s as u32)
+}
+
+// Chart d, if it has no open choice, must not be activated by its master, if that is one of the charts.
+fn shut_one(
+    charts: usize,
+    config: &[u8],
+    masters: &[u8],
+    states: &[u8],
+    counts: &[u64],
+    d: usize,
+    shut: &mut [u64; CHARTS],
+)
+    requires { ⌜ Roomy (d + 1) (now masters) (now states) (now counts) × (charts ≤ length (now config))
+        × (charts ≤ mostCharts) × (length (now shut) ≡ mostCharts) ⌝ }
+    ensures { λ _. ⌜ (length (now (shut .exit)) ≡ mostCharts)
+        × ShutOne charts (now (config .entry)) (now (masters .entry)) (now (states .entry)) (now (counts .entry)) d
+        (now (shut .entry)) (now (shut .exit)) ⌝ }
+{
+    if counts[d] != 0 {
+        return;
+    }
+    let c = wide(masters[d]);
+    if c >= charts {
+        return;
+    }
+    shut[c] = shut[c] | shut_by(config[c], states[d]);
+}
+
+// For each chart the states to which it must not go, as a mask: no open choice begins that way.
+pub fn shut(
+    charts: usize,
+    config: &[u8],
+    masters: &[u8],
+    states: &[u8],
+    counts: &[u64],
+) -> [u64; CHARTS]
+    requires { ⌜ Roomy charts (now masters) (now states) (now counts) × (charts ≤ length (now config))
+        × (charts ≤ mostCharts) ⌝ }
+    ensures { λ r. ⌜ Shuts charts (now (config .entry)) (now (masters .entry)) (now (states .entry))
+        (now (counts .entry)) charts r ⌝ }
+{
+    let mut shut = [0u64; CHARTS];
+    let mut d: usize = 0;
+    while d < charts {
+        shut_one(charts, config, masters, states, counts, d, &mut shut);
+        d += 1;
+    }
+    shut
 }

@@ -7,7 +7,7 @@ use Prim.Native.Nat.{ℕ}
 use lib.ListN.{length}
 use Rattle.meaning.specs.Meaning.{Set}
 use Rattle.meaning.specs.Check.{refusalOf}
-use Rattle.meaning.specs.Calls.{firstRefusal, firstBytes, inputOf, outputOf, stepOf, placesOf, nextIn, runRefusal}
+use Rattle.meaning.specs.Calls.{firstRefusal, firstBytes, inputOf, outputOf, stepOf, placesOf, openOf, nextIn, runRefusal}
 use Rattle.meaning.specs.Calls.{runBytes, runCarried}
 use Rattle.meaning.specs.Rewriting.{rewriteRefusal, rewriteLength, rewriteOut}
 use Rattle.meaning.specs.Plain.{plainOf}
@@ -46,7 +46,8 @@ PlainSays f r = r ≡ record { refusal = refusalOf f; plain = plainOf f }
 -- the step from a configuration under the input i (RULES 5.9)
 abbrev pub StepSays : List ℕ → List ℕ → Set → List ℕ → Stepped → List ℕ → Type 0
 StepSays f config i b r c =
-    (r ≡ steppedOf (stepOf f config i (length b)) (placesOf f config i (length b))) × (c ≡ nextIn (stepOf f config i (length b)) b)
+    (r ≡ steppedOf (stepOf f config i (length b)) (placesOf f config i (length b)) (openOf f config i (length b)))
+    × (c ≡ nextIn (stepOf f config i (length b)) b)
 
 -- the run from a configuration, with what is carried there (RULES 6)
 abbrev pub RunSays : List ℕ → List ℕ → Set → List Set → List ℕ → Ran → List ℕ → Type 0

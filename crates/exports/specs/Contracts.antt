@@ -7,7 +7,7 @@ use lib.ListN.{length}
 use Rattle.meaning.specs.Count.{one}
 use Rattle.meaning.specs.Meaning.{Set}
 use Rattle.meaning.specs.Check.{refusalOf}
-use Rattle.meaning.specs.Calls.{firstRefusal, firstBytes, inputOf, outputOf, stepOf, placesOf, nextIn, refusalIn, outputIn, markIn, runRefusal}
+use Rattle.meaning.specs.Calls.{firstRefusal, firstBytes, inputOf, outputOf, stepOf, placesOf, openOf, nextIn, refusalIn, outputIn, markIn, runRefusal}
 use Rattle.meaning.specs.Calls.{runBytes, runCarried}
 use Rattle.meaning.specs.Rewriting.{rewriteRefusal, rewriteLength, rewriteOut}
 use Rattle.meaning.specs.Plain.{plainOf}
@@ -26,11 +26,11 @@ InterfaceReturns f r input output = (r ≡ refusalOf f) × (input ≡ inputOf f)
 abbrev pub PlainReturns : List ℕ → ℕ → ℕ → Type 0
 PlainReturns f r plain = (r ≡ refusalOf f) × (plain ≡ one (plainOf f))
 
-abbrev pub StepReturns : List ℕ → List ℕ → Set → List ℕ → ℕ → List ℕ → Set → ℕ → List ℕ → Type 0
-StepReturns f config i b r c output mark places =
+abbrev pub StepReturns : List ℕ → List ℕ → Set → List ℕ → ℕ → List ℕ → Set → ℕ → List ℕ → ℕ → Type 0
+StepReturns f config i b r c output mark places n =
     let a = stepOf f config i (length b) in
     (r ≡ refusalIn a) × (c ≡ nextIn a b) × (output ≡ outputIn a) × (mark ≡ one (markIn a))
-    × (places ≡ placesOf f config i (length b))
+    × (places ≡ placesOf f config i (length b)) × (n ≡ openOf f config i (length b))
 
 abbrev pub RunReturns : List ℕ → List ℕ → Set → List Set → List ℕ → ℕ → List ℕ → Set → Type 0
 RunReturns f config carried inputs b r c left =

@@ -1,5 +1,6 @@
 // The engine and the posting for programs in C and Rust (include/mestecur.h). A slice passes as a pointer and a length. Each function returns 0 or the
-// refusal. A single number behind a pointer is an answer, and is 0 where the call is refused; places are answers too, and are 255 then.
+// refusal. A single number behind a pointer is an answer, and is 0 where the call is refused, but for the number of open choices in 24; places are
+// answers too, and are 255 then.
 ghost use mathlib.Core.Path.{_≡_};
 ghost use Rattle.meaning.specs.Count.{one};
 ghost use Rattle.exports.specs.Contracts.{CheckReturns, FirstReturns, InterfaceReturns, PlainReturns, StepReturns};
@@ -50,15 +51,17 @@ pub extern "C" fn mestecur_step(
     output: &mut u64,
     mark: &mut u8,
     places: &mut [u8; layout::limits::CHARTS],
+    open_choices: &mut u64,
 ) -> u8
     ensures { λ r. ⌜ StepReturns (now (file .entry)) (now (config .entry)) input (now (next .entry)) r (now (next .exit))
-        (now (output .exit)) (now (mark .exit)) (now (places .exit)) ⌝ }
+        (now (output .exit)) (now (mark .exit)) (now (places .exit)) (now («open_choices» .exit)) ⌝ }
 {
     let s = engine::step::step(file, config, input, next);
     *output = s.output;
     *mark = number(s.mark);
     let taken = s.places;
     *places = taken;
+    *open_choices = s.open_choices;
     s.refusal
 }
 

@@ -1,12 +1,12 @@
 // Limits of a file (RULES 2.8) and bytes of its records (RULES 2), in the lowest crate that has files. Each is written here once.
 
-pub const MOST_CHARTS: u8 = 8;
+pub const MOST_CHARTS: u8 = 16;
 
-pub const MOST_SLAVES: u8 = 7;
+pub const MOST_SLAVES: u8 = 15;
 
 pub const MOST_NODES: u8 = 64;
 
-pub const MOST_TRANSITIONS: u16 = 512;
+pub const MOST_TRANSITIONS: u16 = 1024;
 // In a chart.
 pub const MOST_STATES: u8 = 16;
 

@@ -8,11 +8,12 @@ use lib.Dec.{ltb}
 use lib.ListN.{length, getD, take, drop, replicate}
 use Rattle.signals.specs.Mask.{_∪_}
 use Rattle.layout.specs.Le.{bytes}
-use Rattle.meaning.specs.Numbers.{mostCharts, noPlace, wrongLength, badState, shortBuffer, shortRows}
+use Rattle.meaning.specs.Numbers.{mostCharts, mostOpen, noPlace, wrongLength, badState, shortBuffer, manyOpen, shortRows}
 use Rattle.meaning.specs.Count.{anyUpTo, one}
 use Rattle.meaning.specs.Meaning.{Set, ∅, same, Outcome, Answer, refused, given, inFace, outFace, outcomes, answer, firstPlaces}
 use Rattle.meaning.specs.File.{File, wholeOf, fileOf}
 use Rattle.meaning.specs.Check.{Test, firstOf, fileTests, refusalOf, differ, notBelow}
+use Rattle.meaning.specs.Open.{openIn}
 pub mod Laws
 
 -- f at 0, 1, .. n - 1
@@ -48,7 +49,7 @@ inputOf f = cond (same (refusalOf f) 0) (inFace (fileOf f .chart) (wholeOf (file
 unfoldable pub outputOf : List ℕ → Set
 outputOf f = cond (same (refusalOf f) 0) (outFace (fileOf f .chart) (wholeOf (fileOf f))) ∅
 
--- ── the step: 1 to 11, 20, 21, 22, 23 (RULES 3.6) ──
+-- ── the step: 1 to 11, 20, 21, 22, 24, 23 (RULES 3.6) ──
 
 -- 20: not one byte for each chart; 21: a byte is not a state of its chart (RULES 3.3)
 unfoldable pub configTests : List ℕ → List ℕ → List Test
@@ -62,7 +63,7 @@ pub record Valid (F : File) (config : List ℕ) : Type 0 where
   pub long : length config ≡ F .charts
   pub states : (c : ℕ) → c < F .charts → getD config c 0 < F .chart c .states
 
--- all tests but 23, which `stepIn` makes; 22: the buffer has fewer bytes than there are charts (RULES 3.3)
+-- all tests but 24 and 23, which `stepIn` makes; 22: the buffer has fewer bytes than there are charts (RULES 3.3)
 unfoldable pub stepRefusal : List ℕ → List ℕ → ℕ → ℕ
 stepRefusal f config room =
     firstOf (fileTests f ++ configTests f config ++ (record { number = shortBuffer; applies = ltb room (fileOf f .charts) } ∷ []))
@@ -71,22 +72,43 @@ stepRefusal f config room =
 abbrev pub outcomesIn : File → List ℕ → Set → List Outcome
 outcomesIn F config i = outcomes (F .chart) (F .state) (λ c. getD config c 0) (wholeOf F) i (F .charts)
 
--- such a step: given, or refused with 23 (RULES 5.9)
+-- what is found among all choices: given, or refused with 23 (RULES 5.9)
+unfoldable pub foundIn : File → List ℕ → Set → Answer
+foundIn F config i = answer (outcomesIn F config i)
+
+-- 24: more choices are open than a step may have (RULES 3.3)
+unfoldable pub manyOpen? : File → List ℕ → Bool
+manyOpen? F config = ltb mostOpen (openIn F config)
+
+-- such a step: refused with 24, or what is found (RULES 5.9)
 unfoldable pub stepIn : File → List ℕ → Set → Answer
-stepIn F config i = answer (outcomesIn F config i)
+stepIn F config i = cond (manyOpen? F config) (refused manyOpen) (foundIn F config i)
 
 -- what `step` answers, its places aside (RULES 5.9)
 unfoldable pub stepOf : List ℕ → List ℕ → Set → ℕ → Answer
 stepOf f config i room =
     cond (same (stepRefusal f config room) 0) (stepIn (fileOf f) config i) (refused (stepRefusal f config room))
 
+-- how many choices are open, as an answer says it (RULES 5.15): 0 in a refusal numbered below 24
+abbrev pub openFor : Answer → ℕ → ℕ
+openFor (refused r) n = cond (ltb r manyOpen) 0 n
+openFor (given o next m) n = n
+
+-- the number of open choices that `step` answers
+unfoldable pub openOf : List ℕ → List ℕ → Set → ℕ → ℕ
+openOf f config i room = openFor (stepOf f config i room) (openIn (fileOf f) config)
+
 -- the places of an answer (RULES 5.11): those of the file's charts, and 255 for each that is left; a refused step has 255 only
 abbrev pub allPlaces : List ℕ → List ℕ
 allPlaces ps = ps ++ replicate (mostCharts - length ps) noPlace
 
+-- the places of what is found
+unfoldable pub placesFound : File → List ℕ → Set → List ℕ
+placesFound F config i = allPlaces (firstPlaces (outcomesIn F config i))
+
 -- the places of a step of a file that is in order
 unfoldable pub placesIn : File → List ℕ → Set → List ℕ
-placesIn F config i = allPlaces (firstPlaces (outcomesIn F config i))
+placesIn F config i = cond (manyOpen? F config) (allPlaces []) (placesFound F config i)
 
 -- the places that `step` answers
 unfoldable pub placesOf : List ℕ → List ℕ → Set → ℕ → List ℕ

@@ -16,16 +16,16 @@ mostSignals = 64
 
 -- of a file (RULES 2.8)
 abbrev pub mostCharts : ℕ
-mostCharts = 8
+mostCharts = 16
 
 abbrev pub mostSlaves : ℕ
-mostSlaves = 7
+mostSlaves = 15
 
 abbrev pub mostNodes : ℕ
 mostNodes = 64
 
 abbrev pub mostTransitions : ℕ
-mostTransitions = 512
+mostTransitions = 1024
 
 -- of a chart (RULES 2.8)
 abbrev pub mostStates : ℕ
@@ -45,6 +45,10 @@ noPlace = 255
 -- among a step's places (RULES 5.11): the chart stayed
 abbrev pub stayPlace : ℕ
 stayPlace = 254
+
+-- open choices of a step (RULES 2.8)
+abbrev pub mostOpen : ℕ
+mostOpen = 16777216
 
 -- bytes on the day program's standard input (RULES 10.1)
 abbrev pub mostInput : ℕ
@@ -86,7 +90,7 @@ badNaming = 10
 abbrev pub badInside : ℕ
 badInside = 11
 
--- of a configuration, a step or a run: 20 to 23, 27 (RULES 3.3)
+-- of a configuration, a step or a run: 20 to 24, 27 (RULES 3.3)
 abbrev pub wrongLength : ℕ
 wrongLength = 20
 
@@ -98,6 +102,9 @@ shortBuffer = 22
 
 abbrev pub noStep : ℕ
 noStep = 23
+
+abbrev pub manyOpen : ℕ
+manyOpen = 24
 
 abbrev pub shortRows : ℕ
 shortRows = 27

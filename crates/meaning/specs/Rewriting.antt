@@ -240,7 +240,7 @@ fromState? R =
 unfoldable pub inChart? : File → Bool
 inChart? R = anyUpTo (R .charts) (λ c. ltb mostInChart (length (R .chart c .transitions)))
 
--- 40, 41, 42, 44 (RULES 3.6); 44: the result has more than 64 nodes. 43 is not in use, since a result that passes 42 has at most 512 transitions
+-- 40, 41, 42, 44 (RULES 3.6); 44: the result has more than 64 nodes. 43 is not in use, since a result that passes 42 has at most 1,024 transitions
 -- (`sum-most`).
 unfoldable pub rewriteTests : File → List Test
 rewriteTests F =

@@ -1,10 +1,10 @@
--- A step of a plain file (RULES 8.3), from a valid configuration and with room for the next, has the mark yes or is refused with 23 (`plain-sure`),
--- and so is every step of a run (`row-sure`). In this order: an answer that is sure; the tree of a plain file is plain, and so its steps are
--- sure (`step-sure`); the same of bytes.
+-- A step of a plain file (RULES 8.3), from a valid configuration and with room for the next, has the mark yes or is
+-- refused with 23 or 24 (`plain-sure`), and so is every step of a run (`row-sure`). In this order: an answer that is
+-- sure; the tree of a plain file is plain, and so its steps are sure (`step-sure`); the same of bytes.
 use mathlib.Core.Path.{_≡_, refl, _∙_, ap}
 use mathlib.Core.Bool.{Bool, true, false, _&&_, cond, false≢true}
 use mathlib.Core.List.{List, [], _∷_, _++_}
-use mathlib.Core.Logic.{_⊎_, inl, inr}
+use mathlib.Core.Logic.{_⊎_, inl, inr, ⊎-elim}
 use Prim.Native.Nat.{ℕ, zero, suc, _+_, _-_, _≤_, _<_}
 use native.Mathlib.Omega.{arith}
 use borrow.Author.Tests.{not-true}
@@ -14,7 +14,7 @@ use Rattle.signals.specs.Mask.{_∪_, Within}
 use Rattle.signals.specs.Decide.{sets, A, B, C, _∪ₑ_, _⊑_}
 use Rattle.layout.specs.Le.{bytes}
 use Rattle.layout.specs.Le.Laws.{length-bytes}
-use Rattle.meaning.specs.Numbers.{firstEdition, noStep}
+use Rattle.meaning.specs.Numbers.{firstEdition, noStep, manyOpen}
 use Rattle.meaning.specs.Count.{one}
 use Rattle.meaning.specs.Count.Laws.{any-never}
 use Rattle.meaning.specs.Meaning.{Set, ∅, same, Tree, Slaves, nil, snoc, Outcome, Answer, refused, given, agree, answer}
@@ -22,7 +22,9 @@ use Rattle.meaning.specs.File.{File, whole, gather, treeOf, wholeOf, trailer, s
 use Rattle.meaning.specs.Check.{refusalOf}
 use Rattle.meaning.specs.Check.Laws.{passed, counted}
 use Rattle.meaning.specs.Check.Nodes.{Sound, sound}
-use Rattle.meaning.specs.Calls.{stepRefusal, outcomesIn, stepIn, stepOf, runRefusal, rowOf, runBytes, rowAt, configAt, carriedAt, stepAt}
+use Rattle.meaning.specs.Calls.{stepRefusal, outcomesIn, foundIn, manyOpen?, stepIn, stepOf, runRefusal, rowOf}
+use Rattle.meaning.specs.Calls.{runBytes}
+use Rattle.meaning.specs.Calls.{rowAt, configAt, carriedAt, stepAt}
 use Rattle.meaning.specs.Calls.Laws.{step-open}
 use Rattle.meaning.specs.Rewriting.{unionUpTo}
 use Rattle.meaning.specs.Rewriting.Laws.{union-in}
@@ -39,7 +41,7 @@ use Rattle.plain.specs.Choices.{PlainChart, PlainTree, PlainSlaves, neve
 -- an answer that never is a step with mark no
 sure-answer : (l : List Outcome) → ((o : Set) (n : List ℕ) → answer l ≡ given o n false → ⊥) → Sure (answer l)
 unfolding answer
-sure-answer [] h = refl
+sure-answer [] h = inl refl
 sure-answer (x ∷ xs) h = go (agree x xs) refl
   where
     go : (m : Bool) → agree x xs ≡ m → m ≡ true
@@ -102,10 +104,17 @@ module _ (F : File) (p : plainIn F ≡ true) (one-edition : (c : ℕ) → c < F 
             rw (tree₂ F (s .ordered) j l e₂) (ih (F .a j) (s .ordered .lower₂ j l e₂))
 
     pub step-sure : 0 < F .nodes → (config : List ℕ) (i : Set) → Sure (stepIn F config i)
-    unfolding stepIn
-    step-sure z config i = sure-answer (outcomesIn F config i) (never-no (F .chart) (F .state) (λ c. getD config c 0) (wholeOf F) i (F .charts) (fedBack F)
-        (plain-node (F .nodes) (F .nodes - 1) (omega arith) (omega arith))
-        (λ c l. all-there F (s .ordered) (joined F (s .ordered) (s .rule10) (s .chart-there) (s .node-there)) (F .nodes - 1) c (omega arith) l))
+    unfolding stepIn foundIn
+    step-sure z config i = limited (manyOpen? F config)
+        (sure-answer (outcomesIn F config i) (never-no (F .chart) (F .state) (λ c. getD config c 0) (wholeOf F) i
+        (F .charts) (fedBack F) (plain-node (F .nodes) (F .nodes - 1) (omega arith) (omega arith))
+        (λ c l. all-there F (s .ordered) (joined F (s .ordered) (s .rule10) (s .chart-there) (s .node-there))
+        (F .nodes - 1) c (omega arith) l)))
+      where
+        limited : (b : Bool) → Sure (answer (outcomesIn F config i))
+            → Sure (cond b (refused manyOpen) (answer (outcomesIn F config i)))
+        limited true h = inr refl
+        limited false h = h
 
 -- ── bytes ──
 
@@ -144,7 +153,10 @@ behind o l n = rw (length-bytes 8 o) at (getD-append-add (bytes 8 o) l n 0)
 
 sure-row : (r : Answer) (config : List ℕ) → Sure r → SureRow (rowOf r config)
 unfolding rowOf
-sure-row (refused r) config h = inr (behind ∅ _ 0, behind ∅ _ 1 ∙ h)
+sure-row (refused r) config h = inr (
+  behind ∅ _ 0,
+  ⊎-elim (λ (e : r ≡ noStep). inl (behind ∅ _ 1 ∙ e)) (λ (e : r ≡ manyOpen). inr (behind ∅ _ 1 ∙ e)) h,
+)
 sure-row (given o n m) config h = inl (behind o _ 0 ∙ ap one h, behind o _ 1)
 
 -- in a run that is not refused, whatever is carried into it

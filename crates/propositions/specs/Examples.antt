@@ -14,7 +14,8 @@ use Rattle.meaning.specs.Count.{anyUpTo, tally}
 use Rattle.meaning.specs.Meaning.{Answer, given, same, nth, pick, lastPlace, actionOf, after, lowestFrom, guard, met?, untriggered, guards, actions, inFaceChart, inFace, inFaces, out, outs, okChart, meets, ok, oks, permitted, upd, moves, nexts, placeOf, placesFrom, upto, outcomeOf, outcome, search, outcomes, eqList, agree, answer}
 use Rattle.meaning.specs.File.{gather, build, treeOf, Has, HasS, trailer, bodyOf, shapeOf, chartOf, fileAt, fileOf}
 use Rattle.meaning.specs.Check.{firstOf, edition?, counts?, distance?, nonzero, zeros?, chart?, charts?, ends?, leaving, transitions?, rising, slave?, slaves?, nodeOfKind?, nodes?, names, named, held, naming?, inside?, fileTests, refusalOf}
-use Rattle.meaning.specs.Calls.{configTests, stepRefusal, stepIn, stepOf}
+use Rattle.meaning.specs.Open.{openChart, openTree, isOpen, choices, howMany, openChoices}
+use Rattle.meaning.specs.Calls.{configTests, stepRefusal, foundIn, manyOpen?, stepIn, stepOf}
 use Rattle.meaning.specs.Rewriting.{leavingIn, unionUpTo, lacking, used, free, call, callIn, called, idle, idles, chartWith, nearestIn, nearestSlave, callsBy, rewrittenChart, start, newName, callsOf, composed, madeFor, laid, inTurn, headFor, transitionsBytes, shapeIn, bodyBytes, encode, transitionsIn, rewriteBytes}
 use Rattle.propositions.specs.Exchange.{swapAt, exchange}
 use Rattle.propositions.specs.FedBack.{fedBackOf}
@@ -49,7 +50,7 @@ abbrev pub table : List Answer
 table = given 2 (1 ∷ 0 ∷ []) true ∷ given 0 (0 ∷ 0 ∷ []) false ∷ []
 
 pub typed-differs : (answers 1 ≡ table) × (answers 2 ≡ table) × (fedBackOf (parts 1 0 1) 2 ≡ 2)
-unfolding answers parts single le bytes trailerOf headOf transitionOf slaveOf nodeOf headAt transitionAt slaveAt nodeAt startOf from transitionsOf anyUpTo tally same nth pick lastPlace actionOf after lowestFrom guard met? untriggered guards inFaceChart inFace inFaces out outs okChart meets ok oks permitted upd moves nexts placeOf placesFrom upto outcomeOf outcome search outcomes eqList agree answer gather build treeOf Has HasS trailer bodyOf shapeOf chartOf fileAt fileOf firstOf edition? counts? distance? nonzero zeros? chart? charts? ends? leaving transitions? rising slave? slaves? nodeOfKind? nodes? names named held naming? inside? fileTests refusalOf configTests stepRefusal stepIn stepOf
+unfolding answers parts single le bytes trailerOf headOf transitionOf slaveOf nodeOf headAt transitionAt slaveAt nodeAt startOf from transitionsOf anyUpTo tally same nth pick lastPlace actionOf after lowestFrom guard met? untriggered guards inFaceChart inFace inFaces out outs okChart meets ok oks permitted upd moves nexts placeOf placesFrom upto outcomeOf outcome search outcomes eqList agree answer gather build treeOf Has HasS trailer bodyOf shapeOf chartOf fileAt fileOf firstOf edition? counts? distance? nonzero zeros? chart? charts? ends? leaving transitions? rising slave? slaves? nodeOfKind? nodes? names named held naming? inside? fileTests refusalOf configTests stepRefusal openChart openTree isOpen choices howMany openChoices foundIn manyOpen? stepIn stepOf
 typed-differs = (refl, refl, refl)
 
 -- ── the rewriting of exchanged parts ──

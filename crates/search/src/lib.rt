@@ -9,7 +9,7 @@ ghost use Rattle.meaning.specs.Meaning.{eqList};
 ghost use Rattle.meaning.specs.Numbers.{mostCharts, mostFromState, noPlace, stayPlace};
 ghost use Rattle.meaning.specs.Calls.{made};
 ghost use Rattle.cells.specs.Table.{masksFor, smallSize, Tables, actionAt, backAt, upAt};
-ghost use Rattle.cells.specs.Trail.{trailSize, steps, lowIn, columnIn, Room};
+ghost use Rattle.cells.specs.Trail.{trailFor, steps, lowIn, columnIn, Room};
 ghost use Rattle.search.specs.Trail.{trailIn, beginning, RowPut, Lowers};
 ghost use Rattle.search.specs.Hunt.{wakes, fineAt, taken, settleOf, outcomeIn, firstFound, over, nothing, foundSize, foundIn, BytesPut, Held, Takes, Idles};
 ghost use Rattle.search.specs.Asks.{asksOf};
@@ -86,8 +86,8 @@ fn holds(g: Guard, low: u64, high: u64) -> bool
 
 // What the charts below k ask of chart k's action: what only it can put in for them, and what it must not. It contradicts itself where one of them
 // cannot be met whatever the action is.
-fn asks(masks: &[u64], trail: &[u64; trail::SIZE], k: usize) -> Guard
-    requires { ⌜ (masksFor (k + 1) ≤ length (now masks)) × (k < mostCharts) ⌝ }
+fn asks(masks: &[u64], trail: &[u64], k: usize) -> Guard
+    requires { ⌜ (masksFor (k + 1) ≤ length (now masks)) × (k < mostCharts) × (trailFor k ≤ length (now trail)) ⌝ }
     ensures { λ r. ⌜ r ≡ asksOf (now (masks .entry)) (now (trail .entry)) k ⌝ }
 {
     let mut needed: u64 = 0;
@@ -107,8 +107,9 @@ fn asks(masks: &[u64], trail: &[u64; trail::SIZE], k: usize) -> Guard
 }
 
 // Whether chart k may take its candidate v: its own guard and what the charts before it ask of its action can still be met.
-fn fits(masks: &[u64], trail: &[u64; trail::SIZE], asked: Guard, k: usize, v: usize) -> bool
-    requires { ⌜ (masksFor (k + 1) ≤ length (now masks)) × (k < mostCharts) × (v < mostFromState) × (asked ≡ asksOf (now masks) (now trail) k) ⌝ }
+fn fits(masks: &[u64], trail: &[u64], asked: Guard, k: usize, v: usize) -> bool
+    requires { ⌜ (masksFor (k + 1) ≤ length (now masks)) × (k < mostCharts) × (v < mostFromState) × (asked ≡ asksOf (now masks) (now trail) k)
+        × (trailFor k ≤ length (now trail)) ⌝ }
     ensures { λ r. ⌜ ((s b : List ℕ) (o : ℕ) →
         r ≡ fineAt (now (masks .entry)) s (taken (now (masks .entry)) s (trailIn (now (trail .entry)) b k o) k v) k) ⌝ }
 {
@@ -125,8 +126,8 @@ fn fits(masks: &[u64], trail: &[u64; trail::SIZE], asked: Guard, k: usize, v: us
 }
 
 // What each chart is surely offered once chart k has this action. It is a row of its own, so that its masks are computed side by side.
-fn lowered(masks: &[u64], trail: &[u64; trail::SIZE], action: u64, k: usize) -> [u64; CHARTS]
-    requires { ⌜ (masksFor (k + 1) ≤ length (now masks)) × (k < mostCharts) ⌝ }
+fn lowered(masks: &[u64], trail: &[u64], action: u64, k: usize) -> [u64; CHARTS]
+    requires { ⌜ (masksFor (k + 1) ≤ length (now masks)) × (k < mostCharts) × (trailFor k ≤ length (now trail)) ⌝ }
     ensures { λ r. ⌜ r ≡ made mostCharts (λ c. lowIn (now (trail .entry)) k c ∪ action ∩ backAt (now (masks .entry)) c k) ⌝ }
 {
     let mut row = [0u64; CHARTS];
@@ -139,8 +140,8 @@ fn lowered(masks: &[u64], trail: &[u64; trail::SIZE], action: u64, k: usize) -> 
 }
 
 // Puts what each chart is surely offered before chart k is settled.
-fn put_row(trail: &mut [u64; trail::SIZE], row: [u64; CHARTS], k: usize)
-    requires { ⌜ (length (now trail) ≡ trailSize) × (k ≤ mostCharts) ⌝ }
+fn put_row(trail: &mut [u64], row: [u64; CHARTS], k: usize)
+    requires { ⌜ (trailFor k ≤ length (now trail)) × (k ≤ mostCharts) ⌝ }
     ensures { λ _. ⌜ RowPut k row (now (trail .entry)) (now (trail .exit)) ⌝ }
 {
     let mut c: usize = 0;
@@ -151,8 +152,8 @@ fn put_row(trail: &mut [u64; trail::SIZE], row: [u64; CHARTS], k: usize)
 }
 
 // Chart k has this action.
-fn lower(masks: &[u64], trail: &mut [u64; trail::SIZE], action: u64, k: usize)
-    requires { ⌜ (masksFor (k + 1) ≤ length (now masks)) × (length (now trail) ≡ trailSize) × (k < mostCharts) ⌝ }
+fn lower(masks: &[u64], trail: &mut [u64], action: u64, k: usize)
+    requires { ⌜ (masksFor (k + 1) ≤ length (now masks)) × (trailFor (k + 1) ≤ length (now trail)) × (k < mostCharts) ⌝ }
     ensures { λ _. ⌜ Lowers (now (masks .entry)) action k (now (trail .entry)) (now (trail .exit)) ⌝ }
 {
     let row = lowered(masks, trail, action, k);
@@ -163,12 +164,12 @@ fn lower(masks: &[u64], trail: &mut [u64; trail::SIZE], action: u64, k: usize)
 fn take(
     masks: &[u64],
     small: &[u8],
-    trail: &mut [u64; trail::SIZE],
+    trail: &mut [u64],
     moves: &mut [u8; moves::SIZE],
     k: usize,
     v: usize,
 )
-    requires { ⌜ (masksFor (k + 1) ≤ length (now masks)) × (length (now small) ≡ smallSize) × Room (now trail) (now moves) × (k < mostCharts) × (v < mostFromState) ⌝ }
+    requires { ⌜ (masksFor (k + 1) ≤ length (now masks)) × (length (now small) ≡ smallSize) × Room (k + 1) (now trail) (now moves) × (k < mostCharts) × (v < mostFromState) ⌝ }
     ensures { λ _. ⌜ Takes (now (masks .entry)) (now (small .entry)) k v (now (trail .entry)) (now (moves .entry))
         (now (trail .exit)) (now (moves .exit)) ⌝ }
 {
@@ -186,13 +187,13 @@ fn take(
 fn idle(
     masks: &[u64],
     small: &[u8],
-    trail: &mut [u64; trail::SIZE],
+    trail: &mut [u64],
     moves: &mut [u8; moves::SIZE],
     k: usize,
     active: u8,
     place: u8,
 )
-    requires { ⌜ (masksFor (k + 1) ≤ length (now masks)) × (length (now small) ≡ smallSize) × Room (now trail) (now moves) × (k < mostCharts) ⌝ }
+    requires { ⌜ (masksFor (k + 1) ≤ length (now masks)) × (length (now small) ≡ smallSize) × Room (k + 1) (now trail) (now moves) × (k < mostCharts) ⌝ }
     ensures { λ _. ⌜ Idles active place (now (small .entry)) k (now (trail .entry)) (now (moves .entry)) (now (trail .exit)) (now (moves .exit)) ⌝ }
 {
     trail::put_asked(trail, k, 0, 0);
@@ -202,28 +203,16 @@ fn idle(
 }
 
 // Chart k is inactive.
-fn rest(
-    masks: &[u64],
-    small: &[u8],
-    trail: &mut [u64; trail::SIZE],
-    moves: &mut [u8; moves::SIZE],
-    k: usize,
-)
-    requires { ⌜ (masksFor (k + 1) ≤ length (now masks)) × (length (now small) ≡ smallSize) × Room (now trail) (now moves) × (k < mostCharts) ⌝ }
+fn rest(masks: &[u64], small: &[u8], trail: &mut [u64], moves: &mut [u8; moves::SIZE], k: usize)
+    requires { ⌜ (masksFor (k + 1) ≤ length (now masks)) × (length (now small) ≡ smallSize) × Room (k + 1) (now trail) (now moves) × (k < mostCharts) ⌝ }
     ensures { λ _. ⌜ Idles 0 noPlace (now (small .entry)) k (now (trail .entry)) (now (moves .entry)) (now (trail .exit)) (now (moves .exit)) ⌝ }
 {
     idle(masks, small, trail, moves, k, 0, NO_PLACE);
 }
 
 // Chart k stays: it is active.
-fn stay(
-    masks: &[u64],
-    small: &[u8],
-    trail: &mut [u64; trail::SIZE],
-    moves: &mut [u8; moves::SIZE],
-    k: usize,
-)
-    requires { ⌜ (masksFor (k + 1) ≤ length (now masks)) × (length (now small) ≡ smallSize) × Room (now trail) (now moves) × (k < mostCharts) ⌝ }
+fn stay(masks: &[u64], small: &[u8], trail: &mut [u64], moves: &mut [u8; moves::SIZE], k: usize)
+    requires { ⌜ (masksFor (k + 1) ≤ length (now masks)) × (length (now small) ≡ smallSize) × Room (k + 1) (now trail) (now moves) × (k < mostCharts) ⌝ }
     ensures { λ _. ⌜ Idles 1 stayPlace (now (small .entry)) k (now (trail .entry)) (now (moves .entry)) (now (trail .exit)) (now (moves .exit)) ⌝ }
 {
     idle(masks, small, trail, moves, k, 1, STAY_PLACE);
@@ -253,12 +242,13 @@ fn calm(
     masks: &[u64],
     guards: &[u64],
     stays: &[u8],
-    trail: &[u64; trail::SIZE],
+    trail: &[u64],
     moves: &[u8; moves::SIZE],
     k: usize,
     d: usize,
 ) -> bool
-    requires { ⌜ (masksFor k ≤ length (now masks)) × Guards (now guards) (now stays) × (k ≤ mostCharts) × (d < k) ⌝ }
+    requires { ⌜ (masksFor k ≤ length (now masks)) × Guards (now guards) (now stays) × (k ≤ mostCharts) × (d < k)
+        × (trailFor k ≤ length (now trail)) ⌝ }
     ensures { λ r. ⌜ ((s : List ℕ) (o : ℕ) →
         r ≡ calmAt (now (masks .entry)) s (now (guards .entry)) (now (stays .entry)) (trailIn (now (trail .entry)) (now (moves .entry)) k o) k d) ⌝ }
 {
@@ -279,11 +269,12 @@ fn all_calm(
     masks: &[u64],
     guards: &[u64],
     stays: &[u8],
-    trail: &[u64; trail::SIZE],
+    trail: &[u64],
     moves: &[u8; moves::SIZE],
     k: usize,
 ) -> bool
-    requires { ⌜ (masksFor k ≤ length (now masks)) × Guards (now guards) (now stays) × (k ≤ mostCharts) ⌝ }
+    requires { ⌜ (masksFor k ≤ length (now masks)) × Guards (now guards) (now stays) × (k ≤ mostCharts)
+        × (trailFor k ≤ length (now trail)) ⌝ }
     ensures { λ r. ⌜ ((s : List ℕ) (o : ℕ) →
         r ≡ calmAll (now (masks .entry)) s (now (guards .entry)) (now (stays .entry)) (trailIn (now (trail .entry)) (now (moves .entry)) k o) k) ⌝ }
 {
@@ -428,7 +419,7 @@ fn hunt(
     small: &[u8],
     guards: &[u64],
     stays: &[u8],
-    trail: &mut [u64; trail::SIZE],
+    trail: &mut [u64],
     moves: &mut [u8; moves::SIZE],
     best: &mut [u8; FOUND_BYTES],
     shown: &mut [u64; 1],
@@ -436,7 +427,7 @@ fn hunt(
     left: usize,
     output: u64,
 )
-    requires { ⌜ Tables charts (now masks) (now small) × Room (now trail) (now moves) × Held (now best) (now shown) × (charts ≤ mostCharts) × (left ≤ charts)
+    requires { ⌜ Tables charts (now masks) (now small) × Room charts (now trail) (now moves) × Held (now best) (now shown) × (charts ≤ mostCharts) × (left ≤ charts)
         × Guards (now guards) (now stays) ⌝ }
     ensures { λ _. ⌜ Hunted (now (masks .entry)) (now (small .entry)) (now (guards .entry)) (now (stays .entry)) charts left output (now (trail .entry)) (now (moves .entry))
         (now (best .entry)) (now (shown .entry)) (now (trail .exit)) (now (moves .exit)) (now (best .exit)) (now (shown .exit)) ⌝ }
@@ -548,8 +539,44 @@ fn found_in(best: &[u8; FOUND_BYTES], shown: &[u64; 1]) -> Found
     }
 }
 
-// What a search over the charts finds, where low is what each is surely offered of the input. `guards` has the triggers of charts that may stay, and
-// `stays` how many there are (specs/Stays.antt).
+// What a search over the charts finds, where low is what each is surely offered of the input, with a trail that is lent.
+fn hunted(
+    masks: &[u64],
+    small: &[u8],
+    guards: &[u64],
+    stays: &[u8],
+    trail: &mut [u64],
+    charts: usize,
+    low: [u64; CHARTS],
+) -> Found
+    requires { ⌜ Tables charts (now masks) (now small) × (charts ≤ mostCharts) × Guards (now guards) (now stays)
+        × (trailFor charts ≤ length (now trail)) ⌝ }
+    ensures { λ r. ⌜ r ≡ over (huntsBoth (now (masks .entry)) (now (small .entry)) (now (guards .entry))
+        (now (stays .entry)) charts 0 (beginning low)) nothing ⌝ }
+{
+    let mut moves = [0u8; moves::SIZE];
+    let mut best = [0u8; FOUND_BYTES];
+    let mut shown = [0u64; 1];
+    put_row(trail, low, 0);
+    put_column(&mut best, PLACES, &moves, 0, moves::TAKEN, NO_PLACE);
+    hunt(
+        masks,
+        small,
+        guards,
+        stays,
+        trail,
+        &mut moves,
+        &mut best,
+        &mut shown,
+        charts,
+        charts,
+        0,
+    );
+    found_in(&best, &shown)
+}
+
+// The same with a trail of its own: a shorter one for fewer charts. `guards` has the triggers of charts that may stay,
+// and `stays` how many there are (specs/Stays.antt).
 pub fn search(
     masks: &[u64],
     small: &[u8],
@@ -561,24 +588,14 @@ pub fn search(
     requires { ⌜ Tables charts (now masks) (now small) × (charts ≤ mostCharts) × Guards (now guards) (now stays) ⌝ }
     ensures { λ r. ⌜ r ≡ over (huntsBoth (now (masks .entry)) (now (small .entry)) (now (guards .entry)) (now (stays .entry)) charts 0 (beginning low)) nothing ⌝ }
 {
+    if charts <= cells::FEW {
+        let mut trail = [0u64; trail::FEW_SIZE];
+        return hunted(masks, small, guards, stays, &mut trail, charts, low);
+    }
+    if charts <= cells::HALF {
+        let mut trail = [0u64; trail::HALF_SIZE];
+        return hunted(masks, small, guards, stays, &mut trail, charts, low);
+    }
     let mut trail = [0u64; trail::SIZE];
-    let mut moves = [0u8; moves::SIZE];
-    let mut best = [0u8; FOUND_BYTES];
-    let mut shown = [0u64; 1];
-    put_row(&mut trail, low, 0);
-    put_column(&mut best, PLACES, &moves, 0, moves::TAKEN, NO_PLACE);
-    hunt(
-        masks,
-        small,
-        guards,
-        stays,
-        &mut trail,
-        &mut moves,
-        &mut best,
-        &mut shown,
-        charts,
-        charts,
-        0,
-    );
-    found_in(&best, &shown)
+    hunted(masks, small, guards, stays, &mut trail, charts, low)
 }

@@ -1,11 +1,11 @@
 -- What the functions that note triggers ask and leave: one transition (Notes), a chart's (Noting, Tells), all charts' (Telling, Stays).
 use mathlib.Core.Path.{_≡_}
-use mathlib.Core.Bool.{Bool, cond}
+use mathlib.Core.Bool.{Bool, _&&_, not, cond}
 use mathlib.Core.List.{List}
 use mathlib.Core.Logic.{_≢_}
 use Prim.Native.Nat.{ℕ, _+_, _*_, _≤_, _<_}
 use lib.ListN.{length, getD, set}
-use Rattle.signals.specs.Mask.{_∪_}
+use Rattle.signals.specs.Mask.{_∪_, bit}
 use Rattle.layout.specs.Body.{transitionsOf}
 use Rattle.layout.specs.Body.{from as fromOn}
 use Rattle.layout.specs.declared.body.Shape.{Shape}
@@ -36,16 +36,20 @@ pub record Noting (f : ℕ → Transition) (start count q c p : ℕ) (g₀ g : L
   pub counts : k ≡ tally p (λ u. one (same (f (start + u) .from) q))
   pub beside : Beside c g₀ g
 
--- what a search is told of chart c, whose transitions are ts, between bounds on what it is offered
-pub record Tells (ts : List Transition) (q c : ℕ) (low high : Set) (g₀ g : List ℕ) (k : ℕ) : Type 0 where
-  pub told : Told g c ts q (untriggered ts q low high) k
+-- what a search is told of chart c, whose transitions are ts, between bounds on what it is offered, where it must not go
+-- to the states of a mask
+pub record Tells (ts : List Transition) (q c : ℕ) (low high shut : Set) (g₀ g : List ℕ) (k : ℕ) : Type 0 where
+  pub told : Told g c ts q (untriggered ts q low high && not (bit shut q)) k
   pub few : k ≤ mostFromState + 1
   pub beside : Beside c g₀ g
 
-module _ (n : Shape) (b config lows may m : List ℕ) where
-  -- chart c is not surely triggered
+module _ (n : Shape) (b config lows may shuts m : List ℕ) where
+  -- chart c is not surely triggered, and its state is not shut
   abbrev pub quiet : ℕ → Bool
-  quiet c = untriggered (transitionsOf n b c) (getD config c 0) (getD lows c 0) (getD lows c 0 ∪ othersAt m (n .charts) (λ e. getD may e 0) c)
+  quiet c =
+      untriggered (transitionsOf n b c) (getD config c 0) (getD lows c 0)
+      (getD lows c 0 ∪ othersAt m (n .charts) (λ e. getD may e 0) c)
+      && not (bit (getD shuts c 0) (getD config c 0))
 
   -- what it is told of the first k charts
   pub record Telling (k : ℕ) (g y : List ℕ) : Type 0 where
@@ -57,6 +61,6 @@ module _ (n : Shape) (b config lows may m : List ℕ) where
     pub some-may : someStay y ≡ 1
 
 -- what it is told of all: g and y are as the search asks for
-pub record Stays (n : Shape) (b config lows m g y : List ℕ) : Type 0 where
-  pub stayers : Stayers (chartOf n b) (λ c. getD config c 0) (n .charts) (keepAt (chartOf n b) (λ c. getD config c 0) (n .charts) lows m) g y
+pub record Stays (n : Shape) (b config lows shuts m g y : List ℕ) : Type 0 where
+  pub stayers : Stayers (chartOf n b) (λ c. getD config c 0) (n .charts) (keepAt (chartOf n b) (λ c. getD config c 0) (n .charts) lows shuts m) g y
   pub guards : Guards g y

@@ -62,7 +62,8 @@ fn note_chart(
     have
 }
 
-// What a search is told of chart c: 0 if it is surely triggered, so cannot stay; else how many triggers it has, and 1.
+// What a search is told of chart c: 0 if it is surely triggered, or its state is shut, so that it cannot stay; else how
+// many triggers it has, and 1.
 fn tell(
     n: Shape,
     body: &[u8],
@@ -73,30 +74,36 @@ fn tell(
     c: usize,
     low: u64,
     high: u64,
+    shut: u64,
 ) -> u8
     requires { ⌜ Holds n (now body) × (start + count ≤ n .transitions) × (triggersFor (c + 1) ≤ length (now guards)) × (c < mostCharts)
         × (tally count (λ u. one (same (transitionAt n (now body) (start + u) .from) state)) ≤ mostFromState) ⌝ }
-    ensures { λ r. ⌜ Tells (fromOn (transitionAt n (now (body .entry))) start count) state c low high (now (guards .entry)) (now (guards .exit)) r ⌝ }
+    ensures { λ r. ⌜ Tells (fromOn (transitionAt n (now (body .entry))) start count) state c low high shut (now (guards .entry)) (now (guards .exit)) r ⌝ }
 {
     let have = note_chart(n, body, start, count, state, guards, c);
     if search::trips(guards, c, have, low, high) {
         return 0;
     }
+    if candidates::is_shut(shut, state) {
+        return 0;
+    }
     (have + 1) as u8
 }
 
-// The same of every chart, where `low` has what each is surely offered and `may` what each might put out.
+// The same of every chart, where `low` has what each is surely offered, `may` what each might put out, and `shuts` the
+// states that each must not go to.
 fn tell_all(
     n: Shape,
     body: &[u8],
     config: &[u8],
     low: [u64; CHARTS],
     may: [u64; CHARTS],
+    shuts: [u64; CHARTS],
     masks: &[u64],
     guards: &mut [u64],
 ) -> [u8; triggers::STAYS]
     requires { ⌜ Ready n (now body) (now config) × (masksFor (n .charts) ≤ length (now masks)) × (triggersFor (n .charts) ≤ length (now guards)) ⌝ }
-    ensures { λ r. ⌜ Telling n (now (body .entry)) (now (config .entry)) low may (now (masks .entry)) (n .charts) (now (guards .exit)) r ⌝ }
+    ensures { λ r. ⌜ Telling n (now (body .entry)) (now (config .entry)) low may shuts (now (masks .entry)) (n .charts) (now (guards .exit)) r ⌝ }
 {
     let mut stays = [0u8; triggers::STAYS];
     stays[triggers::SOME_STAY] = 1;
@@ -107,7 +114,18 @@ fn tell_all(
         let count = head.transitions as usize;
         let others = candidates::others(masks, n.charts, may, c);
         let high = low[c] | others;
-        stays[c] = tell(n, body, start, count, config[c], guards, c, low[c], high);
+        stays[c] = tell(
+            n,
+            body,
+            start,
+            count,
+            config[c],
+            guards,
+            c,
+            low[c],
+            high,
+            shuts[c],
+        );
         start += count;
         c += 1;
     }
@@ -121,15 +139,16 @@ pub fn stays(
     config: &[u8],
     low: [u64; CHARTS],
     may: [u64; CHARTS],
+    shuts: [u64; CHARTS],
     masks: &[u64],
     guards: &mut [u64],
 ) -> [u8; triggers::STAYS]
     requires { ⌜ Ready n (now body) (now config) × (masksFor (n .charts) ≤ length (now masks)) × Mays n (now body) (now config) (n .charts) may
         × (n .edition ≡ stayEdition → triggersFor (n .charts) ≤ length (now guards)) ⌝ }
-    ensures { λ r. ⌜ Stays n (now (body .entry)) (now (config .entry)) low (now (masks .entry)) (now (guards .exit)) r ⌝ }
+    ensures { λ r. ⌜ Stays n (now (body .entry)) (now (config .entry)) low shuts (now (masks .entry)) (now (guards .exit)) r ⌝ }
 {
     if n.edition != checks::limits::STAY_EDITION as usize {
         return [0u8; triggers::STAYS];
     }
-    tell_all(n, body, config, low, may, masks, guards)
+    tell_all(n, body, config, low, may, shuts, masks, guards)
 }

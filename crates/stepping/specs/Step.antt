@@ -1,5 +1,5 @@
 -- What the step's functions ask and leave. A step of a body that passed 1 to 11 (`stepAfter`) is what the list of RULES 3.6 goes on with; the search
--- over the tables of a wired file answers it (`Prepared`, `Finds`).
+-- over the tables of a wired file answers it (`Prepared`, `Finds`), with 24 before it (`Tries`).
 use mathlib.Core.Path.{_≡_}
 use mathlib.Core.Bool.{false, cond}
 use mathlib.Core.List.{List, [], _∷_, _++_}
@@ -7,24 +7,27 @@ use Prim.Native.Nat.{ℕ}
 use lib.Dec.{ltb}
 use lib.ListN.{length, getD}
 use Rattle.layout.specs.declared.body.Shape.{Shape}
-use Rattle.meaning.specs.Numbers.{wrongLength, badState, shortBuffer}
+use Rattle.meaning.specs.Numbers.{mostOpen, wrongLength, badState, shortBuffer, noStep, manyOpen}
 use Rattle.meaning.specs.Count.{anyUpTo}
 use Rattle.meaning.specs.Meaning.{Set, same, Answer, refused}
 use Rattle.meaning.specs.File.{File, fileAt}
 use Rattle.meaning.specs.Check.{Test, firstOf, differ, notBelow, charts?, transitions?}
 use Rattle.meaning.specs.Check.Nodes.{Sound}
-use Rattle.meaning.specs.Calls.{stepIn, allPlaces, placesIn, nextIn}
+use Rattle.meaning.specs.Open.{openIn}
+use Rattle.meaning.specs.Calls.{foundIn, stepIn, allPlaces, placesFound, placesIn, openFor, nextIn}
 use Rattle.search.specs.Trail.{beginning}
 use Rattle.search.specs.Hunt.{over, nothing}
 use Rattle.search.specs.Stays.{huntsBoth}
 use Rattle.search.specs.declared.Found.{Found}
 use Rattle.tables.specs.Filled.{answerOf}
+use Rattle.tables.specs.Whole.{Opens}
 use Rattle.checks.specs.Known.{Sized, Summed}
 use Rattle.plan.specs.Wired.{Wired}
 use Rattle.candidates.specs.Candidates.{Tabled}
 use Rattle.staying.specs.Staying.{Stays}
 use Rattle.stepping.specs.Answer.{steppedOf}
 use Rattle.stepping.specs.declared.step.Stepped.{Stepped}
+use Rattle.stepping.specs.declared.step.Tried.{Tried}
 pub mod Laws
 
 -- 20 and 21
@@ -44,10 +47,14 @@ stepAfter F config i room = cond (same (refusalAfter F config room) 0) (stepIn F
 unfoldable pub placesAfter : File → List ℕ → Set → ℕ → List ℕ
 placesAfter F config i room = cond (same (refusalAfter F config room) 0) (placesIn F config i) (allPlaces [])
 
+abbrev pub openAfter : File → List ℕ → Set → ℕ → ℕ
+openAfter F config i room = openFor (stepAfter F config i room) (openIn F config)
+
 -- what a step of a body that passed 1 to 11 answers, and what it leaves of a buffer b
 abbrev pub BodySteps : File → List ℕ → Set → List ℕ → Stepped → List ℕ → Type 0
 BodySteps F config i b r c =
-    (r ≡ steppedOf (stepAfter F config i (length b)) (placesAfter F config i (length b))) × (c ≡ nextIn (stepAfter F config i (length b)) b)
+    (r ≡ steppedOf (stepAfter F config i (length b)) (placesAfter F config i (length b)) (openAfter F config i (length b)))
+    × (c ≡ nextIn (stepAfter F config i (length b)) b)
 
 -- a body that passed 1 to 11
 pub record Checked (n : Shape) (b : List ℕ) : Type 0 where
@@ -62,18 +69,35 @@ pub record Prepared (n : Shape) (b a m s : List ℕ) : Type 0 where
   pub wired : Wired (fileAt n b) a m s
   pub tabled : Tabled (n .charts) m s
 
+-- no permitted choice goes to a state that is shut, whatever the input is
+abbrev pub Shut : Shape → List ℕ → List ℕ → List ℕ → Type 0
+Shut n b config shuts = (i : Set) → Opens (fileAt n b) (λ c. getD config c 0) i shuts
+
 -- what a search over tables finds, low being what each chart is surely offered before any is settled
 abbrev pub searchedOf : ℕ → List ℕ → List ℕ → List ℕ → List ℕ → List ℕ → Found
 searchedOf N low m s g y = over (huntsBoth m s g y N 0 (beginning low)) nothing
 
 -- what was found is what a search finds that was told which charts may stay
-pub record Searched (n : Shape) (b config low m s : List ℕ) (f : Found) : Type 0 where
+pub record Searched (n : Shape) (b config low shuts m s : List ℕ) (f : Found) : Type 0 where
   pub guards : List ℕ
   pub stays : List ℕ
-  pub told : Stays n b config low m guards stays
+  pub told : Stays n b config low shuts m guards stays
   pub found : f ≡ searchedOf (n .charts) low m s guards stays
 
--- what was found answers the step, and has its places
+-- what was found is what the meaning finds, and has its places
 pub record Finds (n : Shape) (b config : List ℕ) (i : Set) (f : Found) : Type 0 where
-  pub answers : answerOf (n .charts) f ≡ stepIn (fileAt n b) config i
-  pub places : f .places ≡ placesIn (fileAt n b) config i
+  pub answers : answerOf (n .charts) f ≡ foundIn (fileAt n b) config i
+  pub places : f .places ≡ placesFound (fileAt n b) config i
+
+-- the answer of a step of N charts, by how many choices are open and what was found
+abbrev pub triedAnswer : ℕ → Tried → Answer
+triedAnswer N t = cond (ltb mostOpen (t .open_choices)) (refused manyOpen) (answerOf N (t .found))
+
+abbrev pub triedRefusal : Tried → ℕ
+triedRefusal t = cond (ltb mostOpen (t .open_choices)) manyOpen (cond (t .found .has) 0 noStep)
+
+-- it answers the step, and has its places
+pub record Tries (n : Shape) (b config : List ℕ) (i : Set) (t : Tried) : Type 0 where
+  pub counts : t .open_choices ≡ openIn (fileAt n b) config
+  pub answers : triedAnswer (n .charts) t ≡ stepIn (fileAt n b) config i
+  pub places : t .found .places ≡ placesIn (fileAt n b) config i

@@ -9,9 +9,9 @@ ghost use Rattle.meaning.specs.Count.{one};
 ghost use Rattle.meaning.specs.File.{fileAt};
 ghost use Rattle.meaning.specs.Calls.{laidOver, afterStep, carriedAfter, rowOf, rowsOf, carriedOf};
 ghost use Rattle.meaning.specs.Laws.Runs.{Valid};
-ghost use Rattle.tables.specs.Filled.{answerOf};
-ghost use Rattle.stepping.specs.Step.{Checked, Prepared};
+ghost use Rattle.stepping.specs.Step.{Checked, Prepared, triedAnswer};
 ghost use Rattle.stepping.specs.Run.{BodyRuns};
+use crate::step::Tried;
 use cells::CHARTS;
 use cells::masks;
 use cells::small;
@@ -20,7 +20,6 @@ use layout::body::Shape;
 use layout::row::MARK;
 use layout::row::REFUSAL;
 use layout::row::STATES;
-use search::Found;
 
 // What a run answers, its rows aside: 0 or the refusal, and what is carried after the last input, nothing if the run is refused (RULES 1.4, 6.4).
 pub struct Ran {
@@ -63,15 +62,17 @@ fn put_fields(
 }
 
 // The row of a step from a configuration.
-fn put_row(row: &mut [u8], f: Found, states: [u8; CHARTS], charts: usize)
+fn put_row(row: &mut [u8], t: Tried, states: [u8; CHARTS], charts: usize)
     requires { ⌜ (charts ≤ mostCharts) × (length (now row) ≡ 10 + charts) ⌝ }
-    ensures { λ _. ⌜ now (row .exit) ≡ rowOf (answerOf charts f) (take charts states) ⌝ }
+    ensures { λ _. ⌜ now (row .exit) ≡ rowOf (triedAnswer charts t) (take charts states) ⌝ }
 {
-    if f.has {
+    let refusal = crate::step::refusal_of(t);
+    if refusal == limits::ACCEPTED {
+        let f = t.found;
         let next = f.next;
         put_fields(row, f.output, mark(f.agree), limits::ACCEPTED, next, charts);
     } else {
-        put_fields(row, 0, 0, limits::NO_STEP, states, charts);
+        put_fields(row, 0, 0, refusal, states, charts);
     }
 }
 
@@ -93,13 +94,15 @@ fn present(states: [u8; CHARTS], carried: u64, left: usize) -> Stand
 }
 
 // Where it stands after a step that was offered a set. A refused one keeps the states, and what it was offered is carried; the run goes on.
-fn after(f: Found, states: [u8; CHARTS], offered: u64, left: usize) -> Stand
+fn after(t: Tried, states: [u8; CHARTS], offered: u64, left: usize) -> Stand
     requires { ⌜ 0 < left ⌝ }
-    ensures { λ r. ⌜ (r .left + 1 ≡ left) × ((n : ℕ) → (take n (r .states) ≡ afterStep (answerOf n f) (take n states)) × (r .carried ≡ carriedAfter (answerOf n f) offered)) ⌝ }
+    ensures { λ r. ⌜ (r .left + 1 ≡ left)
+        × ((n : ℕ) → (take n (r .states) ≡ afterStep (triedAnswer n t) (take n states)) × (r .carried ≡ carriedAfter (triedAnswer n t) offered)) ⌝ }
 {
     let rest = left - 1;
+    let f = t.found;
     let next = f.next;
-    if !f.has {
+    if crate::step::refusal_of(t) != limits::ACCEPTED {
         return present(states, offered, rest);
     }
     present(next, 0, rest)
@@ -129,10 +132,10 @@ fn put_rows(
     while left > 0 {
         let i = inputs.len() - left;
         let offered = held | inputs[i];
-        let f = crate::step::found(n, body, &states[..charts], offered, down, masks, small);
+        let t = crate::step::try_wired(n, body, &states[..charts], offered, down, masks, small);
         let e = at + w;
-        put_row(&mut rows[at..e], f, states, charts);
-        let p = after(f, states, offered, left);
+        put_row(&mut rows[at..e], t, states, charts);
+        let p = after(t, states, offered, left);
         states = p.states;
         held = p.carried;
         left = p.left;

@@ -1,7 +1,5 @@
-// A step of a body that passed 1 to 11 (RULES 5): wire, choose candidates, search.
+// A step of a body that passed 1 to 11 (RULES 5): wire, count the open choices, choose candidates, search.
 ghost use mathlib.Core.Path.{_≡_};
-ghost use mathlib.Core.Bool.{false};
-ghost use mathlib.Core.List.{[]};
 ghost use Prim.Native.Nat.{_≤_, _<_};
 ghost use lib.ListN.{length, take, getD};
 ghost use Rattle.signals.specs.Mask.{_∩_};
@@ -10,12 +8,16 @@ ghost use Rattle.meaning.specs.Numbers.{mostCharts};
 ghost use Rattle.meaning.specs.Count.{anyUpTo};
 ghost use Rattle.meaning.specs.File.{fileAt};
 ghost use Rattle.meaning.specs.Check.{notBelow, firstOf};
-ghost use Rattle.meaning.specs.Calls.{laidOver, allPlaces};
-ghost use Rattle.cells.specs.Table.{masksFor, Row, Tables};
+ghost use Rattle.meaning.specs.Open.{openIn};
+ghost use Rattle.meaning.specs.Calls.{laidOver, Valid};
+ghost use Rattle.cells.specs.Table.{masksFor, smallSize, Row, Tables};
 ghost use Rattle.cells.specs.Triggers.{triggers, Guards};
+ghost use Rattle.search.specs.Hunt.{nothing};
+ghost use Rattle.plan.specs.Noted.{NearestIn};
 ghost use Rattle.plan.specs.Wire.{Blank};
 ghost use Rattle.candidates.specs.Candidates.{Ready, Mays};
-ghost use Rattle.stepping.specs.Step.{configTestsIn, BodySteps, Checked, Prepared, searchedOf, Searched, Finds};
+ghost use Rattle.stepping.specs.Answer.{refusedOf};
+ghost use Rattle.stepping.specs.Step.{configTestsIn, BodySteps, Checked, Prepared, Shut, searchedOf, Searched, Finds, triedRefusal, Tries};
 use candidates::Sides;
 use cells::CHARTS;
 use cells::masks;
@@ -25,23 +27,26 @@ use checks::limits;
 use layout::body::Shape;
 use search::Found;
 
-// What a step answers, the next configuration aside (RULES 5.9): 0 or the refusal, the output, the mark, and the places, 254 for a chart that stayed
-// and 255 for one that took none.
+// What a step answers, the next configuration aside (RULES 5.9): 0 or the refusal, the output, the mark, the places, 254 for a chart that stayed
+// and 255 for one that took none, and how many choices are open.
 pub struct Stepped {
     pub refusal: u8,
     pub output: u64,
     pub mark: bool,
     pub places: [u8; CHARTS],
+    pub open_choices: u64,
 }
 
-pub fn refused(r: u8) -> Stepped
-    ensures { λ s. ⌜ s ≡ record { refusal = r; output = 0; mark = false; places = allPlaces [] } ⌝ }
+// A refusal, which says that so many choices are open.
+pub fn refused(r: u8, open_choices: u64) -> Stepped
+    ensures { λ s. ⌜ s ≡ refusedOf r open_choices ⌝ }
 {
     Stepped {
         refusal: r,
         output: 0,
         mark: false,
         places: [search::NO_PLACE; CHARTS],
+        open_choices,
     }
 }
 
@@ -112,36 +117,40 @@ fn found_staying(
     body: &[u8],
     config: &[u8],
     sides: Sides,
+    shuts: [u64; CHARTS],
     masks: &[u64],
     small: &[u8],
 ) -> Found
     requires { ⌜ Ready n (now body) (now config) × Tables (n .charts) (now masks) (now small) × Mays n (now body) (now config) (n .charts) (sides .may) ⌝ }
-    ensures { λ r. ⌜ Searched n (now (body .entry)) (now (config .entry)) (sides .low) (now (masks .entry)) (now (small .entry)) r ⌝ }
+    ensures { λ r. ⌜ Searched n (now (body .entry)) (now (config .entry)) (sides .low) shuts (now (masks .entry)) (now (small .entry)) r ⌝ }
 {
     let low = sides.low;
     let may = sides.may;
     let mut guards = [0u64; triggers::SIZE];
-    let stays = staying::stays(n, body, config, low, may, masks, &mut guards);
+    let stays = staying::stays(n, body, config, low, may, shuts, masks, &mut guards);
     searched(masks, small, &guards, &stays, n.charts, low)
 }
 
-// One step of a wired body from a configuration. The tables are ready for another. Where no chart may stay there is no trigger to make room for.
-pub(crate) fn found(
+// What is found for a wired body from a configuration, where each chart must not go to the states that are shut. The
+// tables are ready for another. Where no chart may stay there is no trigger to make room for.
+fn found(
     n: Shape,
     body: &[u8],
     config: &[u8],
     input: u64,
     down: [u64; CHARTS],
+    shuts: [u64; CHARTS],
     masks: &mut [u64],
     small: &mut [u8],
 ) -> Found
-    requires { ⌜ Checked n (now body) × Ready n (now body) (now config) × Prepared n (now body) down (now masks) (now small) ⌝ }
+    requires { ⌜ Checked n (now body) × Ready n (now body) (now config) × Prepared n (now body) down (now masks) (now small)
+        × Shut n (now body) (now config) shuts ⌝ }
     ensures { λ r. ⌜ Finds n (now (body .entry)) (now (config .entry)) input r × Prepared n (now (body .entry)) down (now (masks .exit)) (now (small .exit)) ⌝ }
 {
     let base = lows(down, input);
-    let sides = candidates::choose(n, body, config, base, masks, small);
+    let sides = candidates::choose(n, body, config, base, shuts, masks, small);
     if n.edition == limits::STAY_EDITION as usize {
-        return found_staying(n, body, config, sides, masks, small);
+        return found_staying(n, body, config, sides, shuts, masks, small);
     }
     let low = sides.low;
     let guards = [0u64; 0];
@@ -149,27 +158,117 @@ pub(crate) fn found(
     searched(masks, small, &guards, &stays, n.charts, low)
 }
 
+// How many choices are open from a configuration, and the states that each chart must not go to, since none begins so.
+struct Ways {
+    open_choices: u64,
+    shuts: [u64; CHARTS],
+}
+
+fn counted(n: Shape, body: &[u8], config: &[u8], small: &[u8]) -> Ways
+    requires { ⌜ Checked n (now body) × Valid (fileAt n (now body)) (now config) × NearestIn (fileAt n (now body)) (now small)
+        × (length (now small) ≡ smallSize) ⌝ }
+    ensures { λ r. ⌜ (r .open_choices ≡ openIn (fileAt n (now (body .entry))) (now (config .entry)))
+        × Shut n (now (body .entry)) (now (config .entry)) (r .shuts) ⌝ }
+{
+    let masters = small::masters(small);
+    let states = small::slave_states(small);
+    let mut counts = [0u64; CHARTS];
+    let open_choices = counting::open_choices(n, body, config, masters, states, &mut counts);
+    let shuts = counting::shut(n.charts, config, masters, states, &counts);
+    Ways {
+        open_choices,
+        shuts,
+    }
+}
+
+// What a step comes to: how many choices are open, and what was found among them.
+pub(crate) struct Tried {
+    pub(crate) open_choices: u64,
+    pub(crate) found: Found,
+}
+
+// Nothing was looked for among so many open choices.
+fn untried(open_choices: u64) -> Tried
+    ensures { λ r. ⌜ (r .open_choices ≡ open_choices) × (r .found ≡ nothing) ⌝ }
+{
+    Tried {
+        open_choices,
+        found: search::none(),
+    }
+}
+
+// 24, 23, or 0 if the step is given.
+pub(crate) fn refusal_of(t: Tried) -> u8
+    ensures { λ r. ⌜ r ≡ triedRefusal t ⌝ }
+{
+    if t.open_choices > limits::MOST_OPEN {
+        return limits::MANY_OPEN;
+    }
+    let f = t.found;
+    if f.has {
+        return limits::ACCEPTED;
+    }
+    limits::NO_STEP
+}
+
+// One step of a wired body from a configuration. There is nothing to look for where no choice is open; where too many are, nothing is looked for.
+pub(crate) fn try_wired(
+    n: Shape,
+    body: &[u8],
+    config: &[u8],
+    input: u64,
+    down: [u64; CHARTS],
+    masks: &mut [u64],
+    small: &mut [u8],
+) -> Tried
+    requires { ⌜ Checked n (now body) × Valid (fileAt n (now body)) (now config) × Prepared n (now body) down (now masks) (now small) ⌝ }
+    ensures { λ r. ⌜ Tries n (now (body .entry)) (now (config .entry)) input r × Prepared n (now (body .entry)) down (now (masks .exit)) (now (small .exit)) ⌝ }
+{
+    let count = counted(n, body, config, small);
+    let open_choices = count.open_choices;
+    if open_choices == 0 {
+        return untried(open_choices);
+    }
+    if open_choices > limits::MOST_OPEN {
+        return untried(open_choices);
+    }
+    let shuts = count.shuts;
+    let found = found(n, body, config, input, down, shuts, masks, small);
+    Tried {
+        open_choices,
+        found,
+    }
+}
+
 // One step of a body, wired for it into masks that are new.
-fn found_in(n: Shape, body: &[u8], config: &[u8], input: u64, masks: &mut [u64]) -> Found
-    requires { ⌜ Checked n (now body) × Ready n (now body) (now config) × (masksFor (n .charts) ≤ length (now masks)) × Blank (now masks) ⌝ }
-    ensures { λ r. ⌜ Finds n (now (body .entry)) (now (config .entry)) input r ⌝ }
+fn try_in(n: Shape, body: &[u8], config: &[u8], input: u64, masks: &mut [u64]) -> Tried
+    requires { ⌜ Checked n (now body) × Valid (fileAt n (now body)) (now config) × (masksFor (n .charts) ≤ length (now masks)) × Blank (now masks) ⌝ }
+    ensures { λ r. ⌜ Tries n (now (body .entry)) (now (config .entry)) input r ⌝ }
 {
     let mut small = [0u8; small::SIZE];
     let down = plan::wire::wired(n, body, masks, &mut small);
-    found(n, body, config, input, down, masks, &mut small)
+    try_wired(n, body, config, input, down, masks, &mut small)
 }
 
-// The same, with masks of its own. For few charts they are fewer: to zero them takes a good part of a step.
-fn found_new(n: Shape, body: &[u8], config: &[u8], input: u64) -> Found
-    requires { ⌜ Checked n (now body) × Ready n (now body) (now config) ⌝ }
-    ensures { λ r. ⌜ Finds n (now (body .entry)) (now (config .entry)) input r ⌝ }
+// The same, with masks of its own. For fewer charts they are fewer: to zero them takes a good part of a step.
+fn try_new(n: Shape, body: &[u8], config: &[u8], input: u64) -> Tried
+    requires { ⌜ Checked n (now body) × Valid (fileAt n (now body)) (now config) ⌝ }
+    ensures { λ r. ⌜ Tries n (now (body .entry)) (now (config .entry)) input r ⌝ }
 {
-    if n.charts <= masks::FEW {
+    if n.charts <= cells::PAIR {
+        let mut masks = [0u64; masks::PAIR_SIZE];
+        return try_in(n, body, config, input, &mut masks);
+    }
+    if n.charts <= cells::FEW {
         let mut masks = [0u64; masks::FEW_SIZE];
-        return found_in(n, body, config, input, &mut masks);
+        return try_in(n, body, config, input, &mut masks);
+    }
+    if n.charts <= cells::HALF {
+        let mut masks = [0u64; masks::HALF_SIZE];
+        return try_in(n, body, config, input, &mut masks);
     }
     let mut masks = [0u64; masks::SIZE];
-    found_in(n, body, config, input, &mut masks)
+    try_in(n, body, config, input, &mut masks)
 }
 
 // The first n states, over the front of the caller's buffer.
@@ -191,15 +290,21 @@ pub fn of_body(n: Shape, body: &[u8], config: &[u8], input: u64, next: &mut [u8]
 {
     let r = config_refusal(n, body, config);
     if r != limits::ACCEPTED {
-        return refused(r);
+        return refused(r, 0);
     }
     if next.len() < n.charts {
-        return refused(limits::SHORT_BUFFER);
+        return refused(limits::SHORT_BUFFER, 0);
     }
-    let f = found_new(n, body, config, input);
-    if !f.has {
-        return refused(limits::NO_STEP);
+    let t = try_new(n, body, config, input);
+    let refusal = refusal_of(t);
+    let open_choices = t.open_choices;
+    if refusal == limits::MANY_OPEN {
+        return refused(refusal, open_choices);
     }
+    if refusal != limits::ACCEPTED {
+        return refused(refusal, 0);
+    }
+    let f = t.found;
     let states = f.next;
     put_states(next, states, n.charts);
     let places = f.places;
@@ -208,5 +313,6 @@ pub fn of_body(n: Shape, body: &[u8], config: &[u8], input: u64, next: &mut [u8]
         output: f.output,
         mark: f.agree,
         places,
+        open_choices,
     }
 }

@@ -7,11 +7,11 @@ use mathlib.Core.Logic.{_≢_}
 use Prim.Native.Nat.{ℕ, zero, suc, _+_, _*_, _-_, _≤_, _<_}
 use lib.Dec.{ltb}
 use lib.ListN.{length, getD, set}
-use Rattle.signals.specs.Mask.{_∪_, _∩_}
+use Rattle.signals.specs.Mask.{_∪_, _∩_, bit}
 use Rattle.layout.specs.declared.record.Transition.{Transition}
 use Rattle.meaning.specs.Numbers.{mostCharts, mostFromState}
 use Rattle.meaning.specs.Count.{anyUpTo}
-use Rattle.meaning.specs.Meaning.{Set, same, Chart, Move, met?, pick, actionOf}
+use Rattle.meaning.specs.Meaning.{Set, same, Chart, Move, noMove, takes, stay, met?, pick, actionOf}
 use Rattle.wiring.specs.Wire.{join}
 use Rattle.wiring.specs.Dropped.{ahead, test}
 use Rattle.wiring.specs.Sure.{sureOf, sureIn}
@@ -23,13 +23,22 @@ pub mod Laws
 
 -- ── a move tested alone ──
 
--- low: what its chart is surely offered; own: what of the chart's own action gets back to it; others: all that the others might put in
-unfoldable pub keptBy : Set → Set → Set → Chart → ℕ → Move → Bool
-keptBy low own others K q M = test K q M (low ∪ actionOf M ∩ own) (low ∪ actionOf M ∩ own ∪ others)
+-- it may begin an open choice: a mask has the states that its chart must not go to; a chart that rests goes nowhere
+unfoldable pub opensBy : Set → ℕ → Move → Bool
+opensBy shut q noMove = true
+opensBy shut q (takes t) = not (bit shut (t .to))
+opensBy shut q stay = not (bit shut q)
+
+-- low: what its chart is surely offered; own: what of the chart's own action gets back to it; others: all that the
+-- others might put in; shut: the states that its chart must not go to
+unfoldable pub keptBy : Set → Set → Set → Set → Chart → ℕ → Move → Bool
+keptBy low own others shut K q M =
+    test K q M (low ∪ actionOf M ∩ own) (low ∪ actionOf M ∩ own ∪ others) && opensBy shut q M
 
 -- a transition
-unfoldable pub lastsBy : Set → Set → Set → Transition → Bool
-lastsBy low own others t = met? t (low ∪ t .action ∩ own ∪ others) (low ∪ t .action ∩ own)
+unfoldable pub lastsBy : Set → Set → Set → Set → Transition → Bool
+lastsBy low own others shut t =
+    met? t (low ∪ t .action ∩ own ∪ others) (low ∪ t .action ∩ own) && not (bit shut (t .to))
 
 -- what the charts other than c might put in for it, each of its `may`
 unfoldable pub othersAt : List ℕ → ℕ → (ℕ → Set) → ℕ → Set
@@ -62,12 +71,12 @@ pickFilling true a b = a
 pickFilling false a b = b
 
 -- chart c is at q
-module _ (c q : ℕ) (low own others : Set) where
+module _ (c q : ℕ) (low own others shut : Set) where
   -- the transition at place p
   unfoldable pub considered : ℕ → Transition → Filling → Filling
   considered p t f =
       pickFilling (same (t .from) q)
-      (pickFilling (lastsBy low own others t) (pickFilling (isAgain (f .masks) (f .small) c (f .count) t) f (put c p t f)) f)
+      (pickFilling (lastsBy low own others shut t) (pickFilling (isAgain (f .masks) (f .small) c (f .count) t) f (put c p t f)) f)
       f
 
   -- the first p transitions of g
@@ -77,15 +86,21 @@ module _ (c q : ℕ) (low own others : Set) where
 
 -- ── all charts ──
 
+-- of the places that are kept those whose moves may begin an open choice, by the states that each chart must not go to
+abbrev pub opening : (ℕ → Chart) → (ℕ → ℕ) → List ℕ → (ℕ → ℕ → Bool) → ℕ → ℕ → Bool
+opening E cfg shuts keep c v = keep c v && opensBy (getD shuts c 0) (cfg c) (pick (E c) v)
+
 module _ (E : ℕ → Chart) (cfg : ℕ → ℕ) where
   -- lows has what base has, and what the first k charts surely put in
   abbrev pub Raised : ℕ → List ℕ → List ℕ → List ℕ → List ℕ → Type 0
   Raised k m s base lows = (c : ℕ) → c < mostCharts → getD lows c 0 ≡ getD base c 0 ∪ join k (λ e. sureAt s e (sureIn (E e .stays) (sureOf (E e .transitions) (cfg e))) ∩ backAt m c e)
 
-module _ (E : ℕ → Chart) (cfg : ℕ → ℕ) (N : ℕ) (lows : List ℕ) where
+module _ (E : ℕ → Chart) (cfg : ℕ → ℕ) (N : ℕ) (lows shuts : List ℕ) where
   -- the move of chart c at place v is kept
   unfoldable pub keepAt : List ℕ → ℕ → ℕ → Bool
-  keepAt m c v = keptBy (getD lows c 0) (backAt m c c) (othersAt m N (λ e. mayOf (E e .transitions) (cfg e)) c) (E c) (cfg c) (pick (E c) v)
+  keepAt m c v =
+      keptBy (getD lows c 0) (backAt m c c) (othersAt m N (λ e. mayOf (E e .transitions) (cfg e)) c) (getD shuts c 0) (E c) (cfg c)
+      (pick (E c) v)
 
   -- the first k charts have their candidates; of the tables m₀ and s₀ the rest is as it was
   pub record Until (m₀ s₀ : List ℕ) (k : ℕ) (m s : List ℕ) : Type 0 where

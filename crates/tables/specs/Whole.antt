@@ -7,12 +7,12 @@ use mathlib.Core.Logic.{_≢_}
 use Prim.Native.Nat.{ℕ, zero, suc, _+_, _-_, _≤_, _<_}
 use native.Mathlib.Omega.{arith}
 use native.Mathlib.Decide.{decLt}
-use lib.ListN.{length, replicate}
+use lib.ListN.{length, getD, replicate}
 use Rattle.signals.specs.Mask.{_∪_, _∩_, Within}
 use Rattle.signals.specs.Decide.{sets, A, B, C, ∅ₑ, _∪ₑ_, _≐_, _⊑_}
 use Rattle.layout.specs.declared.record.Transition.{Transition}
 use Rattle.meaning.specs.Meaning.{Set, same, Chart, Tree, Move, noMove, takes, stay, nth, behind, pick, lastPlace, actionOf, permitted, upd, moves, placesFrom, upto, Outcome, outcomeOf, outcome, search, outcomes, answer, firstPlaces}
-use Rattle.meaning.specs.Laws.Bools.{same-refl, same→≡, same-≢, every}
+use Rattle.meaning.specs.Laws.Bools.{same-refl, same→≡, same-≢, every, and-i}
 use Rattle.meaning.specs.Numbers.{mostCharts, noPlace, stayPlace}
 use Rattle.meaning.specs.Laws.Editions.{places-one, places-two, stay-last}
 use Rattle.meaning.specs.Calls.{allPlaces}
@@ -23,6 +23,7 @@ use Rattle.meaning.specs.Laws.Choices.{upto-first, length-nexts, length-places}
 use Rattle.wiring.specs.Wire.{join, down, back, offered, Small}
 use Rattle.wiring.specs.Wired.{awake, Stands, offer}
 use Rattle.wiring.specs.Sure.{surely, open?}
+use Rattle.wiring.specs.Opened.{nth-near, nth-behind}
 use Rattle.wiring.specs.Dropped.{test, may-bounds, permitted-open, Bounds, sures, low, passes}
 use Rattle.wiring.specs.Hunt.{opens, fine, hunt, hunted-all, mayOf, may-of, behind-empty}
 use Rattle.wiring.specs.Filter.{lasts, kept}
@@ -33,6 +34,7 @@ use Rattle.search.specs.Hunt.{each, wakes, taken, rested, fineAt, over, nothing
 use Rattle.search.specs.Stays.{staysAt, stayed, quietAt, huntsBoth}
 use Rattle.search.specs.Hunt.Laws.{among-each}
 use Rattle.tables.specs.Filled.{Is, Listed, start, other, fails, again, fresh, mayAt, Rows, Candidates, Stayers, Lows, answerOf}
+use Rattle.tables.specs.Fill.{opensBy, opening}
 use Rattle.tables.specs.Padded.{Padded, padded-fewer, padded-none, padded-one, padded-append, padded-nothing, padded-again, Sizes, found, found-places}
 use Rattle.tables.specs.Follow.{Follows, Placed, taken-placed, rested-placed, stayed-placed, moves-on, wakes-is, taken-follows, rested-follows, stayed-follows, fine-is, output-is, next-is}
 
@@ -54,18 +56,6 @@ nth-there [] p t e = absurd (let z : _≡_ {A = ℕ} 0 1 = cc in omega arith)
 nth-there (u ∷ ts) zero t e = omega arith
 nth-there (u ∷ ts) (suc p) t e = let h = nth-there ts p t e in omega arith
 
-nth-any : (d d′ : Move) (ts : List Transition) (p : ℕ) → p < length ts → nth d ts p ≡ nth d′ ts p
-unfolding nth
-nth-any d d′ [] p l = absurd (omega arith)
-nth-any d d′ (t ∷ ts) zero l = refl
-nth-any d d′ (t ∷ ts) (suc p) l = nth-any d d′ ts p (omega arith)
-
-nth-far : (d : Move) (ts : List Transition) (p : ℕ) → length ts ≤ p → nth d ts p ≡ d
-unfolding nth
-nth-far d [] p l = refl
-nth-far d (t ∷ ts) zero l = absurd (omega arith)
-nth-far d (t ∷ ts) (suc p) l = nth-far d ts p (omega arith)
-
 taking-nth : (b : Bool) (q : ℕ) (d : Move) (ts : List Transition) (p : ℕ) → p < length ts → open? b false q (nth d ts p) ≡ false
 unfolding open? nth
 taking-nth b q d [] p l = absurd (omega arith)
@@ -79,7 +69,7 @@ taking q K p l = go (K .stays) l
   where
     staying : Dec (p < length (K .transitions)) → open? true false q (nth stay (K .transitions) p) ≡ false
     staying (yes m) = taking-nth true q stay (K .transitions) p m
-    staying (no m) = ap (open? true false q) (nth-far stay (K .transitions) p (omega arith))
+    staying (no m) = ap (open? true false q) (nth-behind stay (K .transitions) p (omega arith))
 
     go : (b : Bool) → p < cond b (suc (length (K .transitions))) (length (K .transitions)) → open? b false q (nth (cond b stay noMove) (K .transitions) p) ≡ false
     go true l = staying (decLt p (length (K .transitions)))
@@ -321,9 +311,10 @@ module _ (E : ℕ → Chart) (state : ℕ → ℕ) (cfg : ℕ → ℕ) (N : ℕ)
         go (suc u) kp o = near (decLt u (length (E e .transitions)))
           where
             near : Dec (u < length (E e .transitions)) → Within (actionOf (nth (behind (E e)) (E e .transitions) u)) all
-            near (yes r) = let q = nth-any (behind (E e)) noMove (E e .transitions) u r in
+            near (yes r) = let q = nth-near (behind (E e)) noMove (E e .transitions) u r in
                 rw q (listed-in m s e (E e .transitions) (cfg e) (keep e) (E e .stays) (awake enc sc state cfg (moves E ch) e) u (rw q at o) kp (ca .listed e l) r)
-            near (no r) = rw (nth-far (behind (E e)) (E e .transitions) u (omega arith), behind-empty (E e .stays)) (sets (all ∷ []) [] (∅ₑ ⊑ A) tt)
+            near (no r) = rw (nth-behind (behind (E e)) (E e .transitions) u (omega arith), behind-empty (E e .stays))
+                (sets (all ∷ []) [] (∅ₑ ⊑ A) tt)
 
     sizes-append : (xs ys : List Outcome) → Sizes N xs → Sizes N ys → Sizes N (xs ++ ys)
     sizes-append [] ys p q = q
@@ -363,14 +354,23 @@ module _ (E : ℕ → Chart) (state : ℕ → ℕ) (cfg : ℕ → ℕ) (N : ℕ)
 
 -- ── for a file that tests 9 to 11 allow ──
 
--- a transition is kept: it may be met between what its chart is surely offered and what all the others might put in
-abbrev pub keeps : File → (ℕ → ℕ) → Set → ℕ → ℕ → Bool
-keeps F cfg inp = lasts (F .chart) (F .state) cfg (F .charts) (kap F) (wholeOf F) inp (λ c. mayOf (F .chart c .transitions) (cfg c))
+-- a move is kept: it may be met between what its chart is surely offered and what all the others might put in, and it
+-- goes to none of the states that its chart must not go to
+abbrev pub keeps : File → (ℕ → ℕ) → Set → List ℕ → ℕ → ℕ → Bool
+keeps F cfg inp shuts =
+    opening (F .chart) cfg shuts
+    (lasts (F .chart) (F .state) cfg (F .charts) (kap F) (wholeOf F) inp (λ c. mayOf (F .chart c .transitions) (cfg c)))
+
+-- no permitted choice goes there
+abbrev pub Opens : File → (ℕ → ℕ) → Set → List ℕ → Type 0
+Opens F cfg inp shuts =
+    (ch : ℕ → ℕ) → permitted (F .chart) (F .state) cfg (moves (F .chart) ch) (wholeOf F) inp ≡ true
+    → (c : ℕ) → c < F .charts → opensBy (getD shuts c 0) (cfg c) (pick (F .chart c) (ch c)) ≡ true
 
 module _ (F : File) (some-node : 0 < F .nodes) (w : Ordered F) (r : Rule10 F) (r11 : Rule11 F)
     (chart-there : (j : ℕ) → j < F .nodes → F .kind j ≡ 0 → F .a j < F .charts) (node-there : (i : ℕ) → i < F .slaves → (F .node i < F .nodes) × (F .master i < F .charts))
-    (cfg : ℕ → ℕ) (inp : Set) (si : Small inp) (sa : (ch : ℕ → ℕ) (e : ℕ) → Small (actionOf (moves (F .chart) ch e))) (m s g y lows : List ℕ)
-    (few : (c : ℕ) → c < F .charts → length (F .chart c .transitions) ≤ stayPlace) where
+    (cfg : ℕ → ℕ) (inp : Set) (si : Small inp) (sa : (ch : ℕ → ℕ) (e : ℕ) → Small (actionOf (moves (F .chart) ch e))) (m s g y lows shuts : List ℕ)
+    (few : (c : ℕ) → c < F .charts → length (F .chart c .transitions) ≤ stayPlace) (op : Opens F cfg inp shuts) where
   abbrev may₀ : ℕ → Set
   may₀ c = mayOf (F .chart c .transitions) (cfg c)
 
@@ -380,20 +380,26 @@ module _ (F : File) (some-node : 0 < F .nodes) (w : Ordered F) (r : Rule10 F) (r
   bound : Bounds (F .chart) (F .state) cfg (F .charts) (wholeOf F) inp may₀
   bound = may-bounds (F .chart) (F .state) cfg (F .charts) (kap F) (F .master) (wholeOf F) inp may₀ st (may-of (F .chart) cfg) si sa
 
+  kept-open : (ch : ℕ → ℕ) → permitted (F .chart) (F .state) cfg (moves (F .chart) ch) (wholeOf F) inp ≡ true
+      → (c : ℕ) → c < F .charts → keeps F cfg inp shuts c (ch c) ≡ true
+  kept-open ch p c l =
+      and-i (kept (F .chart) (F .state) cfg (F .charts) (kap F) (wholeOf F) inp may₀ (F .master) st bound si sa ch p c l)
+      (op ch p c l)
+
   -- what the search over the tables finds is what the step answers
-  pub found-is : Rows (F .chart) (F .state) cfg (F .charts) (kap F) (F .master) (wholeOf F) m s → Candidates (F .chart) cfg (F .charts) (wholeOf F) (keeps F cfg inp) m s
-      → Stayers (F .chart) cfg (F .charts) (keeps F cfg inp) g y
+  pub found-is : Rows (F .chart) (F .state) cfg (F .charts) (kap F) (F .master) (wholeOf F) m s → Candidates (F .chart) cfg (F .charts) (wholeOf F) (keeps F cfg inp shuts) m s
+      → Stayers (F .chart) cfg (F .charts) (keeps F cfg inp shuts) g y
       → Lows (F .chart) cfg (F .charts) (kap F) (wholeOf F) inp lows
       → answerOf (F .charts) (over (huntsBoth m s g y (F .charts) zero (beginning lows)) nothing) ≡ answer (outcomes (F .chart) (F .state) cfg (wholeOf F) inp (F .charts))
-  unfolding lasts test pick
-  found-is ro ca sy h = found-all (F .chart) (F .state) cfg (F .charts) (kap F) (F .master) (wholeOf F) inp m s g y (keeps F cfg inp) st ro ca sy few sa (λ c. refl) si
-      (kept (F .chart) (F .state) cfg (F .charts) (kap F) (wholeOf F) inp may₀ (F .master) st bound si sa) lows h
+  unfolding lasts test pick opensBy
+  found-is ro ca sy h = found-all (F .chart) (F .state) cfg (F .charts) (kap F) (F .master) (wholeOf F) inp m s g y (keeps F cfg inp shuts) st ro ca sy few sa (λ c. refl) si
+      kept-open lows h
 
   -- and its places are those of the first permitted choice
-  pub places-is : Rows (F .chart) (F .state) cfg (F .charts) (kap F) (F .master) (wholeOf F) m s → Candidates (F .chart) cfg (F .charts) (wholeOf F) (keeps F cfg inp) m s
-      → Stayers (F .chart) cfg (F .charts) (keeps F cfg inp) g y
+  pub places-is : Rows (F .chart) (F .state) cfg (F .charts) (kap F) (F .master) (wholeOf F) m s → Candidates (F .chart) cfg (F .charts) (wholeOf F) (keeps F cfg inp shuts) m s
+      → Stayers (F .chart) cfg (F .charts) (keeps F cfg inp shuts) g y
       → Lows (F .chart) cfg (F .charts) (kap F) (wholeOf F) inp lows
       → over (huntsBoth m s g y (F .charts) zero (beginning lows)) nothing .places ≡ allPlaces (firstPlaces (outcomes (F .chart) (F .state) cfg (wholeOf F) inp (F .charts)))
-  unfolding lasts test pick
-  places-is ro ca sy h = places-all (F .chart) (F .state) cfg (F .charts) (kap F) (F .master) (wholeOf F) inp m s g y (keeps F cfg inp) st ro ca sy few sa (λ c. refl) si
-      (kept (F .chart) (F .state) cfg (F .charts) (kap F) (wholeOf F) inp may₀ (F .master) st bound si sa) lows h
+  unfolding lasts test pick opensBy
+  places-is ro ca sy h = places-all (F .chart) (F .state) cfg (F .charts) (kap F) (F .master) (wholeOf F) inp m s g y (keeps F cfg inp shuts) st ro ca sy few sa (λ c. refl) si
+      kept-open lows h

@@ -1,11 +1,13 @@
 -- How many choices of a file are open at most, in both editions. In this order: what an active chart may do, as test 7
 -- counts it (`active-leaving`, `few-from`); the number by a table (`open-counted`); 9 for each chart (`open-few`), and
 -- 8 where none may stay (`open-few-one`), so no more than 8 ^ 8 in edition 1 with 8 charts (`never-many`); the entries
--- of a table are as small (`entry-fits`); all this of a file that passes 1 to 11; of 16 charts the number is below 2 ^
+-- of a table are as small (`entry-fits`); all this of a file that passes 1 to 11, so that no step of edition 1 with 8
+-- charts is refused with 24 (`never-refused`): it is what is found (`as-found`); of 16 charts the number is below 2 ^
 -- 64.
 use mathlib.Core.Path.{_≡_, refl, sym, _∙_, ap, ap₂}
 use mathlib.Core.Bool.{Bool, true, false, cond, true≢false}
 use mathlib.Core.List.{List}
+use mathlib.Core.Logic.{_≢_}
 use Prim.Native.Nat.{ℕ, zero, suc, _+_, _-_, _^_, _≤_, _<_}
 use native.Mathlib.Nat.{add-zero, mul-one, pow-le-pow-right}
 use native.Mathlib.Omega.{arith}
@@ -16,16 +18,18 @@ use Rattle.layout.specs.Body.{headAt, transitionAt, startOf, from, transitionsO
 use Rattle.layout.specs.Body.Laws.{length-from}
 use Rattle.layout.specs.declared.body.Shape.{Shape}
 use Rattle.layout.specs.declared.record.Transition.{Transition}
-use Rattle.meaning.specs.Numbers.{mostFromState, firstEdition}
+use Rattle.meaning.specs.Numbers.{mostFromState, mostOpen, firstEdition, manyOpen}
 use Rattle.meaning.specs.Count.{anyUpTo, tally, one}
 use Rattle.meaning.specs.Count.Laws.{or-right, any-never, tally-cong}
-use Rattle.meaning.specs.Meaning.{Chart, Move, noMove, takes, nth, lastPlace}
+use Rattle.meaning.specs.Meaning.{Set, Chart, Move, noMove, takes, nth, lastPlace, refused}
 use Rattle.meaning.specs.File.{File, trailer, bodyOf, shapeOf, chartOf, fileAt, fileOf, wholeOf}
 use Rattle.meaning.specs.Check.{ends?, leaving, transitions?, refusalOf}
 use Rattle.meaning.specs.Check.Laws.{passed, counted}
 use Rattle.meaning.specs.Check.Nodes.{Sound, sound}
 use Rattle.meaning.specs.Open.{openChart, openIn}
-use Rattle.meaning.specs.Calls.{Valid}
+use Rattle.meaning.specs.Calls.{Valid, foundIn, stepOf, placesFound, placesOf}
+use Rattle.meaning.specs.Words.{Allowed}
+use Rattle.meaning.specs.Laws.Many.{few-found, refused-many}
 use Rattle.meaning.specs.Laws.Names.{kap}
 use Rattle.meaning.specs.Laws.Editions.{one-stays}
 use Rattle.wiring.specs.Wired.{Stands}
@@ -164,10 +168,10 @@ module _ (F : File) (so : Sound F) (some-node : 0 < F .nodes) where
             go c l true e h = absurd (true≢false e)
 
         -- what 8 charts of edition 1 cannot exceed
-        pub never-many : F .charts ≤ 8 → openIn F config ≤ 16777216
+        pub never-many : F .charts ≤ 8 → openIn F config ≤ mostOpen
         never-many l =
             let h = open-few-one in let k = pow-le-pow-right {n = mostFromState} (lit< tt) l in
-            let e : mostFromState ^ 8 ≡ 16777216 = refl in omega arith
+            let e : mostFromState ^ 8 ≡ mostOpen = refl in omega arith
 
       -- no entry of a table is larger
       pub entry-fits : (count : ℕ → ℕ) → CountsIn count → (c : ℕ) → c < F .charts → count c ≤ mostMoves ^ F .charts
@@ -191,9 +195,23 @@ module _ (f : List ℕ) (ok : refusalOf f ≡ 0) where
 
   -- in edition 1 no file of 8 charts has more open choices than this, from any configuration
   pub passed-never-many : trailer f .edition ≡ firstEdition → fileOf f .charts ≤ 8 → (config : List ℕ)
-      → Valid (fileOf f) config → openIn (fileOf f) config ≤ 16777216
+      → Valid (fileOf f) config → openIn (fileOf f) config ≤ mostOpen
   passed-never-many e l config v =
       never-many (fileOf f) passed-sound passed-node config passed-few v (λ c m. one-stays f e c) l
+
+-- edition 1 and 8 charts, as many as a file had before it could have 16
+module _ (f : List ℕ) (e : trailer f .edition ≡ firstEdition) (l : fileOf f .charts ≤ 8) (config : List ℕ) (i : Set)
+    (room : ℕ) where
+  pub never-refused : stepOf f config i room ≢ refused manyOpen
+  never-refused z =
+      let h = refused-many f config i room z in
+      let k = passed-never-many f (h .0 .0) e l config (h .0 .1) in let m = h .1 in omega arith
+
+  pub as-found : Allowed f config room
+      → (stepOf f config i room ≡ foundIn (fileOf f) config i)
+      × (placesOf f config i room ≡ placesFound (fileOf f) config i)
+  as-found h =
+      few-found f config i room h (passed-never-many f (h .0) e l config (h .1))
 
 -- sixteen charts of eight transitions, and of eight and staying
 pub sixteen-fit : (8 ^ 16 < 2 ^ 64) × (9 ^ 16 < 2 ^ 64)

@@ -76,7 +76,7 @@ nth-near m n [] k l = absurd (omega arith)
 nth-near m n (t ∷ ts) zero l = refl
 nth-near m n (t ∷ ts) (suc k) l = nth-near m n ts k (omega arith)
 
-nth-behind : (m : Move) (ts : List Transition) (k : ℕ) → length ts ≤ k → nth m ts k ≡ m
+pub nth-behind : (m : Move) (ts : List Transition) (k : ℕ) → length ts ≤ k → nth m ts k ≡ m
 unfolding nth
 nth-behind m [] k l = refl
 nth-behind m (t ∷ ts) zero l = absurd (omega arith)

@@ -3,10 +3,11 @@
 
 use super::Post;
 use crate::generate::{
-    bounded, configuration, input, room, seldom_damaged, wrong_configuration, Random, Shape,
+    bounded, configuration, input, room, seldom_damaged, tried, wrong_configuration, Files, Random,
+    Shape, Size,
 };
 use crate::limits::*;
-use crate::model::{Edition, Model};
+use crate::model::Model;
 use crate::posting::{CaseRecord, Entry};
 use crate::set::Set;
 use crate::walk::from_any_state;
@@ -20,17 +21,21 @@ const LAST_ROWS: [u32; 8] = [0, 1, 11, 255, 65_535, 16_777_215, 999_999, LAST_RO
 /// Numbers of cases that no book has, those among them that lose their high bytes to be one of it.
 const NO_CASES: [u64; 6] = [64, 256, 65_536, 1 << 32, 1 << 63, u64::MAX];
 
-/// One random posting with a file of an edition.
-pub fn post(random: &mut Random, edition: Edition, name: &str) -> Post {
+/// One random posting with a file.
+pub fn post(random: &mut Random, files: Files, name: &str) -> Post {
     let count = random.pick(&BOOKS);
     let bytes = random.pick(&[300, 500, 800]);
-    let (shape, model) = loop {
-        let drawn = bounded(random, edition, bytes);
-        if from_any_state(&drawn.1) * count <= CHOICES {
-            break drawn;
+    let (shape, model, mut cases) = loop {
+        let (shape, model) = bounded(random, files, bytes);
+        if files.size == Size::Small && from_any_state(&model) * count > CHOICES {
+            continue;
+        }
+        let cases: Vec<CaseRecord> = (0..count).map(|_| case(random, &shape, &model)).collect();
+        let choices = cases.iter().map(|c| tried(&model, &c.configuration()));
+        if choices.sum::<u64>() <= CHOICES as u64 {
+            break (shape, model, cases);
         }
     };
-    let mut cases: Vec<CaseRecord> = (0..count).map(|_| case(random, &shape, &model)).collect();
     if random.chance(25) {
         spoil_cases(random, &model, &mut cases);
     }
@@ -45,10 +50,13 @@ pub fn post(random: &mut Random, edition: Edition, name: &str) -> Post {
     }
 }
 
-/// A record with this configuration at the front of some bytes, and nothing carried.
+/// A record with this configuration at the front of some bytes, as far as it has room, and nothing
+/// carried.
 pub fn record(random: &mut Random, configuration: &[u8]) -> CaseRecord {
     let mut config = [0; CASE_CONFIGURATION].map(|_| random.bits() as u8);
-    config[..configuration.len()].copy_from_slice(configuration);
+    for (byte, &state) in config.iter_mut().zip(configuration) {
+        *byte = state;
+    }
     CaseRecord {
         carried: Set::EMPTY,
         last_row: random.pick(&LAST_ROWS),

@@ -10,7 +10,7 @@ pub mod draw;
 pub mod named;
 
 use crate::command::{hex, take, FILL, MOST_BYTES};
-use crate::generate::Random;
+use crate::generate::{Files, Random, Size};
 use crate::limits::CASE_CONFIGURATION;
 use crate::model::Edition;
 use crate::posting::{post, CaseRecord, Entry};
@@ -164,11 +164,18 @@ fn decode(bytes: &mut &[u8]) -> Result<Post, String> {
     })
 }
 
-/// The random postings of a recording: seed, number, edition of their files.
-const RANDOM: [(u64, usize, Edition); 2] = [
-    (0x706f_7374, 90, Edition::First),
-    (0x706f_7375, 40, Edition::Second),
+/// The random postings of a recording: seed, number, and which files they have.
+const RANDOM: [(u64, usize, Files); 4] = [
+    (0x706f_7374, 90, files(Edition::First, Size::Small)),
+    (0x706f_7375, 40, files(Edition::Second, Size::Small)),
+    (0x166f_7374, 20, files(Edition::First, Size::Large)),
+    (0x166f_7375, 15, files(Edition::Second, Size::Large)),
 ];
+
+/// Files of an edition and a size.
+const fn files(edition: Edition, size: Size) -> Files {
+    Files { edition, size }
+}
 
 /// All recorded postings: the named ones, then random ones.
 pub fn recorded() -> Vec<Post> {
@@ -177,14 +184,19 @@ pub fn recorded() -> Vec<Post> {
 }
 
 /// So many random postings.
-fn random((seed, count, edition): (u64, usize, Edition)) -> Vec<Post> {
+fn random((seed, count, files): (u64, usize, Files)) -> Vec<Post> {
     let mut random = Random::new(seed);
-    let name = |number: usize| match edition {
-        Edition::First => format!("post-random-{number}"),
-        Edition::Second => format!("edition-2-post-random-{number}"),
+    let edition = match files.edition {
+        Edition::First => "",
+        Edition::Second => "edition-2-",
     };
+    let size = match files.size {
+        Size::Small => "",
+        Size::Large => "-large",
+    };
+    let name = |number: usize| format!("{edition}post{size}-random-{number}");
     (0..count)
-        .map(|number| draw::post(&mut random, edition, &name(number)))
+        .map(|number| draw::post(&mut random, files, &name(number)))
         .collect()
 }
 

@@ -27,6 +27,7 @@ pub fn cases() -> Vec<PostCase> {
         orders(),
         files(),
         second_edition(),
+        many_charts(),
     ]
     .into_iter()
     .flatten()
@@ -173,6 +174,66 @@ fn days() -> Vec<PostCase> {
             &[entry(0, &[0]), entry(1, &[3]), entry(2, &[0, 1, 3])],
         ),
         posts("post-eight-charts", &row_of(8), &[at(&[0; 8])], &[]),
+    ]
+}
+
+/// Files of nine charts and more. A case at a configuration with too many open choices has a row with
+/// 24, and the cases around it have theirs.
+fn many_charts() -> Vec<PostCase> {
+    // in state 0 each chart waits for 30; in state 1 each has eight transitions
+    let one = {
+        let mut moves = vec![go(1, 1, &[], &[], &[]); 8];
+        moves.push(go(0, 1, &[30], &[], &[31]));
+        chart(2, &[], moves)
+    };
+    let crowded = row_of_charts(vec![one; 9]);
+    let (few, many) = ([0; 9], [1; 9]);
+    vec![
+        posts("post-sixteen-charts", &row_of(16), &[at(&[0; 16])], &[]),
+        posts(
+            "post-nest-of-16",
+            &nest(16),
+            &[at(&[0; 16]), at(&[1; 16])],
+            &[entry(0, &[0, 1, 2]), entry(1, &[3])],
+        ),
+        posts(
+            "post-24",
+            &crowded,
+            &[at(&few), carrying(&many, &[5]), at(&few), at(&many)],
+            &[
+                entry(0, &[30]),
+                entry(1, &[6, 30]),
+                entry(2, &[7]),
+                entry(1, &[63]),
+            ],
+        ),
+        posts(
+            "edition-2-post-24",
+            &crowded.under(Edition::Second),
+            &[at(&many), at(&few)],
+            &[entry(0, &[1])],
+        ),
+        refuses(
+            refusal::CONFIGURATION_LENGTH,
+            "post-fifteen-bytes-for-sixteen-charts",
+            &row_of(16),
+            &[at(&[0; 15])],
+            &[],
+        ),
+        refuses(
+            refusal::CONFIGURATION_LENGTH,
+            "post-length-17-for-sixteen-charts",
+            &row_of(16),
+            &[of_length(&[0; 16], 17)],
+            &[],
+        ),
+        refuses(
+            refusal::CONFIGURATION_STATE,
+            "post-state-of-chart-15",
+            &row_of(16),
+            &[at(&[0, 0, 0, 0, 0, 0, 0, 0, 0, 0, 0, 0, 0, 0, 0, 1])],
+            &[],
+        ),
     ]
 }
 

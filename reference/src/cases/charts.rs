@@ -241,9 +241,10 @@ pub fn row_of_charts(charts: Vec<Chart>) -> Model {
 }
 
 /// A master with one slave in each of its states, as many as asked for; chart 0 starts in state 0
-/// and can stay there or move to any other state, whatever is offered.
+/// and can stay there or move to any other of the first eight states, whatever is offered.
 pub fn master_of(slaves: u8) -> Model {
-    let moves = (0..slaves).map(|to| go(0, to, &[], &[], &[])).collect();
+    let entered = slaves.min(STATE_TRANSITIONS as u8);
+    let moves = (0..entered).map(|to| go(0, to, &[], &[], &[])).collect();
     let mut charts = vec![chart(slaves, &[], moves)];
     charts.extend((0..slaves).map(|number| ticking(u32::from(number) + 1)));
     let mut nodes: Vec<Node> = (1..=slaves).map(leaf).collect();
@@ -276,6 +277,71 @@ pub fn spread(states: u8, transitions: usize) -> Chart {
 
 /// As many charts, each with as many transitions, as a file can have.
 pub fn fullest() -> Model {
+    full_charts(CHARTS)
+}
+
+/// So many charts, each with as many transitions as it can have.
+pub fn full_charts(charts: usize) -> Model {
     let full = spread(STATES as u8, CHART_TRANSITIONS);
-    row_of_charts(vec![full; CHARTS])
+    row_of_charts(vec![full; charts])
+}
+
+/// A chart of one state with this many transitions, whose guards are empty and whose actions differ.
+pub fn free(transitions: u32) -> Chart {
+    let moves = (0..transitions).map(|signal| go(0, 0, &[], &[], &[signal]));
+    chart(1, &[], moves.collect())
+}
+
+/// So many of the charts before, composed.
+pub fn free_row(charts: &[u32]) -> Model {
+    row_of_charts(charts.iter().map(|&count| free(count)).collect())
+}
+
+/// Charts one inside the other: each but the last is a master, and the next is its slave of state 1.
+/// A master in state 0 goes to 1 or back to 0, one in state 1 to 0 or back to 1.
+pub fn nest(charts: u8) -> Model {
+    let one = |number: u8| {
+        let signal = u32::from(number);
+        let moves = vec![
+            go(0, 1, &[signal], &[], &[signal + 16]),
+            go(0, 0, &[], &[signal], &[]),
+            go(1, 0, &[signal], &[], &[]),
+            go(1, 1, &[], &[signal], &[signal + 32]),
+        ];
+        chart(2, &[], moves)
+    };
+    Model {
+        edition: Edition::First,
+        charts: (0..charts).map(one).collect(),
+        slaves: (1..charts)
+            .map(|inner| slave(inner - 1, 1, charts - 1 - inner))
+            .collect(),
+        nodes: (0..charts).rev().map(leaf).collect(),
+    }
+}
+
+/// A master with a slave of state 1 that has these charts composed. From 0 it goes to 1, or, if
+/// asked for, back to 0.
+pub fn around(charts: Vec<Chart>, back: bool) -> Model {
+    let mut moves = vec![go(0, 1, &[], &[], &[20])];
+    if back {
+        moves.push(go(0, 0, &[], &[], &[21]));
+    }
+    let inner = row_of_charts(charts);
+    let mut nodes: Vec<Node> = inner.nodes.iter().map(numbered_up).collect();
+    nodes.push(leaf(0));
+    Model {
+        edition: Edition::First,
+        charts: [vec![chart(2, &[], moves)], inner.charts].concat(),
+        slaves: vec![slave(0, 1, nodes.len() as u8 - 2)],
+        nodes,
+    }
+}
+
+/// The node with the number of its chart raised by one.
+fn numbered_up(node: &Node) -> Node {
+    match node {
+        Node::Chart { chart } => leaf(chart + 1),
+        other => other.clone(),
+    }
 }

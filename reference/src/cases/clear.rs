@@ -72,7 +72,7 @@ fn alive() -> Vec<Known> {
                 vec![go(0, 1, &[0], &[1], &[0]), go(0, 1, &[], &[0], &[1])],
             )),
         ),
-        has("clear-none-fullest", 0, fullest()),
+        has("clear-none-fullest", 0, full_charts(EARLIER_CHARTS)),
     ]
 }
 
@@ -271,7 +271,7 @@ fn many() -> Vec<Known> {
         has(
             "clear-512-of-eight-charts",
             512,
-            row_of_charts(vec![full(); CHARTS]),
+            row_of_charts(vec![full(); EARLIER_CHARTS]),
         ),
         has("clear-every-second", 32, {
             let mut chart = spread(STATES as u8, CHART_TRANSITIONS);

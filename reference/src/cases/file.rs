@@ -134,10 +134,14 @@ fn counts() -> Vec<Case> {
     let mut cases = vec![
         case("charts-0", fitted(&p1(), |r| r.charts.clear()), bad),
         case("charts-1", row_of(1).file(), good),
+        case("charts-8", row_of(8).file(), good),
+        case("charts-9", row_of(9).file(), good),
         case("charts-at-limit", row_of(CHARTS as u8).file(), good),
         case("charts-over-limit", row_of(CHARTS as u8 + 1).file(), bad),
         case("slaves-0", p1().file(), good),
         case("slaves-1", d().file(), good),
+        case("slaves-7", master_of(7).file(), good),
+        case("slaves-8", master_of(8).file(), good),
         case("slaves-at-limit", most_slaves.file(), good),
         case(
             "slaves-over-limit",
@@ -149,6 +153,16 @@ fn counts() -> Vec<Case> {
         case("nodes-at-limit", hidden_deep(NODES as u8).file(), good),
         case("nodes-over-limit", hidden_deep(NODES as u8 + 1).file(), bad),
         case("transitions-0", alone(chart(2, &[], vec![])).file(), good),
+        case("transitions-512", full_charts(8).file(), good),
+        case(
+            "transitions-513",
+            {
+                let mut model = full_charts(9);
+                model.charts[8] = spread(1, 1);
+                model.file()
+            },
+            good,
+        ),
         case("transitions-at-limit", fullest().file(), good),
         case(
             "transitions-over-limit",
@@ -156,14 +170,23 @@ fn counts() -> Vec<Case> {
             bad,
         ),
     ];
-    let alone_too_large: [(&str, Change); 8] = [
+    // over the earlier limits, and below the present ones: the distance does not fit then
+    let once_too_large: [(&str, Change); 2] = [
+        ("slaves-byte-8", |r| r.trailer.slaves = 8),
+        ("transitions-bytes-513", |r| r.trailer.transitions = 513),
+    ];
+    for (name, change) in once_too_large {
+        cases.push(case(name, changed(&d(), change), refusal::DISTANCE));
+    }
+    let alone_too_large: [(&str, Change); 9] = [
         ("charts-byte-0", |r| r.trailer.charts = 0),
+        ("charts-byte-17", |r| r.trailer.charts = CHARTS as u8 + 1),
         ("charts-byte-255", |r| r.trailer.charts = 255),
-        ("slaves-byte-8", |r| r.trailer.slaves = SLAVES as u8 + 1),
+        ("slaves-byte-16", |r| r.trailer.slaves = SLAVES as u8 + 1),
         ("slaves-byte-255", |r| r.trailer.slaves = 255),
         ("nodes-byte-0", |r| r.trailer.nodes = 0),
         ("nodes-byte-255", |r| r.trailer.nodes = 255),
-        ("transitions-bytes-513", |r| r.trailer.transitions = 513),
+        ("transitions-bytes-1025", |r| r.trailer.transitions = 1_025),
         ("transitions-bytes-65535", |r| {
             r.trailer.transitions = 65_535
         }),

@@ -5,7 +5,7 @@ use super::damage::behind;
 use super::file::one_fault;
 use super::{configuration_rooms, Case};
 use crate::command::Command;
-use crate::limits::{refusal, CHARTS};
+use crate::limits::{refusal, CHARTS, EARLIER_CHARTS};
 use crate::model::{Model, Node};
 use crate::set::Set;
 
@@ -36,7 +36,7 @@ fn starting(charts: u8) -> Model {
 /// short.
 fn firsts() -> Vec<Case> {
     let mut cases = Vec::new();
-    for charts in [1, 3, CHARTS] {
+    for charts in [1, 3, EARLIER_CHARTS, CHARTS] {
         let file = starting(charts as u8).file();
         for (word, room, number) in configuration_rooms(charts, 20) {
             let name = format!("first-{charts}-charts-buffer-{word}");

@@ -360,7 +360,7 @@ fn many() -> Vec<Known> {
             "plain-three-pairs-by-other-signals",
             single(&[], vec![out(&[1], &[3]), out(&[2], &[1]), out(&[3], &[2])]),
         ),
-        no("plain-fullest", fullest()),
+        no("plain-fullest", full_charts(8)),
         yes("plain-eight-charts", row_of(8)),
         yes("plain-deep-hiding", hidden_deep(64)),
     ]

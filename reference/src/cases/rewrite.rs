@@ -316,7 +316,7 @@ fn state_limit() -> Vec<Case> {
     ]
 }
 
-/// 42: a chart would have more than 64 transitions. Eight charts of at most 64 have at most 512
+/// 42: a chart would have more than 64 transitions. Sixteen charts of at most 64 have at most 1,024
 /// together, so there is no refusal for the sum (RULES 3.5).
 fn chart_limit() -> Vec<Case> {
     let bad = refusal::REWRITING_CHART;

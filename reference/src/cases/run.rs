@@ -118,7 +118,7 @@ fn rooms() -> Vec<Case> {
         let command = Command::run(&name, file, &vec![0; charts], &sets, room);
         cases.push(Case::new(command, number));
     };
-    for charts in [1, 2, CHARTS] {
+    for charts in [1, 2, EARLIER_CHARTS, CHARTS] {
         for inputs in [0, 1, 3] {
             let exact = rows_bytes(inputs, charts);
             let name = |word| format!("run-{charts}-charts-{inputs}-inputs-buffer-{word}");

@@ -624,25 +624,25 @@ fn inner_slaves() -> Vec<RowAnswer> {
 
 /// Eight charts where each needs what the one `step` further outputs, all fed back.
 pub(super) fn ring(step: u32) -> Model {
-    let count = CHARTS as u32;
+    let count = EARLIER_CHARTS as u32;
     let all: Vec<u32> = (0..count).collect();
     let one = |n: u32| chart(2, &[], vec![go(0, 1, &[(n + step) % count], &[], &[n])]);
     let mut model = row_of_charts((0..count).map(one).collect());
     let last = model.whole();
-    model.nodes[last] = composed(last as u8 - 1, CHARTS as u8 - 1, &all);
+    model.nodes[last] = composed(last as u8 - 1, EARLIER_CHARTS as u8 - 1, &all);
     model
 }
 
 /// As many charts as there can be, each waiting for another.
 fn long_chains() -> Vec<RowAnswer> {
-    let all: Vec<u32> = (0..CHARTS as u32).collect();
+    let all: Vec<u32> = (0..EARLIER_CHARTS as u32).collect();
     let broken = {
         let mut model = ring(1);
         model.charts[7].transitions[0].action = Set::EMPTY;
         model
     };
-    let ones = [1; CHARTS];
-    let zeros = [0; CHARTS];
+    let ones = [1; EARLIER_CHARTS];
+    let zeros = [0; EARLIER_CHARTS];
     vec![
         meaning(
             "ring-of-eight",
@@ -666,7 +666,7 @@ fn long_chains() -> Vec<RowAnswer> {
 }
 
 /// Charts whose numbers of states all differ: chart n has n + 1.
-fn stairs(charts: u8) -> Model {
+pub(super) fn stairs(charts: u8) -> Model {
     let mut model = row_of(charts);
     for (number, chart) in model.charts.iter_mut().enumerate() {
         chart.states = number as u8 + 1;
@@ -683,8 +683,8 @@ fn stairs(charts: u8) -> Model {
 /// 20: every length from 0 to 9, and some that are right but for whole 256s.
 fn lengths() -> Vec<Case> {
     let mut cases = Vec::new();
-    for charts in [1, 3, CHARTS] {
-        for length in 0..=CHARTS + 1 {
+    for charts in [1, 3, EARLIER_CHARTS] {
+        for length in 0..=EARLIER_CHARTS + 1 {
             let number = if length == charts {
                 refusal::SUCCESS
             } else {
@@ -707,7 +707,7 @@ fn lengths() -> Vec<Case> {
 
 /// 21: each chart's state at its number of states, and one below it.
 fn states() -> Vec<Case> {
-    let charts = CHARTS as u8;
+    let charts = EARLIER_CHARTS as u8;
     let mut cases = Vec::new();
     let mut step = |name: String, configuration: &[u8], number: u8| {
         let file = stairs(charts).file();
@@ -717,13 +717,16 @@ fn states() -> Vec<Case> {
     let highest: Vec<u8> = (0..charts).collect();
     step("states-all-highest".to_string(), &highest, refusal::SUCCESS);
     for chart in 0..charts {
-        for (word, base) in [("lowest", vec![0; CHARTS]), ("highest", highest.clone())] {
+        for (word, base) in [
+            ("lowest", vec![0; EARLIER_CHARTS]),
+            ("highest", highest.clone()),
+        ] {
             let mut configuration = base;
             configuration[usize::from(chart)] = chart + 1;
             let name = format!("state-of-chart-{chart}-at-its-states-others-{word}");
             step(name, &configuration, refusal::CONFIGURATION_STATE);
         }
-        let mut configuration = vec![0; CHARTS];
+        let mut configuration = vec![0; EARLIER_CHARTS];
         configuration[usize::from(chart)] = 255;
         let name = format!("state-of-chart-{chart}-255");
         step(name, &configuration, refusal::CONFIGURATION_STATE);
@@ -734,7 +737,7 @@ fn states() -> Vec<Case> {
 /// 22: a buffer that is too short for a configuration.
 fn rooms() -> Vec<Case> {
     let mut cases = Vec::new();
-    for charts in [1, 3, CHARTS] {
+    for charts in [1, 3, EARLIER_CHARTS] {
         for (word, room, number) in configuration_rooms(charts, 40) {
             let name = format!("buffer-{word}-for-{charts}-charts");
             let file = row_of(charts as u8).file();
@@ -928,5 +931,5 @@ fn places() -> Vec<Case> {
 }
 
 /// The charts of the widest case, and the transitions of each; its choices are all permitted.
-const WIDE_CHARTS: usize = CHARTS;
+const WIDE_CHARTS: usize = EARLIER_CHARTS;
 const WIDE_TRANSITIONS: u32 = STATE_TRANSITIONS as u32;

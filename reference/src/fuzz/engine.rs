@@ -28,7 +28,8 @@ pub fn raw(command: &Command, lent: &mut [u8]) -> (u8, Numbers) {
                 let refusal = mestecur_interface(file, long, &mut one, &mut other);
                 (refusal, Numbers::two(one, other))
             }
-            Op::Step => {
+            Op::Step | Op::Open => {
+                let mut open = BEFORE;
                 let refusal = mestecur_step(
                     file,
                     long,
@@ -40,9 +41,10 @@ pub fn raw(command: &Command, lent: &mut [u8]) -> (u8, Numbers) {
                     &mut one,
                     &mut mark,
                     &mut places,
+                    &mut open,
                 );
                 let two = [one, u64::from(mark)];
-                (refusal, Numbers { two, places })
+                (refusal, Numbers { two, places, open })
             }
             Op::Run => {
                 let (list, count) = (inputs.as_ptr(), inputs.len());
@@ -69,7 +71,7 @@ pub fn raw(command: &Command, lent: &mut [u8]) -> (u8, Numbers) {
     }
 }
 
-/// The call through the binding; a refusal has no numbers.
+/// The call through the binding; a refusal has no numbers, but for that of open choices.
 pub fn binding(command: &Command, lent: &mut [u8]) -> (u8, Numbers) {
     let (file, config) = (&command.file, &command.configuration);
     let inputs: Vec<Set> = command.inputs.iter().map(|set| Set(set.0)).collect();
@@ -79,10 +81,7 @@ pub fn binding(command: &Command, lent: &mut [u8]) -> (u8, Numbers) {
         Op::Interface => {
             mestecur::interface(file).map(|found| Numbers::two(found.input.0, found.output.0))
         }
-        Op::Step => mestecur::step(file, config, inputs[0], lent).map(|step| Numbers {
-            two: [step.output.0, u64::from(step.mark)],
-            places: places(&step),
-        }),
+        Op::Step | Op::Open => return step(file, config, inputs[0], lent),
         Op::Run => mestecur::run(file, config, Set(command.carried.0), &inputs, lent)
             .map(|carried| Numbers::two(carried.0, 0)),
         Op::Rewrite => mestecur::rewrite(file, lent).map(|length| Numbers::two(length as u64, 0)),
@@ -93,6 +92,30 @@ pub fn binding(command: &Command, lent: &mut [u8]) -> (u8, Numbers) {
         |refusal: Refusal| (refusal.number(), Numbers::NONE),
         |numbers| (0, numbers),
     )
+}
+
+/// A step through the binding.
+fn step(file: &[u8], config: &[u8], input: Set, lent: &mut [u8]) -> (u8, Numbers) {
+    match mestecur::step(file, config, input, lent) {
+        Ok(step) => {
+            let numbers = Numbers {
+                two: [step.output.0, u64::from(step.mark)],
+                places: places(&step),
+                open: step.open,
+            };
+            (0, numbers)
+        }
+        Err(refused) => {
+            let open = refused.open;
+            (
+                refused.number(),
+                Numbers {
+                    open,
+                    ..Numbers::NONE
+                },
+            )
+        }
+    }
 }
 
 /// The places of a step that the binding gives, as bytes (RULES 5.11).

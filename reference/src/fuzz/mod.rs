@@ -113,7 +113,9 @@ fn difference(command: &Command, expected: &Told, who: &str, told: &Told) -> Str
 /// What was told, on a line.
 fn words(told: &Told) -> String {
     let [one, other] = told.numbers.two;
-    let places = hex(&told.numbers.places);
+    let (places, open) = (hex(&told.numbers.places), told.numbers.open);
     let (refusal, bytes) = (told.refusal, hex(&told.bytes));
-    format!("refusal {refusal}, numbers {one:x} {other:x}, places {places}, lent {bytes}")
+    format!(
+        "refusal {refusal}, numbers {one:x} {other:x}, places {places}, {open} open, lent {bytes}"
+    )
 }

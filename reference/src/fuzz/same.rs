@@ -8,11 +8,12 @@ use crate::cases::run::rows_bytes;
 use crate::check::accept;
 use crate::command::{hex, FILL};
 use crate::generate::{configuration, crowd, front, input, Random, Shape};
+use crate::limits::refusal;
 use crate::model::Model;
 use crate::set::Set;
 use crate::step::{Places, NO_PLACES};
 use crate::walk::{configurations, has_several, hides_inside, inputs, is_nested, with_slaves};
-use mestecur::{Place, Refusal, Step};
+use mestecur::{Place, Refusal, RefusedStep, Step};
 use std::fmt::{self, Debug, Display, Formatter};
 
 /// The most configurations of a file.
@@ -77,7 +78,7 @@ impl Compared {
     }
 
     /// Counts a step of a file with so many charts.
-    fn add_step(&mut self, charts: usize, answer: Result<Step, Refusal>) {
+    fn add_step(&mut self, charts: usize, answer: Result<Step, RefusedStep>) {
         match answer {
             Ok(step) => {
                 self.given += 1;
@@ -196,11 +197,17 @@ struct Pair<'a> {
 }
 
 /// A step's answer, and its buffer.
-type Stepped = (Result<Step, Refusal>, Lent);
+type Stepped = (Result<Step, RefusedStep>, Lent);
 
-/// What a step told, but for its places.
+/// What a step told, but for its places and the number of open choices.
 fn without_places((answer, next): &Stepped) -> (Result<(mestecur::Set, bool), Refusal>, &Lent) {
-    (answer.map(|step| (step.output, step.mark)), next)
+    let told = answer.map(|step| (step.output, step.mark));
+    (told.map_err(Refusal::from), next)
+}
+
+/// Whether a step is refused with 24.
+fn is_many((answer, _): &Stepped) -> bool {
+    answer.is_err_and(|refused| refused.number() == refusal::MANY_OPEN)
 }
 
 /// The places of a step.
@@ -256,13 +263,16 @@ impl Pair<'_> {
     }
 
     /// A step's refusal, output and mark, and all of its buffer, are those of the old file, and the
-    /// places agree.
-    fn hold_step(&self, at: &[u8], input: Set) -> Result<Result<Step, Refusal>, String> {
+    /// places agree. Where a step of either file is refused with 24, nothing is compared.
+    fn hold_step(&self, at: &[u8], input: Set) -> Result<Result<Step, RefusedStep>, String> {
         let what = format_args!("step from {at:?} under {input:x?}");
         let old = self.step(self.old, at, input);
         let new = self.step(self.new, at, input);
+        if is_many(&old) || is_many(&new) {
+            return Ok(old.0);
+        }
         let _ = alike(what, without_places(&old), without_places(&new))?;
-        let number = old.0.map_or_else(Refusal::number, |_| 0);
+        let number = old.0.map_or_else(RefusedStep::number, |_| 0);
         let (here, there) = (places_of(&old), places_of(&new));
         match self.agreement.holds(at, number, &here, &there) {
             true => Ok(old.0),
@@ -270,16 +280,30 @@ impl Pair<'_> {
         }
     }
 
-    /// A run has the old file's rows, and carries on what the old file's does.
+    /// A run has the old file's rows, and carries on what the old file's does, up to the first row that
+    /// has 24 in either.
     fn hold_run(&self, at: &[u8], carried: Set, inputs: &[Set]) -> Result<mestecur::Set, String> {
         let sets: Vec<mestecur::Set> = inputs.iter().map(|set| mestecur::Set(set.0)).collect();
         let carried = mestecur::Set(carried.0);
         let what = format_args!("run from {at:?}, {carried} carried, under {inputs:x?}");
-        let told = self.same(what, |file| {
+        let run = |file: &[u8]| {
             let mut rows = vec![FILL; rows_bytes(inputs.len(), self.charts) + 1];
             let left = mestecur::run(file, at, carried, &sets, &mut rows);
-            (left, Lent(rows))
-        })?;
-        told.0.map_err(|refusal| refusal.to_string())
+            (left, rows)
+        };
+        let (old, new) = (run(self.old), run(self.new));
+        let many = |row: mestecur::Row| row.answer.is_err_and(|r| r.number() == refusal::MANY_OPEN);
+        let first_many = |rows: &[u8]| mestecur::rows(rows, self.charts).position(many);
+        let firsts = [first_many(&old.1), first_many(&new.1)];
+        match firsts.into_iter().flatten().min() {
+            None => alike(what, (old.0, Lent(old.1)), (new.0, Lent(new.1)))?
+                .0
+                .map_err(|refusal| refusal.to_string()),
+            Some(row) => {
+                let rows = |all: Vec<u8>| Lent(all[..rows_bytes(row, self.charts)].to_vec());
+                let _ = alike(what, rows(old.1), rows(new.1))?;
+                old.0.map_err(|refusal| refusal.to_string())
+            }
+        }
     }
 }

@@ -1,6 +1,6 @@
 -- `lasts` meets its contract. Assumes nothing.
-use mathlib.Core.Path.{ap₂, sym, _∙_}
-use mathlib.Core.Bool.{_&&_}
+use mathlib.Core.Path.{ap, ap₂, sym, _∙_}
+use mathlib.Core.Bool.{_&&_, not}
 use borrow.Author.Needs.{needs}
 use Rattle.meaning.specs.Laws.Guards.{met-is}
 use Rattle.tables.specs.Fill.{lastsBy}
@@ -9,7 +9,9 @@ use Rattle.candidates.proofs.lasts.Tie as tie
 
 returns : tie.Need-returns
 unfolding lastsBy
-returns c = ap₂ _&&_ (c .before .within .ensures) (c .apart .ensures) ∙ sym (met-is _ _ _)
+returns c =
+    ap₂ _&&_ (ap₂ _&&_ (c .before .before .within .ensures) (c .before .apart .ensures) ∙ sym (met-is _ _ _))
+    (ap not (c .is-shut .ensures))
 
 pub lasts-spec : {M : Type 1} → statement M
-lasts-spec = tie.close (tie.spec (λ c κs. search needs) (λ c κs. search needs) returns)
+lasts-spec = tie.close (tie.spec (λ c κs. search needs) (λ c κs. search needs) (λ c κs. search needs) returns)

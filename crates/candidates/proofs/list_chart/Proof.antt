@@ -48,8 +48,8 @@ returns c =
     let o = l .before .before .before in
     let f = c .before .before .before .before .before .before .before .before .list .ensures .0 in (
       start-next (a .n) (a .body .now) (a .c) (a .start) h (r .4),
-      rw e (chart-tabled (a .n .charts) _ _ _ _ _ _ _ _ _ _ _ _ (countCell (a .c)) f (r .2)),
-      rw e (chart-next (a .n) (a .body .now) (a .config .now) (r .0) (a .t4) (a .may) (r .1) (a .masks .now) (a .small .now) (a .c) (a .start) _ _ _ _ _ _ (r .2) (r .3) (r .4) h
+      rw e (chart-tabled (a .n .charts) _ _ _ _ _ _ _ _ _ _ _ _ _ (countCell (a .c)) f (r .2)),
+      rw e (chart-next (a .n) (a .body .now) (a .config .now) (r .0) (a .t4) (a .may) (a .t6) (r .1) (a .masks .now) (a .small .now) (a .c) (a .start) _ _ _ _ _ _ (r .2) (r .3) (r .4) h
           (o .before .before .back .ensures) (o .others .ensures) f),
     )
 
@@ -61,6 +61,8 @@ list-chart-spec =
     (λ c. search needs)
     (λ c κs. search needs)
     (λ c κs. search needs)
+    (λ c. search needs)
+    (λ c. search needs)
     (λ c. search needs)
     (λ c. search needs)
     (λ c. search needs)

@@ -127,7 +127,7 @@ module _ (a : Around) (w : ℕ) (t : Transition) (m s : List ℕ) (k x : ℕ) (e
   ways : Bool → Bool → Bool → Filling
   ways u y z = pickFilling u (pickFilling y (pickFilling z (filling m s k) (put (a .chart) w t (filling m s k))) (filling m s k)) (filling m s k)
 
-  by-ways : (u y z : Bool) → same (t .from) (a .state) ≡ u → lastsBy (a .low) (a .own) (a .others) t ≡ y → isAgain m s (a .chart) k t ≡ z → ways u y z ≡ consideredBy a w t (filling m s k)
+  by-ways : (u y z : Bool) → same (t .from) (a .state) ≡ u → lastsBy (a .low) (a .own) (a .others) (a .shut) t ≡ y → isAgain m s (a .chart) k t ≡ z → ways u y z ≡ consideredBy a w t (filling m s k)
   unfolding ways considered
   by-ways u y z p q r = sym (λ i. ways (p i) (q i) (r i))
 
@@ -135,17 +135,17 @@ module _ (a : Around) (w : ℕ) (t : Transition) (m s : List ℕ) (k x : ℕ) (e
   unfolding ways
   left-other h = subst (λ g. Left g m s k) (by-ways false _ _ (rw (← ex) (same-≢ x (a .state) h)) refl refl) (record { masks = refl; small = refl; count = refl })
 
-  module _ (h : x ≡ a .state) (r : Transition) (er : r ≡ t) (y : Bool) (ey : y ≡ lastsBy (a .low) (a .own) (a .others) r) where
+  module _ (h : x ≡ a .state) (r : Transition) (er : r ≡ t) (y : Bool) (ey : y ≡ lastsBy (a .low) (a .own) (a .others) (a .shut) r) where
     from-here : same (t .from) (a .state) ≡ true
     from-here = rw (← ex, h) (same-refl (a .state))
 
     pub left-fails : y ≡ false → Left (consideredBy a w t (filling m s k)) m s k
     unfolding ways
-    left-fails f = subst (λ g. Left g m s k) (by-ways true false _ from-here (subst (λ q. lastsBy (a .low) (a .own) (a .others) q ≡ false) er (sym ey ∙ f)) refl) (record { masks = refl; small = refl; count = refl })
+    left-fails f = subst (λ g. Left g m s k) (by-ways true false _ from-here (subst (λ q. lastsBy (a .low) (a .own) (a .others) (a .shut) q ≡ false) er (sym ey ∙ f)) refl) (record { masks = refl; small = refl; count = refl })
 
     module _ (f : y ≡ true) (z : Bool) (ez : z ≡ isAgain m s (a .chart) k r) where
       way : (b : Bool) → z ≡ b → ways true true b ≡ consideredBy a w t (filling m s k)
-      way b g = by-ways true true b from-here (subst (λ q. lastsBy (a .low) (a .own) (a .others) q ≡ true) er (sym ey ∙ f)) (subst (λ q. isAgain m s (a .chart) k q ≡ b) er (sym ez ∙ g))
+      way b g = by-ways true true b from-here (subst (λ q. lastsBy (a .low) (a .own) (a .others) (a .shut) q ≡ true) er (sym ey ∙ f)) (subst (λ q. isAgain m s (a .chart) k q ≡ b) er (sym ez ∙ g))
 
       pub left-again : z ≡ true → Left (consideredBy a w t (filling m s k)) m s k
       unfolding ways
@@ -168,20 +168,20 @@ module _ (a : Around) (g : ℕ → Transition) (f : Filling) where
 
   -- the tables keep their lengths
   pub left-masks : (p : ℕ) (m s : List ℕ) (k : ℕ) → Left (listingBy a g p f) m s k → length m ≡ length (f .masks)
-  left-masks p m s k h = ap length (h .masks) ∙ length-masks (a .chart) (a .state) (a .low) (a .own) (a .others) g p f
+  left-masks p m s k h = ap length (h .masks) ∙ length-masks (a .chart) (a .state) (a .low) (a .own) (a .others) (a .shut) g p f
 
   pub left-small : (p : ℕ) (m s : List ℕ) (k : ℕ) → Left (listingBy a g p f) m s k → length s ≡ length (f .small)
-  left-small p m s k h = ap length (h .small) ∙ length-small (a .chart) (a .state) (a .low) (a .own) (a .others) g p f
+  left-small p m s k h = ap length (h .small) ∙ length-small (a .chart) (a .state) (a .low) (a .own) (a .others) (a .shut) g p f
 
   pub left-tabled : (N p : ℕ) (m s : List ℕ) (k : ℕ) → Left (listingBy a g p f) m s k → Tabled N (f .masks) (f .small) → Tabled N m s
   left-tabled N p m s k h t = record { masks = rw (left-masks p m s k h) (t .masks); small = left-small p m s k h ∙ t .small }
 
   module _ (z : f .count ≡ 0) (count : ℕ) (few : tally count (λ u. one (same (g u .from) (a .state))) ≤ mostFromState) where
     pub left-few : (p : ℕ) (m s : List ℕ) (k : ℕ) → Left (listingBy a g p f) m s k → p ≤ count → k ≤ mostFromState
-    left-few p m s k h l = rw (h .count) (count-few (a .chart) (a .state) (a .low) (a .own) (a .others) g p count f z l few)
+    left-few p m s k h l = rw (h .count) (count-few (a .chart) (a .state) (a .low) (a .own) (a .others) (a .shut) g p count f z l few)
 
     pub left-room : (p : ℕ) (m s : List ℕ) (k : ℕ) → Left (listingBy a g p f) m s k → p < count → g p .from ≡ a .state → k < mostFromState
-    left-room p m s k h l e = rw (h .count) (leave-room (a .chart) (a .state) (a .low) (a .own) (a .others) g p count f z l few e)
+    left-room p m s k h l e = rw (h .count) (leave-room (a .chart) (a .state) (a .low) (a .own) (a .others) (a .shut) g p count f z l few e)
 
 -- ── the charts' transitions ──
 
@@ -229,31 +229,31 @@ module _ (n : Shape) (b config : List ℕ) where
     chart-room = rw (es, eh) (r .room c l)
 
   -- the table of chart c's candidates is made by its transitions
-  pub chart-next : Ready n b config → (lows may : List ℕ) → Mays n b config (n .charts) may → (m s : List ℕ) (c start : ℕ) (head : Head) (own others : Set) (m′ s′ : List ℕ) (k : ℕ)
+  pub chart-next : Ready n b config → (lows may shuts : List ℕ) → Mays n b config (n .charts) may → (m s : List ℕ) (c start : ℕ) (head : Head) (own others : Set) (m′ s′ : List ℕ) (k : ℕ)
       → Tabled (n .charts) m s → c < n .charts → start ≡ startOf n b c → head ≡ headAt n b c → own ≡ backAt m c c → others ≡ othersAt m (n .charts) (λ e. getD may e 0) c
-      → Left (listing c (getD config c 0) (getD lows c 0) own others (fromStart n b start) (head .transitions) (filling m s 0)) m′ s′ k → NextChart n b config lows c m s m′ (set s′ (countCell c) k)
+      → Left (listing c (getD config c 0) (getD lows c 0) own others (getD shuts c 0) (fromStart n b start) (head .transitions) (filling m s 0)) m′ s′ k → NextChart n b config lows shuts c m s m′ (set s′ (countCell c) k)
   unfolding transitionsOf chartOf leaving othersAt
-  chart-next r lows may my m s c start head own others m′ s′ k tb l es eh eo et h m₀ s₀ un =
-      subst (λ z. UntilChart n b config lows m₀ s₀ z m′ (set s′ (countCell c) k)) (sym (add-one c))
-      (rw (h .masks, h .small, h .count, es, eh) (subst (λ z. Until (chartOf n b) (λ d. getD config d 0) (n .charts) lows m₀ s₀ (suc c) (made z .masks) (set (made z .small) (countCell c) (made z .count)))
+  chart-next r lows may shuts my m s c start head own others m′ s′ k tb l es eh eo et h m₀ s₀ un =
+      subst (λ z. UntilChart n b config lows shuts m₀ s₀ z m′ (set s′ (countCell c) k)) (sym (add-one c))
+      (rw (h .masks, h .small, h .count, es, eh) (subst (λ z. Until (chartOf n b) (λ d. getD config d 0) (n .charts) lows shuts m₀ s₀ (suc c) (made z .masks) (set (made z .small) (countCell c) (made z .count)))
       (length-from (transitionAt n b) (startOf n b c) (headAt n b c .transitions))
-      (until-next (chartOf n b) (λ d. getD config d 0) (n .charts) lows m₀ s₀ (r .sized .charts) c l m s (getD lows c 0) own others (fromStart n b (startOf n b c)) (tb .masks) un
+      (until-next (chartOf n b) (λ d. getD config d 0) (n .charts) lows shuts m₀ s₀ (r .sized .charts) c l m s (getD lows c 0) own others (getD shuts c 0) (fromStart n b (startOf n b c)) (tb .masks) un
       (λ u q. nth-from (transitionAt n b) (startOf n b c) (headAt n b c .transitions) u (subst (λ z. u < z) (length-from (transitionAt n b) (startOf n b c) (headAt n b c .transitions)) q))
       (subst (λ z. tally z (λ u. one (same (fromStart n b (startOf n b c) u .from) (getD config c 0))) ≤ mostFromState) (sym (length-from (transitionAt n b) (startOf n b c) (headAt n b c .transitions))) (r .room c l))
-      refl eo (et ∙ join-cong (n .charts) _ _ (λ e q. ap (λ z. cond (same e c) 0 z ∩ backAt m c e) (my e q))))))
+      refl eo (et ∙ join-cong (n .charts) _ _ (λ e q. ap (λ z. cond (same e c) 0 z ∩ backAt m c e) (my e q))) refl)))
     where
       made : ℕ → Filling
-      made p = listing c (getD config c 0) (getD lows c 0) own others (fromStart n b (startOf n b c)) p (filling m s 0)
+      made p = listing c (getD config c 0) (getD lows c 0) own others (getD shuts c 0) (fromStart n b (startOf n b c)) p (filling m s 0)
 
 -- tables that have room for N charts have room for fewer
 pub tabled-fewer : {N : ℕ} {m s : List ℕ} (M : ℕ) → Tabled N m s → M ≤ N → Tabled M m s
 tabled-fewer M t l = record { masks = (let h = t .masks in omega arith); small = t .small }
 
-pub chart-tabled : (N c q : ℕ) (low own others : Set) (g : ℕ → Transition) (p : ℕ) (m s m′ s′ : List ℕ) (k d : ℕ) → Left (listing c q low own others g p (filling m s 0)) m′ s′ k → Tabled N m s → Tabled N m′ (set s′ d k)
-chart-tabled N c q low own others g p m s m′ s′ k d h t =
+pub chart-tabled : (N c q : ℕ) (low own others shut : Set) (g : ℕ → Transition) (p : ℕ) (m s m′ s′ : List ℕ) (k d : ℕ) → Left (listing c q low own others shut g p (filling m s 0)) m′ s′ k → Tabled N m s → Tabled N m′ (set s′ d k)
+chart-tabled N c q low own others shut g p m s m′ s′ k d h t =
     record {
-      masks = rw (h .masks, length-masks c q low own others g p (filling m s 0)) (t .masks);
-      small = length-set s′ d k ∙ ap length (h .small) ∙ length-small c q low own others g p (filling m s 0) ∙ t .small;
+      masks = rw (h .masks, length-masks c q low own others shut g p (filling m s 0)) (t .masks);
+      small = length-set s′ d k ∙ ap length (h .small) ∙ length-small c q low own others shut g p (filling m s 0) ∙ t .small;
     }
 
 -- ── states ──
@@ -275,12 +275,12 @@ stated-next config c s₀ s h l =
 
 -- ── all of it ──
 
-pub chooses : (n : Shape) (b config base lows m₀ s₀ s₁ m s m′ : List ℕ) → Ready n b config → Tabled (n .charts) m₀ s₀ → Stated config (n .charts) s₀ s₁
-    → Raised (chartOf n b) (λ c. getD config c 0) (n .charts) m₀ s₁ base lows → UntilChart n b config lows m₀ s₁ (n .charts) m s → AheadFrom (n .charts) s 0 m m′
-    → Chooses n b config base lows m₀ s₀ m′ s
-chooses n b config base lows m₀ s₀ s₁ m s m′ r tb st ra un ah = let few = r .sized .charts in
+pub chooses : (n : Shape) (b config base shuts lows m₀ s₀ s₁ m s m′ : List ℕ) → Ready n b config → Tabled (n .charts) m₀ s₀ → Stated config (n .charts) s₀ s₁
+    → Raised (chartOf n b) (λ c. getD config c 0) (n .charts) m₀ s₁ base lows → UntilChart n b config lows shuts m₀ s₁ (n .charts) m s → AheadFrom (n .charts) s 0 m m′
+    → Chooses n b config base shuts lows m₀ s₀ m′ s
+chooses n b config base shuts lows m₀ s₀ s₁ m s m′ r tb st ra un ah = let few = r .sized .charts in
     record {
-      chosen = chosen (chartOf n b) (λ c. getD config c 0) (n .charts) lows m₀ s₁ few m m′ s un ah (st .states);
+      chosen = chosen (chartOf n b) (λ c. getD config c 0) (n .charts) lows shuts m₀ s₁ few m m′ s un ah (st .states);
       raised = raised-same (chartOf n b) (λ c. getD config c 0) base (n .charts) m₀ s₁ m′ s lows few (λ c d p q. ah .wires .backs c d p q ∙ un .wires .backs c d p q) (λ i p q. un .rest i (omega arith) (omega arith)) ra;
       wires = wiring-trans (un .wires) (ah .wires);
       masters = λ i p q. un .rest i (omega arith) (omega arith) ∙ st .below i q;

@@ -1,86 +1,44 @@
--- `entry` meets its contract. The loop has the sum over staying and the transitions passed, which is small.
-use mathlib.Core.Path.{_≡_}
-use Prim.Native.Nat.{_-_, _+_, _≤_}
+-- `entry` meets its contract: where the chart encloses none, each product is 1.
+use mathlib.Core.Path.{_≡_, sym, _∙_}
+use Prim.Native.Nat.{_+_}
 use native.Mathlib.Omega.{arith}
 use borrow.Author.Needs.{needs}
 use Rattle.counting.specs.Counting.{sumIn}
-use Rattle.counting.specs.Counting.Laws.{sum-none, sum-more, sum-small, product-small, sum-done}
+use Rattle.counting.specs.Counting.Laws.{sum-alone}
 use Rattle.counting.proofs.entry.Statement.{statement}
 use Rattle.counting.proofs.entry.Tie as tie
 
-abbrev Inv-loop : tie.InvT-loop
-Inv-loop n body start count masters states counts c q total₀ p₀ total p =
-    (p ≤ count) × (total ≡ sumIn n body masters states counts c q p)
-
-abbrev μ-loop : tie.MeasureT-loop
-μ-loop n body start count masters states counts c q total₀ p₀ total p = count - p
-
-staying-requires : tie.Need-staying-requires Inv-loop μ-loop
-staying-requires c κs = let r = c .before .before .before .before .pre in (r .4, r .5 .staying)
-
-loop-holds : tie.Need-loop-holds Inv-loop μ-loop
-loop-holds c =
-    let a = c .before .before .before .before .before .args in (
-      search needs,
-      sum-none (a .n) (a .body .now) (a .masters .now) (a .states .now) (a .counts .now) (a .c) (a .q)
-          (c .staying .result) (c .staying .ensures),
-    )
-
-added-requires : tie.Need-added-requires Inv-loop μ-loop
-added-requires c κs =
-    let s = c .before .before .before .before .before .before .before in
-    let a = s .args in
-    let r = s .pre in (
-      r .0,
-      omega (arith, r .3),
-      r .4,
-      product-small (a .n) (a .body .now) (a .masters .now) (a .states .now) (a .counts .now) (a .c) (a .q) (a .start)
-          (a .count) (r .1) (r .2) (r .5) (c .before .loop .p) (omega arith),
-    )
-
-add-total : tie.Need-add-total Inv-loop μ-loop
-add-total c =
+-- staying and the transitions that leave the state are all
+all : (c : tie.After-leaving) → let a = c .before .before .before .before .before .before .before .before .args in
+    c .leaving .result + c .before .staying .result
+    ≡ sumIn (a .n) (a .body .now) (a .masters .now) (a .states .now) (a .counts .now) (a .c) (a .q) (a .count)
+all c =
+    let k = c .before .before in
     let s = c .before .before .before .before .before .before .before .before in
     let a = s .args in
-    let r = s .pre in
-    let l = c .before .before .loop in
-    let e = sum-more (a .n) (a .body .now) (a .masters .now) (a .states .now) (a .counts .now) (a .c) (a .q) (a .start)
-    (a .count) (r .1) (r .2) (l .p) (l .total) (c .added .result) (omega arith) (l .inv .1) (c .added .ensures) in
-    let f = sum-small (a .n) (a .body .now) (a .masters .now) (a .states .now) (a .counts .now) (a .c) (a .q) (a .start)
-    (a .count) (r .1) (r .2) (r .5) (l .p + 1) (omega arith) in
+    sum-alone (a .n) (a .body .now) (a .masters .now) (a .states .now) (a .counts .now) (a .c) (a .q)
+    (sym (k .before .encloses .ensures) ∙ k .if1 .left) (a .start) (a .count) _ _ (s .pre .1) (s .pre .2)
+    (c .before .staying .ensures) (c .leaving .ensures)
+
+staying-requires : tie.Need-staying-requires
+staying-requires c κs = let r = c .before .before .before .before .before .before .pre in (r .4, r .5 .staying)
+
+add-result : tie.Need-add-result
+add-result c =
+    let s = c .before .before .before .before .before .before .before .before in
+    let a = s .args in
+    let e = all c in
+    let f = s .pre .5 .sums (a .count) (omega (arith, s .pre .2)) in
     omega arith
-
-loop-again : tie.Need-loop-again Inv-loop μ-loop
-loop-again c =
-    let s = c .before .before .before .before .before .before .before .before in
-    let a = s .args in
-    let r = s .pre in
-    let l = c .before .before .loop in (
-      omega arith,
-      sum-more (a .n) (a .body .now) (a .masters .now) (a .states .now) (a .counts .now) (a .c) (a .q)
-          (a .start) (a .count) (r .1) (r .2) (l .p) (l .total) (c .added .result) (omega arith) (l .inv .1)
-          (c .added .ensures),
-    )
-
-returns : tie.Need-returns Inv-loop μ-loop
-returns c =
-    let a = c .before .before .before .before .before .before .before .args in
-    let l = c .before .loop in
-    sum-done (a .n) (a .body .now) (a .masters .now) (a .states .now) (a .counts .now) (a .c) (a .q) (a .count) (l .p)
-    (l .total) (l .inv .0) (omega arith) (l .inv .1)
 
 pub entry-spec : {M : Type 1} → statement M
 entry-spec =
     tie.close
     (tie.spec
-    Inv-loop
-    μ-loop
+    (λ c κs. c .before .before .before .before .pre .4 .masters)
+    (λ c κs. search needs)
+    (λ c. search needs)
     staying-requires
-    loop-holds
-    (λ c. omega arith)
-    added-requires
-    add-total
-    (λ c. omega arith)
-    (λ c. omega arith)
-    loop-again
-    returns)
+    (λ c κs. search needs)
+    add-result
+    all)

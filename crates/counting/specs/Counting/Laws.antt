@@ -1,40 +1,50 @@
 -- Laws of the loops that count, in this order: a factor by what a move activates (`factor-other` to `factor-none`); a
 -- product one factor longer (`branch-none` to `branch-done`); what staying and a transition add (`staying-no` to
--- `adds-small`), and a sum one transition longer (`sum-none` to `sum-done`); of a file, where a chart's transitions
--- start (`starts-at`), that nothing on the way is too large (`smalls`, `total-small`), an entry stored (`stores`), and
--- that the total is the number of open choices (`total-is`); which places begin an open choice (`begins-is`); the total
--- one factor longer (`total-none` to `total-done`).
-use mathlib.Core.Path.{_≡_, refl, sym, _∙_, ap, subst}
-use mathlib.Core.Bool.{true, _&&_, _||_, cond}
+-- `adds-small`), a sum one transition longer (`sum-none` to `sum-done`), that of a chart that encloses none
+-- (`sum-alone`), and how many transitions leave a state (`leaving-none` to `leaving-done`); of a file, where a chart's
+-- transitions start (`starts-at`), that nothing on the way is too large (`smalls`, `total-small`), an entry stored
+-- (`stores`), that the total is the number of open choices (`total-is`), and that no place that begins an open choice
+-- leads to a state that is shut (`begins-open`); the total one factor longer (`total-none` to `total-done`). The states
+-- that are shut (`to-all` to `open-not-shut`) stand before the laws of a file.
+use mathlib.Core.Path.{_≡_, refl, sym, _∙_, ap, ap₂, subst}
+use mathlib.Core.Bool.{Bool, true, false, _&&_, _||_, cond, false≢true, and-false, or-false, and-or-distrib-left}
 use mathlib.Core.List.{List}
 use mathlib.Core.Logic.{_≢_}
 use mathlib.Core.Option.{none, some}
 use Prim.Native.Nat.{ℕ, zero, suc, _+_, _*_, _-_, _^_, _≤_, _<_}
 use native.Mathlib.Nat.{pow-le-pow-right}
 use native.Mathlib.Omega.{arith}
-use borrow.Author.Tests.{lt-ltb, le-ltb}
+use native.Mathlib.Numerals.{add-one}
+use native.Mathlib.Decide.{decLt}
+use borrow.Author.Tests.{lt-ltb, le-ltb, ltb-true}
 use lib.Dec.{ltb, lit<, lit≤}
-use lib.ListN.{length, set}
+use lib.ListN.{length, set, replicate, getD-replicate}
+use lib.Seq.{getD-set-same, getD-set-other}
+use Rattle.signals.specs.Mask.{_∪_, bit, single}
+use Rattle.signals.specs.Mask.Laws.{bit-union, bit-none, bit-single, bit-high}
+use Rattle.signals.specs.All.{bit-all}
 use Rattle.layout.specs.Body.{headAt, transitionAt, startOf, transitionsOf}
 use Rattle.layout.specs.Body.Laws.{length-from, startOf-next, startOf-mono}
 use Rattle.layout.specs.declared.body.Shape.{Shape}
 use Rattle.layout.specs.declared.record.Transition.{Transition}
-use Rattle.meaning.specs.Numbers.{mostCharts, stayEdition}
-use Rattle.meaning.specs.Count.{tally}
-use Rattle.meaning.specs.Count.Laws.{tally-more}
+use Rattle.meaning.specs.Numbers.{mostCharts, mostSignals, stayEdition}
+use Rattle.meaning.specs.Count.{anyUpTo, tally, one}
+use Rattle.meaning.specs.Count.Laws.{any-all, any-never, tally-more, tally-most, tally-cong}
 use Rattle.meaning.specs.Meaning.{same, noMove, takes, nth, behind, pick, lastPlace, after}
 use Rattle.meaning.specs.File.{chartOf, fileAt}
 use Rattle.meaning.specs.Open.{openChart, openIn}
-use Rattle.meaning.specs.Laws.Bools.{or-r, same-refl, same-≢}
+use Rattle.meaning.specs.Laws.Bools.{or-r, same-refl, same→≡, same-≢, same→≢, same-comm}
 use Rattle.meaning.specs.Laws.Names.{kap}
-use Rattle.wiring.specs.Product.{times, times-none, times-more}
+use Rattle.wiring.specs.Product.{times, times-none, times-more, times-one, times-at}
+use Rattle.wiring.specs.Counted.{spared}
+use Rattle.wiring.specs.Opened.{ruleIn}
 use Rattle.wiring.specs.Entries.{branchAt, addsAt, sumAt, totalAt, Rowed, part-fits, sum-part-fits, counts-store}
-use Rattle.wiring.specs.Entries.{total-part-fits, total-at, spared-at}
+use Rattle.wiring.specs.Entries.{total-part-fits, total-at, branch-at}
 use Rattle.wiring.specs.Few.{nth-from, few-from, movesFrom, mostMoves, moves-few, file-stands, open-counted}
 use Rattle.nesting.specs.Nearest.{masterBy, stateBy}
 use Rattle.counting.specs.Counting.{mostCount, at, Countable, factorIn, branchIn, Small, stayingIn, addedIn}
-use Rattle.counting.specs.Counting.{sumIn, Smalls}
-use Rattle.counting.specs.Counting.{totalIn, outsideIn, TotalSmall, CountsOn, begins}
+use Rattle.counting.specs.Counting.{sumIn, leavingIn, enclosesIn, Smalls}
+use Rattle.counting.specs.Counting.{totalIn, outsideIn, TotalSmall, CountsOn, begins, ShutTo, shutBy, Shuts, ShutOne}
 
 -- ── a factor ──
 
@@ -132,8 +142,146 @@ module _ (n : Shape) (b m s t : List ℕ) (c q : ℕ) where
         subst (λ z. Small (n .charts) m s t c q (transitionAt n b (z + p) .to)) (sym es)
         (h .products p (omega (arith, ec)))
 
+  -- of a chart that encloses none, each transition from this state adds one
+  module _ (alone : enclosesIn (n .charts) m c ≡ false) where
+    branch-one : (u : ℕ) → branchIn (n .charts) m s t c q u ≡ 1
+    unfolding branchAt
+    branch-one u =
+        times-one (n .charts) _ (λ d l. sym (factor-other m s t c q u d (λ e.
+        false≢true (sym (any-never (n .charts) _ alone d l) ∙ ap (λ z. same z c) e ∙ same-refl c))))
+
+    one-added : (x : Bool) (y : ℕ) → y ≡ 1 → one x ≡ cond x y 0
+    one-added true y e = sym e
+    one-added false y e = refl
+
+    pub sum-alone : (start count x y : ℕ) → start ≡ startOf n b c → count ≡ headAt n b c .transitions
+        → x ≡ stayingIn n m s t c q → y ≡ leavingIn n b start q count → y + x ≡ sumIn n b m s t c q count
+    unfolding sumAt openChart after chartOf adds
+    sum-alone start count x y es ec ex ey =
+        ap₂ _+_ (ey ∙ tally-cong count _ adds (λ j l.
+        let u = transitionAt n b (start + j) in
+        one-added (same (u .from) q) _ (branch-one (u .to))
+        ∙ sym (added-is j (omega (arith, ec)) ∙ ap (λ z. addedIn (n .charts) m s t c q (transitionAt n b (z + j))) (sym es)))) ex
+
   pub sum-done : (count p x : ℕ) → p ≤ count → count ≤ p → x ≡ sumIn n b m s t c q p → x ≡ sumIn n b m s t c q count
   sum-done count p x l k e = let z : p ≡ count = omega arith in e ∙ ap (sumIn n b m s t c q) z
+
+-- ── how many transitions leave a state ──
+
+module _ (n : Shape) (b : List ℕ) (start q : ℕ) where
+  pub leaving-none : 0 ≡ leavingIn n b start q 0
+  unfolding tally
+  leaving-none = refl
+
+  pub leaving-more : (p x y : ℕ) → x ≡ leavingIn n b start q p → y ≡ one (same (transitionAt n b (start + p) .from) q)
+      → y + x ≡ leavingIn n b start q (p + 1)
+  leaving-more p x y e f = rw (e, f) (sym (tally-more p (λ j. one (same (transitionAt n b (start + j) .from) q))))
+
+  one-most : (x : Bool) → one x ≤ 1
+  one-most true = omega arith
+  one-most false = omega arith
+
+  pub leaving-few : (p : ℕ) → leavingIn n b start q p ≤ p
+  leaving-few p = let h = tally-most 1 p _ (λ k l. one-most (same (transitionAt n b (start + k) .from) q)) in omega arith
+
+  pub leaving-done : (count p x : ℕ) → p ≤ count → count ≤ p → x ≡ leavingIn n b start q p → x ≡ leavingIn n b start q count
+  leaving-done count p x l k e = let z : p ≡ count = omega arith in e ∙ ap (leavingIn n b start q) z
+
+-- ── states that are shut ──
+
+module _ (q s : ℕ) where
+  pub to-all : q ≡ s → ShutTo q s (2 ^ 64 - 1)
+  to-all e u = go (decLt u mostSignals)
+    where
+      go : Dec (u < mostSignals) → bit (2 ^ 64 - 1) u ≡ (ltb u mostSignals && (same q s || same u s))
+      go (yes l) = bit-all 64 u l ∙ sym (rw (lt-ltb u mostSignals l, e, same-refl s))
+      go (no l) = bit-high 64 (2 ^ 64 - 1) u (lit< tt) (omega arith) ∙ sym (rw (le-ltb u mostSignals (omega arith)))
+
+  pub to-none : q ≢ s → mostSignals ≤ s → ShutTo q s 0
+  to-none n k u = bit-none u ∙ sym (go (decLt u mostSignals))
+    where
+      go : Dec (u < mostSignals) → (ltb u mostSignals && (same q s || same u s)) ≡ false
+      go (yes l) = rw (lt-ltb u mostSignals l, same-≢ q s n, same-≢ u s (λ e. omega arith))
+      go (no l) = rw (le-ltb u mostSignals (omega arith))
+
+  pub to-one : q ≢ s → s < mostSignals → ShutTo q s (single s)
+  unfolding same
+  to-one n k u = bit-single s u ∙ go (same s u) refl
+    where
+      go : (b : Bool) → same s u ≡ b → same s u ≡ (ltb u mostSignals && (same q s || same u s))
+      go true e =
+          let z = same→≡ s u e in
+          e ∙ sym (rw (← z, lt-ltb s mostSignals k, same-refl s) (or-r (same q s) true refl))
+      go false e =
+          e ∙ sym (rw (same-≢ q s n, same-comm u s, e) (and-false (ltb u mostSignals)))
+
+module _ (n : ℕ) (config m s t : List ℕ) where
+  abbrev shut? : ℕ → ℕ → ℕ → Bool
+  shut? c u d = shutBy m s t c (at config c) u d
+
+  -- chart d shuts nothing for chart c
+  none-more : (r : List ℕ) (c u d : ℕ) → shut? c u d ≡ false
+      → bit (at r c) u ≡ (bit (at r c) u || (ltb u mostSignals && shut? c u d))
+  none-more r c u d e = sym (ap (λ x. bit (at r c) u || (ltb u mostSignals && x)) e
+      ∙ ap (λ x. bit (at r c) u || x) (and-false (ltb u mostSignals)) ∙ or-false (bit (at r c) u))
+
+  pub shut-counts : (r : List ℕ) (d : ℕ) → at t d ≢ 0 → ShutOne n config m s t d r r
+  shut-counts r d e c u l = none-more r c u d (rw (same-≢ (at t d) 0 e))
+
+  other-master : (c u d : ℕ) → at m d ≢ c → shut? c u d ≡ false
+  other-master c u d e = rw (same-≢ (at m d) c e) (and-false (same (at t d) 0))
+
+  pub shut-outside : (r : List ℕ) (d : ℕ) → n ≤ at m d → ShutOne n config m s t d r r
+  shut-outside r d k c u l = none-more r c u d (other-master c u d (λ e. omega arith))
+
+  pub shut-more : (r : List ℕ) (d x : ℕ) → at t d ≡ 0 → at m d < length r → ShutTo (at config (at m d)) (at s d) x
+      → ShutOne n config m s t d r (set r (at m d) (at r (at m d) ∪ x))
+  shut-more r d x e k h c u l = go (same (at m d) c) refl
+    where
+      go : (b : Bool) → same (at m d) c ≡ b
+          → bit (at (set r (at m d) (at r (at m d) ∪ x)) c) u ≡ (bit (at r c) u || (ltb u mostSignals && shut? c u d))
+      go true z =
+          rw (← same→≡ (at m d) c z) (ap (λ y. bit y u) (getD-set-same r (at m d) (at r (at m d) ∪ x) 0 k)
+          ∙ bit-union u (at r (at m d)) x
+          ∙ ap (λ y. bit (at r (at m d)) u || y) (h u ∙ rw (e, same-refl (at m d), same-refl 0)))
+      go false z =
+          ap (λ y. bit y u) (getD-set-other r (at m d) c (at r (at m d) ∪ x) 0 (λ y. same→≢ (at m d) c z (sym y)))
+          ∙ none-more r c u d (other-master c u d (same→≢ (at m d) c z))
+
+  pub shuts-none : n ≤ mostCharts → Shuts n config m s t 0 (replicate mostCharts 0)
+  unfolding anyUpTo
+  shuts-none few c u l =
+      ap (λ x. bit x u) (zeros c (omega arith)) ∙ bit-none u ∙ sym (and-false (ltb u mostSignals))
+    where
+      zeros : (c : ℕ) → c < mostCharts → at (replicate mostCharts 0) c ≡ 0
+      zeros c l = getD-replicate mostCharts c 0 0 l
+
+  pub shuts-next : (k : ℕ) (r r′ : List ℕ) → Shuts n config m s t k r → ShutOne n config m s t k r r′
+      → Shuts n config m s t (k + 1) r′
+  unfolding anyUpTo
+  shuts-next k r r′ h g c u l =
+      g c u l ∙ ap (λ x. x || (ltb u mostSignals && shut? c u k)) (h c u l)
+      ∙ sym (and-or-distrib-left (ltb u mostSignals) (anyUpTo k (shut? c u)) (shut? c u k)) ∙ rw (add-one k)
+
+  pub shuts-done : (k : ℕ) (r : List ℕ) → k ≤ n → n ≤ k → Shuts n config m s t k r → Shuts n config m s t n r
+  shuts-done k r a b h = let e : k ≡ n = omega arith in subst (λ z. Shuts n config m s t z r) e h
+
+  -- a factor that is not 0 shuts nothing
+  some-factor : (c q u d : ℕ) → 0 < factorIn m s t c q u d → shutBy m s t c q u d ≡ false
+  some-factor c q u d = go (same (at t d) 0) refl (same (at m d) c && (same q (at s d) || same u (at s d)))
+    where
+      go : (a : Bool) → same (at t d) 0 ≡ a → (x : Bool) → 0 < cond x (at t d) 1 → (same (at t d) 0 && x) ≡ false
+      go a e false h = and-false (same (at t d) 0)
+      go false e true h = rw e
+      go true e true h = absurd (let z = same→≡ (at t d) 0 e in omega arith)
+
+  pub open-not-shut : (r : List ℕ) → Shuts n config m s t n r → (c u : ℕ) → c < n
+      → 0 < branchIn n m s t c (at config c) u → bit (at r c) u ≡ false
+  unfolding branchAt
+  open-not-shut r h c u l p =
+      h c u l ∙ ap (λ x. ltb u mostSignals && x)
+      (any-all n _ (λ d k. some-factor c (at config c) u d (times-at n (factorIn m s t c (at config c) u) p d k)))
+      ∙ and-false (ltb u mostSignals)
 
 -- ── a file ──
 
@@ -230,18 +378,20 @@ module _ (n : Shape) (b config m s : List ℕ) (w : Countable n b config m s) wh
             ap (sumIn n b m s t k (at config k)) (sym (unfold chartOf transitionsOf in
             length-from (transitionAt n b) (startOf n b k) (headAt n b k .transitions)))
 
-  -- by a table that is right: a move's product is small, and says whether its place begins an open choice
-  module _ (t : List ℕ) (h : CountsOn n b config zero t) (c : ℕ) (l : c < n .charts) where
-    pub move-small : (v : ℕ) → Small (n .charts) m s t c (at config c) (after (at config c) (pick (chartOf n b c) v))
-    move-small = leads-small c l t (λ d p q. h d (omega arith) q)
+  second : (x y : Bool) → (x || y) ≡ true → x ≡ false → y ≡ true
+  second x y e f = ap (λ z. z || y) (sym f) ∙ e
 
-    pub begins-is : (p : ℕ) → p < lastPlace (chartOf n b c)
-        → begins (fileAt n b) config t c (suc p)
-        ≡ ltb 0 (branchIn (n .charts) m s t c (at config c) (after (at config c) (pick (chartOf n b c) (suc p))))
-    unfolding fileAt
-    begins-is p q =
-        spared-at (fileAt n b .chart) (fileAt n b .state) (at config) (n .charts) mostCharts (kap (fileAt n b))
-        (fileAt n b .master) (at m) (at s) rowed (at t) c p l q
+  -- a place that begins an open choice, and is not that of an inactive chart, leads to no state that is shut
+  pub begins-open : (t r : List ℕ) → Shuts (n .charts) config m s t (n .charts) r → (c v : ℕ) → c < n .charts
+      → begins (fileAt n b) config t c v ≡ true
+      → openChart (chartOf n b c) false (at config c) (pick (chartOf n b c) v) ≡ false
+      → bit (at r c) (after (at config c) (pick (chartOf n b c) v)) ≡ false
+  unfolding spared ruleIn fileAt
+  begins-open t r h c v l e f =
+      open-not-shut (n .charts) config m s t r h c _ l
+      (subst (λ x. 0 < x) (branch-at (fileAt n b .chart) (fileAt n b .state) (at config) (n .charts) mostCharts
+      (kap (fileAt n b)) (fileAt n b .master) (at m) (at s) rowed (at t) c v l)
+      (ltb-true 0 _ (second _ _ e f)))
 
   -- the total over the first j charts
   pub total-small : (t : List ℕ) → CountsOn n b config zero t → TotalSmall n m t

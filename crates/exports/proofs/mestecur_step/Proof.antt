@@ -15,6 +15,7 @@ returns c =
       ap (λ (s : Stepped). s .output) (e .0),
       n .number .ensures ∙ ap (λ (s : Stepped). one (s .mark)) (e .0),
       ap (λ (s : Stepped). s .places) (e .0),
+      ap (λ (s : Stepped). s .open_choices) (e .0),
     )
 
 pub mestecur-step-spec : {M : Type 1} → statement M

@@ -21,11 +21,11 @@ module _ (f : List ℕ) where
   pub plain-determined : (r r′ y y′ : ℕ) → PlainReturns f r y → PlainReturns f r′ y′ → (r ≡ r′) × (y ≡ y′)
   plain-determined = both
 
-  pub step-determined : (config : List ℕ) (i : Set) (b : List ℕ) (r r′ : ℕ) (c c′ : List ℕ) (o o′ : Set) (m m′ : ℕ) (p p′ : List ℕ)
-      → StepReturns f config i b r c o m p → StepReturns f config i b r′ c′ o′ m′ p′
-      → (r ≡ r′) × (c ≡ c′) × (o ≡ o′) × (m ≡ m′) × (p ≡ p′)
-  step-determined config i b r r′ c c′ o o′ m m′ p p′ x y =
-      (one r r′ (x .0) (y .0), one c c′ (x .1) (y .1), one o o′ (x .2) (y .2), one m m′ (x .3) (y .3), one p p′ (x .4) (y .4))
+  pub step-determined : (config : List ℕ) (i : Set) (b : List ℕ) (r r′ : ℕ) (c c′ : List ℕ) (o o′ : Set) (m m′ : ℕ) (p p′ : List ℕ) (n n′ : ℕ)
+      → StepReturns f config i b r c o m p n → StepReturns f config i b r′ c′ o′ m′ p′ n′
+      → (r ≡ r′) × (c ≡ c′) × (o ≡ o′) × (m ≡ m′) × (p ≡ p′) × (n ≡ n′)
+  step-determined config i b r r′ c c′ o o′ m m′ p p′ n n′ x y =
+      (one r r′ (x .0) (y .0), one c c′ (x .1) (y .1), one o o′ (x .2) (y .2), one m m′ (x .3) (y .3), one p p′ (x .4) (y .4), one n n′ (x .5) (y .5))
 
   pub run-determined : (config : List ℕ) (x : Set) (inputs : List Set) (b : List ℕ) (r r′ : ℕ) (c c′ : List ℕ) (l l′ : Set)
       → RunReturns f config x inputs b r c l → RunReturns f config x inputs b r′ c′ l′ → (r ≡ r′) × (c ≡ c′) × (l ≡ l′)

@@ -10,7 +10,8 @@ use Rattle.meaning.specs.Count.{anyUpTo, tally}
 use Rattle.meaning.specs.Meaning.{same, nth, pick, lastPlace, guard, met?, actionOf, after, guards, inFaceChart, inFace, inFaces, out, outs, okChart, meets, ok, oks, permitted, upd, moves, nexts, placeOf, placesFrom, upto, outcomeOf, outcome, search, outcomes, eqList, agree, answer}
 use Rattle.meaning.specs.File.{gather, build, treeOf, Has, HasS, trailer, bodyOf, shapeOf, chartOf, fileAt, fileOf}
 use Rattle.meaning.specs.Check.{firstOf, edition?, counts?, distance?, nonzero, zeros?, chart?, charts?, ends?, leaving, transitions?, rising, slave?, slaves?, nodeOfKind?, nodes?, names, named, held, naming?, inside?, fileTests, refusalOf}
-use Rattle.meaning.specs.Calls.{made, initials, stepIn, rowOf, rowsOf}
+use Rattle.meaning.specs.Open.{openChart, openTree, isOpen, choices, howMany, openChoices}
+use Rattle.meaning.specs.Calls.{made, initials, foundIn, manyOpen?, stepIn, rowOf, rowsOf}
 use Rattle.line.specs.Ascii.{ascii}
 use Rattle.line.specs.Line.{digit, digits, widthTo, width, decimal, behind, joined, fields, dotted, letter, rowFields, lineOf, fileRefused, frontOf, dayRefusal, inputsOf, linesOf, dayLines, dayOf}
 
@@ -50,7 +51,7 @@ pub printed : outputs ≡ ascii "1 0000000000000002 1 y\n2 refused 23\n3 0000000
     ∷ ascii "file refused 3\n"
     ∷ ascii "file refused 1\n"
     ∷ []
-unfolding outputs case chart le bytes trailerOf headOf transitionOf slaveOf nodeOf headAt transitionAt slaveAt nodeAt startOf from transitionsOf anyUpTo tally same nth pick lastPlace actionOf after guard met? guards inFaceChart inFace inFaces out outs okChart meets ok oks permitted upd moves nexts placeOf placesFrom upto outcomeOf outcome search outcomes eqList agree answer gather build treeOf Has HasS trailer bodyOf shapeOf chartOf fileAt fileOf firstOf edition? counts? distance? nonzero zeros? chart? charts? ends? leaving transitions? rising slave? slaves? nodeOfKind? nodes? names named held naming? inside? fileTests refusalOf made initials stepIn rowOf rowsOf digit digits widthTo width decimal behind joined fields dotted letter rowFields lineOf fileRefused frontOf dayRefusal inputsOf linesOf dayLines dayOf
+unfolding outputs case chart le bytes trailerOf headOf transitionOf slaveOf nodeOf headAt transitionAt slaveAt nodeAt startOf from transitionsOf anyUpTo tally same nth pick lastPlace actionOf after guard met? guards inFaceChart inFace inFaces out outs okChart meets ok oks permitted upd moves nexts placeOf placesFrom upto outcomeOf outcome search outcomes eqList agree answer gather build treeOf Has HasS trailer bodyOf shapeOf chartOf fileAt fileOf firstOf edition? counts? distance? nonzero zeros? chart? charts? ends? leaving transitions? rising slave? slaves? nodeOfKind? nodes? names named held naming? inside? fileTests refusalOf made initials openChart openTree isOpen choices howMany openChoices foundIn manyOpen? stepIn rowOf rowsOf digit digits widthTo width decimal behind joined fields dotted letter rowFields lineOf fileRefused frontOf dayRefusal inputsOf linesOf dayLines dayOf
 printed = refl
 
 -- 31 comes first: these bytes have no chart

@@ -1,7 +1,9 @@
--- Laws of what calls answer. In this order: of `made`, its length, an entry of it, equal entries, and one entry more stored over a buffer; a
--- place among all (`getD-all`); that all places of a refused step are 255 (`in-refused`, `of-refused`); what a step and a run that are not refused
--- have (`step-allowed`, `run-allowed`), and that with it they are not (`step-open`, `run-open`); answers behind tests (`behind-cong`, `behind-is`);
--- what a step that is given has (`answered`).
+-- Laws of what calls answer. In this order: of `made`, its length, an entry of it, equal entries, and one entry more
+-- stored over a buffer; a place among all (`getD-all`); that a step is what is found unless too many choices are open
+-- (`step-by`, `places-by`, `given-found`); that all places of a refused step are 255 (`in-refused`, `of-refused`); what
+-- a step and a run that are not refused have (`step-allowed`, `run-allowed`), and that with it they are not
+-- (`step-open`, `run-open`); answers behind tests (`behind-cong`, `behind-is`); what a step that is given has
+-- (`answered`).
 use mathlib.Core.Path.{_≡_, refl, sym, ap, ap₂, _∙_}
 use mathlib.Core.Bool.{Bool, true, false, not, cond}
 use mathlib.Core.List.{List, [], _∷_, _++_, append-assoc}
@@ -13,13 +15,15 @@ use borrow.Author.Tests.{lt-ltb, le-ltb, ltb-false}
 use lib.Dec.{ltb, lit<}
 use lib.ListN.{length, getD, drop, replicate, set, length-append, List·getD-append}
 use lib.Seq.{drop-cons, set-at, getD-at}
-use Rattle.meaning.specs.Numbers.{mostCharts, noPlace, shortBuffer, shortRows}
+use Rattle.meaning.specs.Numbers.{mostCharts, noPlace, shortBuffer, manyOpen, shortRows}
 use Rattle.meaning.specs.Count.Laws.{any-never, any-all}
 use Rattle.meaning.specs.Meaning.{Set, same, Outcome, refused, given, answer, firstPlaces}
 use Rattle.meaning.specs.File.{File, fileOf}
 use Rattle.meaning.specs.Check.{Test, firstOf, fileTests, refusalOf}
 use Rattle.meaning.specs.Check.Laws.{below, alike, Passes, firstOf-passes, firstOf-++, all-pass, front, call-passed, in-front}
-use Rattle.meaning.specs.Calls.{made, outcomesIn, configTests, Valid, stepRefusal, stepIn, stepOf, allPlaces, placesIn, placesOf, runRefusal}
+use Rattle.meaning.specs.Calls.{made, outcomesIn, configTests, Valid, stepRefusal, foundIn, manyOpen?, stepIn}
+use Rattle.meaning.specs.Calls.{stepOf, allPlaces}
+use Rattle.meaning.specs.Calls.{placesFound, placesIn, placesOf, runRefusal}
 use Rattle.meaning.specs.Laws.Bools.{agrees, same-refl, same→≡}
 
 pub length-made : (n : ℕ) (f : ℕ → ℕ) → length (made n f) ≡ n
@@ -63,6 +67,28 @@ getD-behind (x ∷ xs) n (suc i) d = getD-behind xs n i d
 pub getD-all : (ps : List ℕ) (c : ℕ) → getD (allPlaces ps) c noPlace ≡ getD ps c noPlace
 getD-all ps c = getD-behind ps (mostCharts - length ps) c noPlace
 
+-- ── found, or 24 ──
+
+module _ (F : File) (config : List ℕ) (i : Set) where
+  -- whether too many choices are open decides answer and places
+  pub step-by : (b : Bool) → manyOpen? F config ≡ b → stepIn F config i ≡ cond b (refused manyOpen) (foundIn F config i)
+  unfolding stepIn
+  step-by b e = ap (λ z. cond z (refused manyOpen) (foundIn F config i)) e
+
+  pub places-by : (b : Bool) → manyOpen? F config ≡ b
+      → placesIn F config i ≡ cond b (allPlaces []) (placesFound F config i)
+  unfolding placesIn
+  places-by b e = ap (λ z. cond z (allPlaces []) (placesFound F config i)) e
+
+  -- a step that is given is found
+  pub given-found : (o : Set) (n : List ℕ) (m : Bool) → stepIn F config i ≡ given o n m
+      → (manyOpen? F config ≡ false) × (foundIn F config i ≡ given o n m)
+  given-found o n m e = go (manyOpen? F config) refl
+    where
+      go : (b : Bool) → manyOpen? F config ≡ b → (manyOpen? F config ≡ false) × (foundIn F config i ≡ given o n m)
+      go true q = absurd (let h = sym (step-by true q) ∙ e in let z : _≡_ {A = ℕ} 0 1 = cc in omega arith)
+      go false q = (q, sym (step-by false q) ∙ e)
+
 module _ (r : ℕ) where
   none-first : (os : List Outcome) → answer os ≡ refused r → firstPlaces os ≡ []
   unfolding answer firstPlaces
@@ -70,8 +96,14 @@ module _ (r : ℕ) where
   none-first (o ∷ os) e = absurd (let z : _≡_ {A = ℕ} 0 1 = cc in omega arith)
 
   pub in-refused : (F : File) (config : List ℕ) (i : Set) → stepIn F config i ≡ refused r → placesIn F config i ≡ allPlaces []
-  unfolding stepIn placesIn
-  in-refused F config i e = ap allPlaces (none-first (outcomesIn F config i) e)
+  in-refused F config i e = go (manyOpen? F config) refl
+    where
+      go : (b : Bool) → manyOpen? F config ≡ b → placesIn F config i ≡ allPlaces []
+      go true q = places-by F config i true q
+      go false q =
+          places-by F config i false q
+          ∙ unfold foundIn placesFound in
+          ap allPlaces (none-first (outcomesIn F config i) (sym (step-by F config i false q) ∙ e))
 
   -- the same of a step behind other tests, whose number is n
   pub behind-refused : (n : ℕ) (F : File) (config : List ℕ) (i : Set) → cond (same n 0) (stepIn F config i) (refused n) ≡ refused r
@@ -169,13 +201,16 @@ behind-is n x z e = ap (λ b. cond b x z) (ap (λ k. same k 0) e ∙ same-refl 0
 
 -- ── a step that is given ──
 
--- none of its tests applies, its file is accepted, its configuration valid, and answer and places are those that the file's records give
+-- none of its tests applies, its file is accepted, its configuration valid, and answer and places are what is found by
+-- the file's records
 pub record Answered (f config : List ℕ) (i : Set) (room : ℕ) (o : Set) (n : List ℕ) (m : Bool) : Type 0 where
   pub passes : stepRefusal f config room ≡ 0
   pub accepted : refusalOf f ≡ 0
   pub valid : Valid (fileOf f) config
   pub answer-is : stepIn (fileOf f) config i ≡ given o n m
-  pub places-are : placesOf f config i room ≡ placesIn (fileOf f) config i
+  pub few-open : manyOpen? (fileOf f) config ≡ false
+  pub found-is : foundIn (fileOf f) config i ≡ given o n m
+  pub places-are : placesOf f config i room ≡ placesFound (fileOf f) config i
 
 pub answered : (f config : List ℕ) (i : Set) (room : ℕ) (o : Set) (n : List ℕ) (m : Bool)
     → stepOf f config i room ≡ given o n m → Answered f config i room o n m
@@ -185,8 +220,10 @@ answered f config i room o n m e =
       passes = passes;
       accepted = step-allowed f config room passes .0;
       valid = step-allowed f config room passes .1;
-      answer-is = sym (behind-is (stepRefusal f config room) _ _ passes) ∙ e;
-      places-are = behind-is (stepRefusal f config room) _ _ passes;
+      answer-is = is;
+      few-open = found .0;
+      found-is = found .1;
+      places-are = behind-is (stepRefusal f config room) _ _ passes ∙ places-by (fileOf f) config i false (found .0);
     }
   where
     go : (b : Bool) → same (stepRefusal f config room) 0 ≡ b
@@ -197,3 +234,9 @@ answered f config i room o n m e =
 
     passes : stepRefusal f config room ≡ 0
     passes = go (same (stepRefusal f config room) 0) refl e
+
+    is : stepIn (fileOf f) config i ≡ given o n m
+    is = sym (behind-is (stepRefusal f config room) _ _ passes) ∙ e
+
+    found : (manyOpen? (fileOf f) config ≡ false) × (foundIn (fileOf f) config i ≡ given o n m)
+    found = given-found (fileOf f) config i o n m is

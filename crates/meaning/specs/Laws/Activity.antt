@@ -21,7 +21,7 @@ use Rattle.meaning.specs.Meaning.{Set, ∅, same, Move, noMove, nth, pic
 use Rattle.meaning.specs.File.{File, treeOf, wholeOf, Has, trailer, bodyOf, shapeOf, chartOf, fileAt, fileOf}
 use Rattle.meaning.specs.Check.Laws.{passed, counted, charted}
 use Rattle.meaning.specs.Check.Nodes.{Sound, sound, has-below}
-use Rattle.meaning.specs.Calls.{stepIn, stepOf, placesIn, placesOf}
+use Rattle.meaning.specs.Calls.{foundIn, stepOf, placesFound, placesOf}
 use Rattle.meaning.specs.Calls.Laws.{getD-all, Answered, answered}
 use Rattle.meaning.specs.Rewriting.{nearestSlave}
 use Rattle.meaning.specs.Active.{activeIn, slaveActive, putOut}
@@ -69,8 +69,8 @@ module _ (f config : List ℕ) (i : Set) (room : ℕ) (o : Set) (n : List ℕ) (
   there c l = all-there F (right .ordered) joins (F .nodes - 1) c last l
 
   by : Given (F .chart) (F .state) cfg (wholeOf F) i (F .charts) o n
-  unfolding stepIn
-  by = given-first (F .chart) (F .state) cfg (wholeOf F) i (F .charts) o n m (known .answer-is)
+  unfolding foundIn
+  by = given-first (F .chart) (F .state) cfg (wholeOf F) i (F .charts) o n m (known .found-is)
 
   -- its moves
   abbrev M : ℕ → Move
@@ -96,7 +96,7 @@ module _ (f config : List ℕ) (i : Set) (room : ℕ) (o : Set) (n : List ℕ) (
           ∙ ap (λ v. after (cfg c) (pick (F .chart c) v)) (sym (by .chosen .others c (omega arith)))
 
   place-is : (c : ℕ) → c < F .charts → getD (placesOf f config i room) c noPlace ≡ placeOf (M c) (by .choice c)
-  unfolding placesIn
+  unfolding placesFound
   place-is c l =
       rw (known .places-are, getD-all, by .places, getD-places (F .chart) (by .choice) zero (F .charts) c l, zero-add)
 

@@ -1,7 +1,8 @@
--- Two files that step alike are answered alike by every call that makes steps. In this order: `StepsAlike`, over
--- records; the rows of a run and what it carries; then over bytes, where both files have the same refusal of 1 to 11:
--- the first configuration (`first-alike`), a step (`step-alike`), a run (`run-alike`, `run-carried-alike`), each with
--- its refusal. What the bytes hold counts only where the file is accepted.
+-- Two files that step alike are answered alike by every call that makes steps. In this order: `ConfigsAlike` and
+-- `StepsAlike`, over records; the rows of a run and what it carries; then over bytes, where both files have the same
+-- refusal of 1 to 11: with the same configurations, the refusals of each call and the first configuration
+-- (`first-alike`); with the same steps, a step (`step-alike`) and a run (`run-alike`, `run-carried-alike`). What the
+-- bytes hold counts only where the file is accepted.
 use mathlib.Core.Path.{_≡_, refl, sym, _∙_, ap, ap₂}
 use mathlib.Core.Bool.{Bool, true, false, cond}
 use mathlib.Core.List.{List, [], _∷_, _++_, append-assoc}
@@ -36,11 +37,15 @@ module _ (f : List ℕ) (e : refusalOf f ≡ 0) where
 
 -- ── over records ──
 
--- G has as many charts as F, with the same number of states and the same initial states, and steps as F does
-pub record StepsAlike (F G : File) : Type 0 where
+-- G has as many charts as F, with the same number of states and the same initial states
+pub record ConfigsAlike (F G : File) : Type 0 where
   pub charts : G .charts ≡ F .charts
   pub states : (c : ℕ) → c < F .charts → G .chart c .states ≡ F .chart c .states
   pub initials : (c : ℕ) → c < F .charts → G .chart c .initial ≡ F .chart c .initial
+
+-- and steps as F does
+pub record StepsAlike (F G : File) : Type 0 where
+  pub configs : ConfigsAlike F G
   pub step : (config : List ℕ) (i : Set) → stepIn G config i ≡ stepIn F config i
 
 module _ (F G : File) (s : StepsAlike F G) where
@@ -85,8 +90,9 @@ module _ (f f′ : List ℕ) (rs : refusalOf f′ ≡ refusalOf f) where
       (λ e. call-refused f′ us′ (λ z. e (sym rs ∙ z)) ∙ rs ∙ sym (call-refused f us e))
       (eq-or-not (refusalOf f) 0)
 
-  module _ (st : refusalOf f ≡ 0 → StepsAlike (fileOf f) (fileOf f′)) where
-    -- the first configuration
+  -- the same configurations
+  module _ (st : refusalOf f ≡ 0 → ConfigsAlike (fileOf f) (fileOf f′)) where
+    -- the first one
     pub first-refusal-alike : (room : ℕ) → firstRefusal f′ room ≡ firstRefusal f room
     unfolding firstRefusal
     first-refusal-alike room =
@@ -125,32 +131,38 @@ module _ (f f′ : List ℕ) (rs : refusalOf f′ ≡ refusalOf f) where
         ∙ tests-alike _ _ (λ e. ap₂ (λ ts n. firstOf (ts ++ (u n ∷ []))) (config-alike config e) (st e .charts))
         ∙ sym (ap firstOf (append-assoc (fileTests f) (configTests f config) (u (fileOf f .charts) ∷ [])))
 
-    -- a step
+    -- a step's refusal, up to 22, and a run's
     pub step-refusal-alike : (config : List ℕ) (room : ℕ) → stepRefusal f′ config room ≡ stepRefusal f config room
     unfolding stepRefusal
     step-refusal-alike config room = call-alike config (λ n. record { number = shortBuffer; applies = ltb room n })
 
-    pub step-alike : (config : List ℕ) (i : Set) (room : ℕ) → stepOf f′ config i room ≡ stepOf f config i room
-    unfolding stepOf
-    step-alike config i room =
-        answer-alike (stepRefusal f config room) (stepRefusal f′ config room) (step-refusal-alike config room)
-        (stepIn (fileOf f) config i) (stepIn (fileOf f′) config i) refused
-        (λ e. st (step-allowed f config room e .0) .step config i)
-
-    -- a run
     pub run-refusal-alike : (config : List ℕ) (inputs room : ℕ)
         → runRefusal f′ config inputs room ≡ runRefusal f config inputs room
     unfolding runRefusal
     run-refusal-alike config inputs room =
         call-alike config (λ n. record { number = shortRows; applies = ltb room (inputs * (10 + n)) })
 
+  -- and the same steps
+  module _ (st : refusalOf f ≡ 0 → StepsAlike (fileOf f) (fileOf f′)) where
+    abbrev cs : refusalOf f ≡ 0 → ConfigsAlike (fileOf f) (fileOf f′)
+    cs e = st e .configs
+
+    -- a step
+    pub step-alike : (config : List ℕ) (i : Set) (room : ℕ) → stepOf f′ config i room ≡ stepOf f config i room
+    unfolding stepOf
+    step-alike config i room =
+        answer-alike (stepRefusal f config room) (stepRefusal f′ config room) (step-refusal-alike cs config room)
+        (stepIn (fileOf f) config i) (stepIn (fileOf f′) config i) refused
+        (λ e. st (step-allowed f config room e .0) .step config i)
+
+    -- a run
     module _ (config : List ℕ) (carried : Set) (inputs : List Set) where
       pub run-alike : (rows : List ℕ) → runBytes f′ config carried inputs rows ≡ runBytes f config carried inputs rows
       unfolding runBytes
       run-alike rows =
           let n = length inputs in
           answer-alike (runRefusal f config n (length rows)) (runRefusal f′ config n (length rows))
-          (run-refusal-alike config n (length rows))
+          (run-refusal-alike cs config n (length rows))
           (laidOver (rowsOf (fileOf f) config carried inputs) rows)
           (laidOver (rowsOf (fileOf f′) config carried inputs) rows) (λ n. rows)
           (λ e. ap (λ z. laidOver z rows)
@@ -161,6 +173,6 @@ module _ (f f′ : List ℕ) (rs : refusalOf f′ ≡ refusalOf f) where
       unfolding runCarried
       run-carried-alike room =
           answer-alike (runRefusal f config (length inputs) room) (runRefusal f′ config (length inputs) room)
-          (run-refusal-alike config (length inputs) room)
+          (run-refusal-alike cs config (length inputs) room)
           (carriedOf (fileOf f) config carried inputs) (carriedOf (fileOf f′) config carried inputs) (λ n. ∅)
           (λ e. carried-alike (fileOf f) (fileOf f′) (st (run-allowed f config _ _ e .0)) inputs config carried)

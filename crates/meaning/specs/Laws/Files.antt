@@ -1,6 +1,7 @@
--- Steps and runs of files, as the public calls answer them. In this order: a signal outside the interface changes nothing, in a step (`step-outside`,
--- `places-outside`) or in a run (`run-outside`, `carried-outside`); the next configuration is valid again (`step-valid`); a run has exactly a row for
--- each input (`run-rows`), each configuration in it is valid (`run-valid`), each row is a step from where the row before it ended (`run-row`); what
+-- Steps and runs of files, as the public calls answer them. In this order: a signal outside the interface changes
+-- nothing, in a step (`step-outside`, `places-outside`, `open-outside`) or in a run (`run-outside`, `carried-outside`);
+-- the next configuration is valid again (`step-valid`); a run has exactly a row for each input (`run-rows`), each
+-- configuration in it is valid (`run-valid`), each row is a step from where the row before it ended (`run-row`); what
 -- is carried (`run-given` to `run-last`). What is inactive is in Activity.
 use mathlib.Core.Path.{_≡_, refl, sym, _∙_, ap}
 use mathlib.Core.Bool.{Bool, true, false, cond}
@@ -14,11 +15,18 @@ use Rattle.signals.specs.Mask.{_∪_, _∩_}
 use Rattle.signals.specs.Decide.{sets, A, B, C, D, E, _∪ₑ_, _∩ₑ_, _≐_}
 use Rattle.layout.specs.Le.{bytes}
 use Rattle.layout.specs.Le.Laws.{length-bytes}
+use Rattle.meaning.specs.Numbers.{manyOpen}
 use Rattle.meaning.specs.Count.{one}
 use Rattle.meaning.specs.Meaning.{Set, ∅, same, Answer, refused, given, inFace, answer, firstPlaces}
 use Rattle.meaning.specs.File.{File, wholeOf, fileOf}
 use Rattle.meaning.specs.Check.{refusalOf}
-use Rattle.meaning.specs.Calls.{inputOf, Valid, outcomesIn, stepRefusal, stepIn, stepOf, allPlaces, placesIn, placesOf, refusalIn, outputIn, markIn, afterStep, rowOf, rowAt, configAt, carriedAt, stepAt, carriedAfter, rowsOf, carriedOf, laidOver, runRefusal, runBytes, runCarried}
+use Rattle.meaning.specs.Open.{openIn}
+use Rattle.meaning.specs.Calls.{inputOf, Valid, outcomesIn, stepRefusal, foundIn, manyOpen?, stepIn, stepOf}
+use Rattle.meaning.specs.Calls.{openFor, openOf, allPlaces}
+use Rattle.meaning.specs.Calls.{placesFound, placesIn, placesOf, refusalIn, outputIn, markIn, afterStep, rowOf}
+use Rattle.meaning.specs.Calls.{rowAt, configAt, carriedAt}
+use Rattle.meaning.specs.Calls.{stepAt, carriedAfter, rowsOf, carriedOf, laidOver, runRefusal, runBytes}
+use Rattle.meaning.specs.Calls.{runCarried}
 use Rattle.meaning.specs.Calls.Laws.{step-open, step-allowed, run-open, run-allowed, behind-cong, behind-is, answered}
 use Rattle.meaning.specs.Laws.Bools.{same→≡}
 use Rattle.meaning.specs.Laws.Demand2.{outside-outcomes}
@@ -60,7 +68,8 @@ module _ (F : File) where
       let t : map (λ i. i ∩ face F) is ≡ map (λ j. j ∩ face F) js = cc in
       let w = joined c d i j e q in
       let s : stepIn F config (c ∪ i) ≡ stepIn F config (d ∪ j) =
-      unfold stepIn in ap answer (in-outside config (c ∪ i) (d ∪ j) w) in
+      unfold stepIn foundIn in
+      ap (λ os. cond (manyOpen? F config) (refused manyOpen) (answer os)) (in-outside config (c ∪ i) (d ∪ j) w) in
       let r = stepIn F config (d ∪ j) in
       let v = carried-alike r (c ∪ i) (d ∪ j) w in
       let u = rows-outside is js (afterStep r config) (carriedAfter r (c ∪ i)) (carriedAfter r (d ∪ j)) v t in
@@ -77,13 +86,20 @@ module _ (f : List ℕ) where
     all-outside e = in-outside (fileOf f) config i j (rw (accepted-face (step-allowed f config room e .0)) at alike)
 
     pub step-outside : stepOf f config i room ≡ stepOf f config j room
-    unfolding stepOf stepIn
-    step-outside = behind-cong (stepRefusal f config room) _ _ _ (λ e. ap answer (all-outside e))
+    unfolding stepOf stepIn foundIn
+    step-outside =
+        behind-cong (stepRefusal f config room) _ _ _
+        (λ e. ap (λ os. cond (manyOpen? (fileOf f) config) (refused manyOpen) (answer os)) (all-outside e))
 
     pub places-outside : placesOf f config i room ≡ placesOf f config j room
-    unfolding placesOf placesIn
+    unfolding placesOf placesIn placesFound
     places-outside =
-        behind-cong (stepRefusal f config room) _ _ _ (λ e. ap (λ os. allPlaces (firstPlaces os)) (all-outside e))
+        behind-cong (stepRefusal f config room) _ _ _
+        (λ e. ap (λ os. cond (manyOpen? (fileOf f) config) (allPlaces []) (allPlaces (firstPlaces os))) (all-outside e))
+
+    pub open-outside : openOf f config i room ≡ openOf f config j room
+    unfolding openOf
+    open-outside = ap (λ a. openFor a (openIn (fileOf f) config)) step-outside
 
   -- of a run: its rows, and what is carried then is alike again
   module _ (config : List ℕ) (c d : Set) (is js : List Set) (alike : c ∩ inputOf f ≡ d ∩ inputOf f)
@@ -143,7 +159,7 @@ module _ (f config : List ℕ) (carried : Set) (inputs : List Set) (rows : List 
   abbrev w : ℕ
   w = 10 + F .charts
 
-  start : Stand
+  abbrev start : Stand
   start = record { config = config; carried = carried }
 
   -- where the run stands after k inputs
@@ -169,11 +185,10 @@ module _ (f config : List ℕ) (carried : Set) (inputs : List Set) (rows : List 
   leads = file-leads f accepted
 
   left-is : left ≡ laidOver (rowsFrom F start inputs) rows
-  unfolding runBytes start
+  unfolding runBytes
   left-is = behind-is (runRefusal f config (length inputs) (length rows)) _ rows h
 
   all-rows : length (rowsFrom F start inputs) ≡ length inputs * w
-  unfolding start
   all-rows = rows-all F leads start inputs valid
 
   -- exactly a row for each input: there is room for them, and what stands behind them is as it was
@@ -189,7 +204,6 @@ module _ (f config : List ℕ) (carried : Set) (inputs : List Set) (rows : List 
       long = rw (left-is, length-append, length-drop, all-rows) (omega (arith, room))
 
   row-there : (k : ℕ) → k < length inputs → rowAt f left k ≡ rowOf (stepFrom F (at k) (getD inputs k 0)) (at k .config)
-  unfolding start
   row-there k l =
       let e = row-ends k (length inputs) w l in
       let q = length-drop (k * w) (rowsFrom F start inputs) in
@@ -202,17 +216,16 @@ module _ (f config : List ℕ) (carried : Set) (inputs : List Set) (rows : List 
       (row-at F leads start inputs valid k l)
 
   config-there : (k : ℕ) → k ≤ length inputs → configAt f config left k ≡ at k .config
-  unfolding standAt start
+  unfolding standAt
   config-there zero l = refl
   config-there (suc k) l = ap (drop 10) (row-there k l) ∙ row-tail (stepFrom F (at k) (getD inputs k 0)) (at k .config)
 
   -- it is valid
   pub run-valid : (k : ℕ) → k ≤ length inputs → Valid F (configAt f config left k)
-  unfolding start
   run-valid k l = rw (config-there k l) (valid-at F leads start inputs valid k)
 
   carried-there : (k : ℕ) → k ≤ length inputs → carriedThere k ≡ at k .carried
-  unfolding runCarried start
+  unfolding runCarried
   carried-there k l =
       let e : length (take k inputs) ≡ k = length-take-le k inputs l in
       let m = mul-le-mul-right w l in
@@ -221,7 +234,9 @@ module _ (f config : List ℕ) (carried : Set) (inputs : List Set) (rows : List 
       (rw e (run-open f config k (length rows) accepted valid (omega arith)))
       ∙ carried-last F leads start (take k inputs) ∙ rw (e, stand-take F leads start inputs k k (omega arith))
 
-  step-there : (k : ℕ) → k ≤ length inputs → stepAt f config carried inputs rows k ≡ stepFrom F (at k) (getD inputs k 0)
+  -- step k of the run, from where it stands
+  pub step-there : (k : ℕ) → k ≤ length inputs
+      → stepAt f config carried inputs rows k ≡ stepFrom F (at k) (getD inputs k 0)
   unfolding stepAt stepOf
   step-there k l =
       behind-is (stepRefusal f (configAt f config left k) (F .charts)) _ _
@@ -247,7 +262,7 @@ module _ (f config : List ℕ) (carried : Set) (inputs : List Set) (rows : List 
 
   -- before the first input it is what the run is given, and after the last it is what the run returns
   pub run-first : carriedThere 0 ≡ carried
-  unfolding standAt start
+  unfolding standAt
   run-first = carried-there 0 (omega arith)
 
   pub run-last : runCarried f config carried inputs (length rows) ≡ carriedThere (length inputs)

@@ -17,7 +17,8 @@ use Rattle.meaning.specs.Meaning.{Set, ∅, Answer, refused, given}
 use Rattle.meaning.specs.File.{File, wholeOf, trailer, bodyOf, shapeOf, chartOf, fileAt, fileOf}
 use Rattle.meaning.specs.Check.{transitions?, refusalOf}
 use Rattle.meaning.specs.Check.Laws.{passed, to-states}
-use Rattle.meaning.specs.Calls.{stepIn, outputIn, afterStep, carriedAfter, rowOf, rowsOf, carriedOf}
+use Rattle.meaning.specs.Calls.{foundIn, stepIn, outputIn, afterStep, carriedAfter, rowOf, rowsOf, carriedOf}
+use Rattle.meaning.specs.Calls.Laws.{given-found}
 use Rattle.meaning.specs.Laws.Demand2.{valid-next}
 pub use Rattle.meaning.specs.Calls.{Valid}
 
@@ -76,10 +77,11 @@ module _ (F : File) (s : Stand) (inputs : List Set) (k : ℕ) (l : k < length in
 
 module _ (F : File) (leads : Leads F) where
   valid-answer : (config : List ℕ) (i : Set) (r : Answer) → stepIn F config i ≡ r → Valid F config → Valid F (afterStep r config)
-  unfolding stepIn
+  unfolding foundIn
   valid-answer config i (refused r) e v = v
   valid-answer config i (given o n m) e v =
-      let q = valid-next (F .chart) (F .state) (λ c. getD config c 0) (wholeOf F) i (F .charts) leads (v .states) o n m e in
+      let q = valid-next (F .chart) (F .state) (λ c. getD config c 0) (wholeOf F) i (F .charts) leads (v .states) o n m
+      (given-found F config i o n m e .1) in
       record { long = q .0; states = q .1 }
 
   pub valid-after : (config : List ℕ) (i : Set) → Valid F config → Valid F (afterStep (stepIn F config i) config)

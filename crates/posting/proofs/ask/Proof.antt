@@ -14,7 +14,8 @@ slice-aggregate-step c = sym (length-take-le _ _ (search needs))
 returns : tie.Need-returns
 returns c =
     let s = c .before .before .before .before .before in
-    reply-is (s .args .file .now) (s .args .t2) (s .args .n) (s .args .offered) (c .before .step .result) _ _ (search needs) (s .pre) (c .before .step .ensures .0) (c .before .step .ensures .1)
+    reply-is (s .args .file .now) (s .args .t2) (s .args .n) (s .args .offered) (c .before .step .result) _ _ _
+    (search needs) (s .pre) (c .before .step .ensures .0) (c .before .step .ensures .1)
 
 pub ask-spec : {M : Type 1} → statement M
 ask-spec = tie.close (tie.spec (λ c. search needs) slice-aggregate-step (λ c. search needs) (λ c κs. search needs) returns)

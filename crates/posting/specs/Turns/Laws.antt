@@ -65,11 +65,12 @@ pub taken-is : (n : ℕ) (d : Day) (e : Entry) (l : List Set) (t : Bool) → l �
 unfolding takenOf
 taken-is n d e l t h g = rw (h, g)
 
-pub reply-is : (f config : List ℕ) (n : ℕ) (i : Set) (s : Stepped) (next places : List ℕ) → length config ≡ width → n ≤ width
-    → s ≡ steppedOf (stepOf f (take n config) i (length config)) places → next ≡ nextIn (stepOf f (take n config) i (length config)) config
+pub reply-is : (f config : List ℕ) (n : ℕ) (i : Set) (s : Stepped) (next places : List ℕ) (choices : ℕ)
+    → length config ≡ width → n ≤ width → s ≡ steppedOf (stepOf f (take n config) i (length config)) places choices
+    → next ≡ nextIn (stepOf f (take n config) i (length config)) config
     → record { refusal = s .refusal; output = s .output; mark = s .mark; next = next } ≡ replyOf f config n i
 unfolding replyOf
-reply-is f config n i s next places h l e g = rw (e, g, h, first-bytes n config (omega arith))
+reply-is f config n i s next places choices h l e g = rw (e, g, h, first-bytes n config (omega arith))
 
 -- a part of a lent buffer written anew: what stands before it and after it is kept
 abbrev pub mid : ℕ → ℕ → List ℕ → List ℕ → List ℕ

@@ -12,14 +12,16 @@ use lib.ListN.{length, getD, take, drop, set, replicate, length-set, length-repl
 use lib.Seq.{getD-set-same, getD-set-other, take-at}
 use Rattle.signals.specs.Mask.{_∪_}
 use Rattle.signals.specs.Decide.{sets, A, B, C, _∪ₑ_, ∅ₑ, _≐_}
-use Rattle.meaning.specs.Numbers.{mostCharts, wrongLength, badState}
+use Rattle.meaning.specs.Numbers.{mostCharts, wrongLength, badState, manyOpen}
 use Rattle.meaning.specs.Count.{one, anyUpTo}
 use Rattle.meaning.specs.Count.Laws.{any-cong}
 use Rattle.meaning.specs.Meaning.{Set, ∅, same, Outcome, Answer, refused, given, answer}
 use Rattle.meaning.specs.File.{File, trailer, shapeOf, fileAt, fileOf}
 use Rattle.meaning.specs.Check.{Test, firstOf, fileTests, refusalOf, differ, notBelow}
 use Rattle.meaning.specs.Check.Laws.{eq-or-not, firstOf-++, firstOf-before, firstOf-passes, Passes, passed, counted, call-refused, call-passed}
-use Rattle.meaning.specs.Calls.{made, laidOver, configTests, Valid, stepRefusal, outcomesIn, stepIn, stepOf, nextIn, rowOf, afterStep, carriedAfter, refusalIn}
+use Rattle.meaning.specs.Calls.{made, laidOver, configTests, Valid, stepRefusal, outcomesIn, foundIn, manyOpen?}
+use Rattle.meaning.specs.Calls.{stepIn, stepOf, nextIn}
+use Rattle.meaning.specs.Calls.{rowOf, afterStep, carriedAfter, refusalIn}
 use Rattle.meaning.specs.Calls.Laws.{length-made, getD-made, call-allowed, step-open, behind-is}
 use Rattle.meaning.specs.Laws.Runs.{file-leads, valid-after}
 use Rattle.engine.specs.States.{noStates, chartStates, statesOf}
@@ -264,8 +266,17 @@ front-laid n xs = sym (first-bytes (length n) (n ++ xs) (rw length-append (omega
 module _ (f : List ℕ) (h : refusalOf f ≡ 0) (c : Case) (z : refusalAt f (configOf c) ≡ 0) where
   carried-kept : (i : Set)
       → cond (same (refusalIn (stepIn (fileOf f) (configOf c) i)) 0) ∅ i ≡ carriedAfter (stepIn (fileOf f) (configOf c) i) i
-  unfolding stepIn
-  carried-kept i = kept-answer (outcomesIn (fileOf f) (configOf c) i) i
+  unfolding stepIn foundIn same
+  carried-kept i = limited (manyOpen? (fileOf f) (configOf c))
+    where
+      os : List Outcome
+      os = outcomesIn (fileOf f) (configOf c) i
+
+      -- after 24 as after 23
+      limited : (b : Bool) → cond (same (refusalIn (cond b (refused manyOpen) (answer os))) 0) ∅ i
+          ≡ carriedAfter (cond b (refused manyOpen) (answer os)) i
+      limited true = refl
+      limited false = kept-answer os i
 
   -- the step that is asked for is given the room that it needs
   pub step-is : (i : Set) → stepOf f (configOf c) i width ≡ stepIn (fileOf f) (configOf c) i

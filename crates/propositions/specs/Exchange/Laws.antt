@@ -1,23 +1,35 @@
 -- Composition is symmetric: of a file with a composed node j and of the file with a and b of j exchanged, the public
 -- calls answer the same. Of both editions, and of refused files too. In this order: the check, the first configuration,
--- the interface, a step and its places, a run and what it carries, whether the file is plain; nodes exchanged in turn.
+-- the interface, a step, its places and how many choices are open in it, a run and what it carries, whether the file is
+-- plain; nodes exchanged in turn.
 -- The rewriting is not among them: its bytes have the parts of a node in their order (`rewritten-differs`, in
 -- Examples).
-use mathlib.Core.Path.{_≡_, ap₂}
-use mathlib.Core.Bool.{false, _&&_}
+use mathlib.Core.Path.{_≡_, refl, _∙_, ap, ap₂}
+use mathlib.Core.Bool.{Bool, true, false, _&&_, cond}
 use mathlib.Core.List.{List, []}
 use Prim.Native.Nat.{ℕ}
-use Rattle.meaning.specs.Numbers.{firstEdition}
-use Rattle.meaning.specs.Meaning.{Set, ∅, same, inFace, outFace}
+use native.Mathlib.Omega.{arith}
+use borrow.Author.Tests.{ltb-false}
+use lib.Dec.{ltb}
+use Rattle.meaning.specs.Numbers.{firstEdition, manyOpen}
+use Rattle.meaning.specs.Meaning.{Set, ∅, same, Answer, refused, given, inFace, outFace}
 use Rattle.meaning.specs.File.{trailer, fileOf, wholeOf}
 use Rattle.meaning.specs.Check.{refusalOf}
 use Rattle.meaning.specs.Check.Laws.{passed}
-use Rattle.meaning.specs.Calls.{firstRefusal, firstBytes, inputOf, outputOf, stepOf, allPlaces, placesIn, stepRefusal, placesOf, runRefusal, runBytes, runCarried}
-use Rattle.meaning.specs.Calls.Laws.{step-allowed}
+use Rattle.meaning.specs.Open.{openIn}
+use Rattle.meaning.specs.Calls.{firstRefusal, firstBytes, inputOf, outputOf, stepRefusal, stepOf, openFor, openOf}
+use Rattle.meaning.specs.Calls.{allPlaces}
+use Rattle.meaning.specs.Calls.{placesIn, placesOf, runRefusal, runBytes, runCarried}
+use Rattle.meaning.specs.Calls.Laws.{step-allowed, answered}
+use Rattle.meaning.specs.Laws.Many.{behind-tests}
 use Rattle.meaning.specs.Plain.{plainIn, plainOf}
-use Rattle.meaning.specs.Laws.Alike.{accepted-treed, accepted-node, StepsAlike, answer-alike, first-refusal-alike, first-alike, step-refusal-alike, step-alike, run-refusal-alike, run-alike, run-carried-alike}
+use Rattle.meaning.specs.Laws.Alike.{accepted-treed, accepted-node, ConfigsAlike, StepsAlike, answer-alike}
+use Rattle.meaning.specs.Laws.Alike.{first-refusal-alike, first-alike, step-refusal-alike, step-alike}
+use Rattle.meaning.specs.Laws.Alike.{run-refusal-alike}
+use Rattle.meaning.specs.Laws.Alike.{run-alike, run-carried-alike}
 use Rattle.propositions.specs.Exchange.{exchange, HasComposed}
-use Rattle.propositions.specs.Exchange.Records.{Turned, in-turned, out-turned, places-turned, steps-turned, plain-turned}
+use Rattle.propositions.specs.Exchange.Records.{Turned, in-turned, out-turned, open-turned, places-turned}
+use Rattle.propositions.specs.Exchange.Records.{steps-turned, plain-turned}
 use Rattle.propositions.specs.Exchange.Bytes.{trailer-same, turns, same-refusal, still-composed}
 
 module _ (j : ℕ) (f : List ℕ) (h : HasComposed j f) where
@@ -35,12 +47,15 @@ module _ (j : ℕ) (f : List ℕ) (h : HasComposed j f) where
     steps : StepsAlike (fileOf f) (fileOf f′)
     steps = steps-turned (fileOf f) (fileOf f′) turn (accepted-treed f e) (accepted-node f e)
 
+  configs : refusalOf f ≡ 0 → ConfigsAlike (fileOf f) (fileOf f′)
+  configs e = steps e .configs
+
   -- the first configuration
   pub same-first-refusal : (room : ℕ) → firstRefusal f′ room ≡ firstRefusal f room
-  same-first-refusal = first-refusal-alike f f′ same-check steps
+  same-first-refusal = first-refusal-alike f f′ same-check configs
 
   pub same-first : (buffer : List ℕ) → firstBytes f′ buffer ≡ firstBytes f buffer
-  same-first = first-alike f f′ same-check steps
+  same-first = first-alike f f′ same-check configs
 
   -- the interface
   pub same-input : inputOf f′ ≡ inputOf f
@@ -65,15 +80,37 @@ module _ (j : ℕ) (f : List ℕ) (h : HasComposed j f) where
   unfolding placesOf
   same-places config i room =
       answer-alike (stepRefusal f config room) (stepRefusal f′ config room)
-      (step-refusal-alike f f′ same-check steps config room)
+      (step-refusal-alike f f′ same-check configs config room)
       (placesIn (fileOf f) config i) (placesIn (fileOf f′) config i) (λ n. allPlaces [])
       (λ z. let e = step-allowed f config room z .0 in
       places-turned (fileOf f) (fileOf f′) (turn e) (accepted-treed f e) (accepted-node f e) config i)
 
+  -- how many choices are open: in the file, where it is accepted, and as a step says it
+  pub same-open : refusalOf f ≡ 0 → (config : List ℕ) → openIn (fileOf f′) config ≡ openIn (fileOf f) config
+  same-open e config =
+      open-turned (fileOf f) (fileOf f′) (turn e) (accepted-treed f e) (accepted-node f e) config
+
+  pub same-open-said : (config : List ℕ) (i : Set) (room : ℕ) → openOf f′ config i room ≡ openOf f config i room
+  unfolding openOf
+  same-open-said config i room =
+      ap (λ a. openFor a (openIn (fileOf f′) config)) (same-step config i room)
+      ∙ said (stepOf f config i room) refl
+    where
+      said : (a : Answer) → stepOf f config i room ≡ a
+          → openFor a (openIn (fileOf f′) config) ≡ openFor a (openIn (fileOf f) config)
+      said (given o n m) q = same-open (answered f config i room o n m q .accepted) config
+      said (refused r) q = go (ltb r manyOpen) refl
+        where
+          go : (b : Bool) → ltb r manyOpen ≡ b
+              → cond b 0 (openIn (fileOf f′) config) ≡ cond b 0 (openIn (fileOf f) config)
+          go true e = refl
+          go false e =
+              let l = ltb-false r manyOpen e in same-open (behind-tests f config i room r (omega arith) q .0 .0) config
+
   -- a run: its refusal, its rows, and what it carries
   pub same-run-refusal : (config : List ℕ) (inputs room : ℕ)
       → runRefusal f′ config inputs room ≡ runRefusal f config inputs room
-  same-run-refusal = run-refusal-alike f f′ same-check steps
+  same-run-refusal = run-refusal-alike f f′ same-check configs
 
   pub same-run : (config : List ℕ) (carried : Set) (inputs : List Set) (rows : List ℕ)
       → runBytes f′ config carried inputs rows ≡ runBytes f config carried inputs rows

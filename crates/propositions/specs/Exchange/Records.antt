@@ -1,28 +1,33 @@
 -- Over the records of a file: a and b are exchanged in some of its composed nodes (`Turned`). In this order: the trees
--- of its nodes; tests 8 to 11; a step and its places, the interfaces, whether the file is plain.
+-- of its nodes; tests 8 to 11; a step, its places and its open choices, the interfaces, whether the file is plain.
 use mathlib.Core.Path.{_≡_, refl, sym, _∙_, ap, ap₂, subst}
 use mathlib.Core.Bool.{Bool, true, false, _&&_, _||_, not, cond, or-comm}
-use mathlib.Core.List.{List}
+use mathlib.Core.List.{List, []}
 use Prim.Native.Nat.{ℕ, zero, suc, _+_, _-_, _<_, _≤_}
 use native.Mathlib.Omega.{arith}
 use lib.Dec.{ltb}
 use lib.ListN.{getD}
 use Rattle.layout.specs.declared.record.Node.{Node}
+use Rattle.meaning.specs.Numbers.{mostOpen, manyOpen}
 use Rattle.meaning.specs.Count.{anyUpTo, tally, one}
 use Rattle.meaning.specs.Count.Laws.{any-cong, tally-cong}
 use Rattle.signals.specs.Mask.{_∪_}
-use Rattle.meaning.specs.Meaning.{Set, ∅, same, Tree, Slaves, comp, hide, snoc, inFace, outFace, outcomes, answer, firstPlaces}
+use Rattle.meaning.specs.Meaning.{Set, ∅, same, Tree, Slaves, comp, hide, snoc, inFace, outFace, outcomes, refused}
+use Rattle.meaning.specs.Meaning.{answer, firstPlaces}
 use Rattle.meaning.specs.File.{File, byKind, whole, gather, build, treeOf, wholeOf, Has, HasS}
 use Rattle.meaning.specs.Check.{notBelow, differ, rising, inOrder, slave?, slaves?, nodeOfKind?, nodes?, holds, held, names, named, naming?, inside?}
 use Rattle.meaning.specs.Check.Laws.{below}
 use Rattle.meaning.specs.Check.Nodes.{Treed}
-use Rattle.meaning.specs.Calls.{outcomesIn, stepIn, placesIn, allPlaces}
+use Rattle.meaning.specs.Open.{openChoices, openIn}
+use Rattle.meaning.specs.Calls.{outcomesIn, foundIn, manyOpen?, stepIn, placesFound, placesIn, allPlaces}
 use Rattle.meaning.specs.Rewriting.{unionUpTo}
 use Rattle.meaning.specs.Plain.{fedBack, anyDoubtful, plainIn}
 use Rattle.meaning.specs.Laws.Bools.{same→≡}
-use Rattle.meaning.specs.Laws.Alike.{StepsAlike}
+use Rattle.meaning.specs.Laws.Alike.{ConfigsAlike, StepsAlike}
 use Rattle.agreement.specs.Encoded.{slaveIn, nodeIn}
-use Rattle.propositions.specs.Exchange.Trees.{Exchanged, Slaved, chart, parts, turned, inside, master, none, more, in-exchanged, out-face-exchanged, outcomes-exchanged}
+use Rattle.propositions.specs.Exchange.Trees.{Exchanged, Slaved, chart, parts, turned, inside, master, none}
+use Rattle.propositions.specs.Exchange.Trees.{more, in-exchanged, out-face-exchanged, outcomes-exchanged}
+use Rattle.propositions.specs.Exchange.Trees.{open-exchanged}
 
 -- a node with a and b exchanged
 abbrev pub exchanged : Node → Node
@@ -258,21 +263,39 @@ module _ (F G : File) (r : Turned F G) where
         ∙ outcomes-exchanged (F .chart) (G .chart) (F .state) (G .state) (F .charts) (r .chart)
         (λ c. getD config c 0) whole-turned i
 
+    pub open-turned : (config : List ℕ) → openIn G config ≡ openIn F config
+    open-turned config =
+        ap (openChoices (G .chart) (G .state) (λ c. getD config c 0) (wholeOf G)) (r .charts)
+        ∙ open-exchanged (F .chart) (G .chart) (F .state) (G .state) (F .charts) (r .chart)
+        (λ c. getD config c 0) whole-turned
+
+    pub found-turned : (config : List ℕ) (i : Set) → foundIn G config i ≡ foundIn F config i
+    unfolding foundIn
+    found-turned config i = ap answer (outcomes-turned config i)
+
     pub step-turned : (config : List ℕ) (i : Set) → stepIn G config i ≡ stepIn F config i
-    unfolding stepIn
-    step-turned config i = ap answer (outcomes-turned config i)
+    unfolding stepIn manyOpen?
+    step-turned config i =
+        ap₂ (λ n a. cond (ltb mostOpen n) (refused manyOpen) a) (open-turned config) (found-turned config i)
+
+    pub places-turned-found : (config : List ℕ) (i : Set) → placesFound G config i ≡ placesFound F config i
+    unfolding placesFound
+    places-turned-found config i = ap (λ os. allPlaces (firstPlaces os)) (outcomes-turned config i)
 
     pub places-turned : (config : List ℕ) (i : Set) → placesIn G config i ≡ placesIn F config i
-    unfolding placesIn
-    places-turned config i = ap (λ os. allPlaces (firstPlaces os)) (outcomes-turned config i)
+    unfolding placesIn manyOpen?
+    places-turned config i =
+        ap₂ (λ n ps. cond (ltb mostOpen n) (allPlaces []) ps) (open-turned config) (places-turned-found config i)
 
-    pub steps-turned : StepsAlike F G
-    steps-turned = record {
+    pub configs-turned : ConfigsAlike F G
+    configs-turned = record {
       charts = r .charts;
       states = λ c l. ap (λ C. C .states) (r .chart c l);
       initials = λ c l. ap (λ C. C .initial) (r .chart c l);
-      step = step-turned;
     }
+
+    pub steps-turned : StepsAlike F G
+    steps-turned = record { configs = configs-turned; step = step-turned }
 
   -- ── plain files ──
 

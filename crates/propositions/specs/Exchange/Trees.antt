@@ -1,6 +1,6 @@
 -- Over a tree: with the two parts of compositions exchanged, at any depth and inside slaves too (`Exchanged`), it has
--- the interfaces, the output and the permitted choices that it had, and so the same outcomes. Last, Proposition 4 of
--- the paper: one composition with its parts exchanged (`symmetric`).
+-- the interfaces, the output and the permitted choices that it had, and so the same outcomes; and as many open choices
+-- (`open-exchanged`). Last, Proposition 4 of the paper: one composition with its parts exchanged (`symmetric`).
 use mathlib.Core.Path.{_≡_, refl, _∙_, ap, ap₂, fun-ext}
 use mathlib.Core.Bool.{Bool, true, _&&_, and-comm}
 use mathlib.Core.List.{[], _∷_}
@@ -9,6 +9,7 @@ use native.Mathlib.Omega.{arith}
 use Rattle.signals.specs.Mask.{_∪_, _∩_, _∖_}
 use Rattle.signals.specs.Decide.{sets, A, B, _∪ₑ_, _≐_}
 use Rattle.meaning.specs.Meaning.{Set, Chart, Tree, Slaves, leaf, comp, hide, dec, nil, snoc, Move, pick, lastPlace, actionOf, after, inFaceChart, inFace, inFaces, actions, outFace, outFaces, out, outs, okChart, meets, ok, oks, permitted, upd, moves, nexts, placeOf, placesFrom, outcomeOf, upto, outcome, search, outcomes}
+use Rattle.meaning.specs.Open.{openChart, openTree, openSlaves, isOpen, choices, howMany, openChoices}
 
 -- E, E′: the charts; s, s′: the slaves' states; the same where the tree has them
 module _ (E E′ : ℕ → Chart) (s s′ : ℕ → ℕ) where
@@ -122,6 +123,30 @@ module _ (E E′ : ℕ → Chart) (s s′ : ℕ → ℕ) where
       permitted-exchanged {t} {t′} r i = ap (λ f. ok E′ s′ cfg M′ t′ true (i ∩ f)) (in-exchanged r)
           ∙ ok-exchanged r true (i ∩ inFace E t)
 
+      -- guards aside
+      mutual
+        unfolding openTree
+
+        pub opens-exchanged : {t t′ : Tree} → Exchanged t t′ → (a : Bool)
+            → openTree E′ s′ cfg M′ t′ a ≡ openTree E s cfg M t a
+        opens-exchanged (chart {c} e) a = ap₂ (λ C k. openChart C a (cfg c) k) e (m c e)
+        opens-exchanged (parts r u) a = ap₂ _&&_ (opens-exchanged r a) (opens-exchanged u a)
+        opens-exchanged (turned {p = p} {q = q} r u) a =
+            ap₂ _&&_ (opens-exchanged u a) (opens-exchanged r a)
+            ∙ and-comm (openTree E s cfg M q a) (openTree E s cfg M p a)
+        opens-exchanged (inside r) a = opens-exchanged r a
+        opens-exchanged (master {c} {ss} {ss′} e r) a =
+            ap (λ z. openChart (E′ c) a (cfg c) (M′ c) && z)
+            (open-slaves-exchanged r (λ q. a && meets (cfg c) (M′ c) q))
+            ∙ rw (e, m c e)
+
+        open-slaves-exchanged : {ss ss′ : Slaves} → Slaved ss ss′ → (f : ℕ → Bool)
+            → openSlaves E′ s′ cfg M′ ss′ f ≡ openSlaves E s cfg M ss f
+        open-slaves-exchanged none f = refl
+        open-slaves-exchanged (more {ss} {ss′} {i} {t} {t′} r e u) f =
+            ap₂ _&&_ (open-slaves-exchanged r f)
+            (ap (λ k. openTree E′ s′ cfg M′ t′ (f k)) e ∙ opens-exchanged u (f (s i)))
+
   -- ── all choices ──
 
   moved : (ch : ℕ → ℕ) (c : ℕ) → E′ c ≡ E c → moves E′ ch c ≡ moves E ch c
@@ -164,6 +189,20 @@ module _ (E E′ : ℕ → Chart) (s s′ : ℕ → ℕ) where
       pub outcomes-exchanged : outcomes E′ s′ cfg t′ i N ≡ outcomes E s cfg t i N
       unfolding outcomes
       outcomes-exchanged = search-exchanged N zero (λ c. zero) (omega arith)
+
+    -- the choices are the same, and as many are open
+    choices-exchanged : (n c : ℕ) (ch : ℕ → ℕ) → c + n ≡ N → choices E′ n c ch ≡ choices E n c ch
+    unfolding choices
+    choices-exchanged zero c ch l = refl
+    choices-exchanged (suc n) c ch l =
+        ap₂ (λ C g. upto (lastPlace C) g) (cs c (omega arith))
+        (fun-ext (λ v. choices-exchanged n (suc c) (upd ch c v) (omega arith)))
+
+    pub open-exchanged : {t t′ : Tree} → Exchanged t t′ → openChoices E′ s′ cfg t′ N ≡ openChoices E s cfg t N
+    unfolding openChoices isOpen
+    open-exchanged r =
+        ap₂ howMany (fun-ext (λ ch. opens-exchanged (moves E ch) (moves E′ ch) (moved ch) cfg r true))
+        (choices-exchanged N zero (λ c. zero) (omega arith))
 
 -- ── nothing exchanged, and one composition exchanged ──
 

@@ -5,7 +5,7 @@
 -- step is given (`typed-given`), and it is the same step if its mark is yes (`typed-sure`). With the mark no it may be
 -- another step (`typed-differs`, in Examples).
 use mathlib.Core.Path.{_≡_, sym, _∙_, ap, ap₂}
-use mathlib.Core.Bool.{Bool, true}
+use mathlib.Core.Bool.{Bool, true, false}
 use mathlib.Core.List.{List, [], _∷_}
 use Prim.Native.Nat.{ℕ, _-_}
 use native.Mathlib.Omega.{arith}
@@ -15,8 +15,8 @@ use Rattle.signals.specs.Decide.{sets, A, B, C, D, _∪ₑ_, _∩ₑ_, _≐_, _
 use Rattle.meaning.specs.Meaning.{Set, ∅, given, inFace, moves, firstPlaces}
 use Rattle.meaning.specs.File.{File, fileOf, wholeOf}
 use Rattle.meaning.specs.Check.{refusalOf}
-use Rattle.meaning.specs.Calls.{inputOf, outcomesIn, stepIn, stepOf}
-use Rattle.meaning.specs.Calls.Laws.{behind-is, Answered, answered}
+use Rattle.meaning.specs.Calls.{inputOf, outcomesIn, foundIn, stepOf}
+use Rattle.meaning.specs.Calls.Laws.{step-by, behind-is, Answered, answered}
 use Rattle.meaning.specs.Laws.Alike.{accepted-treed, accepted-node}
 use Rattle.meaning.specs.Words.{Given}
 use Rattle.meaning.specs.Laws.Demand2.{given-if, given-first, mark-yes}
@@ -82,8 +82,8 @@ module _ (f config : List ℕ) (composed : WholeComposed f) where
     known = answered f config i room o n m step
 
     first : Given (F .chart) (F .state) cfg (wholeOf F) i (F .charts) o n
-    unfolding stepIn
-    first = given-first (F .chart) (F .state) cfg (wholeOf F) i (F .charts) o n m (known .answer-is)
+    unfolding foundIn
+    first = given-first (F .chart) (F .state) cfg (wholeOf F) i (F .charts) o n m (known .found-is)
 
     -- the choice that was the step
     pub typed-choice : (ch : ℕ → ℕ) × ChoiceIn f config (i ∪ s) ch × PermittedIn f config (i ∪ s) ch
@@ -99,20 +99,20 @@ module _ (f config : List ℕ) (composed : WholeComposed f) where
       sym (first .next),
     )
 
-    -- what is answered behind the tests of a step, which no input changes
-    answer-in : stepOf f config (i ∪ s) room ≡ stepIn F config (i ∪ s)
+    -- what is answered behind the tests of a step, 24 included, which no input changes
+    answer-in : stepOf f config (i ∪ s) room ≡ foundIn F config (i ∪ s)
     unfolding stepOf
-    answer-in = behind-is _ _ _ (known .passes)
+    answer-in = behind-is _ _ _ (known .passes) ∙ step-by F config (i ∪ s) false (known .few-open)
 
     pub typed-given : (o′ : Set) × (n′ : List ℕ) × (m′ : Bool) × (stepOf f config (i ∪ s) room ≡ given o′ n′ m′)
-    unfolding stepIn
+    unfolding foundIn
     typed-given =
         let c = typed-choice in
         let g = given-if (F .chart) (F .state) cfg (wholeOf F) (i ∪ s) (F .charts) (c .0) (c .1) (c .2) in
         (g .0, g .1, g .2, answer-in ∙ g .3)
 
     pub typed-sure : (o′ : Set) (n′ : List ℕ) → stepOf f config (i ∪ s) room ≡ given o′ n′ true → (o′ ≡ o) × (n′ ≡ n)
-    unfolding stepIn
+    unfolding foundIn
     typed-sure o′ n′ e =
         let c = typed-choice in
         let y = mark-yes (F .chart) (F .state) cfg (wholeOf F) (i ∪ s) (F .charts) o′ n′ (sym answer-in ∙ e) (c .0)

@@ -23,7 +23,8 @@ use lib.ListN.{length}
 use Rattle.cells.specs.Table.{masksFor, actionAt, upAt, countAt}
 use Rattle.cells.specs.Triggers.{toldAt}
 use Rattle.search.specs.Trail.{Trail, trailIn, Keeps}
-use Rattle.search.specs.Trail.Laws.{keeps-refl, keeps-trans, keeps-fewer, keeps-room, trail-kept}
+use Rattle.cells.specs.Trail.{Room}
+use Rattle.search.specs.Trail.Laws.{keeps-refl, keeps-trans, keeps-fewer, keeps-room, room-fewer, trail-kept}
 use Rattle.search.specs.Hunt.{each, wakes, taken, rested, fineAt, outcomeIn, settleOf, over, foundIn, Held, Takes}
 use Rattle.search.specs.Stays.{staysAt, stayed, calmAll, quietAt, huntsBoth, huntsCalm, Hunted}
 use Rattle.search.specs.Stays.Laws.{fine-same}
@@ -243,12 +244,12 @@ callees t = (
 
 module _ (t : ℕ) where
   settle-requires : lts.Need-settle-requires (callees t) (at t) hunt.Post Inv-loop μ-loop
-  settle-requires c κs = let b = c .before .before .before .before .before .before .before .before .before .before .before .before in (b .pre .1 .2, b .pre .1 .3)
+  settle-requires c κs = let b = c .before .before .before .before .before .before .before .before .before .before .before .before .before in (b .pre .1 .2, b .pre .1 .3)
 
   returns-2 : lts.Need-returns-2 (callees t) (at t) hunt.Post Inv-loop μ-loop
   returns-2 c =
       let t1 = c .before .before .before .before in
-      let b = t1 .before .before .before .before .before .before .before .before .before in
+      let b = t1 .before .before .before .before .before .before .before .before .before .before in
       let a = b .args in
       let m = a .masks .now in
       let s = a .small .now in
@@ -265,7 +266,7 @@ module _ (t : ℕ) where
 
   -- the function's entry, from where what is asked was tested, and that some chart is left
   abbrev entry : lts.After-apart (callees t) (at t) hunt.Post Inv-loop μ-loop → lts.Start (callees t) (at t) hunt.Post Inv-loop μ-loop
-  entry c = c .before .before .before .before .before .before .before .before .before .before .before .before
+  entry c = c .before .before .before .before .before .before .before .before .before .before .before .before .before
 
   abbrev some-left : (c : lts.After-apart (callees t) (at t) hunt.Post Inv-loop μ-loop) → entry c .args .left ≡ 0 → ⊥
   some-left c = c .before .before .before .if2 .left
@@ -277,12 +278,12 @@ module _ (t : ℕ) where
 
   all-calm-requires : lts.Need-all-calm-requires (callees t) (at t) hunt.Post Inv-loop μ-loop
   all-calm-requires c κs =
-      let b = c .before .before .before .before .before .before in
-      (omega (arith, b .pre .1 .0 .masks, b .pre .1 .4), b .pre .1 .5, omega (arith, b .pre .1 .3))
+      let b = c .before .before .before .before .before .before .before in
+      (omega (arith, b .pre .1 .0 .masks, b .pre .1 .4), b .pre .1 .5, omega (arith, b .pre .1 .3), omega (arith, b .pre .1 .1 .masks))
 
   returns : lts.Need-returns (callees t) (at t) hunt.Post Inv-loop μ-loop
   returns c =
-      let b = c .before .before .before .before .before .before .before .before in
+      let b = c .before .before .before .before .before .before .before .before .before in
       let a = b .args in
       record {
         found = not-calm (a .masks .now) (a .small .now) (a .guards .now) (a .stays .now) (a .left) (a .charts - a .left) (trailIn (a .trail .now) (a .moves .now) (a .charts - a .left) (a .output))
@@ -293,9 +294,9 @@ module _ (t : ℕ) where
 
   asks-requires : lts.Need-asks-requires (callees t) (at t) hunt.Post Inv-loop μ-loop
   asks-requires c κs =
-      let b = c .before .before .before .before .before .before .before .before .before .before in
+      let b = c .before .before .before .before .before .before .before .before .before .before .before in
       let some = c .before .if2 .left in
-      (omega (arith, b .pre .1 .0 .masks, b .pre .1 .4), omega (arith, b .pre .1 .3, b .pre .1 .4))
+      (omega (arith, b .pre .1 .0 .masks, b .pre .1 .4), omega (arith, b .pre .1 .3, b .pre .1 .4), omega (arith, b .pre .1 .1 .masks))
 
   returns-3 : lts.Need-returns-3 (callees t) (at t) hunt.Post Inv-loop μ-loop
   returns-3 c =
@@ -347,11 +348,11 @@ module _ (t : ℕ) where
       let p = c .before .before .before .before .before .before .before .before in
       let b = entry p in
       let some = some-left p in
-      (omega (arith, b .pre .1 .0 .masks, b .pre .1 .4), b .pre .1 .0 .small, b .pre .1 .1, omega (arith, b .pre .1 .3, b .pre .1 .4))
+      (omega (arith, b .pre .1 .0 .masks, b .pre .1 .4), b .pre .1 .0 .small, room-fewer _ (omega (arith, b .pre .1 .4)) (b .pre .1 .1), omega (arith, b .pre .1 .3, b .pre .1 .4))
 
   hunt-requires : lts.Need-hunt-requires (callees t) (at t) hunt.Post Inv-loop μ-loop
   hunt-requires c κs =
-      let r = c .before .before .before .before in
+      let r = c .before .before .before .before .before .before in
       let p = r .before .before .before .before .before .before .before .before .before in
       let b = entry p in
       let some = some-left p in
@@ -359,7 +360,8 @@ module _ (t : ℕ) where
 
   returns-5 : lts.Need-returns-5 (callees t) (at t) hunt.Post Inv-loop μ-loop
   returns-5 c =
-      let r = c .before .before .before .before .before in
+      let h = c .before .before in
+      let r = h .before .before .before .before .before .before .before in
       let w = r .before .before .before .before .before .before in
       let p = w .before .before .before in
       let b = entry p in
@@ -372,7 +374,7 @@ module _ (t : ℕ) where
       let z : a .charts - (a .left - 1) ≡ a .charts - a .left + 1 = omega (arith, b .pre .1 .4) in
       record {
         found =
-            c .hunt .ensures .found
+            h .hunt .ensures .found
             ∙ goes-on m s gs y (a .charts) (a .left) some (b .pre .1 .4) (foundIn (a .best .now) (a .shown .now)) _ _ (a .output) _
             (r .rest .ensures .grown m (a .output))
             (rest-fine m s gs y (a .charts) (a .left) some (b .pre .1 .4) (foundIn (a .best .now) (a .shown .now)) (b .pre .1 .3) (a .trail .now) (a .moves .now)
@@ -380,8 +382,8 @@ module _ (t : ℕ) where
             ∙ asleep m s gs y (a .charts) (a .left) some (b .pre .1 .4) (foundIn (a .best .now) (a .shown .now))
             (trailIn (a .trail .now) (a .moves .now) (a .charts - a .left) (a .output)) (calmed p)
             (sym (w .wakes .ensures m (a .trail .now) (a .output)) ∙ not-true _ (r .before .before .before .before .before .if4 .taken));
-        kept = keeps-trans (r .rest .ensures .kept) (keeps-fewer (a .charts - (a .left - 1)) z (c .hunt .ensures .kept));
-        held = c .hunt .ensures .held;
+        kept = keeps-trans (r .rest .ensures .kept) (keeps-fewer (a .charts - (a .left - 1)) z (h .hunt .ensures .kept));
+        held = h .hunt .ensures .held;
       }
 
   count-requires : lts.Need-count-requires (callees t) (at t) hunt.Post Inv-loop μ-loop
@@ -406,6 +408,15 @@ module _ (t : ℕ) where
       let a = entry (tested c) .args in
       masksFor (a .charts - a .left + 1) ≤ length (a .masks .now)
   roomy c = let b = entry (tested c) in let some = some-left (tested c) in omega (arith, b .pre .1 .0 .masks, b .pre .1 .4)
+
+  -- there is room for chart k
+  one-more : (c : lts.At-loop (callees t) (at t) hunt.Post Inv-loop μ-loop) →
+      let a = entry (tested c) .args in
+      Room (a .charts - a .left + 1) (c .loop .trail) (c .loop .moves)
+  one-more c =
+      let b = entry (tested c) in
+      let some = some-left (tested c) in
+      keeps-room (c .loop .inv .1) (room-fewer _ (omega (arith, b .pre .1 .4)) (b .pre .1 .1))
 
   counted : (c : lts.At-loop (callees t) (at t) hunt.Post Inv-loop μ-loop) → c .before .count .result ≤ mostFromState
   counted c =
@@ -440,22 +451,23 @@ module _ (t : ℕ) where
         few l,
         omega (arith, counted l),
         tested l .before .asks .ensures ∙ sym (asks-kept (b .args .masks .now) (few l) (l .loop .inv .1)),
+        omega (arith, one-more l .masks),
       )
 
   take-requires : lts.Need-take-requires (callees t) (at t) hunt.Post Inv-loop μ-loop
   take-requires c κs =
       let l = c .before .before .before .before .before .before in
       let b = entry (tested l) in
-      (roomy l, b .pre .1 .0 .small, keeps-room (l .loop .inv .1) (b .pre .1 .1), few l, omega (arith, counted l))
+      (roomy l, b .pre .1 .0 .small, one-more l, few l, omega (arith, counted l))
 
   shown-by-requires : lts.Need-shown-by-requires (callees t) (at t) hunt.Post Inv-loop μ-loop
   shown-by-requires c κs =
-      let l = c .before .before .before .before .before .before .before in
+      let l = c .before .before .before .before .before .before .before .before .before in
       (roomy l, few l, omega (arith, counted l))
 
   hunt-requires-2 : lts.Need-hunt-requires-2 (callees t) (at t) hunt.Post Inv-loop μ-loop
   hunt-requires-2 c κs =
-      let r = c .before .before .before .before .before in
+      let r = c .before .before .before .before .before .before .before in
       let l = r .before .before .before .before .before .before .before in
       let b = entry (tested l) in
       let some = some-left (tested l) in (
@@ -464,16 +476,16 @@ module _ (t : ℕ) where
       )
 
   sub-left : lts.Need-sub-hunt-2 (callees t) (at t) hunt.Post Inv-loop μ-loop
-  sub-left c = let some = some-left (tested (c .before .before .before .before .before .before .before .before .before .before .before .before)) in omega arith
+  sub-left c = let some = some-left (tested (c .before .before .before .before .before .before .before .before .before .before .before .before .before .before)) in omega arith
 
   add-v : lts.Need-add-v (callees t) (at t) hunt.Post Inv-loop μ-loop
   add-v c = omega (arith, counted (c .before .before .before .before))
 
   returns-6 : lts.Need-returns-6 (callees t) (at t) hunt.Post Inv-loop μ-loop
   returns-6 c =
-      let h = c .before .before .before in
+      let h = c .before .before .before .before .before in
       let g = h .before .before .before .before .before in
-      let r = g .before in
+      let r = g .before .before .before in
       let l = r .before .before .before .before .before .before .before in
       let b = entry (tested l) in
       let a = b .args in
@@ -521,10 +533,10 @@ module _ (t : ℕ) where
       (λ w.
       let one = goes m s gs y (a .charts) (a .left) some (b .pre .1 .4) f (a .trail .now) (a .moves .now)
       (l .loop .trail) (l .loop .moves) (l .loop .v) (a .output) (l .loop .inv .1) _ _ _ _ _ _ _ _ _ refl (sym (w .0 .taken) ∙ fits)
-      (w .3 .ensures) (w .4 .ensures) (w .9 .ensures) in (
-        subst₂ (λ (x y : List ℕ). Keeps k (a .trail .now) (a .moves .now) x y) (sym (w .13)) (sym (w .14)) (one .0),
-        ap₂ foundIn (w .15) (w .16) ∙ one .1,
-        subst₂ Held (sym (w .15)) (sym (w .16)) (w .9 .ensures .held),
+      (w .3 .ensures) (w .6 .ensures) (w .11 .ensures) in (
+        subst₂ (λ (x y : List ℕ). Keeps k (a .trail .now) (a .moves .now) x y) (sym (w .17)) (sym (w .18)) (one .0),
+        ap₂ foundIn (w .19) (w .20) ∙ one .1,
+        subst₂ Held (sym (w .19)) (sym (w .20)) (w .11 .ensures .held),
       ))
       (λ w. (
         subst₂ (λ (x y : List ℕ). Keeps k (a .trail .now) (a .moves .now) x y) (sym (w .1)) (sym (w .2)) (l .loop .inv .1),
@@ -539,7 +551,7 @@ module _ (t : ℕ) where
   told-requires c κs = let l = c .before in let b = entry (tested l) in (b .pre .1 .5 .small, few l)
 
   sub-left-3 : lts.Need-sub-hunt-3 (callees t) (at t) hunt.Post Inv-loop μ-loop
-  sub-left-3 c = let some = some-left (tested (c .before .before .before .before .before .before .before .before .before .before .before .before)) in omega arith
+  sub-left-3 c = let some = some-left (tested (c .before .before .before .before .before .before .before .before .before .before .before .before .before .before)) in omega arith
 
   -- all candidates were tried: what was found so far
   tried : (c : lts.After-loop (callees t) (at t) hunt.Post Inv-loop μ-loop) →
@@ -597,12 +609,12 @@ module _ (t : ℕ) where
   stay-requires c κs =
       let l = c .before .before .before .before .before .before .before in
       let b = entry (tested l) in
-      (roomy l, b .pre .1 .0 .small, keeps-room (l .loop .inv .1) (b .pre .1 .1), few l)
+      (roomy l, b .pre .1 .0 .small, one-more l, few l)
 
   hunt-requires-3 : lts.Need-hunt-requires-3 (callees t) (at t) hunt.Post Inv-loop μ-loop
   hunt-requires-3 c κs =
-      let r = c .before .before .before .before in
-      let l = c .before .before .before .before .before .before .before .before .before .before .before .before in
+      let r = c .before .before .before .before .before .before in
+      let l = c .before .before .before .before .before .before .before .before .before .before .before .before .before .before in
       let b = entry (tested l) in
       let some = some-left (tested l) in (
         omega (arith, b .pre .0),
@@ -611,10 +623,11 @@ module _ (t : ℕ) where
 
   returns-9 : lts.Need-returns-9 (callees t) (at t) hunt.Post Inv-loop μ-loop
   returns-9 c =
-      let r = c .before .before .before .before .before in
+      let h = c .before .before in
+      let r = h .before .before .before .before .before .before .before in
       let e9 = r .before .before .before in
       let e8 = e9 .before .before in
-      let l = c .before .before .before .before .before .before .before .before .before .before .before .before .before in
+      let l = h .before .before .before .before .before .before .before .before .before .before .before .before .before .before .before in
       let b = entry (tested l) in
       let a = b .args in
       let m = a .masks .now in
@@ -628,22 +641,22 @@ module _ (t : ℕ) where
       let z : a .charts - (a .left - 1) ≡ k + 1 = omega (arith, b .pre .1 .4) in
       record {
         found =
-            c .hunt3 .ensures .found
+            h .hunt3 .ensures .found
             ∙ goes-on m s gs y (a .charts) (a .left) some (b .pre .1 .4) f _ _ (a .output) (stayed m s u k)
             (r .stay .ensures .grown m (a .output) ∙ ap (λ (x : Trail). stayed m s x k) (trail-kept (l .loop .inv .1) (a .output)))
             (stay-fine m s gs y (a .charts) (a .left) some (b .pre .1 .4) f (b .pre .1 .3) (a .trail .now) (a .moves .now)
             (a .output) (tested l .before .asks .result) (tested l .before .asks .ensures) true (eq-eqb _ _ (e9 .if9 .left)))
             ∙ sym (open-last m s gs y (a .left) k u f (λ e. e8 .if8 .left (e8 .before .told .ensures ∙ e))) ∙ ap (over (last m s gs y (a .left) k u)) (tried (e8 .before .before)) ∙ sym (whole l);
-        kept = keeps-trans (l .loop .inv .1) (keeps-trans (r .stay .ensures .kept) (keeps-fewer (a .charts - (a .left - 1)) z (c .hunt3 .ensures .kept)));
-        held = c .hunt3 .ensures .held;
+        kept = keeps-trans (l .loop .inv .1) (keeps-trans (r .stay .ensures .kept) (keeps-fewer (a .charts - (a .left - 1)) z (h .hunt3 .ensures .kept)));
+        held = h .hunt3 .ensures .held;
       }
 
 pub +hunt-spec : {M : Type 1} → statement M
 +hunt-spec =
     close μ-hunt
-    (λ t. lts.spec (callees t) (at t) hunt.Post Inv-loop μ-loop (λ c. omega (arith, c .before .before .before .before .pre .1 .4)) (all-calm-requires t) (returns t)
-    (settle-requires t) (returns-2 t)
-    (asks-requires t) (λ c κs. search needs) (returns-3 t) (wakes-requires t) (returns-4 t) (rest-requires t) (λ c. omega arith) (hunt-requires t)
-    (returns-5 t) (count-requires t) (loop-holds t) (fits-requires t) (take-requires t) (shown-by-requires t)
-    (sub-left t) (hunt-requires-2 t) (λ c κs. search needs) (returns-6 t) (add-v t) (λ c. omega arith) (loop-again t)
-    (told-requires t) (returns-7 t) (returns-8 t) (stay-requires t) (sub-left-3 t) (hunt-requires-3 t) (returns-9 t))
+    (λ t. lts.spec (callees t) (at t) hunt.Post Inv-loop μ-loop (λ c. omega (arith, c .before .before .before .before .before .pre .1 .4)) (all-calm-requires t) (λ c. returns t c .kept .masks .long) (returns t)
+    (settle-requires t) (λ c. returns-2 t c .kept .masks .long) (returns-2 t)
+    (asks-requires t) (λ c κs. search needs) (λ c. returns-3 t c .kept .masks .long) (returns-3 t) (wakes-requires t) (λ c. returns-4 t c .kept .masks .long) (returns-4 t) (rest-requires t) (λ c. omega arith) (hunt-requires t)
+    (λ c. returns-5 t c .kept .masks .long) (returns-5 t) (count-requires t) (loop-holds t) (fits-requires t) (take-requires t) (shown-by-requires t)
+    (sub-left t) (hunt-requires-2 t) (λ c κs. search needs) (λ c. returns-6 t c .kept .masks .long) (returns-6 t) (add-v t) (λ c. omega arith) (loop-again t)
+    (told-requires t) (λ c. returns-7 t c .kept .masks .long) (returns-7 t) (λ c. returns-8 t c .kept .masks .long) (returns-8 t) (stay-requires t) (sub-left-3 t) (hunt-requires-3 t) (λ c. returns-9 t c .kept .masks .long) (returns-9 t))

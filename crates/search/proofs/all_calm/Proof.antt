@@ -24,16 +24,16 @@ loop-holds c = (omega arith, λ s o. every-none _)
 
 returns : tie.Need-returns Inv-loop μ-loop
 returns c s o =
-    let e = c .before .before .before .before .before in
+    let e = c .before .before .before .before .before .before in
     sym (calm-all _ s _ _ (e .pre .1) (sym (c .before .some-stay .ensures) ∙ c .if1 .taken) _ (e .args .k) (e .pre .2))
 
 calm-requires : tie.Need-calm-requires Inv-loop μ-loop
-calm-requires c κs = let e = c .before .before .before .before .before .before .before in (e .pre .0, e .pre .1, e .pre .2, omega arith)
+calm-requires c κs = let e = c .before .before .before .before .before .before .before .before in (e .pre .0, e .pre .1, e .pre .2, omega arith, e .pre .3)
 
 returns-2 : tie.Need-returns-2 Inv-loop μ-loop
 returns-2 c s o =
     let l = c .before .before .before .loop in
-    let k = c .before .before .before .before .before .before .before .before .before .args .k in
+    let k = c .before .before .before .before .before .before .before .before .before .before .args .k in
     sym (every-off k _ (l .d) (omega arith) (sym (c .before .calm .ensures s o) ∙ not-true _ (c .if2 .taken)))
 
 loop-again : tie.Need-loop-again Inv-loop μ-loop
@@ -42,10 +42,10 @@ loop-again c = (omega arith, λ s o. every-next (c .before .before .before .loop
 returns-3 : tie.Need-returns-3 Inv-loop μ-loop
 returns-3 c s o =
     let l = c .before .loop in
-    let k = c .before .before .before .before .before .before .before .args .k in
+    let k = c .before .before .before .before .before .before .before .before .args .k in
     let e : l .d ≡ k = omega arith in
     sym (rw e at (l .inv .1 s o))
 
 pub all-calm-spec : {M : Type 1} → statement M
 all-calm-spec =
-    tie.close (tie.spec Inv-loop μ-loop (λ c κs. c .before .before .before .pre .1 .small) returns loop-holds calm-requires returns-2 (λ c. omega arith) (λ c. omega arith) loop-again returns-3)
+    tie.close (tie.spec Inv-loop μ-loop (λ c κs. c .before .before .before .before .pre .1 .small) returns loop-holds calm-requires returns-2 (λ c. omega arith) (λ c. omega arith) loop-again returns-3)

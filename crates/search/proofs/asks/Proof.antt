@@ -36,7 +36,7 @@ loop-again c =
     let back = t .before .back .ensures in
     let low = t .before .before .low .ensures in
     let l = t .before .before .before .before .loop in
-    let a = t .before .before .before .before .before .before .args in
+    let a = t .before .before .before .before .before .before .before .args in
     let m = a .masks .now in
     let w = a .trail .now in (
       omega arith,
@@ -48,7 +48,7 @@ returns : tie.Need-returns Inv-loop μ-loop
 unfolding asksOf
 returns c =
     let l = c .before .loop in
-    let e : l .d ≡ c .before .before .before .args .k = omega arith in
+    let e : l .d ≡ c .before .before .before .before .args .k = omega arith in
     ap₂ (λ (x y : ℕ). record { needed = x; barred = y }) (rw e at (l .inv .1)) (rw e at (l .inv .2))
 
 pub asks-spec : {M : Type 1} → statement M

@@ -12,20 +12,20 @@ use Rattle.search.proofs.calm.Tie as tie
 
 returns : tie.Need-returns
 returns c s o =
-    let e = c .before .before .before .before .before in
+    let e = c .before .before .before .before .before .before in
     calm-moves _ s _ _ _ _ (e .args .k) (e .args .d) o (e .pre .2) (e .pre .3) (λ z. c .if1 .taken (c .before .place .ensures ∙ z))
 
 returns-2 : tie.Need-returns-2
 returns-2 c s o =
     let p = c .before .before .before in
-    let e = p .before .before .before .before in
+    let e = p .before .before .before .before .before in
     calm-none _ s _ _ _ _ (e .args .k) (e .args .d) o (e .pre .2) (e .pre .3) (sym (p .place .ensures) ∙ c .before .before .if1 .left)
     (sym (c .before .told .ensures) ∙ c .if2 .taken)
 
 trips-requires : tie.Need-trips-requires
 trips-requires c κs =
     let t = c .before .before .before in
-    let e = t .before .before .before .before .before .before in
+    let e = t .before .before .before .before .before .before .before in
     let n = t .told .ensures in
     let few = e .pre .1 .counts (e .args .d) (omega (arith, e .pre .2, e .pre .3)) in
     (e .pre .1 .masks (e .args .d) (omega (arith, e .pre .2, e .pre .3)) (λ z. c .before .before .if2 .left (n ∙ z)), omega (arith, e .pre .2, e .pre .3), omega arith)
@@ -38,7 +38,7 @@ returns-3 : tie.Need-returns-3
 returns-3 c s o =
     let t = c .before .before .before .before in
     let p = t .before .before in
-    let e = p .before .before .before .before in
+    let e = p .before .before .before .before .before in
     calm-stays _ s _ _ _ _ (e .args .k) (e .args .d) o (e .pre .2) (e .pre .3) (sym (p .place .ensures) ∙ t .before .if1 .left) _
     (c .trips .ensures ∙ tried _ _ (t .told .ensures) (c .before .before .low .ensures) (c .before .ahead .ensures))
 

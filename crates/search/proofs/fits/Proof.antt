@@ -26,7 +26,7 @@ module _ (m s w b : List ℕ) (k o v : ℕ) (few : k < mostCharts) (g : Guard) (
 returns : tie.Need-returns
 returns c s b o =
     let t = c .before .before in
-    let a = t .before .before in
+    let a = t .before .before .before in
     let m = a .args .masks .now in
     let w = a .args .trail .now in
     let h = sym (c .before .holds .ensures) ∙ not-true _ (c .if1 .taken) in
@@ -42,7 +42,7 @@ returns-2 c s b o =
     let needed = c .before .before .before .before .before .needed .ensures in
     let d = c .before .before .before .before .before .before in
     let t = d .before .before in
-    let a = t .before .before in
+    let a = t .before .before .before in
     let m = a .args .masks .now in
     let w = a .args .trail .now in
     let h = sym (d .before .holds .ensures) ∙ not-false _ (d .if1 .left) in

@@ -16,15 +16,15 @@ use Rattle.search.proofs.lower.Tie as tie
 
 returns : tie.Need-returns
 returns c =
-    let r = c .before .before in
-    let a = r .before .before .before .args in
+    let r = c .before .before .before .before in
+    let a = r .before .before .before .before .args in
     record {
-      kept = same-fewer (lowCell (a .k + 1) 0) (omega arith) (c .put-row .ensures .kept);
+      kept = same-fewer (lowCell (a .k + 1) 0) (omega arith) (c .before .before .put-row .ensures .kept);
       rows =
           λ d l.
-          c .put-row .ensures .row d l ∙ ap (λ (x : List ℕ). getD x d 0) (r .lowered .ensures)
+          c .before .before .put-row .ensures .row d l ∙ ap (λ (x : List ℕ). getD x d 0) (r .lowered .ensures)
           ∙ getD-made mostCharts (λ e. lowIn (a .trail .now) (a .k) e ∪ a .action ∩ backAt (a .masks .now) e (a .k)) d l;
     }
 
 pub lower-spec : {M : Type 1} → statement M
-lower-spec = tie.close (tie.spec (λ c κs. search needs) (λ c. search needs) (λ c κs. search needs) returns)
+lower-spec = tie.close (tie.spec (λ c κs. search needs) (λ c. search needs) (λ c κs. search needs) (λ c. search needs) returns)

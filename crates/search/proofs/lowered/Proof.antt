@@ -28,7 +28,7 @@ loop-again : tie.Need-loop-again Inv-loop μ-loop
 loop-again c =
     let t = c .before .before .before in
     let l = t .loop in
-    let a = t .before .before .args in
+    let a = t .before .before .before .args in
     let f : ℕ → ℕ = λ d. lowIn (a .trail .now) (a .k) d ∪ a .action ∩ backAt (a .masks .now) d (a .k) in
     let e : c .before .low .result ∪ a .action ∩ c .back .result ≡ f (l .c) = ap₂ (λ (x y : ℕ). x ∪ a .action ∩ y) (c .before .low .ensures) (c .back .ensures) in
     (omega arith, ap (set (l .row) (l .c)) e ∙ made-filled 0 f (l .c) (l .row) (omega arith) (l .inv .1))

@@ -8,7 +8,7 @@ use native.Mathlib.Omega.{arith}
 use lib.ListN.{length, getD, set}
 use lib.Seq.{getD-set-same, getD-set-other}
 use Rattle.meaning.specs.Numbers.{mostCharts}
-use Rattle.cells.specs.Trail.{trailSize, lowCell, lowIn}
+use Rattle.cells.specs.Trail.{trailFor, lowCell, lowIn}
 use Rattle.search.specs.Trail.{Same}
 use Rattle.search.specs.Trail.Laws.{same-refl, same-trans, same-set}
 use Rattle.search.proofs.put_row.Statement.{statement}
@@ -19,7 +19,7 @@ module _ (r : List ℕ) (k : ℕ) (l : List ℕ) where
   abbrev Below : ℕ → List ℕ → Type 0
   Below c w = Same (lowCell k 0) l w × ((d : ℕ) → d < c → lowIn w k d ≡ getD r d 0)
 
-  more : (c : ℕ) (w : List ℕ) → c < mostCharts → k ≤ mostCharts → length w ≡ trailSize → Below c w → Below (c + 1) (set w (lowCell k c) (getD r c 0))
+  more : (c : ℕ) (w : List ℕ) → c < mostCharts → k ≤ mostCharts → trailFor k ≤ length w → Below c w → Below (c + 1) (set w (lowCell k c) (getD r c 0))
   more c w p q n h = (
     same-trans (h .0) (same-set _ w (lowCell k c) (getD r c 0) (omega arith)),
     λ d i.
@@ -40,15 +40,15 @@ loop-holds c = (omega arith, (same-refl _ _, λ d r. absurd (omega arith)))
 put-low-requires : tie.Need-put-low-requires Inv-loop μ-loop
 put-low-requires c κs =
     let t = c .before .before in
-    (t .loop .inv .1 .0 .long ∙ t .before .pre .0, t .before .pre .1, omega arith)
+    (rw (t .loop .inv .1 .0 .long) (t .before .before .pre .0), t .before .before .pre .1, omega arith)
 
 loop-again : tie.Need-loop-again Inv-loop μ-loop
 loop-again c =
-    let t = c .before .before .before in
+    let t = c .before .before .before .before .before in
     let l = t .loop in
-    let b = t .before in
-    let n : length (l .trail) ≡ trailSize = l .inv .1 .0 .long ∙ b .pre .0 in
-    (omega arith, rw (c .put-low .ensures) (more (b .args .t2) (b .args .k) (b .args .trail .now) (l .c) (l .trail) (omega arith) (omega arith) n (l .inv .1)))
+    let b = t .before .before in
+    let n : trailFor (b .args .k) ≤ length (l .trail) = rw (l .inv .1 .0 .long) (b .pre .0) in
+    (omega arith, rw (c .before .before .put-low .ensures) (more (b .args .t2) (b .args .k) (b .args .trail .now) (l .c) (l .trail) (omega arith) (omega arith) n (l .inv .1)))
 
 returns : tie.Need-returns Inv-loop μ-loop
 returns c =
@@ -59,4 +59,5 @@ returns c =
 pub put-row-spec : {M : Type 1} → statement M
 put-row-spec =
     tie.close
-    (tie.spec Inv-loop μ-loop loop-holds (λ c. omega arith) (λ c. omega arith) put-low-requires (λ c. omega arith) (λ c. omega arith) loop-again returns)
+    (tie.spec Inv-loop μ-loop loop-holds (λ c. omega arith) (λ c. omega arith) put-low-requires (λ c. omega arith) (λ c. omega arith) loop-again
+    (λ c. c .before .loop .inv .1 .0 .long) returns)

@@ -4,7 +4,7 @@ use Rattle.search.proofs.rest.Statement.{statement}
 use Rattle.search.proofs.rest.Tie as tie
 
 returns : tie.Need-returns
-returns c = c .idle .ensures
+returns c = c .before .before .idle .ensures
 
 pub rest-spec : {M : Type 1} → statement M
-rest-spec = tie.close (tie.spec (λ c κs. search needs) returns)
+rest-spec = tie.close (tie.spec (λ c κs. search needs) (λ c. search needs) returns)

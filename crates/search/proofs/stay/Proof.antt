@@ -4,7 +4,7 @@ use Rattle.search.proofs.stay.Statement.{statement}
 use Rattle.search.proofs.stay.Tie as tie
 
 returns : tie.Need-returns
-returns c = c .idle .ensures
+returns c = c .before .before .idle .ensures
 
 pub stay-spec : {M : Type 1} → statement M
-stay-spec = tie.close (tie.spec (λ c κs. search needs) returns)
+stay-spec = tie.close (tie.spec (λ c κs. search needs) (λ c. search needs) returns)

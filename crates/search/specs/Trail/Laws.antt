@@ -92,8 +92,12 @@ keeps-trans p q = record { masks = same-trans (p .masks) (q .masks); small = sam
 pub keeps-fewer : {k : ℕ} {w b w′ b′ : List ℕ} (j : ℕ) → j ≡ k + 1 → Keeps j w b w′ b′ → Keeps k w b w′ b′
 keeps-fewer j e p = record { masks = same-fewer _ (omega arith) (p .masks); small = same-fewer _ (omega arith) (p .small) }
 
-pub keeps-room : {k : ℕ} {w b w′ b′ : List ℕ} → Keeps k w b w′ b′ → Room w b → Room w′ b′
-keeps-room p r = record { masks = p .masks .long ∙ r .masks; small = p .small .long ∙ r .small }
+pub keeps-room : {k N : ℕ} {w b w′ b′ : List ℕ} → Keeps k w b w′ b′ → Room N w b → Room N w′ b′
+keeps-room p r = record { masks = rw (p .masks .long) (r .masks); small = p .small .long ∙ r .small }
+
+-- fewer charts need no more
+pub room-fewer : {N : ℕ} {w b : List ℕ} (M : ℕ) → M ≤ N → Room N w b → Room M w b
+room-fewer M l r = record { masks = omega (arith, r .masks); small = r .small }
 
 -- ── one chart more ──
 
@@ -158,7 +162,7 @@ module _ (l : List ℕ) (i j x y : ℕ) (apart : j ≢ i) where
   second-written h = getD-set-same (set l i x) j y 0 (lt-length-set l i x h)
 
 -- chart k needs n and bars r, its action is a; it goes to x, z is 1 if it is active, and it takes the transition at t
-module _ (m w b w′ : List ℕ) (k n r x z t a : ℕ) (room : Room w b) (few : k < mostCharts) (h : Lowers m a k (putAsked w k n r) w′) where
+module _ (m w b w′ : List ℕ) (k n r x z t a : ℕ) (room : Room (k + 1) w b) (few : k < mostCharts) (h : Lowers m a k (putAsked w k n r) w′) where
   abbrev moved : List ℕ
   moved = putMove b k x z t
 
@@ -206,7 +210,7 @@ module _ (m w b w′ : List ℕ) (k n r x z t a : ℕ) (room : Room w b) (few : 
       }
 
 -- chart k takes its candidate v
-module _ (m s w b w′ : List ℕ) (k v : ℕ) (room : Room w b) (few : k < mostCharts)
+module _ (m s w b w′ : List ℕ) (k v : ℕ) (room : Room (k + 1) w b) (few : k < mostCharts)
     (h : Lowers m (actionAt m k v) k (putAsked w k (neededAt m k v) (barredAt m k v)) w′) where
   pub take-in : (o : ℕ) →
       trailIn w′ (putMove b k (toAt s k v) 1 (placeAt s k v)) (k + 1) (o ∪ actionAt m k v ∩ upAt m k)
@@ -221,7 +225,7 @@ module _ (m s w b w′ : List ℕ) (k v : ℕ) (room : Room w b) (few : k < most
       (takes m w b w′ k (neededAt m k v) (barredAt m k v) (toAt s k v) 1 (placeAt s k v) (actionAt m k v) room few h)
 
 -- chart k takes no transition: z is 1 if it is active, and t stands for its place
-module _ (m s w b w′ : List ℕ) (k z t : ℕ) (room : Room w b) (few : k < mostCharts) (h : Lowers m 0 k (putAsked w k 0 0) w′) where
+module _ (m s w b w′ : List ℕ) (k z t : ℕ) (room : Room (k + 1) w b) (few : k < mostCharts) (h : Lowers m 0 k (putAsked w k 0 0) w′) where
   pub idle-in : (n : List ℕ) (o : ℕ) →
       trailIn w′ (putMove b k (stateAt s k) z t) (k + 1) o ≡ idled n s z t (trailIn w b k o) k
   idle-in n o =

@@ -13,15 +13,15 @@ use Rattle.staying.proofs.tell_all.Statement.{statement}
 use Rattle.staying.proofs.tell_all.Tie as tie
 
 abbrev Inv-loop : tie.InvT-loop
-Inv-loop n body config may masks guards₀ low stays₀ start₀ c₀ guards stays start c =
-    (c ≤ n .charts) × (start ≡ startOf n body c) × (length guards ≡ length guards₀) × Telling n body config low may masks c guards stays
+Inv-loop n body config may masks guards₀ low shuts stays₀ start₀ c₀ guards stays start c =
+    (c ≤ n .charts) × (start ≡ startOf n body c) × (length guards ≡ length guards₀) × Telling n body config low may shuts masks c guards stays
 
 abbrev μ-loop : tie.MeasureT-loop
-μ-loop n body config may masks guards₀ low stays₀ start₀ c₀ guards stays start c = n .charts - c
+μ-loop n body config may masks guards₀ low shuts stays₀ start₀ c₀ guards stays start c = n .charts - c
 
 loop-holds : tie.Need-loop-holds Inv-loop μ-loop
 unfolding startOf
-loop-holds c = (omega arith, refl, refl, telling-none _ _ _ _ _ _ _ (c .before .before .before .before .pre .2))
+loop-holds c = (omega arith, refl, refl, telling-none _ _ _ _ _ _ _ _ (c .before .before .before .before .pre .2))
 
 tell-requires : tie.Need-tell-requires Inv-loop μ-loop
 tell-requires c κs =
@@ -52,7 +52,7 @@ loop-again c =
       omega (arith, h .before .if1 .taken),
       start-next (s .args .n) (s .args .body .now) (l .c) (l .start) (h .head-at .ensures) (l .inv .1),
       t .tell .ensures .beside .size ∙ l .inv .2,
-      telling-next (s .args .n) (s .args .body .now) (s .args .config .now) (s .args .t4) (s .args .may) (s .args .masks .now) (l .c) (l .guards) (l .stays) _ (l .start) _ _ _ (l .inv .3)
+      telling-next (s .args .n) (s .args .body .now) (s .args .config .now) (s .args .t4) (s .args .may) (s .args .t6) (s .args .masks .now) (l .c) (l .guards) (l .stays) _ (l .start) _ _ _ (l .inv .3)
           (omega (arith, h .before .if1 .taken, s .pre .0 .sized .charts)) (l .inv .1) (h .head-at .ensures) (t .before .before .before .others .ensures) (t .tell .ensures),
     )
 
@@ -61,7 +61,7 @@ returns c =
     let l = c .before .before .loop in
     let s = c .before .before .before .before .before .before .before in
     let e : l .c ≡ s .args .n .charts = omega arith in
-    subst (λ z. Telling (s .args .n) (s .args .body .now) (s .args .config .now) (s .args .t4) (s .args .may) (s .args .masks .now) z (l .guards) (l .stays)) e (l .inv .3)
+    subst (λ z. Telling (s .args .n) (s .args .body .now) (s .args .config .now) (s .args .t4) (s .args .may) (s .args .t6) (s .args .masks .now) z (l .guards) (l .stays)) e (l .inv .3)
 
 pub tell-all-spec : {M : Type 1} → statement M
 tell-all-spec =
@@ -77,6 +77,8 @@ tell-all-spec =
     (λ c. search needs)
     (λ c. omega (arith, c .before .before .before .if1 .taken, c .before .before .before .before .before .before .before .before .before .before .pre .0 .sized .charts))
     (λ c. omega (arith, c .before .before .before .before .if1 .taken, c .before .before .before .before .before .before .before .before .before .before .before .pre .0 .configured))
+    (λ c. search needs)
+    (λ c. omega (arith, c .before .before .before .before .before .if1 .taken, c .before .before .before .before .before .before .before .before .before .before .before .before .pre .0 .sized .charts))
     (λ c. search needs)
     (λ c. omega (arith, c .before .before .before .before .before .if1 .taken, c .before .before .before .before .before .before .before .before .before .before .before .before .pre .0 .sized .charts))
     tell-requires

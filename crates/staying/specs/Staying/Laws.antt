@@ -1,7 +1,7 @@
 -- Laws of noting triggers. In order: a trigger that is put down (put-needed, put-barred, put-other), what stands beside it (beside-none, beside-put),
 -- one transition more (noting-none, noting-next, noting-room, noting-few), what a search is told of a chart (tells-shut, tells-open), of all charts
 -- (telling-none, telling-next), and that this is as the search asks for (stays-told, stays-none).
-use mathlib.Core.Path.{_≡_, refl, sym, _∙_, ap, subst}
+use mathlib.Core.Path.{_≡_, refl, sym, _∙_, ap, ap₂, subst}
 use mathlib.Core.Bool.{Bool, true, false, _&&_, not, cond, false≢true}
 use mathlib.Core.List.{List}
 use mathlib.Core.Logic.{_≢_}
@@ -11,7 +11,7 @@ use native.Mathlib.Numerals.{add-one}
 use native.Mathlib.Decide.{decLt}
 use lib.ListN.{length, getD, set, replicate, length-set, length-replicate, getD-replicate}
 use lib.Seq.{getD-set-same, getD-set-other}
-use Rattle.signals.specs.Mask.{_∪_, _∩_}
+use Rattle.signals.specs.Mask.{_∪_, _∩_, bit}
 use Rattle.layout.specs.Body.{headAt, startOf, transitionAt, transitionsOf}
 use Rattle.layout.specs.Body.{from as fromOn}
 use Rattle.layout.specs.declared.body.Shape.{Shape}
@@ -112,32 +112,41 @@ module _ (f : ℕ → Transition) (start count q c : ℕ) (g₀ : List ℕ) wher
 
   -- ── what a search is told of the chart ──
 
-  module _ (g : List ℕ) (k : ℕ) (h : Noting f start count q c count g₀ g k) (few : k ≤ mostFromState) (low high : Set) where
+  module _ (g : List ℕ) (k : ℕ) (h : Noting f start count q c count g₀ g k) (few : k ≤ mostFromState) (low high closed : Set) where
     abbrev ts : List Transition
     ts = fromOn f start count
 
     all : Noted g c ts q (length ts) k
     all = subst (λ j. Noted g c ts q j k) (sym (length-from f start count)) (h .noted)
 
-    pub tells-shut : trips g c k low high ≡ true → Tells ts q c low high g₀ g 0
-    tells-shut e = record { told = shut (noted-trips g c ts q low high k all ∙ ap not e) refl; few = omega arith; beside = h .beside }
+    -- it stays unless it is surely triggered, or its state is shut
+    may-stay : (a b : Bool) → trips g c k low high ≡ a → bit closed q ≡ b
+        → (untriggered ts q low high && not (bit closed q)) ≡ (not a && not b)
+    may-stay a b e f = ap₂ (λ x y. x && not y) (noted-trips g c ts q low high k all ∙ ap not e) f
 
-    pub tells-open : trips g c k low high ≡ false → Tells ts q c low high g₀ g (k + 1)
-    tells-open e = record { told = listed (noted-trips g c ts q low high k all ∙ ap not e) k (add-one k) all; few = omega arith; beside = h .beside }
+    pub tells-shut : trips g c k low high ≡ true → Tells ts q c low high closed g₀ g 0
+    tells-shut e = record { told = shut (may-stay true _ e refl) refl; few = omega arith; beside = h .beside }
+
+    pub tells-closed : trips g c k low high ≡ false → bit closed q ≡ true → Tells ts q c low high closed g₀ g 0
+    tells-closed e f = record { told = shut (may-stay false true e f) refl; few = omega arith; beside = h .beside }
+
+    pub tells-open : trips g c k low high ≡ false → bit closed q ≡ false → Tells ts q c low high closed g₀ g (k + 1)
+    tells-open e f =
+        record { told = listed (may-stay false false e f) k (add-one k) all; few = omega arith; beside = h .beside }
 
 -- ── all charts ──
 
-module _ (n : Shape) (b config lows may m : List ℕ) where
-  pub telling-none : (g : List ℕ) → triggersFor (n .charts) ≤ length g → Telling n b config lows may m 0 g (set (replicate staysSize 0) mostCharts 1)
+module _ (n : Shape) (b config lows may shuts m : List ℕ) where
+  pub telling-none : (g : List ℕ) → triggersFor (n .charts) ≤ length g → Telling n b config lows may shuts m 0 g (set (replicate staysSize 0) mostCharts 1)
   telling-none g z = record { told = λ c l. absurd (omega arith); few = λ c l. let z = none c l in omega arith; rest = λ c k l. none c l; size = z; small = refl; some-may = refl }
     where
       none : (c : ℕ) → c < mostCharts → getD {A = ℕ} (set (replicate staysSize 0) mostCharts 1) c 0 ≡ 0
       none c l = getD-set-other (replicate staysSize 0) mostCharts c 1 0 (λ e. omega arith) ∙ getD-replicate {A = ℕ} staysSize c 0 0 (omega arith)
 
-  pub telling-next : (c : ℕ) (g y g′ : List ℕ) (start k : ℕ) (head : Head) (others : Set) → Telling n b config lows may m c g y → c < mostCharts → start ≡ startOf n b c → head ≡ headAt n b c
+  pub telling-next : (c : ℕ) (g y g′ : List ℕ) (start k : ℕ) (head : Head) (others : Set) → Telling n b config lows may shuts m c g y → c < mostCharts → start ≡ startOf n b c → head ≡ headAt n b c
       → others ≡ othersAt m (n .charts) (λ e. getD may e 0) c
-      → Tells (fromOn (transitionAt n b) start (head .transitions)) (getD config c 0) c (getD lows c 0) (getD lows c 0 ∪ others) g g′ k
-      → Telling n b config lows may m (c + 1) g′ (set y c k)
+      → Tells (fromOn (transitionAt n b) start (head .transitions)) (getD config c 0) c (getD lows c 0) (getD lows c 0 ∪ others) (getD shuts c 0) g g′ k
+      → Telling n b config lows may shuts m (c + 1) g′ (set y c k)
   unfolding transitionsOf
   telling-next c g y g′ start k head others h l es eh eo t =
       record {
@@ -158,7 +167,7 @@ module _ (n : Shape) (b config lows may m : List ℕ) where
       off : (d : ℕ) → same d c ≡ false → getD (set y c k) d 0 ≡ getD y d 0
       off d e = getD-set-other y c d k 0 (apart? d e)
 
-      go : (d : ℕ) → d < c + 1 → (x : Bool) → same d c ≡ x → Told g′ d (fromOn (transitionAt n b) (startOf n b d) (headAt n b d .transitions)) (getD config d 0) (quiet n b config lows may m d) (getD (set y c k) d 0)
+      go : (d : ℕ) → d < c + 1 → (x : Bool) → same d c ≡ x → Told g′ d (fromOn (transitionAt n b) (startOf n b d) (headAt n b d .transitions)) (getD config d 0) (quiet n b config lows may shuts m d) (getD (set y c k) d 0)
       go d r true e = rw (same→≡ d c e, at, ← eo, ← es, ← eh) (t .told)
       go d r false e = let w = apart? d e in rw (off d e)
           (told-kept g g′ d _ (getD config d 0) _ (getD y d 0) (h .few d (omega arith)) (t .beside .others d (omega arith) w) (h .told d (omega arith)))
@@ -175,11 +184,11 @@ module _ (n : Shape) (b config lows may m : List ℕ) where
   abbrev cfg : ℕ → ℕ
   cfg c = getD config c 0
 
-  pub stays-told : (g y : List ℕ) → n .edition ≡ stayEdition → Mays n b config (n .charts) may → Telling n b config lows may m (n .charts) g y → Stays n b config lows m g y
+  pub stays-told : (g y : List ℕ) → n .edition ≡ stayEdition → Mays n b config (n .charts) may → Telling n b config lows may shuts m (n .charts) g y → Stays n b config lows shuts m g y
   unfolding chartOf othersAt
   stays-told g y two my h =
       record {
-        stayers = stayers E cfg (n .charts) (keepAt E cfg (n .charts) lows m) g y (λ c l. subst (λ x. Told g c (E c .transitions) (cfg c) x (getD y c 0)) (sym (kept c)) (h .told c l));
+        stayers = stayers E cfg (n .charts) (keepAt E cfg (n .charts) lows shuts m) g y (λ c l. subst (λ x. Told g c (E c .transitions) (cfg c) x (getD y c 0)) (sym (kept c)) (h .told c l));
         guards = record { masks = room; small = h .small; counts = h .few; none-may = λ e. absurd (let z = h .some-may in omega arith) };
       }
     where
@@ -193,18 +202,18 @@ module _ (n : Shape) (b config lows may m : List ℕ) where
       stays : (c : ℕ) → E c .stays ≡ true
       stays c = rw two (same-refl stayEdition)
 
-      kept : (c : ℕ) → (E c .stays && keepAt E cfg (n .charts) lows m c (lastPlace (E c))) ≡ quiet n b config lows may m c
-      kept c = ap (λ x. x && keepAt E cfg (n .charts) lows m c (lastPlace (E c))) (stays c) ∙ keep-stay E cfg (n .charts) lows m c (stays c)
-          ∙ ap (λ z. untriggered (E c .transitions) (cfg c) (getD lows c 0) (getD lows c 0 ∪ z))
+      kept : (c : ℕ) → (E c .stays && keepAt E cfg (n .charts) lows shuts m c (lastPlace (E c))) ≡ quiet n b config lows may shuts m c
+      kept c = ap (λ x. x && keepAt E cfg (n .charts) lows shuts m c (lastPlace (E c))) (stays c) ∙ keep-stay E cfg (n .charts) lows shuts m c (stays c)
+          ∙ ap (λ z. untriggered (E c .transitions) (cfg c) (getD lows c 0) (getD lows c 0 ∪ z) && not (bit (getD shuts c 0) (cfg c)))
           (join-cong (n .charts) _ _ (λ e l. ap (λ z. cond (same e c) 0 z ∩ backAt m c e) (sym (my e l))))
 
   -- no chart may stay
-  pub stays-none : (g : List ℕ) → n .charts ≤ mostCharts → n .edition ≢ stayEdition → Stays n b config lows m g (replicate staysSize 0)
+  pub stays-none : (g : List ℕ) → n .charts ≤ mostCharts → n .edition ≢ stayEdition → Stays n b config lows shuts m g (replicate staysSize 0)
   unfolding chartOf
   stays-none g few one =
       record {
-        stayers = stayers E cfg (n .charts) (keepAt E cfg (n .charts) lows m) g (replicate staysSize 0)
-            (λ c l. shut (ap (λ x. x && keepAt E cfg (n .charts) lows m c (lastPlace (E c))) (same-≢ (n .edition) stayEdition one)) (none c (omega arith)));
+        stayers = stayers E cfg (n .charts) (keepAt E cfg (n .charts) lows shuts m) g (replicate staysSize 0)
+            (λ c l. shut (ap (λ x. x && keepAt E cfg (n .charts) lows shuts m c (lastPlace (E c))) (same-≢ (n .edition) stayEdition one)) (none c (omega arith)));
         guards = record { masks = λ c l w. absurd (w (none c l)); small = length-replicate {A = ℕ} staysSize 0; counts = λ c l. let z = none c l in omega arith; none-may = λ e. none };
       }
     where

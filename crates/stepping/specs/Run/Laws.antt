@@ -19,7 +19,7 @@ use Rattle.meaning.specs.Check.Laws.{firstOf-++, firstOf-before, firstOf-here, 
 use Rattle.meaning.specs.Calls.{laidOver, rowOf, rowsOf, carriedOf, runRefusal, runBytes, runCarried}
 use Rattle.meaning.specs.Laws.Runs.{Leads, body-leads, Valid, Stand, stepFrom, standAfter, rowsFrom, carriedFrom, rows-next, carried-next}
 use Rattle.stepping.specs.Step.{configTestsIn, Checked}
-use Rattle.stepping.specs.Step.Laws.{behind-refused, behind-passed, config-passes, config-long, config-valid}
+use Rattle.stepping.specs.Step.Laws.{behind-refused, behind-passed, config-passes}
 use Rattle.stepping.specs.Run.{runRefusalAfter, runAfter, carriedRun, BodyRuns}
 use Rattle.stepping.specs.declared.run.Ran.{Ran}
 
@@ -88,9 +88,6 @@ module _ (F : File) (config : List ℕ) (carried : Set) (inputs : List Set) (row
           → BodyRuns F config carried inputs rows (record { refusal = 0; carried = c }) rows′
       unfolding runAfter carriedRun same
       after-rows rows′ c e q = (rw (after-none, q), rw (after-none, e))
-
-pub config-is : (F : File) (config : List ℕ) → firstOf (configTestsIn F config) ≡ 0 → Valid F config
-config-is F config h = record { long = config-long F config h; states = config-valid F config h }
 
 -- ── transitions lead to states of their chart ──
 

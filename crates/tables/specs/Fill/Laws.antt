@@ -14,7 +14,7 @@ use lib.ListN.{length, getD, set, length-set}
 use lib.Seq.{getD-set-same, getD-set-other}
 use borrow.Author.Tests.{lt-ltb, le-ltb, ltb-false}
 use borrow.Author.Tests.{not-true as tests-not-true}
-use Rattle.signals.specs.Mask.{_∪_, _∩_}
+use Rattle.signals.specs.Mask.{_∪_, _∩_, bit}
 use Rattle.signals.specs.Decide.{sets, A, B, C, D, E as Eₑ, F as Fₑ, ∅ₑ, _∪ₑ_, _∩ₑ_, _≐_}
 use Rattle.layout.specs.declared.record.Transition.{Transition}
 use Rattle.meaning.specs.Numbers.{mostCharts, mostFromState}
@@ -36,7 +36,7 @@ use Rattle.search.specs.Stays.{staysAt, stayed, quietAt, huntsBoth}
 use Rattle.search.specs.Hunt.Laws.{each-none}
 use Rattle.tables.specs.Filled.{Is, Listed, start, other, fails, again, fresh, mayAt, Rows, Candidates, Stayers, Lows}
 use Rattle.tables.specs.Whole.{nth-takes}
-use Rattle.tables.specs.Fill.{keptBy, lastsBy, othersAt, sureAt, Raised, Filling, isAt, isAgain, put, pickFilling, considered, listing, keepAt, Until, Chosen, AheadRow, aheadBy, AheadFrom, stuck}
+use Rattle.tables.specs.Fill.{opensBy, opening, keptBy, lastsBy, othersAt, sureAt, Raised, Filling, isAt, isAgain, put, pickFilling, considered, listing, keepAt, Until, Chosen, AheadRow, aheadBy, AheadFrom, stuck}
 
 -- ── candidates that stay ──
 
@@ -162,58 +162,58 @@ any-one (suc n) p h = go (anyUpTo n p) refl h (any-one n p)
 
 -- ── one transition more ──
 
-module _ (c q : ℕ) (low own others : Set) where
+module _ (c q : ℕ) (low own others shut : Set) where
   abbrev step : ℕ → Transition → Filling → Filling
-  step p t f = considered c q low own others p t f
+  step p t f = considered c q low own others shut p t f
 
   -- whatever holds of a filling and of one with a candidate more holds after a transition was considered
-  by-cases : (P : Filling → Type 0) (p : ℕ) (t : Transition) (f : Filling) → (same (t .from) q ≡ false → P f) → (same (t .from) q ≡ true → lastsBy low own others t ≡ false → P f)
-      → (isAgain (f .masks) (f .small) c (f .count) t ≡ true → P f) → (same (t .from) q ≡ true → lastsBy low own others t ≡ true → P (put c p t f)) → P (step p t f)
+  by-cases : (P : Filling → Type 0) (p : ℕ) (t : Transition) (f : Filling) → (same (t .from) q ≡ false → P f) → (same (t .from) q ≡ true → lastsBy low own others shut t ≡ false → P f)
+      → (isAgain (f .masks) (f .small) c (f .count) t ≡ true → P f) → (same (t .from) q ≡ true → lastsBy low own others shut t ≡ true → P (put c p t f)) → P (step p t f)
   unfolding considered
   by-cases P p t f a b d e = go₁ (same (t .from) q) refl
     where
-      go₃ : same (t .from) q ≡ true → lastsBy low own others t ≡ true → (x : Bool) → isAgain (f .masks) (f .small) c (f .count) t ≡ x → P (pickFilling x f (put c p t f))
+      go₃ : same (t .from) q ≡ true → lastsBy low own others shut t ≡ true → (x : Bool) → isAgain (f .masks) (f .small) c (f .count) t ≡ x → P (pickFilling x f (put c p t f))
       go₃ h k true g = d g
       go₃ h k false g = e h k
 
-      go₂ : same (t .from) q ≡ true → (x : Bool) → lastsBy low own others t ≡ x → P (pickFilling x (pickFilling (isAgain (f .masks) (f .small) c (f .count) t) f (put c p t f)) f)
+      go₂ : same (t .from) q ≡ true → (x : Bool) → lastsBy low own others shut t ≡ x → P (pickFilling x (pickFilling (isAgain (f .masks) (f .small) c (f .count) t) f (put c p t f)) f)
       go₂ h true k = go₃ h k (isAgain (f .masks) (f .small) c (f .count) t) refl
       go₂ h false k = b h k
 
       go₁ : (x : Bool) → same (t .from) q ≡ x
-          → P (pickFilling x (pickFilling (lastsBy low own others t) (pickFilling (isAgain (f .masks) (f .small) c (f .count) t) f (put c p t f)) f) f)
-      go₁ true h = go₂ h (lastsBy low own others t) refl
+          → P (pickFilling x (pickFilling (lastsBy low own others shut t) (pickFilling (isAgain (f .masks) (f .small) c (f .count) t) f (put c p t f)) f) f)
+      go₁ true h = go₂ h (lastsBy low own others shut t) refl
       go₁ false h = a h
 
-  pub length-masks : (g : ℕ → Transition) (p : ℕ) (f : Filling) → length (listing c q low own others g p f .masks) ≡ length (f .masks)
+  pub length-masks : (g : ℕ → Transition) (p : ℕ) (f : Filling) → length (listing c q low own others shut g p f .masks) ≡ length (f .masks)
   unfolding listing
   length-masks g zero f = refl
-  length-masks g (suc p) f = let l = listing c q low own others g p f in
+  length-masks g (suc p) f = let l = listing c q low own others shut g p f in
       by-cases (λ h. length (h .masks) ≡ length (l .masks)) p (g p) l (λ e. refl) (λ e k. refl) (λ e. refl) (λ e k. length-put-masks (l .masks) c (l .count) (g p)) ∙ length-masks g p f
 
-  pub length-small : (g : ℕ → Transition) (p : ℕ) (f : Filling) → length (listing c q low own others g p f .small) ≡ length (f .small)
+  pub length-small : (g : ℕ → Transition) (p : ℕ) (f : Filling) → length (listing c q low own others shut g p f .small) ≡ length (f .small)
   unfolding listing
   length-small g zero f = refl
-  length-small g (suc p) f = let l = listing c q low own others g p f in
+  length-small g (suc p) f = let l = listing c q low own others shut g p f in
       by-cases (λ h. length (h .small) ≡ length (l .small)) p (g p) l (λ e. refl) (λ e k. refl) (λ e. refl) (λ e k. length-put-small (l .small) c (l .count) p (g p)) ∙ length-small g p f
 
   -- a chart has no more candidates than transitions from its state
   abbrev pub leave : (ℕ → Transition) → ℕ → ℕ
   leave g p = tally p (λ u. one (same (g u .from) q))
 
-  pub count-leave : (g : ℕ → Transition) (p : ℕ) (f : Filling) → listing c q low own others g p f .count ≤ f .count + leave g p
+  pub count-leave : (g : ℕ → Transition) (p : ℕ) (f : Filling) → listing c q low own others shut g p f .count ≤ f .count + leave g p
   unfolding listing tally
   count-leave g zero f = omega arith
-  count-leave g (suc p) f = let l = listing c q low own others g p f in let r = count-leave g p f in
+  count-leave g (suc p) f = let l = listing c q low own others shut g p f in let r = count-leave g p f in
       by-cases (λ h. h .count ≤ f .count + (one (same (g p .from) q) + leave g p)) p (g p) l (λ e. omega arith) (λ e k. omega arith) (λ e. omega arith)
       (λ e k. rw e (omega arith))
 
   -- there is room for one more
-  pub leave-room : (g : ℕ → Transition) (p k : ℕ) (f : Filling) → f .count ≡ 0 → p < k → leave g k ≤ mostFromState → g p .from ≡ q → listing c q low own others g p f .count < mostFromState
+  pub leave-room : (g : ℕ → Transition) (p k : ℕ) (f : Filling) → f .count ≡ 0 → p < k → leave g k ≤ mostFromState → g p .from ≡ q → listing c q low own others shut g p f .count < mostFromState
   leave-room g p k f z l few e = let r = count-leave g p f in let x : one (same (g p .from) q) ≡ 1 = rw (e, same-refl q) in
       let h = tally-plus k (λ u. one (same (g u .from) q)) p l in omega arith
 
-  pub count-few : (g : ℕ → Transition) (p k : ℕ) (f : Filling) → f .count ≡ 0 → p ≤ k → leave g k ≤ mostFromState → listing c q low own others g p f .count ≤ mostFromState
+  pub count-few : (g : ℕ → Transition) (p k : ℕ) (f : Filling) → f .count ≡ 0 → p ≤ k → leave g k ≤ mostFromState → listing c q low own others shut g p f .count ≤ mostFromState
   count-few g p k f z l few = let r = count-leave g p f in let h = tally-mono p k (λ u. one (same (g u .from) q)) l in omega arith
 
   module _ (lc : c < mostCharts) (ts : List Transition) (keep : ℕ → Bool) (f₀ : Filling) where
@@ -224,7 +224,7 @@ module _ (c q : ℕ) (low own others : Set) where
       pub wires : SameWiring (f₀ .masks) (f .masks)
       pub rest : (i : ℕ) → countFrom ≤ i → i < placeFrom → getD (f .small) i 0 ≡ getD (f₀ .small) i 0
 
-    lists-next : (p : ℕ) (t : Transition) (f : Filling) → nth noMove ts p ≡ takes t → keep (suc p) ≡ lastsBy low own others t → masksFor (c + 1) ≤ length (f .masks) → length (f .small) ≡ smallSize
+    lists-next : (p : ℕ) (t : Transition) (f : Filling) → nth noMove ts p ≡ takes t → keep (suc p) ≡ lastsBy low own others shut t → masksFor (c + 1) ≤ length (f .masks) → length (f .small) ≡ smallSize
         → (t .from ≡ q → f .count < mostFromState) → Lists p f → Lists (suc p) (step p t f)
     lists-next p t f e k lm ls room l = by-cases (λ h. Lists (suc p) h) p t f
         (λ a. same-but (other (l .listed) t e (λ w. false≢true (sym a ∙ rw w (same-refl q)))))
@@ -252,11 +252,11 @@ module _ (c q : ℕ) (low own others : Set) where
               rest = λ i r r₂. put-small-off (f .small) c (f .count) p t i (λ x. omega arith) (λ x. omega arith) ∙ l .rest i r r₂;
             }
 
-    pub listing-lists : (g : ℕ → Transition) (k p : ℕ) → p ≤ k → leave g k ≤ mostFromState → ((u : ℕ) → u < k → nth noMove ts u ≡ takes (g u)) → ((u : ℕ) → u < k → keep (suc u) ≡ lastsBy low own others (g u))
-        → masksFor (c + 1) ≤ length (f₀ .masks) → length (f₀ .small) ≡ smallSize → f₀ .count ≡ 0 → Lists p (listing c q low own others g p f₀)
+    pub listing-lists : (g : ℕ → Transition) (k p : ℕ) → p ≤ k → leave g k ≤ mostFromState → ((u : ℕ) → u < k → nth noMove ts u ≡ takes (g u)) → ((u : ℕ) → u < k → keep (suc u) ≡ lastsBy low own others shut (g u))
+        → masksFor (c + 1) ≤ length (f₀ .masks) → length (f₀ .small) ≡ smallSize → f₀ .count ≡ 0 → Lists p (listing c q low own others shut g p f₀)
     unfolding listing
     listing-lists g k zero l few at kp lm ls z = record { listed = rw z start; stays = λ d u ld lu n. stays-refl (f₀ .masks) (f₀ .small) d u; wires = wiring-refl (f₀ .masks); rest = λ i r r₂. refl }
-    listing-lists g k (suc p) l few at kp lm ls z = lists-next p (g p) (listing c q low own others g p f₀) (at p l) (kp p l) (let e = length-masks g p f₀ in omega arith) (length-small g p f₀ ∙ ls)
+    listing-lists g k (suc p) l few at kp lm ls z = lists-next p (g p) (listing c q low own others shut g p f₀) (at p l) (kp p l) (let e = length-masks g p f₀ in omega arith) (length-small g p f₀ ∙ ls)
         (λ e. leave-room g p k f₀ z l few e) (listing-lists g k p (omega arith) few at kp lm ls z)
 
 -- ── the wiring stays ──
@@ -266,41 +266,41 @@ Backs m m₁ = (c d : ℕ) → c < mostCharts → d < mostCharts → backAt m c 
 
 -- ── one chart more ──
 
-module _ (E : ℕ → Chart) (cfg : ℕ → ℕ) (N : ℕ) (lows m₀ s₀ : List ℕ) (few : N ≤ mostCharts) where
+module _ (E : ℕ → Chart) (cfg : ℕ → ℕ) (N : ℕ) (lows shuts m₀ s₀ : List ℕ) (few : N ≤ mostCharts) where
   -- the wiring of chart c is the same in tables that agree on it
   others-same : (m m₁ : List ℕ) (may : ℕ → Set) (c : ℕ) → c < N → Backs m m₁ → othersAt m N may c ≡ othersAt m₁ N may c
   unfolding othersAt
   others-same m m₁ may c l h = join-cong N _ _ (λ e r. ap (λ z. cond (same e c) 0 (may e) ∩ z) (h c e (omega arith) (omega arith)))
 
-  keep-same : (m m₁ : List ℕ) (c v : ℕ) → c < N → Backs m m₁ → keepAt E cfg N lows m c v ≡ keepAt E cfg N lows m₁ c v
+  keep-same : (m m₁ : List ℕ) (c v : ℕ) → c < N → Backs m m₁ → keepAt E cfg N lows shuts m c v ≡ keepAt E cfg N lows shuts m₁ c v
   unfolding keepAt
-  keep-same m m₁ c v l h = ap₂ (λ a b. keptBy (getD lows c 0) a b (E c) (cfg c) (pick (E c) v)) (h c c (omega arith) (omega arith)) (others-same m m₁ _ c l h)
+  keep-same m m₁ c v l h = ap₂ (λ a b. keptBy (getD lows c 0) a b (getD shuts c 0) (E c) (cfg c) (pick (E c) v)) (h c c (omega arith) (omega arith)) (others-same m m₁ _ c l h)
 
-  keep-by : (m : List ℕ) (c : ℕ) (low own others : Set) (u : ℕ) (t : Transition) → low ≡ getD lows c 0 → own ≡ backAt m c c → others ≡ othersAt m N (λ e. mayOf (E e .transitions) (cfg e)) c
-      → nth noMove (E c .transitions) u ≡ takes t → keepAt E cfg N lows m c (suc u) ≡ lastsBy low own others t
-  unfolding keepAt keptBy lastsBy pick test actionOf
-  keep-by m c low own others u t el eo es e = rw (el, eo, es, nth-takes (behind (E c)) (E c .transitions) u t e)
+  keep-by : (m : List ℕ) (c : ℕ) (low own others shut : Set) (u : ℕ) (t : Transition) → low ≡ getD lows c 0 → own ≡ backAt m c c → others ≡ othersAt m N (λ e. mayOf (E e .transitions) (cfg e)) c → shut ≡ getD shuts c 0
+      → nth noMove (E c .transitions) u ≡ takes t → keepAt E cfg N lows shuts m c (suc u) ≡ lastsBy low own others shut t
+  unfolding keepAt keptBy lastsBy pick test actionOf opensBy
+  keep-by m c low own others shut u t el eo es ez e = rw (el, eo, es, ez, nth-takes (behind (E c)) (E c .transitions) u t e)
 
-  pub until-none : length s₀ ≡ smallSize → Until E cfg N lows m₀ s₀ 0 m₀ s₀
+  pub until-none : length s₀ ≡ smallSize → Until E cfg N lows shuts m₀ s₀ 0 m₀ s₀
   until-none ls = record { listed = λ c l. absurd (omega arith); counts = λ c l. absurd (omega arith); wires = wiring-refl m₀; rest = λ i l b. refl; masks = refl; small = ls }
 
-  module _ (k : ℕ) (lk : k < N) (m s : List ℕ) (low own others : Set) (g : ℕ → Transition) where
+  module _ (k : ℕ) (lk : k < N) (m s : List ℕ) (low own others shut : Set) (g : ℕ → Transition) where
     abbrev done : Filling
-    done = listing k (cfg k) low own others g (length (E k .transitions)) (record { masks = m; small = s; count = 0 })
+    done = listing k (cfg k) low own others shut g (length (E k .transitions)) (record { masks = m; small = s; count = 0 })
 
     abbrev counted : List ℕ
     counted = set (done .small) (countCell k) (done .count)
 
     -- chart k gets its candidates
-    pub until-next : masksFor N ≤ length m → Until E cfg N lows m₀ s₀ k m s → ((u : ℕ) → u < length (E k .transitions) → nth noMove (E k .transitions) u ≡ takes (g u)) → tally (length (E k .transitions)) (λ u. one (same (g u .from) (cfg k))) ≤ mostFromState
-        → low ≡ getD lows k 0 → own ≡ backAt m k k → others ≡ othersAt m N (λ e. mayOf (E e .transitions) (cfg e)) k → Until E cfg N lows m₀ s₀ (suc k) (done .masks) counted
-    until-next lm un at room el eo es =
+    pub until-next : masksFor N ≤ length m → Until E cfg N lows shuts m₀ s₀ k m s → ((u : ℕ) → u < length (E k .transitions) → nth noMove (E k .transitions) u ≡ takes (g u)) → tally (length (E k .transitions)) (λ u. one (same (g u .from) (cfg k))) ≤ mostFromState
+        → low ≡ getD lows k 0 → own ≡ backAt m k k → others ≡ othersAt m N (λ e. mayOf (E e .transitions) (cfg e)) k → shut ≡ getD shuts k 0 → Until E cfg N lows shuts m₀ s₀ (suc k) (done .masks) counted
+    until-next lm un at room el eo es ez =
         record {
           listed = λ c l. go c l (same c k) refl;
           counts = λ c l. go′ c l (same c k) refl;
           wires = wiring-trans (un .wires) (li .wires);
           rest = λ i l b. getD-set-other (done .small) (countCell k) i (done .count) 0 (λ e. omega arith) ∙ li .rest i (omega arith) b ∙ un .rest i (omega arith) b;
-          masks = length-masks k (cfg k) low own others g (length (E k .transitions)) f₀ ∙ un .masks;
+          masks = length-masks k (cfg k) low own others shut g (length (E k .transitions)) f₀ ∙ un .masks;
           small = length-set (done .small) (countCell k) (done .count) ∙ ls;
         }
       where
@@ -308,16 +308,16 @@ module _ (E : ℕ → Chart) (cfg : ℕ → ℕ) (N : ℕ) (lows m₀ s₀ : Lis
         f₀ = record { masks = m; small = s; count = 0 }
 
         ls : length (done .small) ≡ smallSize
-        ls = length-small k (cfg k) low own others g (length (E k .transitions)) f₀ ∙ un .small
+        ls = length-small k (cfg k) low own others shut g (length (E k .transitions)) f₀ ∙ un .small
 
-        kept : (u : ℕ) → u < length (E k .transitions) → keepAt E cfg N lows m₀ k (suc u) ≡ lastsBy low own others (g u)
-        kept u l = keep-same m₀ m k (suc u) lk (λ a d p r. sym (un .wires .backs a d p r)) ∙ keep-by m k low own others u (g u) el eo es (at u l)
+        kept : (u : ℕ) → u < length (E k .transitions) → keepAt E cfg N lows shuts m₀ k (suc u) ≡ lastsBy low own others shut (g u)
+        kept u l = keep-same m₀ m k (suc u) lk (λ a d p r. sym (un .wires .backs a d p r)) ∙ keep-by m k low own others shut u (g u) el eo es ez (at u l)
 
-        li : Lists k (cfg k) low own others (let h = few in omega arith) (E k .transitions) (keepAt E cfg N lows m₀ k) f₀ (length (E k .transitions)) done
-        li = listing-lists k (cfg k) low own others (let h = few in omega arith) (E k .transitions) (keepAt E cfg N lows m₀ k) f₀ g (length (E k .transitions)) (length (E k .transitions)) (omega arith) room at kept (omega arith) (un .small) refl
+        li : Lists k (cfg k) low own others shut (let h = few in omega arith) (E k .transitions) (keepAt E cfg N lows shuts m₀ k) f₀ (length (E k .transitions)) done
+        li = listing-lists k (cfg k) low own others shut (let h = few in omega arith) (E k .transitions) (keepAt E cfg N lows shuts m₀ k) f₀ g (length (E k .transitions)) (length (E k .transitions)) (omega arith) room at kept (omega arith) (un .small) refl
 
         full : done .count ≤ mostFromState
-        full = let h = count-leave k (cfg k) low own others g (length (E k .transitions)) f₀ in omega arith
+        full = let h = count-leave k (cfg k) low own others shut g (length (E k .transitions)) f₀ in omega arith
 
         to-stays : (c v : ℕ) → c < mostCharts → v < mostFromState → Stays (done .masks) (done .small) (done .masks) counted c v
         to-stays c v l r = record { needed = refl; barred = refl; action = refl; to = getD-set-other (done .small) (countCell k) (toCell c v) (done .count) 0 (λ e. omega arith); place = getD-set-other (done .small) (countCell k) (placeCell c v) (done .count) 0 (λ e. let h = few in omega arith) }
@@ -331,11 +331,11 @@ module _ (E : ℕ → Chart) (cfg : ℕ → ℕ) (N : ℕ) (lows m₀ s₀ : Lis
         apart? : (c : ℕ) → same c k ≡ false → c ≢ k
         apart? c e w = false≢true (sym e ∙ rw w (same-refl k))
 
-        go : (c : ℕ) → c < suc k → (b : Bool) → same c k ≡ b → Listed (done .masks) counted c (E c .transitions) (cfg c) (keepAt E cfg N lows m₀ c) (length (E c .transitions)) (countAt counted c)
-        go c l true e = rw (same→≡ c k e, count-at) (listed-stays (done .masks) (done .small) (done .masks) counted k (E k .transitions) (cfg k) (keepAt E cfg N lows m₀ k) (li .listed)
+        go : (c : ℕ) → c < suc k → (b : Bool) → same c k ≡ b → Listed (done .masks) counted c (E c .transitions) (cfg c) (keepAt E cfg N lows shuts m₀ c) (length (E c .transitions)) (countAt counted c)
+        go c l true e = rw (same→≡ c k e, count-at) (listed-stays (done .masks) (done .small) (done .masks) counted k (E k .transitions) (cfg k) (keepAt E cfg N lows shuts m₀ k) (li .listed)
             (λ v r. to-stays k v (omega arith) (let h = full in omega arith)))
         go c l false e = let n = apart? c e in let h = un .counts c (omega arith) in rw (count-off c l n)
-            (listed-stays m s (done .masks) counted c (E c .transitions) (cfg c) (keepAt E cfg N lows m₀ c) (un .listed c (omega arith))
+            (listed-stays m s (done .masks) counted c (E c .transitions) (cfg c) (keepAt E cfg N lows shuts m₀ c) (un .listed c (omega arith))
             (λ v r. stays-trans m s (done .masks) (done .small) (done .masks) counted c v (li .stays c v (omega arith) (omega arith) n) (to-stays c v (omega arith) (omega arith))))
 
         go′ : (c : ℕ) → c < suc k → (b : Bool) → same c k ≡ b → countAt counted c ≤ mostFromState
@@ -422,13 +422,13 @@ ahead-cong (suc n) k f g h = ap₂ _∪_ (h k (omega arith)) (ahead-cong n (suc 
 listed-kept : (m s : List ℕ) (c : ℕ) (ts : List Transition) (q : ℕ) (keep keep′ : ℕ → Bool) → ((v : ℕ) → keep v ≡ keep′ v) → {p n : ℕ} → Listed m s c ts q keep p n → Listed m s c ts q keep′ p n
 listed-kept m s c ts q keep keep′ h {p} {n} l = subst (λ f. Listed m s c ts q f p n) (fun-ext h) l
 
-module _ (E : ℕ → Chart) (cfg : ℕ → ℕ) (N : ℕ) (lows m₀ s₀ : List ℕ) (few : N ≤ mostCharts) where
-  pub chosen : (m m′ s : List ℕ) → Until E cfg N lows m₀ s₀ N m s → AheadFrom N s 0 m m′ → ((c : ℕ) → c < N → stateAt s₀ c ≡ cfg c) → Chosen E cfg N lows m′ s
+module _ (E : ℕ → Chart) (cfg : ℕ → ℕ) (N : ℕ) (lows shuts m₀ s₀ : List ℕ) (few : N ≤ mostCharts) where
+  pub chosen : (m m′ s : List ℕ) → Until E cfg N lows shuts m₀ s₀ N m s → AheadFrom N s 0 m m′ → ((c : ℕ) → c < N → stateAt s₀ c ≡ cfg c) → Chosen E cfg N lows shuts m′ s
   chosen m m′ s un a st =
       record {
-        listed = λ c l. listed-kept m′ s c (E c .transitions) (cfg c) (keepAt E cfg N lows m₀ c) (keepAt E cfg N lows m′ c)
-            (λ v. keep-same E cfg N lows m₀ s₀ few m₀ m′ c v l (λ d e p q. sym (a .wires .backs d e p q ∙ un .wires .backs d e p q)))
-            (listed-stays m s m′ s c (E c .transitions) (cfg c) (keepAt E cfg N lows m₀ c) (un .listed c l) (λ v r. let h = un .counts c l in
+        listed = λ c l. listed-kept m′ s c (E c .transitions) (cfg c) (keepAt E cfg N lows shuts m₀ c) (keepAt E cfg N lows shuts m′ c)
+            (λ v. keep-same E cfg N lows shuts m₀ s₀ few m₀ m′ c v l (λ d e p q. sym (a .wires .backs d e p q ∙ un .wires .backs d e p q)))
+            (listed-stays m s m′ s c (E c .transitions) (cfg c) (keepAt E cfg N lows shuts m₀ c) (un .listed c l) (λ v r. let h = un .counts c l in
             record { needed = a .lists .needed c v (omega arith) (omega arith); barred = a .lists .barred c v (omega arith) (omega arith); action = a .lists .action c v (omega arith) (omega arith); to = refl; place = refl }));
         counts = un .counts;
         ahead-at = λ k c p q. a .rows k c (omega arith) p q ∙ ahead-cong (N - k) k _ _ (λ e x. ap₂ _∩_ (sym (may-same N few s m m′ e (omega arith) (un .counts e (omega arith)) (a .lists)))
@@ -477,7 +477,7 @@ join-both zero f g b = sets [] [] (∅ₑ ≐ ∅ₑ ∪ₑ ∅ₑ) tt
 join-both (suc N) f g b = sets (join N (λ e. (f e ∪ g e) ∩ b e) ∷ join N (λ e. f e ∩ b e) ∷ join N (λ e. g e ∩ b e) ∷ f N ∷ g N ∷ b N ∷ [])
     (A ≐ B ∪ₑ C ∷ []) (A ∪ₑ (D ∪ₑ Eₑ) ∩ₑ Fₑ ≐ B ∪ₑ D ∩ₑ Fₑ ∪ₑ (C ∪ₑ Eₑ ∩ₑ Fₑ)) tt (join-both N f g b)
 
-module _ (E : ℕ → Chart) (state : ℕ → ℕ) (cfg : ℕ → ℕ) (N : ℕ) (enc : ℕ → Option ℕ) (sc : ℕ → ℕ) (t : Tree) (inp : Set) (m s lows : List ℕ)
+module _ (E : ℕ → Chart) (state : ℕ → ℕ) (cfg : ℕ → ℕ) (N : ℕ) (enc : ℕ → Option ℕ) (sc : ℕ → ℕ) (t : Tree) (inp : Set) (m s lows shuts : List ℕ)
     (ro : Rows E state cfg N enc sc t m s) (lw : Lows E cfg N enc t inp lows) where
   abbrev may₀ : ℕ → Set
   may₀ c = mayOf (E c .transitions) (cfg c)
@@ -492,32 +492,38 @@ module _ (E : ℕ → Chart) (state : ℕ → ℕ) (cfg : ℕ → ℕ) (N : ℕ)
       (join-both N (λ e. cond (same e c) a (f e)) (surely enc E cfg) (back E t c) ∙ ap (λ z. z ∪ join N (λ e. surely enc E cfg e ∩ back E t c e))
       (join-cong N _ _ (λ e r. ap (λ z. cond (same e c) a (f e) ∩ z) (sym (ro .back-at c e l r))) ∙ join-apart N c a f (backAt m c) l))
 
-  keep-lasts : (c v : ℕ) → c < N → keepAt E cfg N lows m c v ≡ lasts E state cfg N enc t inp may₀ c v
+  -- the places that are kept: what may be met, and may begin an open choice
+  abbrev keeps₀ : ℕ → ℕ → Bool
+  keeps₀ = opening E cfg shuts (lasts E state cfg N enc t inp may₀)
+
+  keep-lasts : (c v : ℕ) → c < N → keepAt E cfg N lows shuts m c v ≡ keeps₀ c v
   unfolding keepAt keptBy lasts othersAt
-  keep-lasts c v l = ap₂ (test (E c) (cfg c) (pick (E c) v))
+  keep-lasts c v l = ap₂ (λ lo hi. test (E c) (cfg c) (pick (E c) v) lo hi && opensBy (getD shuts c 0) (cfg c) (pick (E c) v))
       (sym (offered-apart c (actionOf (pick (E c) v)) (λ e. 0) l
       ∙ sets ((getD lows c 0 ∪ actionOf (pick (E c) v) ∩ backAt m c c) ∷ join N (λ e. cond (same e c) 0 0 ∩ backAt m c e) ∷ []) (B ≐ ∅ₑ ∷ []) (A ∪ₑ B ≐ A) tt (join-off N c (backAt m c))))
       (sym (offered-apart c (actionOf (pick (E c) v)) may₀ l))
 
-  pub candidates : Chosen E cfg N lows m s → Candidates E cfg N t (lasts E state cfg N enc t inp may₀) m s
+  pub candidates : Chosen E cfg N lows shuts m s → Candidates E cfg N t keeps₀ m s
   candidates ch =
       record {
-        listed = λ c l. listed-kept m s c (E c .transitions) (cfg c) (keepAt E cfg N lows m c) (lasts E state cfg N enc t inp may₀ c) (λ v. keep-lasts c v l) (ch .listed c l);
+        listed = λ c l. listed-kept m s c (E c .transitions) (cfg c) (keepAt E cfg N lows shuts m c) (keeps₀ c) (λ v. keep-lasts c v l) (ch .listed c l);
         ahead-at = λ k c p q. ch .ahead-at k c p q ∙ ahead-cong (N - k) k _ _ (λ e x. ap (λ z. mayAt m s e ∩ z) (ro .back-at c e q (omega arith)));
       }
 
   -- charts that may stay, likewise
-  pub stayers-last : {g y : List ℕ} → Stayers E cfg N (keepAt E cfg N lows m) g y → Stayers E cfg N (lasts E state cfg N enc t inp may₀) g y
+  pub stayers-last : {g y : List ℕ} → Stayers E cfg N (keepAt E cfg N lows shuts m) g y → Stayers E cfg N keeps₀ g y
   stayers-last sy =
       record { open-at = λ c l. sy .open-at c l ∙ ap (λ b. E c .stays && b) (keep-lasts c (lastPlace (E c)) l); calm-at = sy .calm-at }
 
--- staying is kept unless a trigger surely holds
-pub keep-stay : (E : ℕ → Chart) (cfg : ℕ → ℕ) (N : ℕ) (lows m : List ℕ) (c : ℕ) → E c .stays ≡ true
-    → keepAt E cfg N lows m c (lastPlace (E c)) ≡ untriggered (E c .transitions) (cfg c) (getD lows c 0) (getD lows c 0 ∪ othersAt m N (λ e. mayOf (E e .transitions) (cfg e)) c)
-unfolding keepAt keptBy test actionOf
-keep-stay E cfg N lows m c two = let h : getD lows c 0 ∪ 0 ∩ backAt m c c ≡ getD lows c 0 = sets (getD lows c 0 ∷ backAt m c c ∷ []) [] (A ∪ₑ (∅ₑ ∩ₑ B) ≐ A) tt in
-    ap (λ M. keptBy (getD lows c 0) (backAt m c c) (othersAt m N (λ e. mayOf (E e .transitions) (cfg e)) c) (E c) (cfg c) M) (stay-last (E c) two)
-    ∙ ap (λ z. untriggered (E c .transitions) (cfg c) z (z ∪ othersAt m N (λ e. mayOf (E e .transitions) (cfg e)) c)) h
+-- staying is kept unless a trigger surely holds, or the present state is shut
+pub keep-stay : (E : ℕ → Chart) (cfg : ℕ → ℕ) (N : ℕ) (lows shuts m : List ℕ) (c : ℕ) → E c .stays ≡ true
+    → keepAt E cfg N lows shuts m c (lastPlace (E c))
+    ≡ (untriggered (E c .transitions) (cfg c) (getD lows c 0) (getD lows c 0 ∪ othersAt m N (λ e. mayOf (E e .transitions) (cfg e)) c)
+    && not (bit (getD shuts c 0) (cfg c)))
+unfolding keepAt keptBy test actionOf opensBy
+keep-stay E cfg N lows shuts m c two = let h : getD lows c 0 ∪ 0 ∩ backAt m c c ≡ getD lows c 0 = sets (getD lows c 0 ∷ backAt m c c ∷ []) [] (A ∪ₑ (∅ₑ ∩ₑ B) ≐ A) tt in
+    ap (λ M. keptBy (getD lows c 0) (backAt m c c) (othersAt m N (λ e. mayOf (E e .transitions) (cfg e)) c) (getD shuts c 0) (E c) (cfg c) M) (stay-last (E c) two)
+    ∙ ap (λ z. untriggered (E c .transitions) (cfg c) z (z ∪ othersAt m N (λ e. mayOf (E e .transitions) (cfg e)) c) && not (bit (getD shuts c 0) (cfg c))) h
 
 -- ── what is surely offered ──
 

@@ -5,7 +5,7 @@ use crate::cases::charts::*;
 use crate::cases::rows::{gives, row, rows, Result, RowAnswer};
 use crate::cases::step::{hears, ring, three_composed, two_slaves};
 use crate::cases::Case;
-use crate::limits::{CHARTS, NO_PLACE, STAYED};
+use crate::limits::{EARLIER_CHARTS, NO_PLACE, STAYED};
 use crate::model::{Chart, Edition, Model, Transition};
 use crate::set::Set;
 
@@ -819,14 +819,14 @@ fn inner() -> Vec<StayAnswer> {
 
 /// Eight charts, each waiting for the next: all move or all stay, and a gap stops them all.
 fn chains() -> Vec<StayAnswer> {
-    let all: Vec<u32> = (0..CHARTS as u32).collect();
+    let all: Vec<u32> = (0..EARLIER_CHARTS as u32).collect();
     let broken = {
         let mut model = ring(1);
         model.charts[7].transitions[0].action = Set::EMPTY;
         model
     };
-    let (zeros, ones) = ([0; CHARTS], [1; CHARTS]);
-    let (moved, stayed) = ([0; CHARTS], [STAYED; CHARTS]);
+    let (zeros, ones) = ([0; EARLIER_CHARTS], [1; EARLIER_CHARTS]);
+    let (moved, stayed) = ([0; EARLIER_CHARTS], [STAYED; EARLIER_CHARTS]);
     vec![
         given(
             "stay-ring-of-eight",

@@ -41,8 +41,8 @@ fn accepted() -> Vec<Case> {
         good("D-hidden", second(d_hidden())),
         good("nested", second(nested())),
         good("no-transitions", second(alone(chart(1, &[], vec![])))),
-        good("fullest", second(fullest())),
-        good("most-slaves", second(master_of(SLAVES as u8))),
+        good("fullest", second(full_charts(EARLIER_CHARTS))),
+        good("most-slaves", second(master_of(EARLIER_SLAVES as u8))),
         good("most-nodes", second(hidden_deep(NODES as u8))),
         good("behind-front", behind(&[2; 19], second(p3()))),
         good("behind-edition-1", behind(&p3().file(), second(p3()))),
@@ -230,24 +230,24 @@ fn wide() -> Vec<Case> {
     vec![
         step(
             "edition-2-wide-no-transitions",
-            vec![waiting(0); CHARTS],
+            vec![waiting(0); EARLIER_CHARTS],
             refusal::SUCCESS,
         ),
         step(
             "edition-2-wide-two-each-all-stay",
-            vec![waiting(2); CHARTS],
+            vec![waiting(2); EARLIER_CHARTS],
             refusal::SUCCESS,
         ),
         step(
             "edition-2-wide-two-each-none-stays",
-            vec![ready(2); CHARTS],
+            vec![ready(2); EARLIER_CHARTS],
             refusal::SUCCESS,
         ),
-        // of 9^8 choices only the last one is permitted
+        // of 9^8 choices, which are too many, only the last one would be permitted
         step(
             "edition-2-wide-last-choice-alone",
-            vec![waiting(most); CHARTS],
-            refusal::SUCCESS,
+            vec![waiting(most); EARLIER_CHARTS],
+            refusal::MANY_OPEN,
         ),
         step(
             "edition-2-wide-last-chart-stays",

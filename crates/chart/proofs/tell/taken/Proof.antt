@@ -1,4 +1,4 @@
--- `tell::taken` is safe and ends: it counts up to the charts, which are at most mostCharts. Assumes nothing.
+-- `tell::taken` is safe and ends: it counts up to the charts, which are no more than the places. Assumes nothing.
 use Prim.Native.Nat.{_≤_, _-_}
 use native.Mathlib.Omega.{arith}
 use borrow.Author.Needs.{needs}
@@ -6,10 +6,10 @@ use Rattle.chart.proofs.tell.taken.Statement.{statement}
 use Rattle.chart.proofs.tell.taken.Tie as tie
 
 abbrev Inv-loop : tie.InvT-loop
-Inv-loop file charts config input places c₀ c = c ≤ charts
+Inv-loop charts places c₀ c = c ≤ charts
 
 abbrev μ-loop : tie.MeasureT-loop
-μ-loop file charts config input places c₀ c = charts - c
+μ-loop charts places c₀ c = charts - c
 
 pub taken-spec : {M : Type 1} → statement M
 taken-spec =
@@ -17,9 +17,6 @@ taken-spec =
     (tie.spec
     Inv-loop
     μ-loop
-    (λ c. search needs)
-    (λ c κs. search needs)
-    (λ c. search needs)
     (λ c. omega arith)
     (λ c. omega arith)
     (λ c κs. search needs)

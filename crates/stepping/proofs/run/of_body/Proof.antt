@@ -14,8 +14,9 @@ use Rattle.meaning.specs.Laws.Runs.{Valid}
 use Rattle.cells.specs.Table.{masksFor}
 use Rattle.plan.specs.Wire.Laws.{blank-new}
 use Rattle.stepping.specs.Step.{configTestsIn}
+use Rattle.stepping.specs.Step.Laws.{config-is}
 use Rattle.stepping.specs.Run.{BodyRuns}
-use Rattle.stepping.specs.Run.Laws.{Refuses, after-config, after-room, after-rows, config-is, room, no-room}
+use Rattle.stepping.specs.Run.Laws.{Refuses, after-config, after-room, after-rows, room, no-room}
 use Rattle.stepping.proofs.run.of_body.Statement.{statement}
 use Rattle.stepping.proofs.run.of_body.Tie as tie
 

@@ -13,9 +13,7 @@ use Rattle.meaning.specs.Meaning.{Answer}
 use Rattle.meaning.specs.File.{chartOf, fileAt}
 use Rattle.meaning.specs.Calls.{afterStep, carriedAfter, rowOf, laidOver}
 use Rattle.meaning.specs.Laws.Runs.{Valid, Stand, stepFrom, standAfter, rowsFrom, carriedFrom, valid-after, length-next, rows-all}
-use Rattle.tables.specs.Filled.{answerOf}
-use Rattle.stepping.specs.Step.{Checked, Prepared}
-use Rattle.stepping.specs.Step.Laws.{ready}
+use Rattle.stepping.specs.Step.{Checked, Prepared, triedAnswer}
 use Rattle.stepping.specs.Run.Laws.{leads, laid, laid-before, laid-after, laid-length, run-step, carry-step, run-done, carry-done, next-row, next-at}
 use Rattle.stepping.proofs.run.put_rows.Statement.{statement}
 use Rattle.stepping.proofs.run.put_rows.Tie as tie
@@ -107,13 +105,12 @@ loop-holds c =
 array-share-prefix-states : tie.Need-array-share-prefix-states Inv-loop μ-loop
 array-share-prefix-states c = omega (arith, rw length-take at (configured (c .before)))
 
-found-requires : tie.Need-found-requires Inv-loop μ-loop
-unfolding fileAt chartOf
-found-requires c κs =
+try-wired-requires : tie.Need-try-wired-requires Inv-loop μ-loop
+try-wired-requires c κs =
     let i = c .before .before .before .before in
     let s = i .before .before .before .before .before .before .before in
     let g = i .before .loop .inv in
-    (s .pre .0, ready _ _ (s .pre .0) _ (omega (arith, configured i)) (g .0 .valid .states), g .1)
+    (s .pre .0, g .0 .valid, g .1)
 
 put-row-requires : tie.Need-put-row-requires Inv-loop μ-loop
 put-row-requires c κs =
@@ -131,14 +128,14 @@ loop-again c =
     let m = length (s .args .inputs .now) in
     let a = c .before .after .result in
     let i′ = m - l .left in
-    let r = answerOf (s .args .n .charts) (f .found .result) in
+    let r = triedAnswer (s .args .n .charts) (f .try-wired .result) in
     let e : m - l .left + 1 ≡ m - a .left = omega (arith, c .before .after .ensures .0, l .inv .2) in (
       rw e at (turn (s .args .n) (s .args .body .now) (s .args .inputs .now) _ _ (s .pre .0) (l .rows) (stand (s .args .n) (l .states) (l .held)) (l .at) i′ (l .inv .0) (another i) (fits i)
-          (p .put-row .last .0) (stand (s .args .n) (a .states) (a .carried)) r (f .found .ensures .0 .answers) (p .put-row .ensures)
+          (p .put-row .last .0) (stand (s .args .n) (a .states) (a .carried)) r (f .try-wired .ensures .0 .answers) (p .put-row .ensures)
           (lands (s .args .n) (l .states) (a .states) (l .held) (a .carried) (getD (s .args .inputs .now) i′ 0) r (c .before .after .ensures .1 (s .args .n .charts)))),
-      f .found .ensures .1,
+      f .try-wired .ensures .1,
       omega (arith, c .before .after .ensures .0, l .inv .2),
-      f .found .kept .1 .1 .1 .1 .1 .0 ∙ l .inv .3,
+      f .try-wired .kept .1 .1 .1 .1 .1 .0 ∙ l .inv .3,
     )
 
 returns : tie.Need-returns Inv-loop μ-loop
@@ -162,7 +159,7 @@ put-rows-spec =
     (λ c. another (c .before))
     array-share-prefix-states
     (λ c. sym (configured (c .before .before)))
-    found-requires
+    try-wired-requires
     (λ c.
     let i = c .before .before .before .before .before .before .before .before .before in
     omega (arith, fits i, i .before .loop .inv .0 .long, lent (i .before .before)))

@@ -18,7 +18,7 @@ searched-requires c κs =
 returns : tie.Need-returns
 returns c =
     let y = c .before .before .before .before in
-    record { guards = y .stays .last .1 .1 .1 .1 .1 .1 .0; stays = y .stays .result; told = y .stays .ensures; found = c .searched .ensures }
+    record { guards = y .stays .last .1 .1 .1 .1 .1 .1 .1 .0; stays = y .stays .result; told = y .stays .ensures; found = c .searched .ensures }
 
 pub found-staying-spec : {M : Type 1} → statement M
 found-staying-spec =

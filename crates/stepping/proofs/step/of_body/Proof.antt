@@ -5,31 +5,36 @@ use mathlib.Core.List.{List}
 use Prim.Native.Nat.{ℕ, _≤_, _<_}
 use native.Mathlib.Omega.{arith}
 use borrow.Author.Needs.{needs}
-use borrow.Author.Tests.{not-true, not-false}
+use lib.Dec.{lit<}
 use lib.ListN.{take}
 use Rattle.layout.specs.declared.body.Shape.{Shape}
-use Rattle.meaning.specs.Numbers.{shortBuffer, noStep}
+use Rattle.meaning.specs.Numbers.{shortBuffer, manyOpen}
 use Rattle.meaning.specs.Meaning.{Set, Answer, refused, given}
 use Rattle.meaning.specs.File.{chartOf, fileAt}
 use Rattle.meaning.specs.Check.{firstOf}
-use Rattle.meaning.specs.Calls.{laidOver, nextIn}
-use Rattle.search.specs.declared.Found.{Found}
-use Rattle.candidates.specs.Candidates.{Ready}
+use Rattle.meaning.specs.Open.{openIn}
+use Rattle.meaning.specs.Calls.{laidOver, Valid, openFor, nextIn}
 use Rattle.stepping.specs.Answer.{steppedOf}
-use Rattle.stepping.specs.Step.{configTestsIn, stepAfter, placesAfter, Checked, Finds}
-use Rattle.stepping.specs.Step.Laws.{config-long, config-valid, after-config, after-room, after-step, after-places, after-refused, ready, answer-none, answer-given, refuses}
+use Rattle.stepping.specs.Step.{configTestsIn, stepAfter, placesAfter, triedAnswer, triedRefusal, Tries}
+use Rattle.stepping.specs.Step.Laws.{config-under, config-is, after-config, after-room, after-step, after-places, after-refused, tried-refused, tried-given, refusal-else, refuses, says-none, says-all}
 use Rattle.stepping.specs.declared.step.Stepped.{Stepped}
+use Rattle.stepping.specs.declared.step.Tried.{Tried}
 use Rattle.stepping.proofs.step.of_body.Statement.{statement}
 use Rattle.stepping.proofs.step.of_body.Tie as tie
 
 -- a step given lays the next configuration over the buffer
-gives : (a : Answer) (p p′ b b′ : List ℕ) (o : Set) (n : List ℕ) (m : Bool) → a ≡ given o n m → p′ ≡ p → b′ ≡ laidOver n b
-    → (_≡_ {A = Stepped} (record { refusal = 0; output = o; mark = m; places = p }) (steppedOf a p′)) × (b′ ≡ nextIn a b)
-gives a p p′ b b′ o n m e q h = rw (e, q, h) (refl, refl)
+gives : (a : Answer) (p p′ b b′ : List ℕ) (o : Set) (n : List ℕ) (m : Bool) (k k′ : ℕ) → a ≡ given o n m → p′ ≡ p → k ≡ k′
+    → b′ ≡ laidOver n b
+    → (_≡_ {A = Stepped} (record { refusal = 0; output = o; mark = m; places = p; open_choices = k }) (steppedOf a p′ (openFor a k′)))
+    × (b′ ≡ nextIn a b)
+gives a p p′ b b′ o n m k k′ e q w h = rw (e, q, w, h) (refl, refl)
 
 module _ (n : Shape) (b config : List ℕ) (i : Set) (room r : ℕ) (e : r ≡ firstOf (configTestsIn (fileAt n b) config)) where
   by-config : (r ≡ 0 → ⊥) → stepAfter (fileAt n b) config i room ≡ refused r
   by-config h = rw e (after-config (fileAt n b) config i room (λ z. h (e ∙ z)))
+
+  by-under : r < manyOpen
+  by-under = let l = config-under (fileAt n b) config in omega (arith, e)
 
   -- the configuration is accepted
   module _ (z : r ≡ 0) where
@@ -37,68 +42,90 @@ module _ (n : Shape) (b config : List ℕ) (i : Set) (room r : ℕ) (e : r ≡ f
     unfolding fileAt
     by-room l = after-room (fileAt n b) config i room (sym e ∙ z) l
 
-    ready-here : Checked n b → Ready n b config
-    unfolding fileAt chartOf
-    ready-here k = ready n b k config (let l = config-long (fileAt n b) config (sym e ∙ z) in omega arith)
-        (config-valid (fileAt n b) config (sym e ∙ z))
+    valid-here : Valid (fileAt n b) config
+    valid-here = config-is (fileAt n b) config (sym e ∙ z)
 
-    module _ (l : n .charts ≤ room) (f : Found) (h : Finds n b config i f) where
-      by-search : f .has ≡ false → stepAfter (fileAt n b) config i room ≡ refused noStep
+    module _ (l : n .charts ≤ room) (t : Tried) (h : Tries n b config i t) where
+      -- what the step answers
+      by-tried : stepAfter (fileAt n b) config i room ≡ triedAnswer (n .charts) t
       unfolding fileAt
-      by-search q = after-step (fileAt n b) config i room (sym e ∙ z) l ∙ sym (h .answers) ∙ answer-none (n .charts) f q
+      by-tried = after-step (fileAt n b) config i room (sym e ∙ z) l ∙ sym (h .answers)
 
-      by-found : f .has ≡ true → stepAfter (fileAt n b) config i room ≡ given (f .output) (take (n .charts) (f .next)) (f .agree)
-      unfolding fileAt
-      by-found q = after-step (fileAt n b) config i room (sym e ∙ z) l ∙ sym (h .answers) ∙ answer-given (n .charts) f q
+      by-refusal : (x : ℕ) → x ≡ triedRefusal t → (x ≡ 0 → ⊥) → stepAfter (fileAt n b) config i room ≡ refused x
+      by-refusal x q w = by-tried ∙ rw q (tried-refused (n .charts) t (λ y. w (q ∙ y)))
 
-      by-places : placesAfter (fileAt n b) config i room ≡ f .places
+      by-given : (x : ℕ) → x ≡ triedRefusal t → x ≡ 0
+          → stepAfter (fileAt n b) config i room ≡ given (t .found .output) (take (n .charts) (t .found .next)) (t .found .agree)
+      by-given x q w = by-tried ∙ tried-given (n .charts) t (sym q ∙ w)
+
+      by-places : placesAfter (fileAt n b) config i room ≡ t .found .places
       unfolding fileAt
       by-places = after-places (fileAt n b) config i room (sym e ∙ z) l ∙ sym (h .places)
 
 returns : tie.Need-returns
 returns c =
-    let d = c .before .before in
-    let q = by-config _ _ _ _ _ _ (d .config-refusal .ensures) (c .before .if1 .taken) in
-    refuses _ _ _ _ _ q (after-refused _ _ _ _ _ q) (c .refused .ensures)
+    let k = c .before in
+    let d = k .before in
+    let a = d .before .before .before .before .args in
+    let q = by-config _ _ _ _ _ _ (d .config-refusal .ensures) (k .if1 .taken) in
+    refuses _ _ _ _ _ _ _ q (after-refused _ _ _ _ _ q) (says-none _ _ (by-under _ _ _ (a .input) 0 _ (d .config-refusal .ensures))) (c .refused .ensures)
 
 returns-2 : tie.Need-returns-2
 returns-2 c =
     let e = c .before .before .before in
     let q = by-room _ _ _ _ _ _ (e .before .config-refusal .ensures) (e .if1 .left) (c .before .if2 .taken) in
-    refuses _ _ _ _ _ q (after-refused _ _ _ _ _ q) (c .refused2 .ensures)
+    let a = e .before .before .before .before .before .args in
+    refuses _ _ _ _ _ _ _ q (after-refused _ _ _ _ _ q) (says-none shortBuffer (openIn (fileAt (a .n) (a .body .now)) (a .config .now)) (lit< tt))
+    (c .refused2 .ensures)
 
-found-new-requires : tie.Need-found-new-requires
-found-new-requires c κs =
+try-new-requires : tie.Need-try-new-requires
+try-new-requires c κs =
     let e = c .before .before in
     let s = e .before .before .before .before .before in
-    (s .pre, ready-here _ _ _ (s .args .input) 0 _ (e .before .config-refusal .ensures) (e .if1 .left) (s .pre))
+    (s .pre, valid-here _ _ _ (s .args .input) 0 _ (e .before .config-refusal .ensures) (e .if1 .left))
 
 returns-3 : tie.Need-returns-3
 returns-3 c =
-    let f = c .before .before .before in
-    let e = f .before .before .before in
-    let q = by-search _ _ _ _ _ _ (e .before .config-refusal .ensures) (e .if1 .left)
-    (f .before .if2 .left) (f .found-new .result) (f .found-new .ensures)
-    (not-true _ (c .before .if3 .taken)) in
-    refuses _ _ _ _ _ q (after-refused _ _ _ _ _ q) (c .refused3 .ensures)
-
-put-states-requires : tie.Need-put-states-requires
-put-states-requires c κs =
-    let f = c .before .before .before .before in
-    let e = f .before .before .before in
-    let h = e .before .before .before .before .before .pre .sized .charts in
-    let l = f .before .if2 .left in
-    (omega arith, omega arith)
+    let d = c .before .before in
+    let t = d .before in
+    let f = t .before in
+    let e = f .before .before in
+    let q = by-refusal _ _ _ _ _ _ (e .before .config-refusal .ensures) (e .if1 .left) (f .if2 .left) (t .try-new .result) (t .try-new .ensures) _
+    (d .refusal-of .ensures) (λ z. omega (arith, z, c .before .if3 .taken)) in
+    refuses _ _ _ _ _ _ _ q (after-refused _ _ _ _ _ q) (says-all _ _ _ (c .before .if3 .taken) (t .try-new .ensures .counts)) (c .refused3 .ensures)
 
 returns-4 : tie.Need-returns-4
 returns-4 c =
-    let f = c .before .before .before .before .before .before .before .before in
-    let e = f .before .before .before in
-    let l = f .before .if2 .left in
-    gives _ _ _ _ _ _ _ _ (by-found _ _ _ _ _ _ (e .before .config-refusal .ensures) (e .if1 .left) l (f .found-new .result) (f .found-new .ensures)
-    (not-false _ (c .before .before .before .before .before .before .if3 .left)))
-    (by-places _ _ _ _ _ _ (e .before .config-refusal .ensures) (e .if1 .left) l (f .found-new .result) (f .found-new .ensures))
-    (c .before .before .before .put-states .ensures)
+    let g = c .before .before in
+    let d = g .before in
+    let t = d .before in
+    let f = t .before in
+    let e = f .before .before in
+    let q = by-refusal _ _ _ _ _ _ (e .before .config-refusal .ensures) (e .if1 .left) (f .if2 .left) (t .try-new .result) (t .try-new .ensures) _
+    (d .refusal-of .ensures) (c .before .if4 .taken) in
+    let u = refusal-else (t .try-new .result) (λ z. g .if3 .left (d .refusal-of .ensures ∙ z)) in
+    let v : d .refusal-of .result < manyOpen = omega (arith, u, d .refusal-of .ensures) in
+    refuses _ _ _ _ _ _ _ q (after-refused _ _ _ _ _ q) (says-none _ _ v) (c .refused4 .ensures)
+
+put-states-requires : tie.Need-put-states-requires
+put-states-requires c κs =
+    let f = c .before .before .before .before .before .before .before in
+    let h = f .before .before .before .before .before .before .before .pre .sized .charts in
+    let l = f .if2 .left in
+    (omega arith, omega arith)
+
+returns-5 : tie.Need-returns-5
+returns-5 c =
+    let w = c .before .before .before in
+    let h = w .before .before .before .before in
+    let d = h .before .before in
+    let t = d .before in
+    let f = t .before in
+    let e = f .before .before in
+    let k = e .before .config-refusal .ensures in
+    gives _ _ _ _ _ _ _ _ _ _ (by-given _ _ _ _ _ _ k (e .if1 .left) (f .if2 .left) (t .try-new .result) (t .try-new .ensures) _ (d .refusal-of .ensures)
+    (h .if4 .left)) (by-places _ _ _ _ _ _ k (e .if1 .left) (f .if2 .left) (t .try-new .result) (t .try-new .ensures)) (t .try-new .ensures .counts)
+    (w .put-states .ensures)
 
 pub of-body-spec : {M : Type 1} → statement M
 of-body-spec =
@@ -109,9 +136,12 @@ of-body-spec =
     returns
     (λ c κs. search needs)
     returns-2
-    found-new-requires
+    try-new-requires
+    (λ c κs. search needs)
     (λ c κs. search needs)
     returns-3
+    (λ c κs. search needs)
+    returns-4
     put-states-requires
     (λ c. search needs)
-    returns-4)
+    returns-5)

@@ -1,4 +1,4 @@
--- `search::search` meets its contract: what each chart is surely offered is put in front, no chart is settled, and nothing was found yet.
+-- `search::hunted` meets its contract: what each chart is surely offered is put in front, no chart is settled, and nothing was found yet.
 use mathlib.Core.Path.{_≡_, refl, _∙_}
 use mathlib.Core.List.{List}
 use Prim.Native.Nat.{ℕ, _+_, _-_}
@@ -16,8 +16,8 @@ use Rattle.search.specs.Trail.Laws.{filled-behind, begun}
 use Rattle.search.specs.Hunt.{over, nothing, placesCell, hasCell, agreeCell, foundSize, foundIn, Held, BytesPut}
 use Rattle.search.specs.Stays.{calmAt, huntsBoth, huntsCalm}
 use Rattle.search.specs.Stays.Laws.{every-none}
-use Rattle.search.proofs.search.Statement.{statement}
-use Rattle.search.proofs.search.Tie as tie
+use Rattle.search.proofs.hunted.Statement.{statement}
+use Rattle.search.proofs.hunted.Tie as tie
 
 -- a search that begins with all charts: none is settled, so none is triggered
 all : (m s gs y w b low : List ℕ) (charts : ℕ) (f : Found) → trailIn w b 0 0 ≡ beginning low → f ≡ nothing →
@@ -46,20 +46,21 @@ offered s = search needs
 hunt-requires : tie.Need-hunt-requires
 hunt-requires c κs =
     let b = c .before .before .before .before in
-    let r = b .before .before .before in
-    let s = r .before .before .before .before .before .before in
-    (s .pre .0, record { masks = r .put-row .ensures .kept .long; small = refl }, begun-held (replicate movesSize 0) _ (b .put-column .ensures), s .pre .1, omega arith, s .pre .2)
+    let r = b .before .before .before .before .before in
+    let s = r .before .before .before .before .before .before .before in
+    (s .pre .0, record { masks = rw (r .put-row .ensures .kept .long) (s .pre .3); small = refl }, begun-held (replicate movesSize 0) _ (b .put-column .ensures), s .pre .1, omega arith, s .pre .2)
 
 returns : tie.Need-returns
 returns c =
-    let h = c .before .before .before in
+    let h = c .before .before .before .before .before in
     let b = h .before .before .before .before .before in
-    let r = b .before .before .before in
-    let s = r .before .before .before .before .before .before in
+    let r = b .before .before .before .before .before in
+    let s = r .before .before .before .before .before .before .before in
     let n = offered s in
     c .found-in .ensures ∙ h .hunt .ensures .found
     ∙ all (s .args .masks .now) (s .args .small .now) (s .args .guards .now) (s .args .stays .now) _ _ (s .args .low) (s .args .charts) _ (begun _ _ (s .args .low) n (r .put-row .ensures .row))
     (begun-nothing (replicate movesSize 0) _ (b .put-column .ensures))
 
-pub search-spec : {M : Type 1} → statement M
-search-spec = tie.close (tie.spec (λ c κs. search needs) (λ c κs. search needs) hunt-requires (λ c κs. search needs) returns)
+pub hunted-spec : {M : Type 1} → statement M
+hunted-spec = tie.close
+    (tie.spec (λ c κs. search needs) (λ c κs. search needs) hunt-requires (λ c κs. search needs) (λ c. search needs) returns)

@@ -1,0 +1,54 @@
+-- `step::try_wired` meets its contract: where no choice is open, or too many are, a search is not made, and what was found is nothing; else it is
+-- what the search finds.
+use mathlib.Core.Path.{_∙_}
+use borrow.Author.Needs.{needs}
+use Rattle.stepping.specs.Step.Laws.{ready-valid, tries-none, tries-many, tries-found}
+use Rattle.stepping.proofs.step.try_wired.Statement.{statement}
+use Rattle.stepping.proofs.step.try_wired.Tie as tie
+
+counted-requires : tie.Need-counted-requires
+counted-requires c κs =
+    let s = c .before .before .before .before .before in
+    (s .pre .0, s .pre .1, s .pre .2 .wired .nearest-is, s .pre .2 .tabled .small)
+
+returns : tie.Need-returns
+returns c =
+    let k = c .before .before .counted in
+    let s = c .before .before .before .before .before .before .before .before in
+    let u = c .untried .ensures in
+    (tries-none _ _ _ _ _ (u .0 ∙ k .ensures .0) (u .1) (u .0 ∙ c .before .if1 .taken), s .pre .2)
+
+returns-2 : tie.Need-returns-2
+returns-2 c =
+    let k = c .before .before .before .counted in
+    let s = c .before .before .before .before .before .before .before .before .before in
+    let u = c .untried2 .ensures in
+    (tries-many _ _ _ _ _ (u .0 ∙ k .ensures .0) (u .1) (rw (u .0) (c .before .if2 .taken)), s .pre .2)
+
+found-requires : tie.Need-found-requires
+found-requires c κs =
+    let k = c .before .before .before .before .before .counted in
+    let s = c .before .before .before .before .before .before .before .before .before .before .before in
+    (s .pre .0, ready-valid _ _ _ (s .pre .0) (s .pre .1), s .pre .2, k .ensures .1)
+
+returns-3 : tie.Need-returns-3
+returns-3 c =
+    let f = c .before .before .before .before .found in
+    let k = c .before .before .before .before .before .before .before .before .before .before .counted in
+    (tries-found _ _ _ _ _ (k .ensures .0) (c .before .before .before .before .before .before .before .before .if2 .left) (f .ensures .0), f .ensures .1)
+
+pub try-wired-spec : {M : Type 1} → statement M
+try-wired-spec =
+    tie.close
+    (tie.spec
+    counted-requires
+    (λ c κs. search needs)
+    (λ c. search needs)
+    returns
+    (λ c κs. search needs)
+    (λ c. search needs)
+    returns-2
+    found-requires
+    (λ c. search needs)
+    (λ c. search needs)
+    returns-3)
