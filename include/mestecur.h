@@ -13,8 +13,8 @@
  * Every call returns 0 for success, or the number of its refusal (RULES 3).
  *   - Buffers (`config`, `next`, `rows`, `out`): a call that succeeds writes to the front of the buffer, and leaves the rest of it unchanged. A call
  *     that is refused leaves all of it unchanged, and so does a refused mestecur_post with `cases`.
- *   - Results (`input`, `output`, `mark`, `carried_on`, `length`, `plain`, `places`, `open`) are always written. If the call is refused, each place is
- *     MESTECUR_NO_PLACE and every other result is 0. The exception is `open` in refusal 24: it has the number that is too large.
+ *   - Results (`input`, `output`, `mark`, `carried_on`, `length`, `plain`, `places`, `open`, `answer`, `signal`) are always written. If the call is
+ *     refused, each place is MESTECUR_NO_PLACE and every other result is 0. The exception is `open` in refusal 24: it has the number that is too large.
  *
  * Limits (RULES 2.8): 16 charts, 15 slaves, 64 nodes and 1,024 transitions in a file; 16 states and 64 transitions in a chart, 8 transitions from a
  * state; 16,777,216 open choices in a step.
@@ -83,6 +83,18 @@ uint8_t mestecur_plain(const uint8_t *file, size_t file_len, uint8_t *plain);
  * Refusals: 1 to 11, 46, 45. */
 uint8_t mestecur_clear(const uint8_t *file, size_t file_len, uint8_t *out, size_t out_len, size_t *length);
 
+/* What testing a guard shows (RULES 13.2). */
+enum {
+    MESTECUR_MET = 0,     /* the guard is met */
+    MESTECUR_ABSENT = 1,  /* a signal that it needs is not there */
+    MESTECUR_PRESENT = 2  /* all that it needs is there, and so is a signal that it bars */
+};
+
+/* Tests the guard of the transition at a place of a chart's list, both counted from 0 and numbers of any size, on a set that its chart is offered
+ * (RULES 13). What the transition's own action feeds back to its chart is there too. Writes one of the three above to `answer`, and to `signal` the
+ * lowest signal that is to blame, 0 if the guard is met. Refusals: 1 to 11, 25, 26. */
+uint8_t mestecur_lacking(const uint8_t *file, size_t file_len, size_t chart, size_t place, uint64_t offered, uint8_t *answer, uint8_t *signal);
+
 /* A case of a book (RULES 11.1). Its configuration is the first `length` bytes of `config`; the others are not read. */
 typedef struct {
     uint64_t carried;   /* the set that refused days carry to the next one; 0 for a new case */
@@ -130,6 +142,8 @@ enum {
     MESTECUR_CONFIGURATION_ROOM = 22,   /* the buffer for a configuration has fewer bytes than there are charts */
     MESTECUR_NO_STEP = 23,              /* no choice is permitted */
     MESTECUR_MANY_OPEN = 24,            /* more than 16,777,216 choices are open; tested before 23 */
+    MESTECUR_QUESTION_CHART = 25,       /* the file has no chart of this number */
+    MESTECUR_QUESTION_PLACE = 26,       /* the chart's list has no such place */
     MESTECUR_RUN_ROOM = 27,             /* the buffer for a run is too short for a row for each input */
 
     MESTECUR_REWRITING_SIGNALS = 40, /* there are more slaves than free signals (RULES 9.2) */

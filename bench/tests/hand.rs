@@ -53,7 +53,7 @@ fn the_engine_by_hand_agrees_with_the_reference() {
         let mut command = draw.command(&place.to_string());
         if matches!(
             command.op,
-            Op::First | Op::Interface | Op::Plain | Op::Clear
+            Op::First | Op::Interface | Op::Plain | Op::Clear | Op::Lacking
         ) {
             command.op = Op::Check;
         }

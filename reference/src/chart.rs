@@ -5,6 +5,7 @@ use crate::check::accept;
 use crate::day::line;
 use crate::first::first_configuration;
 use crate::interface::interface;
+use crate::lacking::{lacking, shown as shown_by};
 use crate::limits::{refusal, SIGNALS};
 use crate::plain::is_plain;
 use crate::rewriting::rewrite;
@@ -27,6 +28,11 @@ pub fn chart(command: &str, file: &[u8], words: &[&str]) -> Option<String> {
         ("first", []) => first(file),
         ("interface", []) => faces(file),
         ("plain", []) => plainness(file),
+        ("lacking", [chart, place, set]) => {
+            let (chart, place) = (chart.parse().ok()?, place.parse().ok()?);
+            lacks(file, chart, place, typed_set(set)?)
+        }
+        ("why", [config, set]) => why(file, &configuration(config)?, typed_set(set)?),
         ("step", [config, set]) => one_step(file, &configuration(config)?, typed_set(set)?),
         ("run", [config, sets @ ..]) => {
             let sets: Option<Vec<Set>> = sets.iter().map(|set| typed_set(set)).collect();
@@ -88,6 +94,29 @@ fn plainness(file: &[u8]) -> Result<String, Refused> {
         "not plain\n"
     };
     Ok(words.to_string())
+}
+
+/// What a transition lacks, in words.
+fn lacks(file: &[u8], chart: u64, place: u64, offered: Set) -> Result<String, Refused> {
+    accept(file).map_err(of_file)?;
+    let shown = lacking(file, chart, place, offered).map_err(|number| ("question", number))?;
+    Ok(shown.words() + "\n")
+}
+
+/// The same of each transition that leaves the present state of its chart.
+fn why(file: &[u8], configuration: &[u8], set: Set) -> Result<String, Refused> {
+    let model = accept(file).map_err(of_file)?;
+    accept_configuration(&model, configuration).map_err(|number| ("configuration", number))?;
+    let mut lines = String::new();
+    for (number, (chart, &state)) in model.charts.iter().zip(configuration).enumerate() {
+        for (place, transition) in chart.transitions.iter().enumerate() {
+            if transition.from == state {
+                let words = shown_by(chart, transition, set).words();
+                lines += &format!("chart {number} transition {place} {words}\n");
+            }
+        }
+    }
+    Ok(lines + "under the input alone; what charts feed back to each other may change this\n")
 }
 
 /// A line for each set, nothing being carried to the first: the day program's, and the output as

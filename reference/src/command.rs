@@ -8,7 +8,7 @@
 use crate::limits::EARLIER_CHARTS;
 use crate::set::Set;
 use crate::step::NO_PLACES;
-use crate::{check, clear, first, interface, plain, rewrite, run, step, Places};
+use crate::{check, clear, first, interface, lacking, plain, rewrite, run, step, Places};
 
 /// The value of each byte of the buffer before a call.
 pub const FILL: u8 = 0xA5;
@@ -34,10 +34,12 @@ pub enum Op {
     Clear,
     /// A step: its line shows all places, and the number of open choices.
     Open,
+    /// What a transition lacks: the inputs are the chart's number, the place, and the offered set.
+    Lacking,
 }
 
 /// All ops; the place of each is its number in the header.
-pub const OPS: [Op; 9] = [
+pub const OPS: [Op; 10] = [
     Op::Check,
     Op::First,
     Op::Interface,
@@ -47,6 +49,7 @@ pub const OPS: [Op; 9] = [
     Op::Plain,
     Op::Clear,
     Op::Open,
+    Op::Lacking,
 ];
 
 /// One call, with all that is passed to it.
@@ -207,6 +210,15 @@ impl Command {
         }
     }
 
+    /// What the transition at a place of a chart's list lacks under an offered set.
+    pub fn lacking(name: &str, file: Vec<u8>, chart: u64, place: u64, offered: Set) -> Command {
+        Command {
+            op: Op::Lacking,
+            inputs: vec![Set(chart), Set(place), offered],
+            ..Command::check(name, file)
+        }
+    }
+
     /// Whether it is small enough to be recorded.
     pub fn can_be_recorded(&self) -> bool {
         let bytes = self.file.len().max(self.room);
@@ -276,6 +288,7 @@ impl Command {
             }
             Op::Rewrite | Op::Clear => vec![one.to_string(), lent],
             Op::Plain => vec![one.to_string()],
+            Op::Lacking => vec![one.to_string(), other.to_string()],
         }
     }
 
@@ -315,6 +328,16 @@ impl Command {
                 let cleared = clear(file, lent);
                 (cleared.refusal, Numbers::two(cleared.length as u64, 0))
             }
+            Op::Lacking => {
+                let (chart, place) = (self.inputs[0].0, self.inputs[1].0);
+                match lacking(file, chart, place, self.inputs[2]) {
+                    Ok(shown) => {
+                        let (which, signal) = shown.numbers();
+                        (0, Numbers::two(which, signal))
+                    }
+                    Err(refusal) => (refusal, Numbers::NONE),
+                }
+            }
         }
     }
 }
@@ -331,6 +354,7 @@ fn word(op: Op) -> &'static str {
         Op::Plain => "plain",
         Op::Clear => "clear",
         Op::Open => "open",
+        Op::Lacking => "lacking",
     }
 }
 
@@ -370,6 +394,9 @@ fn decode(bytes: &mut &[u8]) -> Result<Command, String> {
     }
     if matches!(op, Op::Step | Op::Open) && inputs.len() != 8 {
         return Err("a step has exactly one input".to_string());
+    }
+    if op == Op::Lacking && inputs.len() != 3 * 8 {
+        return Err("a question has a chart, a place and a set".to_string());
     }
     Ok(Command {
         op,

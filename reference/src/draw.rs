@@ -66,7 +66,7 @@ fn files(random: &mut Random) -> Files {
 /// A call with a random file; half of the steps are compared with all that they answer in their
 /// lines.
 fn fresh(random: &mut Random, name: &str) -> Command {
-    let (kind, files) = (random.below(16), files(random));
+    let (kind, files) = (random.below(18), files(random));
     affordable(random, |random| match kind {
         0..=3 => file_command(random, files, name),
         4 | 5 => step_command(random, files, name),
@@ -74,7 +74,8 @@ fn fresh(random: &mut Random, name: &str) -> Command {
         8 | 9 => run_command(random, files, name),
         10 | 11 => rewrite_command(random, files, name),
         12 | 13 => plain_command(random, files, name),
-        _ => clear_command(random, files, name),
+        14 | 15 => clear_command(random, files, name),
+        _ => lacking_command(random, files, name),
     })
 }
 
@@ -170,7 +171,7 @@ fn other_call(random: &mut Random, command: &mut Command) {
     fit_inputs(command);
     let charts = model.charts.len();
     command.room = match command.op {
-        Op::Check | Op::Interface | Op::Plain => 0,
+        Op::Check | Op::Interface | Op::Plain | Op::Lacking => 0,
         Op::First | Op::Step | Op::Open => room(random, charts),
         Op::Run => room(random, command.inputs.len() * (ROW_HEAD_BYTES + charts)),
         Op::Rewrite => room(random, 2 * command.file.len() + NODES * NODE_BYTES),
@@ -178,10 +179,14 @@ fn other_call(random: &mut Random, command: &mut Command) {
     };
 }
 
-/// A step has exactly one input.
+/// A step has exactly one input; a question has a chart, a place and a set.
 fn fit_inputs(command: &mut Command) {
     if command.is_step() {
         command.inputs.resize(1, Set::EMPTY);
+    }
+    if command.op == Op::Lacking {
+        let offered = command.inputs.last().copied().unwrap_or(Set::EMPTY);
+        command.inputs = vec![Set(0), Set(0), offered];
     }
 }
 

@@ -1019,3 +1019,47 @@ pub fn deaden(random: &mut Random, shape: &Shape, model: &mut Model) {
         }
     }
 }
+
+/// Random questions what a transition lacks.
+pub fn lacking_commands(drawing: Drawing) -> Vec<Command> {
+    drawing.commands(lacking_command)
+}
+
+/// One random question. The chart and the place are mostly there, and the offered set mostly differs
+/// little from what the guard asks for.
+pub fn lacking_command(random: &mut Random, files: Files, name: &str) -> Command {
+    let bytes = random.pick(&[300, 500, 800, 1_300]);
+    let (shape, model) = bounded(random, files, bytes);
+    let chart = number_near(random, model.charts.len());
+    let list = usize::try_from(chart)
+        .ok()
+        .and_then(|chart| model.charts.get(chart));
+    let place = number_near(random, list.map_or(3, |chart| chart.transitions.len()));
+    let asked = list.and_then(|chart| chart.transitions.get(usize::try_from(place).ok()?));
+    let offered = match asked {
+        Some(transition) if random.chance(80) => {
+            nearly(random, transition.needed, transition.barred)
+        }
+        _ => input(random, &shape),
+    };
+    let file = seldom_damaged(random, &model, 12);
+    Command::lacking(name, file, chart, place, offered)
+}
+
+/// A number below this one, and now and then one that is not.
+fn number_near(random: &mut Random, bound: usize) -> u64 {
+    match random.below(12) {
+        0 => bound as u64,
+        1 => random.pick(&[bound as u64 + 1, 255, 256, 1 << 32, u64::MAX]),
+        _ => random.below(bound.max(1)) as u64,
+    }
+}
+
+/// What a guard asks for, and a little less or more.
+fn nearly(random: &mut Random, needed: Set, barred: Set) -> Set {
+    let (most, many) = (random.pick(&[100, 100, 60]), random.pick(&[0, 30, 100]));
+    let (wanted, unwanted): (Vec<u32>, Vec<u32>) =
+        (needed.signals().collect(), barred.signals().collect());
+    let there = random.subset(&wanted, most);
+    there.joined(random.subset(&unwanted, many))
+}

@@ -17,6 +17,7 @@
 //! - [`rewriting`]: the rewriting, refusals 40 to 46 (RULES 9).
 //! - [`clearing`]: the file without its dead transitions, refusals 46 and 45 (RULES 12).
 //! - [`plain`]: whether a file is plain (RULES 8).
+//! - [`lacking`]: what a transition lacks, refusals 25 and 26 (RULES 13).
 //! - [`agreement`]: the places of a step of the rewritten file (RULES 9.8).
 //! - [`day`]: the day program, refusals 30 and 31 (RULES 10).
 //! - [`posting`]: a day's posting for a book, refusals 60 to 63 (RULES 11).
@@ -45,6 +46,7 @@ pub mod first;
 pub mod fuzz;
 pub mod generate;
 pub mod interface;
+pub mod lacking;
 pub mod laws;
 pub mod limits;
 pub mod model;
@@ -64,6 +66,7 @@ pub use clearing::{clear, Cleared};
 pub use day::day;
 pub use first::first;
 pub use interface::{interface, Interface};
+pub use lacking::{lacking, Shown};
 pub use plain::{plain, Plain};
 pub use posting::{post, CaseRecord, Entry};
 pub use rewriting::{rewrite, Rewritten};

@@ -104,6 +104,10 @@ pub mod refusal {
     pub const NO_STEP: u8 = 23;
     /// there are more open choices than a step may have
     pub const MANY_OPEN: u8 = 24;
+    /// the file has no chart of the number that is asked about
+    pub const QUESTION_CHART: u8 = 25;
+    /// the chart's list has no such place
+    pub const QUESTION_PLACE: u8 = 26;
     /// the buffer is too short for the rows
     pub const RUN_ROOM: u8 = 27;
     /// the front is not made of whole inputs

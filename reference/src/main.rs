@@ -1,7 +1,7 @@
 //! The command line:
 //!
 //! - `reference record KIND COMMANDS LINES` writes the recorded calls of a kind (`file`, `step`,
-//!   `run`, `rewrite`, `plain` or `clear`) to the file COMMANDS and the lines they answer to the file LINES;
+//!   `run`, `rewrite`, `plain`, `clear` or `lacking`) to the file COMMANDS and the lines they answer to the file LINES;
 //!   of the kind `post` the recorded postings.
 //! - `reference file NAME` prints the file of a named case.
 //! - `reference show` reads recorded calls on standard input and prints the lines they answer.
@@ -54,8 +54,8 @@ fn main() -> ExitCode {
 
 /// Writes the calls of a kind and their lines.
 fn record(kind: &str, calls: &str, answers: &str) -> Result<(), String> {
-    let kind =
-        Kind::of(kind).ok_or("the kinds are file, step, run, rewrite, plain, clear, post")?;
+    let kind = Kind::of(kind)
+        .ok_or("the kinds are file, step, run, rewrite, plain, clear, lacking, post")?;
     let commands = commands(kind);
     write(calls, &encode(&commands))?;
     write(answers, lines(&commands).as_bytes())?;

@@ -14,16 +14,18 @@ pub enum Kind {
     Rewrite,
     Plain,
     Clear,
+    Lacking,
 }
 
 /// All kinds.
-pub const KINDS: [Kind; 6] = [
+pub const KINDS: [Kind; 7] = [
     Kind::File,
     Kind::Step,
     Kind::Run,
     Kind::Rewrite,
     Kind::Plain,
     Kind::Clear,
+    Kind::Lacking,
 ];
 
 /// The random calls of a recording of each kind: with files of edition 1, then of edition 2.
@@ -34,6 +36,8 @@ const RANDOM_REWRITINGS: [Drawing; 2] = both((0x7265_7772, 250), (0x7265_7773, 4
 const RANDOM_PLAINS: [Drawing; 2] = both((0x706c_6169, 300), (0x706c_616a, 40));
 const RANDOM_CLEARINGS: [Drawing; 2] = both((0x636c_6561, 200), (0x636c_6562, 30));
 
+const RANDOM_QUESTIONS: [Drawing; 2] = both((0x6c61_636b, 400), (0x6c61_636c, 100));
+
 /// Steps whose lines show all that they answer, and after them the calls with files of nine charts
 /// and more.
 const OPEN_STEPS: [Drawing; 2] = named_both("open-random", (0x6f70_656e, 200), (0x6f70_656f, 100));
@@ -43,6 +47,7 @@ const LARGE_RUNS: [Drawing; 2] = large((0x1672_756e, 50), (0x1672_756f, 30));
 const LARGE_REWRITINGS: [Drawing; 2] = large((0x1665_7772, 40), (0x1665_7773, 5));
 const LARGE_PLAINS: [Drawing; 2] = large((0x166c_6169, 40), (0x166c_616a, 10));
 const LARGE_CLEARINGS: [Drawing; 2] = large((0x166c_6561, 40), (0x166c_6562, 5));
+const LARGE_QUESTIONS: [Drawing; 2] = large((0x1661_636b, 60), (0x1661_636c, 20));
 
 /// What makes the calls of a drawing.
 type Make = fn(Drawing) -> Vec<Command>;
@@ -93,6 +98,7 @@ impl Kind {
             "rewrite" => Some(Kind::Rewrite),
             "plain" => Some(Kind::Plain),
             "clear" => Some(Kind::Clear),
+            "lacking" => Some(Kind::Lacking),
             _ => None,
         }
     }
@@ -134,6 +140,7 @@ pub fn named(kind: Kind) -> Vec<Case> {
             cases::second::clear_cases(),
             cases::many::clear_cases(),
         ],
+        Kind::Lacking => vec![cases::lacking::cases()],
     };
     lists.into_iter().flatten().collect()
 }
@@ -147,6 +154,7 @@ pub fn random(kind: Kind) -> Vec<Command> {
         Kind::Rewrite => (RANDOM_REWRITINGS, generate::rewrite_commands),
         Kind::Plain => (RANDOM_PLAINS, generate::plain_commands),
         Kind::Clear => (RANDOM_CLEARINGS, generate::clear_commands),
+        Kind::Lacking => (RANDOM_QUESTIONS, generate::lacking_commands),
     };
     let later: Vec<Drawing> = match kind {
         Kind::File => LARGE_FILES.to_vec(),
@@ -155,6 +163,7 @@ pub fn random(kind: Kind) -> Vec<Command> {
         Kind::Rewrite => LARGE_REWRITINGS.to_vec(),
         Kind::Plain => LARGE_PLAINS.to_vec(),
         Kind::Clear => LARGE_CLEARINGS.to_vec(),
+        Kind::Lacking => LARGE_QUESTIONS.to_vec(),
     };
     let earlier = drawings.into_iter().flat_map(make);
     let later = later.into_iter().flat_map(make).map(Command::whole_line);

@@ -25,6 +25,7 @@ fn own_refusals(op: Op) -> &'static [u8] {
         Op::Run => &[20, 21, 27],
         Op::Rewrite => &[40, 41, 42, 44, 45, 46],
         Op::Clear => &[45, 46],
+        Op::Lacking => &[25, 26],
     }
 }
 

@@ -5,7 +5,7 @@
 //! What the page says of edition 2 is compared as soon as this engine accepts a file of edition 2.
 
 use reference::limits::refusal;
-use reference::{check, clear, interface, plain, rewrite, run, step, Set};
+use reference::{check, clear, interface, lacking, plain, rewrite, run, step, Set, Shown};
 
 const PAGE: &str = include_str!("../../docs/EXAMPLES.md");
 
@@ -371,7 +371,7 @@ fn open_choices() {
 
 #[test]
 fn other_calls() {
-    assert_eq!(calls("## 5 Other calls"), 11);
+    assert_eq!(calls("## 5 Other calls"), 16);
 }
 
 #[test]
@@ -399,6 +399,16 @@ fn calls(after: &str) -> usize {
                 assert_eq!(found.input.0, signals(input), "{of}");
                 assert_eq!(found.output.0, signals(output), "{of}");
                 continue;
+            }
+            question if question.starts_with("lacking ") => {
+                let words: Vec<&str> = question.split(' ').collect();
+                let [chart, place] = [1, 2].map(|k| words[k].parse().unwrap());
+                match lacking(&bytes, chart, place, Set(signals(words[3]))) {
+                    Ok(Shown::Met) => "met".to_string(),
+                    Ok(Shown::Absent(signal)) => format!("absent {signal}"),
+                    Ok(Shown::Present(signal)) => format!("present {signal}"),
+                    Err(number) => format!("refused {number}"),
+                }
             }
             "plain" => {
                 let found = plain(&bytes);

@@ -152,6 +152,7 @@ fn a_refusal_leaves_all_lent_bytes_and_gives_empty_answers() {
                 Op::Rewrite => format!("{name} rewrite {number} 0 {untouched}\n"),
                 Op::Plain => format!("{name} plain {number} 0\n"),
                 Op::Clear => format!("{name} clear {number} 0 {untouched}\n"),
+                Op::Lacking => format!("{name} lacking {number} 0 0\n"),
                 Op::Open => {
                     format!("{name} open {number} {zeros} n {none}{none} {open} {untouched}\n")
                 }
@@ -179,6 +180,7 @@ fn there_are_enough_of_each_kind() {
     assert!(count(Kind::Rewrite, false) > 50 && count(Kind::Rewrite, true) >= 250);
     assert!(count(Kind::Plain, false) > 80 && count(Kind::Plain, true) >= 300);
     assert!(count(Kind::Clear, false) > 70 && count(Kind::Clear, true) >= 200);
+    assert!(count(Kind::Lacking, false) > 80 && count(Kind::Lacking, true) >= 400);
 }
 
 /// The random steps that are given, with their models and marks.

@@ -22,6 +22,7 @@
 //! # }
 //! ```
 
+mod lacking;
 mod place;
 mod posting;
 pub mod raw;
@@ -29,6 +30,7 @@ mod refusal;
 mod row;
 mod set;
 
+pub use lacking::{lacking, Tested};
 pub use place::{Place, Places, CHARTS};
 pub use posting::{post, posted_bytes, posted_rows, Case, Entry, PostedRow, CASES, CONFIGURATION};
 pub use refusal::{Refusal, RefusedStep};

@@ -83,4 +83,15 @@ extern "C" {
         rows: *mut u8,
         rows_len: usize,
     ) -> u8;
+
+    /// Tests the guard of a transition on an offered set.
+    pub fn mestecur_lacking(
+        file: *const u8,
+        file_len: usize,
+        chart: usize,
+        place: usize,
+        offered: u64,
+        answer: *mut u8,
+        signal: *mut u8,
+    ) -> u8;
 }

@@ -9,7 +9,7 @@ use std::num::NonZeroU8;
 pub struct Refusal(NonZeroU8);
 
 /// Why a call is refused, by number (RULES 3). The day program's numbers are not here: no call gives them.
-const WORDS: [(u8, &str); 27] = [
+const WORDS: [(u8, &str); 29] = [
     (1, "fewer than 12 bytes, so there is no trailer"),
     (2, "the edition is neither 1 nor 2"),
     (
@@ -56,6 +56,8 @@ const WORDS: [(u8, &str); 27] = [
     (22, "the buffer is shorter than a configuration"),
     (23, "no choice is permitted"),
     (24, "more than 16777216 choices are open"),
+    (25, "there is no chart of this number"),
+    (26, "the chart's list has no such place"),
     (27, "run: the buffer is shorter than a row for each input"),
     (40, "rewriting: there are fewer free signals than slaves"),
     (

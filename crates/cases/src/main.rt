@@ -181,12 +181,22 @@ fn print_clearing(file: &[u8], out: &mut [u8]) {
     end_line();
 }
 
-// A step's input; none is the empty set.
-fn first_of(inputs: &[u64]) -> u64 {
-    if inputs.len() == 0 {
-        return 0;
-    }
-    inputs[0]
+// An input; one that is not there is the empty set.
+fn input_at(inputs: &[u64], i: usize) -> u64 {
+    if i < inputs.len() { inputs[i] } else { 0 }
+}
+
+// What a transition lacks: the inputs are the chart's number, the place, and the offered set.
+fn print_lacking(file: &[u8], inputs: &[u64]) {
+    let chart = input_at(inputs, 0) as usize;
+    let place = input_at(inputs, 1) as usize;
+    let a = lacks::in_numbers(engine::lacking::lacking(file, chart, place, input_at(inputs, 2)));
+    print_refusal(b" lacking ", a.refusal);
+    space();
+    io::print_decimal(STDOUT_FILENO, a.answer as u64);
+    space();
+    io::print_decimal(STDOUT_FILENO, a.signal as u64);
+    end_line();
 }
 
 // The call that a command asks for, on its file, its configuration, what is carried, its inputs and a buffer.
@@ -195,11 +205,12 @@ fn print_call(op: u8, file: &[u8], config: &[u8], carried: u64, inputs: &[u64], 
         0 => print_check(file),
         1 => print_first(file, lent),
         2 => print_interface(file),
-        3 => print_step(file, config, first_of(inputs), lent),
+        3 => print_step(file, config, input_at(inputs, 0), lent),
         4 => print_run(file, config, carried, inputs, lent),
         5 => print_rewriting(file, lent),
         7 => print_clearing(file, lent),
-        8 => print_open(file, config, first_of(inputs), lent),
+        8 => print_open(file, config, input_at(inputs, 0), lent),
+        9 => print_lacking(file, inputs),
         _ => print_plain(file),
     }
 }

@@ -16,6 +16,8 @@ pub enum Command {
     Run,
     Rewrite,
     Clear,
+    Lacking,
+    Why,
     Other,
 }
 
@@ -33,6 +35,14 @@ const CONFIG: usize = 3;
 pub const OUT: usize = 3;
 
 const SETS: usize = 4;
+
+pub const CHART: usize = 3;
+
+pub const PLACE: usize = 4;
+
+pub const OFFERED: usize = 5;
+
+pub const INPUT: usize = 4;
 
 // The command's word as a command.
 fn command_of(word: &[u8]) -> Command {
@@ -60,6 +70,12 @@ fn command_of(word: &[u8]) -> Command {
     if typed::is(word, b"clear") {
         return Command::Clear;
     }
+    if typed::is(word, b"lacking") {
+        return Command::Lacking;
+    }
+    if typed::is(word, b"why") {
+        return Command::Why;
+    }
     Command::Other
 }
 
@@ -81,6 +97,8 @@ fn fewest(c: Command) -> usize {
         Command::Run => 5,
         Command::Rewrite => 4,
         Command::Clear => 4,
+        Command::Lacking => 6,
+        Command::Why => 5,
         _ => 3,
     }
 }
@@ -196,8 +214,22 @@ pub fn set_count() -> usize {
     count - SETS
 }
 
+// The number that was typed as word i, of a chart or a place.
+pub fn number(i: usize) -> Read {
+    let mut buffer = io::buffer();
+    let n = word(i, &mut buffer);
+    let r = typed::number(18446744073709551615, &buffer[..n]);
+    if let Read::Wrong = r {
+        words::wrong(
+            &buffer[..n],
+            b"\" is no number. Expected: a chart or a place of its list, counted from 0, as 2.\n",
+        );
+    }
+    r
+}
+
 // The set that was typed as word i.
-fn set(i: usize) -> Read {
+pub fn set(i: usize) -> Read {
     let mut buffer = io::buffer();
     let n = word(i, &mut buffer);
     let s = typed::set(&buffer[..n]);

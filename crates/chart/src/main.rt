@@ -2,6 +2,7 @@
 // Answers and refusals go to standard output; what is wrong with a command or a file's name goes to standard error.
 mod ask;
 mod tell;
+mod why;
 mod words;
 
 ghost use mathlib.Core.Path.{_≡_};
@@ -29,6 +30,8 @@ fn answer(c: Command, file: &[u8]) {
         Command::Run => tell::run(file, false),
         Command::Rewrite => tell::rewrite(file),
         Command::Clear => tell::clear(file),
+        Command::Lacking => why::lacking(file),
+        Command::Why => why::why(file),
         Command::Other => {}
     }
 }

@@ -88,6 +88,12 @@ fn say_step(refusal: u8) {
     if refusal == limits::MANY_OPEN {
         say(b"more than 16777216 choices are open");
     }
+    if refusal == limits::NO_SUCH_CHART {
+        say(b"the file has no chart of this number; they are counted from 0");
+    }
+    if refusal == limits::NO_SUCH_PLACE {
+        say(b"the chart's list has no such place; they are counted from 0");
+    }
     if refusal == limits::SHORT_ROWS {
         say(b"the buffer is shorter than a row for each input");
     }
@@ -152,6 +158,15 @@ pub fn clearing_refusal(r: u8) {
     }
 }
 
+// The same of a question about a transition.
+pub fn question_refusal(r: u8) {
+    if r < limits::WRONG_LENGTH {
+        refused(b"file", r);
+    } else {
+        refused(b"question", r);
+    }
+}
+
 // A word that is not what was expected there.
 pub fn wrong(word: &[u8], text: &[u8]) {
     complain(b"chart: \"");
@@ -177,11 +192,14 @@ pub fn help(fd: i32) {
           chart step FILE CONFIG SET     one step from a configuration, what each chart did, and how many choices are open\n  \
           chart run FILE CONFIG SET..    one step for each set, in order\n  \
           chart rewrite FILE OUT         writes the same chart without slaves to the file OUT\n  \
-          chart clear FILE OUT           writes the same chart without dead transitions to the file OUT\n\
+          chart clear FILE OUT           writes the same chart without dead transitions to the file OUT\n  \
+          chart lacking FILE CHART PLACE SET  whether a transition's guard is met when its chart is offered the set, or what it lacks\n  \
+          chart why FILE CONFIG SET      the same of each transition from the present states, under the input alone\n\
           \n\
           CONFIG is the state of each chart, such as 0.1. SET is a list of signals, such as s0,s3; a number in hex, such as 0x9; or - for none.\n\
           A step is shown as its number, its output in hex, the configuration after it, y if all permitted choices agree or else n, and its\n\
           output as signals; or as its number and why it is refused. A run adds the signals of a refused step to the next set, and shows what\n\
-          is carried after the last. A transition's number is its place in its chart's list, counted from 0. docs/RULES.md has the exact rules.\n",
+          is carried after the last. CHART and PLACE are numbers: a transition's place in its chart's list, both counted from 0.\n\
+          docs/RULES.md has the exact rules.\n",
     );
 }

@@ -68,6 +68,10 @@ pub const NO_STEP: u8 = 23;
 
 pub const MANY_OPEN: u8 = 24;
 
+pub const NO_SUCH_CHART: u8 = 25;
+
+pub const NO_SUCH_PLACE: u8 = 26;
+
 pub const SHORT_ROWS: u8 = 27;
 
 pub const ODD_FRONT: u8 = 30;

@@ -9,7 +9,8 @@ use Rattle.layout.specs.Le.{le, bytes}
 use Rattle.layout.specs.Record.{trailerOf, trailerBytes, headOf, headBytes, transitionOf, transitionBytes, slaveOf, slaveBytes, nodeOf, nodeBytes}
 use Rattle.layout.specs.Body.{headAt, transitionAt, slaveAt, nodeAt, startOf, from, transitionsOf}
 use Rattle.meaning.specs.Count.{anyUpTo, tally}
-use Rattle.meaning.specs.Meaning.{∅, same, Chart, stay, untriggered, nth, pick, lastPlace, actionOf, after, guard, met?, guards, inFaceChart, inFace, out, okChart, meets, ok, permitted, upd, moves, nexts, placeOf, placesFrom, outcomeOf, upto, outcome, search, outcomes, firstPlaces}
+use Rattle.signals.specs.Guard.{guard}
+use Rattle.meaning.specs.Meaning.{∅, same, Chart, stay, untriggered, nth, pick, lastPlace, actionOf, after, met?, guards, inFaceChart, inFace, out, okChart, meets, ok, permitted, upd, moves, nexts, placeOf, placesFrom, outcomeOf, upto, outcome, search, outcomes, firstPlaces}
 use Rattle.meaning.specs.File.{gather, build, treeOf, Has, trailer, bodyOf, shapeOf, chartOf, fileAt, fileOf}
 use Rattle.meaning.specs.Check.{firstOf, edition?, counts?, distance?, nonzero, zeros?, chart?, charts?, ends?, leaving, transitions?, rising, slave?, slaves?, nodeOfKind?, nodes?, names, named, held, naming?, inside?, fileTests}
 use Rattle.meaning.specs.Open.{openChart, openTree, isOpen, choices, howMany, openChoices}

@@ -12,6 +12,8 @@ use Rattle.meaning.specs.Calls.{runBytes, runCarried}
 use Rattle.meaning.specs.Rewriting.{rewriteRefusal, rewriteLength, rewriteOut}
 use Rattle.meaning.specs.Plain.{plainOf}
 use Rattle.clearing.specs.Clearing.{clearRefusal, clearLength, clearOut}
+use Rattle.lacks.specs.Lacking.{lackingOf}
+use Rattle.lacks.specs.declared.Lacking.{Lacking}
 use Rattle.stepping.specs.Answer.{steppedOf}
 use Rattle.engine.specs.States.{statesOf}
 use Rattle.engine.specs.declared.clear.Cleared.{Cleared}
@@ -70,3 +72,7 @@ RewritingSays f b r c =
 abbrev pub ClearSays : List ℕ → List ℕ → Cleared → List ℕ → Type 0
 ClearSays f b r c =
     (r ≡ record { refusal = clearRefusal f (length b); length = clearLength f (length b) }) × (c ≡ clearOut f b)
+
+-- what the transition at a place lacks under an offered set (RULES 13.2)
+abbrev pub LackingSays : List ℕ → ℕ → ℕ → Set → Lacking → Type 0
+LackingSays f chart place o r = r ≡ lackingOf f chart place o

@@ -2,6 +2,7 @@
 pub mod clear;
 pub mod file;
 pub mod interface;
+pub mod lacking;
 pub mod plainness;
 pub mod rewriting;
 pub mod run;

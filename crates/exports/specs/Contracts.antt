@@ -12,6 +12,8 @@ use Rattle.meaning.specs.Calls.{runBytes, runCarried}
 use Rattle.meaning.specs.Rewriting.{rewriteRefusal, rewriteLength, rewriteOut}
 use Rattle.meaning.specs.Plain.{plainOf}
 use Rattle.clearing.specs.Clearing.{clearRefusal, clearLength, clearOut}
+use Rattle.lacks.specs.Lacking.{lackingOf, caseIn, signalIn}
+use Rattle.lacks.specs.Lacking.{refusalIn as refusedIn}
 pub mod Laws
 
 abbrev pub CheckReturns : List ℕ → ℕ → Type 0
@@ -44,3 +46,8 @@ RewriteReturns f b r c size =
 
 abbrev pub ClearReturns : List ℕ → List ℕ → ℕ → List ℕ → ℕ → Type 0
 ClearReturns f b r c size = (r ≡ clearRefusal f (length b)) × (c ≡ clearOut f b) × (size ≡ clearLength f (length b))
+
+-- case and signal of the answer in numbers (RULES 13.2)
+abbrev pub LackingReturns : List ℕ → ℕ → ℕ → Set → ℕ → ℕ → ℕ → Type 0
+LackingReturns f chart place o r answer signal =
+    let a = lackingOf f chart place o in (r ≡ refusedIn a) × (answer ≡ caseIn a) × (signal ≡ signalIn a)

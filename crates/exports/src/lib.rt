@@ -4,7 +4,7 @@
 ghost use mathlib.Core.Path.{_≡_};
 ghost use Rattle.meaning.specs.Count.{one};
 ghost use Rattle.exports.specs.Contracts.{CheckReturns, FirstReturns, InterfaceReturns, PlainReturns, StepReturns};
-ghost use Rattle.exports.specs.Contracts.{RunReturns, RewriteReturns, ClearReturns};
+ghost use Rattle.exports.specs.Contracts.{RunReturns, RewriteReturns, ClearReturns, LackingReturns};
 ghost use Rattle.posting.specs.Posting.{PostSays};
 use posting::Case;
 use posting::Entry;
@@ -118,4 +118,21 @@ pub extern "C" fn mestecur_clear(file: &[u8], out: &mut [u8], size: &mut usize) 
     let w = engine::clear::clear(file, out);
     *size = w.length;
     w.refusal
+}
+
+#[no_mangle]
+pub extern "C" fn mestecur_lacking(
+    file: &[u8],
+    chart: usize,
+    place: usize,
+    offered: u64,
+    answer: &mut u8,
+    signal: &mut u8,
+) -> u8
+    ensures { λ r. ⌜ LackingReturns (now (file .entry)) chart place offered r (now (answer .exit)) (now (signal .exit)) ⌝ }
+{
+    let a = lacks::in_numbers(engine::lacking::lacking(file, chart, place, offered));
+    *answer = a.answer;
+    *signal = a.signal;
+    a.refusal
 }

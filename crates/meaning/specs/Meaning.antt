@@ -6,9 +6,10 @@ use mathlib.Core.List.{List, [], _∷_, _++_}
 use Prim.Native.Nat.{ℕ, zero, suc, _-_}
 use lib.Dec.{eqb}
 use lib.ListN.{length}
-use Rattle.signals.specs.Mask.{_∪_, _∩_, _∖_, bit, within, apart}
+use Rattle.signals.specs.Mask.{_∪_, _∩_, _∖_}
+use Rattle.signals.specs.Guard.{guard, isMet}
 use Rattle.layout.specs.declared.record.Transition.{Transition}
-use Rattle.meaning.specs.Numbers.{mostSignals, noStep, noPlace, stayPlace}
+use Rattle.meaning.specs.Numbers.{noStep, noPlace, stayPlace}
 
 -- a signal set (RULES 1.2), as a mask; the empty set
 abbrev pub Set : Type 0
@@ -86,32 +87,8 @@ after s stay = s
 
 -- ── the test of a guard ──
 
--- the lowest signal of a set, of the k signals from n on; where none is there, the first behind them
-unfoldable pub lowestFrom : ℕ → ℕ → Set → ℕ
-lowestFrom zero n s = n
-lowestFrom (suc k) n s = cond (bit s n) n (lowestFrom k (suc n) s)
-
--- the lowest signal of a set; of the empty set, 64
-abbrev pub lowest : Set → ℕ
-lowest s = lowestFrom mostSignals 0 s
-
--- what testing a guard shows (RULES 5.6): it is met; or one signal says why not, the lowest needed one that is missing, and if none is missing, the
--- lowest barred one that is there
-pub data Tested : Type 0 where
-  met : Tested
-  absent : ℕ → Tested
-  present : ℕ → Tested
-
--- needed signals are looked up in i and barred ones in j (RULES 5.6): the same set twice, except where a search has only bounds on it
-unfoldable pub guard : Set → Set → Set → Set → Tested
-guard needed barred i j = cond (within needed i) (cond (apart barred j) met (present (lowest (barred ∩ j)))) (absent (lowest (needed ∖ i)))
-
-abbrev pub isMet : Tested → Bool
-isMet met = true
-isMet (absent n) = false
-isMet (present n) = false
-
--- the guard of a transition is met (RULES 5.6)
+-- the guard of a transition is met (RULES 5.6); what testing it shows otherwise is in crate signals, specs/Guard.antt. Needed signals are looked up in i
+-- and barred ones in j: the same set twice, except where a search has only bounds on it
 unfoldable pub met? : Transition → Set → Set → Bool
 met? t i j = isMet (guard (t .needed) (t .barred) i j)
 

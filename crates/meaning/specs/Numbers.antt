@@ -90,7 +90,7 @@ badNaming = 10
 abbrev pub badInside : ℕ
 badInside = 11
 
--- of a configuration, a step or a run: 20 to 24, 27 (RULES 3.3)
+-- of a configuration, a step, a question or a run: 20 to 27 (RULES 3.3)
 abbrev pub wrongLength : ℕ
 wrongLength = 20
 
@@ -105,6 +105,12 @@ noStep = 23
 
 abbrev pub manyOpen : ℕ
 manyOpen = 24
+
+abbrev pub noSuchChart : ℕ
+noSuchChart = 25
+
+abbrev pub noSuchPlace : ℕ
+noSuchPlace = 26
 
 abbrev pub shortRows : ℕ
 shortRows = 27

@@ -7,11 +7,12 @@ use mathlib.Core.List.{List, [], _∷_, _++_}
 use Prim.Native.Nat.{ℕ}
 use lib.ListN.{replicate}
 use Rattle.signals.specs.Mask.{bit, single}
+use Rattle.signals.specs.Guard.{lowestFrom, guard}
 use Rattle.layout.specs.Le.{le, bytes}
 use Rattle.layout.specs.Record.{trailerOf, trailerBytes, headOf, headBytes, transitionOf, transitionBytes, slaveOf, slaveBytes, nodeOf, nodeBytes}
 use Rattle.layout.specs.Body.{headAt, transitionAt, slaveAt, nodeAt, startOf, from, transitionsOf}
 use Rattle.meaning.specs.Count.{anyUpTo, tally}
-use Rattle.meaning.specs.Meaning.{Answer, given, same, nth, pick, lastPlace, actionOf, after, lowestFrom, guard, met?, untriggered, guards, actions, inFaceChart, inFace, inFaces, out, outs, okChart, meets, ok, oks, permitted, upd, moves, nexts, placeOf, placesFrom, upto, outcomeOf, outcome, search, outcomes, eqList, agree, answer}
+use Rattle.meaning.specs.Meaning.{Answer, given, same, nth, pick, lastPlace, actionOf, after, met?, untriggered, guards, actions, inFaceChart, inFace, inFaces, out, outs, okChart, meets, ok, oks, permitted, upd, moves, nexts, placeOf, placesFrom, upto, outcomeOf, outcome, search, outcomes, eqList, agree, answer}
 use Rattle.meaning.specs.File.{gather, build, treeOf, Has, HasS, trailer, bodyOf, shapeOf, chartOf, fileAt, fileOf}
 use Rattle.meaning.specs.Check.{firstOf, edition?, counts?, distance?, nonzero, zeros?, chart?, charts?, ends?, leaving, transitions?, rising, slave?, slaves?, nodeOfKind?, nodes?, names, named, held, naming?, inside?, fileTests, refusalOf}
 use Rattle.meaning.specs.Open.{openChart, openTree, isOpen, choices, howMany, openChoices}

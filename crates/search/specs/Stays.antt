@@ -7,8 +7,9 @@ use mathlib.Core.List.{List, [], _∷_, _++_}
 use Prim.Native.Nat.{ℕ, zero, suc, _-_}
 use lib.ListN.{getD, replicate}
 use Rattle.signals.specs.Mask.{_∪_}
+use Rattle.signals.specs.Guard.{guard, isMet}
 use Rattle.meaning.specs.Numbers.{mostCharts, noPlace, stayPlace}
-use Rattle.meaning.specs.Meaning.{Set, same, guard, isMet, Outcome}
+use Rattle.meaning.specs.Meaning.{Set, same, Outcome}
 use Rattle.meaning.specs.Count.{anyUpTo}
 use Rattle.meaning.specs.Laws.Bools.{every}
 use Rattle.cells.specs.Table.{aheadAt, countAt}

@@ -21,6 +21,7 @@ use cells::moves;
 use cells::small;
 use cells::trail;
 use cells::triggers;
+use signals::guard::Lack;
 
 // Where what was found has the places of the first permitted choice, behind its next states, and 1 if there is one, and 1 if all others agree with
 // it (specs/Hunt.antt).
@@ -78,10 +79,10 @@ fn wakes(small: &[u8], moves: &[u8; moves::SIZE], k: usize) -> bool
 fn holds(g: Guard, low: u64, high: u64) -> bool
     ensures { λ r. ⌜ r ≡ (within (g .needed) high && apart (g .barred) low) ⌝ }
 {
-    if !signals::within(g.needed, high) {
+    let Lack::Nothing = signals::guard::look(g.needed, g.barred, high, low) else {
         return false;
-    }
-    signals::apart(g.barred, low)
+    };
+    true
 }
 
 // What the charts below k ask of chart k's action: what only it can put in for them, and what it must not. It contradicts itself where one of them

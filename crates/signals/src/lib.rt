@@ -1,8 +1,10 @@
-// Sets of 64 signals as masks.
+// Sets of 64 signals as masks, and the test of a guard.
 ghost use mathlib.Core.Path.{_≡_};
 ghost use Prim.Native.Nat.{_<_};
 ghost use Rattle.signals.specs.Mask.{_∪_, _∖_, bit, single, within, apart};
 ghost use Rattle.signals.specs.Lowest.{IsLowest, IsLowestFree};
+
+pub mod guard;
 
 // The set of all signals.
 pub const ALL: u64 = 18446744073709551615;

@@ -11,7 +11,8 @@ use lib.ListN.{length, getD}
 use Rattle.layout.specs.declared.record.Transition.{Transition}
 use Rattle.meaning.specs.Numbers.{mostFromState}
 use Rattle.meaning.specs.Count.{anyUpTo}
-use Rattle.meaning.specs.Meaning.{Set, same, Chart, Move, noMove, takes, stay, nth, lastPlace, guard, isMet, met?, untriggered}
+use Rattle.meaning.specs.Meaning.{Set, same, Chart, Move, noMove, takes, stay, nth, lastPlace, met?, untriggered}
+use Rattle.signals.specs.Guard.{guard, isMet}
 use Rattle.meaning.specs.Laws.Bools.{same-refl, same-≢}
 use Rattle.cells.specs.Triggers.{triggerNeeded, triggerBarred}
 use Rattle.search.specs.Stays.{trips, staysAt, calm}

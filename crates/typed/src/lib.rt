@@ -126,7 +126,7 @@ fn begun(word: &[u8]) -> bool
 }
 
 // A decimal number up to `most`, with no zero in front.
-fn number(most: u64, word: &[u8]) -> Read
+pub fn number(most: u64, word: &[u8]) -> Read
     requires { ⌜ 10 ≤ most ⌝ }
     ensures { λ r. ⌜ r ≡ numberOf most (now (word .entry)) ⌝ }
 {

@@ -6,6 +6,7 @@ pub mod clear;
 pub mod damage;
 pub mod file;
 pub mod first_interface;
+pub mod lacking;
 pub mod many;
 pub mod plain;
 pub mod rewrite;

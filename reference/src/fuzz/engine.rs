@@ -4,7 +4,7 @@ use crate::command::{Command, Numbers, Op};
 use crate::limits::CHARTS;
 use crate::step::Places;
 use mestecur::raw::*;
-use mestecur::{Place, Refusal, Set, Step};
+use mestecur::{Place, Refusal, Set, Step, Tested};
 
 /// What a number behind a pointer is before a call.
 const BEFORE: u64 = 0x5A5A_5A5A_5A5A_5A5A;
@@ -67,6 +67,20 @@ pub fn raw(command: &Command, lent: &mut [u8]) -> (u8, Numbers) {
                 let refusal = mestecur_clear(file, long, out, room, &mut length);
                 (refusal, Numbers::two(length as u64, 0))
             }
+            Op::Lacking => {
+                let (mut answer, mut signal) = (BEFORE as u8, BEFORE as u8);
+                let (chart, place) = (inputs[0] as usize, inputs[1] as usize);
+                let refusal = mestecur_lacking(
+                    file,
+                    long,
+                    chart,
+                    place,
+                    inputs[2],
+                    &mut answer,
+                    &mut signal,
+                );
+                (refusal, Numbers::two(u64::from(answer), u64::from(signal)))
+            }
         }
     }
 }
@@ -87,6 +101,14 @@ pub fn binding(command: &Command, lent: &mut [u8]) -> (u8, Numbers) {
         Op::Rewrite => mestecur::rewrite(file, lent).map(|length| Numbers::two(length as u64, 0)),
         Op::Plain => mestecur::plain(file).map(|plain| Numbers::two(u64::from(plain), 0)),
         Op::Clear => mestecur::clear(file, lent).map(|length| Numbers::two(length as u64, 0)),
+        Op::Lacking => {
+            let (chart, place) = (inputs[0].0 as usize, inputs[1].0 as usize);
+            mestecur::lacking(file, chart, place, inputs[2]).map(|tested| match tested {
+                Tested::Met => Numbers::two(0, 0),
+                Tested::Absent(signal) => Numbers::two(1, u64::from(signal)),
+                Tested::Present(signal) => Numbers::two(2, u64::from(signal)),
+            })
+        }
     };
     answer.map_or_else(
         |refusal: Refusal| (refusal.number(), Numbers::NONE),

@@ -4,7 +4,8 @@ use mathlib.Core.List.{List}
 use Prim.Native.Nat.{ℕ}
 use Rattle.meaning.specs.Meaning.{Set}
 use Rattle.engine.specs.Contracts.{CheckSays, FirstSays, StatesSays, InterfaceSays, PlainSays, StepSays, RunSays, RewritingSays}
-use Rattle.engine.specs.Contracts.{ClearSays}
+use Rattle.engine.specs.Contracts.{ClearSays, LackingSays}
+use Rattle.lacks.specs.declared.Lacking.{Lacking}
 use Rattle.engine.specs.declared.clear.Cleared.{Cleared}
 use Rattle.engine.specs.declared.file.StateCounts.{StateCounts}
 use Rattle.engine.specs.declared.interface.Faces.{Faces}
@@ -54,3 +55,7 @@ module _ (f : List ℕ) where
   pub clear-determined : (b : List ℕ) (r r′ : Cleared) (c c′ : List ℕ) → ClearSays f b r c → ClearSays f b r′ c′
       → (r ≡ r′) × (c ≡ c′)
   clear-determined b = both
+
+  pub lacking-determined : (chart place : ℕ) (o : Set) (r r′ : Lacking) → LackingSays f chart place o r
+      → LackingSays f chart place o r′ → r ≡ r′
+  lacking-determined chart place o = one

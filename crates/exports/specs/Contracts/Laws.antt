@@ -4,7 +4,7 @@ use mathlib.Core.List.{List}
 use Prim.Native.Nat.{ℕ}
 use Rattle.meaning.specs.Meaning.{Set}
 use Rattle.engine.specs.Contracts.Laws.{one, both}
-use Rattle.exports.specs.Contracts.{CheckReturns, FirstReturns, InterfaceReturns, PlainReturns, StepReturns, RunReturns, RewriteReturns, ClearReturns}
+use Rattle.exports.specs.Contracts.{CheckReturns, FirstReturns, InterfaceReturns, PlainReturns, StepReturns, RunReturns, RewriteReturns, ClearReturns, LackingReturns}
 
 module _ (f : List ℕ) where
   pub check-determined : (r r′ : ℕ) → CheckReturns f r → CheckReturns f r′ → r ≡ r′
@@ -40,3 +40,8 @@ module _ (f : List ℕ) where
   pub clear-determined : (b : List ℕ) (r r′ : ℕ) (c c′ : List ℕ) (n n′ : ℕ) → ClearReturns f b r c n → ClearReturns f b r′ c′ n′
       → (r ≡ r′) × (c ≡ c′) × (n ≡ n′)
   clear-determined b r r′ c c′ n n′ p q = (one r r′ (p .0) (q .0), one c c′ (p .1) (q .1), one n n′ (p .2) (q .2))
+
+  pub lacking-determined : (chart place : ℕ) (o : Set) (r r′ a a′ s s′ : ℕ) → LackingReturns f chart place o r a s
+      → LackingReturns f chart place o r′ a′ s′ → (r ≡ r′) × (a ≡ a′) × (s ≡ s′)
+  lacking-determined chart place o r r′ a a′ s s′ p q =
+      (one r r′ (p .0) (q .0), one a a′ (p .1) (q .1), one s s′ (p .2) (q .2))

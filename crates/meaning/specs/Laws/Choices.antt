@@ -1,5 +1,6 @@
 -- Choices in order. In this order: lists one behind another (`upto`); a choice with one place more (`upd`), and which go on from it (`Below`); a
--- beginning that has no permitted choice (`search-empty`); the states after a choice (`nexts`), and equal ones (`eqList`); its places.
+-- beginning that has no permitted choice (`search-empty`); the states after a choice (`nexts`), and equal ones (`eqList`); its places; and the
+-- transition at a place of a list that is read from a body (`nth-from`).
 use mathlib.Core.Path.{_≡_, refl, sym, _∙_, ap, ap₂}
 use mathlib.Core.Bool.{true, false, false≢true}
 use mathlib.Core.List.{List, [], _∷_, _++_, append-nil}
@@ -9,9 +10,10 @@ use native.Mathlib.Numerals.{add-one}
 use native.Mathlib.Omega.{arith}
 use lib.ListN.{length, getD, drop, drop-of-length-le}
 use lib.Seq.{drop-cons}
+use Rattle.layout.specs.Body.{from}
 use Rattle.layout.specs.declared.record.Transition.{Transition}
 use Rattle.meaning.specs.Numbers.{noPlace}
-use Rattle.meaning.specs.Meaning.{Set, same, Chart, Tree, Move, nth, behind, pick, lastPlace, after, permitted, upd, moves, nexts, placeOf, placesFrom, upto, outcome, search, eqList}
+use Rattle.meaning.specs.Meaning.{Set, same, Chart, Tree, Move, takes, nth, behind, pick, lastPlace, after, permitted, upd, moves, nexts, placeOf, placesFrom, upto, outcome, search, eqList}
 use Rattle.meaning.specs.Laws.Bools.{and-l, and-r, same-refl, same→≡, same-≢}
 
 -- ── upto ──
@@ -148,3 +150,12 @@ module _ (E : ℕ → Chart) where
   places-upd ch k v = places-more (upd ch k v) zero k
       ∙ ap₂ (λ l x. l ++ (x ∷ [])) (places-cong ch (upd ch k v) zero k (λ i l m. upd-off ch k v i (omega arith)))
       (ap (λ z. placeAt z (upd ch k v z)) (let e : zero + k ≡ k = omega arith in e) ∙ ap (placeAt k) (upd-at ch k v))
+
+-- ── a list that is read from a body ──
+
+pub nth-from : (m : Move) (f : ℕ → Transition) (k n u : ℕ) → u < n → nth m (from f k n) u ≡ takes (f (k + u))
+unfolding from nth
+nth-from m f k zero u l = absurd (omega arith)
+nth-from m f k (suc n) zero l = ap (λ z. takes (f z)) (let h : k ≡ k + 0 = omega arith in h)
+nth-from m f k (suc n) (suc u) l =
+    nth-from m f (suc k) n u (omega arith) ∙ ap (λ z. takes (f z)) (let h : suc k + u ≡ k + suc u = omega arith in h)

@@ -1,61 +1,21 @@
--- Laws of the test of a guard, in both editions. In this order: what the lowest signal of a set is (`lowest-in`, `lowest-first`); a guard is met
--- exactly if no needed signal is missing and no barred one is there (`guard-is`, `met-is`); a guard that is met is met between wider bounds
--- (`met-wider`), and looks at its own signals alone (`met-cut`); the same of a chart that nothing triggers (`quiet-wider`, `quiet-cut`), and that
--- this is what it says (`quiet-out`, `quiet-in`).
+-- Laws of the test of a transition's guard, in both editions. In this order: it is met exactly if no needed signal is missing and no barred one is
+-- there (`met-is`); a guard that is met is met between wider bounds (`met-wider`), and looks at its own signals alone (`met-cut`); the same of a chart
+-- that nothing triggers (`quiet-wider`, `quiet-cut`), and that this is what it says (`quiet-out`, `quiet-in`).
 use mathlib.Core.Path.{_≡_, refl, sym, _∙_, ap, ap₂}
-use mathlib.Core.Bool.{Bool, true, false, _&&_, not, cond, true≢false, false≢true}
+use mathlib.Core.Bool.{Bool, true, false, _&&_, not, true≢false, false≢true}
 use mathlib.Core.List.{List, [], _∷_, List·Memᴰ, List·Memᴰ·head, List·Memᴰ·tail, List·Memᴰ·cases-cons, List·Memᴰ·not-nil}
 use mathlib.Core.Logic.{_⊎_, inl, inr}
-use Prim.Native.Nat.{ℕ, zero, suc, _+_, _≤_, _<_}
-use native.Mathlib.Omega.{arith}
-use native.Mathlib.Decide.{decLt}
+use Prim.Native.Nat.{ℕ}
 use borrow.Author.Tests.{eqb-true, eq-eqb}
 use lib.Dec.{eqb}
-use Rattle.signals.specs.Mask.{_∪_, _∩_, _∖_, bit, within, apart, Within}
+use Rattle.signals.specs.Mask.{_∪_, _∩_, _∖_, within, apart, Within}
+use Rattle.signals.specs.Guard.Laws.{guard-is}
 use Rattle.signals.specs.Decide.{sets, A, B, C, D, E as Eₑ, _∪ₑ_, _∩ₑ_, _∖ₑ_, _≐_, _⊑_, _⊥ₑ_}
 use Rattle.layout.specs.declared.record.Transition.{Transition}
-use Rattle.meaning.specs.Meaning.{Set, same, lowestFrom, guards, met, absent, present, guard, isMet, met?, untriggered}
+use Rattle.meaning.specs.Meaning.{Set, same, guards, met?, untriggered}
 use Rattle.meaning.specs.Laws.Bools.{and-l, and-r, and-i, bool-eq, not-true, same-refl}
 
--- ── the lowest signal of a set ──
-
--- of k signals from n on: it is in the set, if one is; none below it is
-pub lowest-in : (k n m : ℕ) (s : Set) → n ≤ m → m < n + k → bit s m ≡ true → bit s (lowestFrom k n s) ≡ true
-unfolding lowestFrom
-lowest-in zero n m s l r h = absurd (omega arith)
-lowest-in (suc k) n m s l r h = go (bit s n) refl (λ p q. lowest-in k (suc n) m s p q h)
-  where
-    go : (b : Bool) → bit s n ≡ b → (suc n ≤ m → m < suc n + k → bit s (lowestFrom k (suc n) s) ≡ true) → bit s (cond b n (lowestFrom k (suc n) s)) ≡ true
-    go true e ih = e
-    go false e ih = later (decLt n m) ih
-      where
-        later : Dec (n < m) → (suc n ≤ m → m < suc n + k → bit s (lowestFrom k (suc n) s) ≡ true) → bit s (lowestFrom k (suc n) s) ≡ true
-        later (yes d) ih = ih (omega arith) (omega arith)
-        later (no d) ih = let z : m ≡ n = omega arith in absurd (true≢false (sym h ∙ ap (bit s) z ∙ e))
-
-pub lowest-first : (k n j : ℕ) (s : Set) → n ≤ j → j < lowestFrom k n s → bit s j ≡ false
-unfolding lowestFrom
-lowest-first zero n j s l r = absurd (omega arith)
-lowest-first (suc k) n j s l r = go (bit s n) refl r (λ p q. lowest-first k (suc n) j s p q)
-  where
-    go : (b : Bool) → bit s n ≡ b → j < cond b n (lowestFrom k (suc n) s) → (suc n ≤ j → j < lowestFrom k (suc n) s → bit s j ≡ false) → bit s j ≡ false
-    go true e r ih = absurd (omega arith)
-    go false e r ih = later (decLt n j) ih
-      where
-        later : Dec (n < j) → (suc n ≤ j → j < lowestFrom k (suc n) s → bit s j ≡ false) → bit s j ≡ false
-        later (yes d) ih = ih (omega arith) r
-        later (no d) ih = let z : j ≡ n = omega arith in ap (bit s) z ∙ e
-
 -- ── a transition's guard ──
-
-pub guard-is : (needed barred i j : Set) → isMet (guard needed barred i j) ≡ (within needed i && apart barred j)
-unfolding guard
-guard-is needed barred i j = go (within needed i) (apart barred j) _ _
-  where
-    go : (a b : Bool) (x y : ℕ) → isMet (cond a (cond b met (present x)) (absent y)) ≡ (a && b)
-    go true true x y = refl
-    go true false x y = refl
-    go false b x y = refl
 
 pub met-is : (t : Transition) (i j : Set) → met? t i j ≡ (within (t .needed) i && apart (t .barred) j)
 unfolding met?

@@ -6,6 +6,7 @@ use mathlib.Core.List.{List, [], _∷_, _++_}
 use Prim.Native.Nat.{ℕ, _-_}
 use lib.ListN.{length, replicate}
 use Rattle.signals.specs.Mask.{_∪_, single}
+use Rattle.signals.specs.Guard.{lowestFrom, guard}
 use Rattle.layout.specs.Le.{le, bytes}
 use Rattle.layout.specs.Record.{trailerOf, headOf, transitionOf, slaveOf, nodeOf, trailerBytes, headBytes, transitionBytes, slaveBytes, nodeBytes}
 use Rattle.layout.specs.Body.{headAt, transitionAt, slaveAt, nodeAt, startOf, from, transitionsOf}
@@ -15,7 +16,7 @@ use Rattle.layout.specs.declared.record.Slave.{Slave}
 use Rattle.layout.specs.declared.record.Transition.{Transition}
 use Rattle.meaning.specs.Numbers.{mostCharts, noPlace, stayPlace}
 use Rattle.meaning.specs.Count.{anyUpTo, tally}
-use Rattle.meaning.specs.Meaning.{Set, same, Answer, refused, given, nth, pick, lastPlace, actionOf, after, lowestFrom, guard, met?, untriggered, guards, inFaceChart, inFace, inFaces, out, outs, okChart, meets, ok, oks, permitted, upd, moves, nexts, placeOf, placesFrom, upto, outcomeOf, outcome, search, outcomes, eqList, agree, answer, firstPlaces}
+use Rattle.meaning.specs.Meaning.{Set, same, Answer, refused, given, nth, pick, lastPlace, actionOf, after, met?, untriggered, guards, inFaceChart, inFace, inFaces, out, outs, okChart, meets, ok, oks, permitted, upd, moves, nexts, placeOf, placesFrom, upto, outcomeOf, outcome, search, outcomes, eqList, agree, answer, firstPlaces}
 use Rattle.meaning.specs.File.{gather, build, treeOf, Has, HasS, trailer, bodyOf, shapeOf, chartOf, fileAt, fileOf}
 use Rattle.meaning.specs.Check.{firstOf, edition?, counts?, distance?, nonzero, zeros?, chart?, charts?, ends?, leaving, transitions?, rising, slave?, slaves?, nodeOfKind?, nodes?, names, named, held, naming?, inside?, fileTests, refusalOf}
 use Rattle.meaning.specs.Open.{openChart, openTree, isOpen, choices, howMany, openChoices}

@@ -1,22 +1,32 @@
--- `search::holds` meets its contract: where all that is needed may be there, what is barred decides.
-use mathlib.Core.Path.{_≡_, sym, _∙_}
-use mathlib.Core.Bool.{Bool, true, false, _&&_}
+-- `search::holds` meets its contract: nothing is lacking, or something is.
+use mathlib.Core.Path.{_≡_, refl, sym, ap, _∙_}
+use mathlib.Core.Bool.{false}
+use mathlib.Core.List.{[], _∷_}
+use mathlib.Core.Logic.{inl, inr}
+use Prim.Native.Nat.{ℕ}
+use native.Mathlib.Omega.{arith}
 use borrow.Author.Needs.{needs}
-use borrow.Author.Tests.{not-true, not-false}
+use denote.Enum.Declared.{tagOf}
+use types.Run.{OneOf}
+use Rattle.signals.specs.Look.{isNothing}
+use Rattle.signals.specs.Look.Laws.{nothing-is}
+use Rattle.signals.specs.declared.guard.Lack.{Lack}
+use Rattle.signals.specs.declared.guard.Lack.the-variants.{Nothing, Missing, There}
+use Rattle.signals.proofs.guard.Lack.{the-type}
 use Rattle.search.proofs.holds.Statement.{statement}
 use Rattle.search.proofs.holds.Tie as tie
 
-lacking : (b c : Bool) → b ≡ false → false ≡ (b && c)
-lacking b c e = rw e
-
-barring : (b c d : Bool) → b ≡ true → d ≡ c → d ≡ (b && c)
-barring b c d e q = rw e q
+something : (l : Lack) → OneOf (1 ∷ 2 ∷ []) (tagOf the-type l) → false ≡ isNothing l
+something Nothing (inl e) = let h : _≡_ {A = ℕ} 0 1 = e in absurd (omega arith)
+something Nothing (inr e) = let h : _≡_ {A = ℕ} 0 2 = e in absurd (omega arith)
+something (Missing s) k = refl
+something (There s) k = refl
 
 returns : tie.Need-returns
-returns c = lacking _ _ (sym (c .before .within .ensures) ∙ not-true _ (c .if1 .taken))
+returns c = something (c .before .look .result) (c .match .keys2) ∙ ap isNothing (c .before .look .ensures) ∙ nothing-is _ _ _ _
 
 returns-2 : tie.Need-returns-2
-returns-2 c = barring _ _ _ (sym (c .before .before .within .ensures) ∙ not-false _ (c .before .if1 .left)) (c .apart .ensures)
+returns-2 c = ap isNothing (sym (c .enum-told .given .1) ∙ c .before .before .look .ensures) ∙ nothing-is _ _ _ _
 
 pub holds-spec : {M : Type 1} → statement M
-holds-spec = tie.close (tie.spec (λ c κs. search needs) returns (λ c κs. search needs) returns-2)
+holds-spec = tie.close (tie.spec (λ c κs. search needs) (λ c. search needs) returns returns-2)

@@ -5,11 +5,11 @@ use mathlib.Core.List.{List}
 use Prim.Native.Nat.{ℕ, _-_, _≤_}
 use native.Mathlib.Omega.{arith}
 use borrow.Author.Needs.{needs}
+use Rattle.signals.specs.Guard.{guard, isMet}
+use Rattle.signals.specs.Guard.Laws.{guard-is}
 use Rattle.signals.specs.Mask.{within, apart}
-use Rattle.meaning.specs.Meaning.{isMet, guard}
 use Rattle.meaning.specs.Count.{anyUpTo}
 use Rattle.meaning.specs.Count.Laws.{any-none, any-more, any-at, any-done}
-use Rattle.meaning.specs.Laws.Guards.{guard-is}
 use Rattle.cells.specs.Triggers.{triggerNeeded, triggerBarred}
 use Rattle.search.specs.Stays.{trips}
 use Rattle.search.proofs.trips.Statement.{statement}
