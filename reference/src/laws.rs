@@ -241,6 +241,17 @@ fn calls(
         Command::run("run", file(), &at, &inputs, rows).carrying(input(random, shape)),
     ];
     let offered = [Set::EMPTY, Set::FULL, inputs[0], inputs[1]];
+    // one chart more than there are, and places that a list may lack
+    for chart in 0..=charts as u64 {
+        let place = random.below(3) as u64;
+        calls.push(Command::lacking(
+            "lacking",
+            file(),
+            chart,
+            place,
+            offered[2],
+        ));
+    }
     for at in configurations {
         let step = |input| Command::step("step", file(), at, input, charts + 1).whole_line();
         calls.extend(offered.into_iter().map(step));
