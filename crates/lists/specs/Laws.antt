@@ -1,0 +1,2 @@
+-- Laws of the lists of a chart: states (States).
+pub mod States

@@ -1,0 +1,49 @@
+-- What is read of the lists of a chart: if the text goes on at a place with the tokens of a list and then with others,
+-- the answer is what the list means, whether refusal 52 applies to it, and the others go on behind it.
+use mathlib.Core.Path.{_≡_}
+use mathlib.Core.Bool.{Bool, false, _||_, not}
+use mathlib.Core.List.{List, [], _∷_, _++_}
+use Prim.Native.Nat.{ℕ, _≤_, _<_, _/_}
+use lib.ListN.{length, drop}
+use Rattle.signals.specs.Mask.{_∪_, bit, single, within}
+use Rattle.meaning.specs.Check.{notBelow}
+use Rattle.notation.specs.Syntax.{OneOrMore}
+use Rattle.notation.specs.Spelling.{letQ, lbrace, rbrace, sign, Tokens, ofNames, Text}
+use Rattle.reading.specs.Numbers.{namedStates}
+use Rattle.reading.specs.Names.{membersOf, first, notAll?}
+use Rattle.reading.specs.Meant.{maskOf}
+use Rattle.tokens.specs.Tokens.{cap}
+use Rattle.lists.specs.declared.Listed.{Listed}
+use Rattle.lists.specs.declared.StateList.{StateList}
+
+-- ── states ──
+
+-- r is the states read so far with the state n: bad if it is out of range or there already, else in the mask
+pub record Lists (mask : ℕ) (bad : Bool) (n : ℕ) (r : Listed) : Type 0 where
+  pub is-bad : r .bad ≡ (bad || (notBelow n namedStates || bit mask n))
+  pub is-mask : n < namedStates → r .mask ≡ mask ∪ single n
+
+-- the mask has a state and not the one before it
+abbrev pub gap : ℕ → Bool
+gap mask = not (within (mask / 2) mask)
+
+-- r is the list of the states ks, behind which the tokens ts go on: its first state cut at 1,000, how many there are;
+-- bad if 52 applies to the list, else their mask
+pub record GivesStates (w : List ℕ) (r : StateList) (ks : OneOrMore ℕ) (ts : Tokens) : Type 0 where
+  pub goes-on : Text ts (drop (r .next) w)
+  pub is-first : r .first ≡ cap (first ks)
+  pub is-count : r .count ≡ length (membersOf ks)
+  pub is-bad : r .bad ≡ notAll? namedStates (membersOf ks)
+  pub is-mask : r .bad ≡ false → r .mask ≡ maskOf (membersOf ks)
+
+-- the names of the states and the closing brace, which stand at a place
+pub record StatesFrom (w : List ℕ) (at : ℕ) (r : StateList) : Type 0 where
+  pub within : r .next ≤ length w
+  pub gives : (ks : OneOrMore ℕ) (ts : Tokens) → Text (ofNames letQ ks ++ (sign rbrace ∷ ts)) (drop at w)
+      → GivesStates w r ks ts
+
+-- the list of states that stands at a place
+pub record StatesAt (w : List ℕ) (at : ℕ) (r : StateList) : Type 0 where
+  pub within : r .next ≤ length w
+  pub gives : (ks : OneOrMore ℕ) (ts : Tokens)
+      → Text (sign lbrace ∷ (ofNames letQ ks ++ (sign rbrace ∷ ts))) (drop at w) → GivesStates w r ks ts

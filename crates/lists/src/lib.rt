@@ -1,0 +1,88 @@
+// The lists of a chart in a text that spells one, read into numbers: its states, its transitions. What is answered is
+// right if the list is there; the functions are safe on every text.
+ghost use mathlib.Core.Path.{_≡_};
+ghost use mathlib.Core.Bool.{_||_};
+ghost use Prim.Native.Nat.{_≤_};
+ghost use lib.ListN.{length};
+ghost use Rattle.signals.specs.Mask.{within};
+ghost use Rattle.lists.specs.Lists.{gap, Lists, StatesFrom, StatesAt};
+
+// States read so far.
+pub struct Listed {
+    pub mask: u64,
+    pub bad: bool,
+}
+
+// A list of states: its first state as far as it matters, how many there are, their mask, whether the list is refused,
+// and the place behind it.
+pub struct StateList {
+    pub first: u64,
+    pub count: usize,
+    pub mask: u64,
+    pub bad: bool,
+    pub next: usize,
+}
+
+fn either(a: bool, b: bool) -> bool
+    ensures { λ r. ⌜ r ≡ (a || b) ⌝ }
+{
+    if a {
+        return true;
+    }
+    b
+}
+
+// One state more: it is bad if it is out of range or given before.
+fn with_state(mask: u64, bad: bool, n: u64) -> Listed
+    ensures { λ r. ⌜ Lists mask bad n r ⌝ }
+{
+    if n < 16 {
+        return Listed {
+            mask: signals::with(mask, n as u32),
+            bad: either(bad, signals::has(mask, n as u32)),
+        };
+    }
+    Listed {
+        mask: mask,
+        bad: true,
+    }
+}
+
+// A number is left out below the highest.
+fn left_out(mask: u64) -> bool
+    ensures { λ r. ⌜ r ≡ gap mask ⌝ }
+{
+    !signals::within(mask / 2, mask)
+}
+
+// The states from the first name of a list on.
+fn states_from(text: &[u8], at: usize) -> StateList
+    requires { ⌜ at ≤ length (now text) ⌝ }
+    ensures { λ r. ⌜ StatesFrom (now (text .entry)) at r ⌝ }
+{
+    let n = tokens::name_at(text, at);
+    let mut so_far = with_state(0, false, n.value);
+    let mut i = n.next;
+    let mut commas: usize = 0;
+    while tokens::peek(text, i) == b',' {
+        let m = tokens::name_at(text, tokens::behind_sign(text, i, 1));
+        so_far = with_state(so_far.mask, so_far.bad, m.value);
+        i = m.next;
+        commas += 1;
+    }
+    StateList {
+        first: n.value,
+        count: commas + 1,
+        mask: so_far.mask,
+        bad: either(so_far.bad, left_out(so_far.mask)),
+        next: tokens::behind_sign(text, i, 1),
+    }
+}
+
+// A list of states in braces.
+pub fn states(text: &[u8], at: usize) -> StateList
+    requires { ⌜ at ≤ length (now text) ⌝ }
+    ensures { λ r. ⌜ StatesAt (now (text .entry)) at r ⌝ }
+{
+    states_from(text, tokens::behind_sign(text, at, 1))
+}
