@@ -6,15 +6,16 @@ use mathlib.Core.List.{List, [], _∷_, _++_}
 use Prim.Native.Nat.{ℕ, _≤_, _<_, _/_}
 use lib.ListN.{length, drop}
 use Rattle.signals.specs.Mask.{_∪_, bit, single, within}
-use Rattle.meaning.specs.Check.{notBelow}
-use Rattle.notation.specs.Syntax.{OneOrMore}
-use Rattle.notation.specs.Spelling.{letQ, lbrace, rbrace, sign, Tokens, ofNames, Text}
+use Rattle.meaning.specs.Check.{notBelow, differ}
+use Rattle.notation.specs.Syntax.{OneOrMore, Heading}
+use Rattle.notation.specs.Spelling.{letQ, lbrace, rbrace, sign, Tokens, ofNames, ofHeading, Text}
 use Rattle.reading.specs.Numbers.{namedStates}
-use Rattle.reading.specs.Names.{membersOf, first, notAll?}
-use Rattle.reading.specs.Meant.{maskOf}
+use Rattle.reading.specs.Names.{membersOf, first, notAll?, set?}
+use Rattle.reading.specs.Meant.{maskOf, setOf}
 use Rattle.tokens.specs.Tokens.{cap}
 use Rattle.lists.specs.declared.Listed.{Listed}
 use Rattle.lists.specs.declared.StateList.{StateList}
+use Rattle.lists.specs.declared.Heading.{Heading as Headed}
 
 -- ── states ──
 
@@ -47,3 +48,26 @@ pub record StatesAt (w : List ℕ) (at : ℕ) (r : StateList) : Type 0 where
   pub within : r .next ≤ length w
   pub gives : (ks : OneOrMore ℕ) (ts : Tokens)
       → Text (sign lbrace ∷ (ofNames letQ ks ++ (sign rbrace ∷ ts))) (drop at w) → GivesStates w r ks ts
+
+-- ── headings ──
+
+-- what 52 asks of a heading, the first three tests of `sequential?`
+unfoldable pub heading? : Heading → Bool
+heading? h =
+    notAll? namedStates (membersOf (h .states)) || (differ (h .initial) (first (h .states)) || set? (h .feedback))
+
+-- r is the heading h, behind which the tokens ts go on: its name and initial state cut at 1,000, how many states there
+-- are; bad if 52 applies to it, else their mask and the feedback set
+pub record GivesHeading (w : List ℕ) (r : Headed) (h : Heading) (ts : Tokens) : Type 0 where
+  pub goes-on : Text ts (drop (r .next) w)
+  pub is-name : r .name ≡ cap (h .name)
+  pub is-initial : r .initial ≡ cap (h .initial)
+  pub is-count : r .count ≡ length (membersOf (h .states))
+  pub is-bad : r .bad ≡ heading? h
+  pub is-mask : r .bad ≡ false → r .mask ≡ maskOf (membersOf (h .states))
+  pub is-feedback : r .bad ≡ false → r .feedback ≡ setOf (h .feedback)
+
+-- the heading that stands at a place
+pub record HeadingAt (w : List ℕ) (at : ℕ) (r : Headed) : Type 0 where
+  pub within : r .next ≤ length w
+  pub gives : (h : Heading) (ts : Tokens) → Text (ofHeading h ++ ts) (drop at w) → GivesHeading w r h ts

@@ -5,7 +5,7 @@ ghost use mathlib.Core.Bool.{_||_};
 ghost use Prim.Native.Nat.{_≤_};
 ghost use lib.ListN.{length};
 ghost use Rattle.signals.specs.Mask.{within};
-ghost use Rattle.lists.specs.Lists.{gap, Lists, StatesFrom, StatesAt};
+ghost use Rattle.lists.specs.Lists.{gap, Lists, StatesFrom, StatesAt, HeadingAt};
 
 // States read so far.
 pub struct Listed {
@@ -85,4 +85,36 @@ pub fn states(text: &[u8], at: usize) -> StateList
     ensures { λ r. ⌜ StatesAt (now (text .entry)) at r ⌝ }
 {
     states_from(text, tokens::behind_sign(text, at, 1))
+}
+
+// The heading of a chart: its name and its initial state as far as they matter, how many states there are and their
+// mask, the feedback set, whether the heading is refused, and the place behind it.
+pub struct Heading {
+    pub name: u64,
+    pub initial: u64,
+    pub count: usize,
+    pub mask: u64,
+    pub feedback: u64,
+    pub bad: bool,
+    pub next: usize,
+}
+
+// The fields of a chart before its transitions. The initial state has to be the first of the list.
+pub fn heading_at(text: &[u8], at: usize) -> Heading
+    requires { ⌜ at ≤ length (now text) ⌝ }
+    ensures { λ r. ⌜ HeadingAt (now (text .entry)) at r ⌝ }
+{
+    let c = tokens::name_at(text, tokens::behind_sign(text, at, 1));
+    let l = states(text, tokens::behind_sign(text, c.next, 1));
+    let q = tokens::name_at(text, tokens::behind_sign(text, l.next, 1));
+    let x = fields::set(text, tokens::behind_sign(text, q.next, 1));
+    Heading {
+        name: c.value,
+        initial: q.value,
+        count: l.count,
+        mask: l.mask,
+        feedback: x.mask,
+        bad: either(l.bad, either(q.value != l.first, x.bad)),
+        next: x.next,
+    }
 }

@@ -63,11 +63,11 @@ twice-snoc (m ∷ a) n =
 
 -- ── left out ──
 
-or-left : (a b : Bool) → (a || b) ≡ false → a ≡ false
+pub or-left : (a b : Bool) → (a || b) ≡ false → a ≡ false
 or-left true b e = e
 or-left false b e = refl
 
-or-right : (a b : Bool) → (a || b) ≡ false → b ≡ false
+pub or-right : (a b : Bool) → (a || b) ≡ false → b ≡ false
 or-right true b e = absurd (true≢false e)
 or-right false b e = e
 
@@ -146,7 +146,7 @@ cap-new mask n = go (decLt n 1000)
     go (no h) = rw (le-ltb n 1000 (omega arith), le-ltb n 16 (omega arith))
 
 -- a number that is cut and in range is the number
-cap-in : (n : ℕ) → notBelow n namedStates ≡ false → (cap n ≡ n) × (n < namedStates)
+pub cap-in : (n : ℕ) → notBelow n namedStates ≡ false → (cap n ≡ n) × (n < namedStates)
 unfolding cap
 cap-in n e = go (decLt n 16)
   where
@@ -199,12 +199,12 @@ refused-more false false false c g f h = h refl
 
 -- ── names ──
 
-members-cons : (ks : OneOrMore ℕ) → membersOf ks ≡ firstName ks ∷ restNames ks
+pub members-cons : (ks : OneOrMore ℕ) → membersOf ks ≡ firstName ks ∷ restNames ks
 unfolding membersOf firstName restNames
 members-cons (one k) = refl
 members-cons (ks ▸ k) = ap (_++ (k ∷ [])) (members-cons ks)
 
-first-is : (ks : OneOrMore ℕ) → firstName ks ≡ first ks
+pub first-is : (ks : OneOrMore ℕ) → firstName ks ≡ first ks
 unfolding firstName first
 first-is (one k) = refl
 first-is (ks ▸ k) = first-is ks
