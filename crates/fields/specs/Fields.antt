@@ -34,11 +34,13 @@ pub record Gives (w : List ℕ) (r : SignalSet) (ns : List ℕ) (ts : Tokens) : 
 -- the set that stands at a place
 pub record SetAt (w : List ℕ) (at : ℕ) (r : SignalSet) : Type 0 where
   pub within : r .next ≤ length w
+  pub onward : at ≤ r .next
   pub gives : (x : Signals) (ts : Tokens) → Text (ofSet x ++ ts) (drop at w) → Gives w r (membersOr x) ts
 
 -- the names of a set and its closing brace, which stand at a place
 pub record MembersAt (w : List ℕ) (at : ℕ) (r : SignalSet) : Type 0 where
   pub within : r .next ≤ length w
+  pub onward : at ≤ r .next
   pub gives : (ks : OneOrMore ℕ) (ts : Tokens) → Text (ofNames letS ks ++ (sign rbrace ∷ ts)) (drop at w)
       → Gives w r (membersOf ks) ts
 
@@ -60,12 +62,14 @@ pub record LiteralAt (w : List ℕ) (at : ℕ) (g r : Guard) : Type 0 where
 -- the literals and the slash that stand at a place
 pub record LiteralsAt (w : List ℕ) (at : ℕ) (r : Guard) : Type 0 where
   pub within : r .next ≤ length w
+  pub onward : at ≤ r .next
   pub gives : (ls : OneOrMore Literal) (ts : Tokens) → Text (ofLiterals ls ++ (sign slash ∷ ts)) (drop at w)
       → Text ts (drop (r .next) w) × Means r (membersOf ls)
 
 -- the same where there may be no literal
 pub record GuardAt (w : List ℕ) (at : ℕ) (r : Guard) : Type 0 where
   pub within : r .next ≤ length w
+  pub onward : at ≤ r .next
   pub gives : (ls : Option (OneOrMore Literal)) (ts : Tokens) → Text (ofGuard ls ++ (sign slash ∷ ts)) (drop at w)
       → Text ts (drop (r .next) w) × Means r (membersOr ls)
 
@@ -85,4 +89,5 @@ pub record Passes (w : List ℕ) (r : Passage) (t : Transition) (ts : Tokens) : 
 -- the transition that stands at a place
 pub record TransitionAt (w : List ℕ) (at : ℕ) (r : Passage) : Type 0 where
   pub within : r .next ≤ length w
+  pub onward : at ≤ r .next
   pub gives : (t : Transition) (ts : Tokens) → Text (ofTransition t ++ ts) (drop at w) → Passes w r t ts

@@ -16,7 +16,7 @@ use Rattle.fields.proofs.literals.Tie as tie
 
 abbrev Inv-loop : tie.InvT-loop
 Inv-loop text at g₀ i₀ g i =
-    (i ≤ length text)
+    ((i ≤ length text) × (at ≤ i))
     × ((ls : OneOrMore Literal) (ts : Tokens) → Text (ofLiterals ls ++ (sign slash ∷ ts)) (drop at text)
     → Through text i g ls ts)
 
@@ -25,7 +25,7 @@ abbrev μ-loop : tie.MeasureT-loop
 
 loop-holds : tie.Need-loop-holds Inv-loop μ-loop
 loop-holds c = (
-  c .literal .ensures .within,
+  (c .literal .ensures .within, c .literal .ensures .onward),
   λ ls ts h. through-first _ ls ts _ _ _ h (c .literal .ensures) (means-none _ refl refl refl),
 )
 
@@ -47,7 +47,10 @@ loop-again c =
     let t = b .before in
     let p = t .before in
     let l = p .before .loop in (
-      c .literal2 .ensures .within,
+      (
+        c .literal2 .ensures .within,
+        omega (arith, l .inv .0 .1, b .behind-sign .ensures .onward, c .literal2 .ensures .onward),
+      ),
       λ ls ts h. through-more _ ls ts _ _ _ _ (sym (p .peek .ensures) ∙ t .if1 .taken) (b .behind-sign .ensures)
           (c .literal2 .ensures) (l .inv .1 ls ts h),
     )
@@ -59,6 +62,7 @@ returns c =
     let l = p .before .loop in
     record {
       within = c .behind-sign2 .ensures .within;
+      onward = omega (arith, l .inv .0 .1, c .behind-sign2 .ensures .onward);
       gives =
           λ ls ts h. through-end _ ls ts _ _ _ (λ e. t .if1 .left (p .peek .ensures ∙ e)) (c .behind-sign2 .ensures) refl refl
           refl (l .inv .1 ls ts h);
@@ -72,10 +76,10 @@ literals-spec =
     μ-loop
     (λ c κs. search needs)
     loop-holds
-    (λ c κs. c .loop .inv .0)
-    (λ c κs. c .before .before .loop .inv .0)
+    (λ c κs. c .loop .inv .0 .0)
+    (λ c κs. c .before .before .loop .inv .0 .0)
     (λ c κs. c .behind-sign .ensures .within)
     loop-less
     loop-again
-    (λ c κs. c .before .before .loop .inv .0)
+    (λ c κs. c .before .before .loop .inv .0 .0)
     returns)

@@ -16,7 +16,7 @@ use Rattle.fields.proofs.members.Tie as tie
 
 abbrev Inv-loop : tie.InvT-loop
 Inv-loop text at so-far₀ i₀ so-far i =
-    (i ≤ length text)
+    ((i ≤ length text) × (at ≤ i))
     × ((ks : OneOrMore ℕ) (ts : Tokens) → Text (ofNames letS ks ++ (sign rbrace ∷ ts)) (drop at text)
     → Going text i (so-far .mask) (so-far .bad) ks ts)
 
@@ -26,7 +26,7 @@ abbrev μ-loop : tie.MeasureT-loop
 loop-holds : tie.Need-loop-holds Inv-loop μ-loop
 loop-holds c =
     let n = c .before .name-at .ensures in
-    (n .is .within, λ ks ts h. going-first _ ks ts _ _ _ h n (c .with-signal .ensures))
+    ((n .is .within, n .onward), λ ks ts h. going-first _ ks ts _ _ _ h n (c .with-signal .ensures))
 
 loop-less : tie.Need-loop-less Inv-loop μ-loop
 loop-less c =
@@ -47,7 +47,7 @@ loop-again c =
     let t = b .before in
     let p = t .before in
     let l = p .before .loop in (
-      n .is .within,
+      (n .is .within, omega (arith, l .inv .0 .1, b .behind-sign .ensures .onward, n .onward)),
       λ ks ts h. going-more _ ks ts _ _ _ _ _ _ (sym (p .peek .ensures) ∙ t .if1 .taken) (b .behind-sign .ensures) n
           (c .with-signal2 .ensures) (l .inv .1 ks ts h),
     )
@@ -59,6 +59,7 @@ returns c =
     let l = p .before .loop in
     record {
       within = c .behind-sign2 .ensures .within;
+      onward = omega (arith, l .inv .0 .1, c .behind-sign2 .ensures .onward);
       gives =
           λ ks ts h. going-end _ ks ts _ _ _ _ (λ e. t .if1 .left (p .peek .ensures ∙ e)) (c .behind-sign2 .ensures) refl
           refl (l .inv .1 ks ts h);
@@ -73,11 +74,11 @@ members-spec =
     (λ c κs. search needs)
     (λ c κs. search needs)
     loop-holds
-    (λ c κs. c .loop .inv .0)
-    (λ c κs. c .before .before .loop .inv .0)
+    (λ c κs. c .loop .inv .0 .0)
+    (λ c κs. c .before .before .loop .inv .0 .0)
     (λ c κs. c .behind-sign .ensures .within)
     (λ c κs. search needs)
     loop-less
     loop-again
-    (λ c κs. c .before .before .loop .inv .0)
+    (λ c κs. c .before .before .loop .inv .0 .0)
     returns)

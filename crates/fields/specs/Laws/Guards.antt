@@ -259,7 +259,7 @@ module _ (w : List ℕ) (at : ℕ) (r : Guard) where
   pub guard-none : getD (afterBlanks (drop at w)) 0 0 ≡ 47 → BehindSign w at 1 (r .next) → r .bad ≡ false
       → r .needed ≡ 0 → r .barred ≡ 0 → GuardAt w at r
   unfolding ofGuard membersOr signBytes
-  guard-none p b eb en er = record { within = b .within; gives = go }
+  guard-none p b eb en er = record { within = b .within; onward = b .onward; gives = go }
     where
       go : (ls : Option (OneOrMore Literal)) (ts : Tokens) → Text (ofGuard ls ++ (sign slash ∷ ts)) (drop at w)
           → Text ts (drop (r .next) w) × Means r (membersOr ls)
@@ -272,7 +272,7 @@ module _ (w : List ℕ) (at : ℕ) (r : Guard) where
 
   pub guard-some : (getD (afterBlanks (drop at w)) 0 0 ≡ 47 → ⊥) → LiteralsAt w at r → GuardAt w at r
   unfolding ofGuard membersOr firstByte
-  guard-some p l = record { within = l .within; gives = go }
+  guard-some p l = record { within = l .within; onward = l .onward; gives = go }
     where
       go : (ls : Option (OneOrMore Literal)) (ts : Tokens) → Text (ofGuard ls ++ (sign slash ∷ ts)) (drop at w)
           → Text ts (drop (r .next) w) × Means r (membersOr ls)

@@ -215,7 +215,7 @@ module _ (w : List ℕ) (at i : ℕ) (b : BehindSign w at 1 i) (r : SignalSet) w
   pub set-empty : getD (afterBlanks (drop i w)) 0 0 ≡ 125 → BehindSign w i 1 (r .next) → r .mask ≡ 0 → r .bad ≡ false
       → SetAt w at r
   unfolding membersOr signals? any maskOf signBytes
-  set-empty p c em eb = record { within = c .within; gives = go }
+  set-empty p c em eb = record { within = c .within; onward = omega (arith, b .onward, c .onward); gives = go }
     where
       go : (x : Signals) (ts : Tokens) → Text (ofSet x ++ ts) (drop at w) → Gives w r (membersOr x) ts
       go none ts t =
@@ -228,7 +228,7 @@ module _ (w : List ℕ) (at i : ℕ) (b : BehindSign w at 1 i) (r : SignalSet) w
 
   pub set-some : (getD (afterBlanks (drop i w)) 0 0 ≡ 125 → ⊥) → MembersAt w i r → SetAt w at r
   unfolding membersOr
-  set-some p m = record { within = m .within; gives = go }
+  set-some p m = record { within = m .within; onward = omega (arith, b .onward, m .onward); gives = go }
     where
       go : (x : Signals) (ts : Tokens) → Text (ofSet x ++ ts) (drop at w) → Gives w r (membersOr x) ts
       go none ts t = absurd (p (none-next w i ts (none-text w at i ts b t)))

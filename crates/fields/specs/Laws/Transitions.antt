@@ -2,7 +2,8 @@
 use mathlib.Core.Path.{_≡_, refl, sym, ap, _∙_, subst}
 use mathlib.Core.Bool.{Bool, true, false, _||_, true≢false}
 use mathlib.Core.List.{List, [], _∷_, _++_, map, append-assoc}
-use Prim.Native.Nat.{ℕ}
+use Prim.Native.Nat.{ℕ, _≤_}
+use native.Mathlib.Omega.{arith}
 use lib.ListN.{length, drop}
 use Rattle.notation.specs.Syntax.{Transition}
 use Rattle.notation.specs.Spelling.{lpar, rpar, comma, slash, letQ, sign, signBytes, name, Tokens, ofSet, ofGuard}
@@ -44,8 +45,13 @@ module _ (w : List ℕ) (at i j k : ℕ) (a b : Name) (g : Guard) (s : SignalSet
       → r .from ≡ a .value → r .to ≡ b .value → r .needed ≡ g .needed → r .barred ≡ g .barred → r .action ≡ s .mask
       → r .bad ≡ (g .bad || s .bad) → TransitionAt w at r
   unfolding parts signBytes set? transitionFor
-  transition-right o p q u v x y z ef et en er ea eb = record { within = z .within; gives = go }
+  transition-right o p q u v x y z ef et en er ea eb = record { within = z .within; onward = on; gives = go }
     where
+      on : at ≤ r .next
+      on =
+          omega
+          (arith, o .onward, p .onward, q .onward, u .onward, v .onward, x .onward, y .onward, z .onward)
+
       go : (t : Transition) (ts : Tokens) → Text (ofTransition t ++ ts) (drop at w) → Passes w r t ts
       go t ts h =
           let t₀ = subst (λ u. Text u (drop at w)) (parts-are t ts) h in
