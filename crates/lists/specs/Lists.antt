@@ -2,20 +2,23 @@
 -- the answer is what the list means, whether refusal 52 applies to it, and the others go on behind it.
 use mathlib.Core.Path.{_≡_}
 use mathlib.Core.Bool.{Bool, false, _||_, not}
+use mathlib.Core.Option.{Option}
 use mathlib.Core.List.{List, [], _∷_, _++_}
 use Prim.Native.Nat.{ℕ, _≤_, _<_, _/_}
 use lib.ListN.{length, drop}
 use Rattle.signals.specs.Mask.{_∪_, bit, single, within}
 use Rattle.meaning.specs.Check.{notBelow, differ}
-use Rattle.notation.specs.Syntax.{OneOrMore, Heading}
-use Rattle.notation.specs.Spelling.{letQ, lbrace, rbrace, sign, Tokens, ofNames, ofHeading, Text}
+use Rattle.notation.specs.Syntax.{OneOrMore, Heading, Transition}
+use Rattle.notation.specs.Spelling.{letQ, lbrace, rbrace, sign, Tokens, ofNames, ofHeading, ofTransitionList}
+use Rattle.notation.specs.Spelling.{ofTransitions, Text}
 use Rattle.reading.specs.Numbers.{namedStates}
-use Rattle.reading.specs.Names.{membersOf, first, notAll?, set?}
+use Rattle.reading.specs.Names.{membersOf, membersOr, first, any, notAll?, set?, transition?}
 use Rattle.reading.specs.Meant.{maskOf, setOf}
 use Rattle.tokens.specs.Tokens.{cap}
 use Rattle.lists.specs.declared.Listed.{Listed}
 use Rattle.lists.specs.declared.StateList.{StateList}
 use Rattle.lists.specs.declared.Heading.{Heading as Headed}
+use Rattle.lists.specs.declared.TransitionList.{TransitionList}
 
 -- ── states ──
 
@@ -40,12 +43,14 @@ pub record GivesStates (w : List ℕ) (r : StateList) (ks : OneOrMore ℕ) (ts :
 -- the names of the states and the closing brace, which stand at a place
 pub record StatesFrom (w : List ℕ) (at : ℕ) (r : StateList) : Type 0 where
   pub within : r .next ≤ length w
+  pub onward : at ≤ r .next
   pub gives : (ks : OneOrMore ℕ) (ts : Tokens) → Text (ofNames letQ ks ++ (sign rbrace ∷ ts)) (drop at w)
       → GivesStates w r ks ts
 
 -- the list of states that stands at a place
 pub record StatesAt (w : List ℕ) (at : ℕ) (r : StateList) : Type 0 where
   pub within : r .next ≤ length w
+  pub onward : at ≤ r .next
   pub gives : (ks : OneOrMore ℕ) (ts : Tokens)
       → Text (sign lbrace ∷ (ofNames letQ ks ++ (sign rbrace ∷ ts))) (drop at w) → GivesStates w r ks ts
 
@@ -70,4 +75,34 @@ pub record GivesHeading (w : List ℕ) (r : Headed) (h : Heading) (ts : Tokens) 
 -- the heading that stands at a place
 pub record HeadingAt (w : List ℕ) (at : ℕ) (r : Headed) : Type 0 where
   pub within : r .next ≤ length w
+  pub onward : at ≤ r .next
   pub gives : (h : Heading) (ts : Tokens) → Text (ofHeading h ++ ts) (drop at w) → GivesHeading w r h ts
+
+-- ── transitions ──
+
+-- the mask of a chart's states lacks the state n
+unfoldable pub lacks : ℕ → ℕ → Bool
+lacks mask n = notBelow n namedStates || not (bit mask n)
+
+-- r is the list of the transitions ts, behind which the tokens us go on: how many there are; where the mask is that
+-- of a list of states that is not refused, bad if 52 applies to one of them
+pub record GivesTransitions (w : List ℕ) (mask : ℕ) (r : TransitionList) (ts : List Transition) (us : Tokens) : Type 0
+  where
+    pub goes-on : Text us (drop (r .next) w)
+    pub is-count : r .count ≡ length ts
+    pub is-bad : (states : List ℕ) → notAll? namedStates states ≡ false → mask ≡ maskOf states
+        → r .bad ≡ any (transition? states) ts
+
+-- the transitions and the closing brace, which stand at a place
+pub record TransitionsFrom (w : List ℕ) (at mask : ℕ) (r : TransitionList) : Type 0 where
+  pub within : r .next ≤ length w
+  pub onward : at ≤ r .next
+  pub gives : (ts : OneOrMore Transition) (us : Tokens)
+      → Text (ofTransitionList ts ++ (sign rbrace ∷ us)) (drop at w) → GivesTransitions w mask r (membersOf ts) us
+
+-- the list of transitions that stands at a place
+pub record TransitionsAt (w : List ℕ) (at mask : ℕ) (r : TransitionList) : Type 0 where
+  pub within : r .next ≤ length w
+  pub onward : at ≤ r .next
+  pub gives : (ts : Option (OneOrMore Transition)) (us : Tokens) → Text (ofTransitions ts ++ us) (drop at w)
+      → GivesTransitions w mask r (membersOr ts) us

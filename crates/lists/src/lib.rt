@@ -6,6 +6,7 @@ ghost use Prim.Native.Nat.{_≤_};
 ghost use lib.ListN.{length};
 ghost use Rattle.signals.specs.Mask.{within};
 ghost use Rattle.lists.specs.Lists.{gap, Lists, StatesFrom, StatesAt, HeadingAt};
+ghost use Rattle.lists.specs.Lists.{lacks, TransitionsFrom, TransitionsAt};
 
 // States read so far.
 pub struct Listed {
@@ -117,4 +118,66 @@ pub fn heading_at(text: &[u8], at: usize) -> Heading
         bad: either(l.bad, either(q.value != l.first, x.bad)),
         next: x.next,
     }
+}
+
+// The mask of a chart's states lacks a state.
+fn lacks(mask: u64, n: u64) -> bool
+    ensures { λ r. ⌜ r ≡ lacks mask n ⌝ }
+{
+    if n < 16 {
+        return !signals::has(mask, n as u32);
+    }
+    true
+}
+
+// A transition is refused: it uses a state that its chart lacks, or a signal out of range.
+fn refused(mask: u64, from: u64, to: u64, bad: bool) -> bool
+    ensures { λ r. ⌜ r ≡ (lacks mask from || (lacks mask to || bad)) ⌝ }
+{
+    either(lacks(mask, from), either(lacks(mask, to), bad))
+}
+
+// A list of transitions: how many there are, whether one is refused, and the place behind it.
+pub struct TransitionList {
+    pub count: usize,
+    pub bad: bool,
+    pub next: usize,
+}
+
+// The transitions of a chart with the states of a mask, from the first of a list on.
+fn transitions_from(text: &[u8], at: usize, mask: u64) -> TransitionList
+    requires { ⌜ at ≤ length (now text) ⌝ }
+    ensures { λ r. ⌜ TransitionsFrom (now (text .entry)) at mask r ⌝ }
+{
+    let p = fields::transition_at(text, at);
+    let mut bad = refused(mask, p.from, p.to, p.bad);
+    let mut i = p.next;
+    let mut commas: usize = 0;
+    while tokens::peek(text, i) == b',' {
+        let q = fields::transition_at(text, tokens::behind_sign(text, i, 1));
+        bad = either(bad, refused(mask, q.from, q.to, q.bad));
+        i = q.next;
+        commas += 1;
+    }
+    TransitionList {
+        count: commas + 1,
+        bad: bad,
+        next: tokens::behind_sign(text, i, 1),
+    }
+}
+
+// A list of transitions in braces.
+pub fn transitions(text: &[u8], at: usize, mask: u64) -> TransitionList
+    requires { ⌜ at ≤ length (now text) ⌝ }
+    ensures { λ r. ⌜ TransitionsAt (now (text .entry)) at mask r ⌝ }
+{
+    let i = tokens::behind_sign(text, at, 1);
+    if tokens::peek(text, i) == b'}' {
+        return TransitionList {
+            count: 0,
+            bad: false,
+            next: tokens::behind_sign(text, i, 1),
+        };
+    }
+    transitions_from(text, i, mask)
 }

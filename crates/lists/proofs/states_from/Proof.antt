@@ -1,5 +1,5 @@
--- `states_from` meets its contract: in every text that has the names of a list of states there, the names before i are read
--- and the commas between them counted, and the text goes on with the others at i.
+-- `states_from` meets its contract: in every text that has the names of a list of states there, the names before i are
+-- read and the commas between them counted, and the text goes on with the others at i.
 use mathlib.Core.Path.{_≡_, refl, sym, ap, _∙_}
 use mathlib.Core.Bool.{_||_}
 use mathlib.Core.List.{List, _∷_, _++_}
@@ -17,7 +17,7 @@ use Rattle.lists.proofs.states_from.Tie as tie
 
 abbrev Inv-loop : tie.InvT-loop
 Inv-loop text at n so-far₀ i₀ commas₀ so-far i commas =
-    ((i ≤ length text) × (commas ≤ i))
+    ((i ≤ length text) × ((at ≤ i) × (commas ≤ i)))
     × ((ks : OneOrMore ℕ) (ts : Tokens) → Text (ofNames letQ ks ++ (sign rbrace ∷ ts)) (drop at text)
     → Going text (n .value) i commas (so-far .mask) (so-far .bad) ks ts)
 
@@ -27,7 +27,7 @@ abbrev μ-loop : tie.MeasureT-loop
 loop-holds : tie.Need-loop-holds Inv-loop μ-loop
 loop-holds c =
     let n = c .before .name-at .ensures in
-    ((n .is .within, omega arith), λ ks ts h. going-first _ ks ts _ _ _ h n (c .with-state .ensures))
+    ((n .is .within, (n .onward, omega arith)), λ ks ts h. going-first _ ks ts _ _ _ h n (c .with-state .ensures))
 
 -- a comma takes the place further on
 further : tie.Need-loop-less Inv-loop μ-loop
@@ -43,7 +43,9 @@ further c =
     omega (arith, c .before .name-at2 .ensures .onward, c .before .name-at2 .ensures .is .within)
 
 add-commas : tie.Need-add-commas Inv-loop μ-loop
-add-commas c = let f = further c in let l = c .before .before .before .before .before .loop in omega (arith, f, l .inv .0 .1)
+add-commas c =
+    let l = c .before .before .before .before .before .loop in
+    omega (arith, further c, l .inv .0 .1 .1)
 
 loop-again : tie.Need-loop-again Inv-loop μ-loop
 loop-again c =
@@ -53,13 +55,13 @@ loop-again c =
     let p = t .before in
     let l = p .before .loop in
     let f = further c in (
-      (n .is .within, omega (arith, f, l .inv .0 .1)),
+      (n .is .within, (omega (arith, f, l .inv .0 .1 .0), omega (arith, f, l .inv .0 .1 .1))),
       λ ks ts h. going-more _ ks ts _ _ _ _ _ _ _ _ (sym (p .peek .ensures) ∙ t .if1 .taken) (b .behind-sign .ensures) n
           (c .with-state2 .ensures) (l .inv .1 ks ts h),
     )
 
-add-t11 : tie.Need-add-t11 Inv-loop μ-loop
-add-t11 c = let l = c .before .before .loop in omega (arith, l .inv .0 .0, l .inv .0 .1)
+add-count : tie.Need-add-t11 Inv-loop μ-loop
+add-count c = let l = c .before .before .loop in omega (arith, l .inv .0 .0, l .inv .0 .1 .1)
 
 returns : tie.Need-returns Inv-loop μ-loop
 returns c =
@@ -70,6 +72,7 @@ returns c =
     let l = p .before .loop in
     record {
       within = c .behind-sign2 .ensures .within;
+      onward = omega (arith, l .inv .0 .1 .0, c .behind-sign2 .ensures .onward);
       gives =
           λ ks ts h. going-end _ ks ts _ _ _ _ _ _ (λ e. t .if1 .left (p .peek .ensures ∙ e)) (c .behind-sign2 .ensures)
           refl refl refl (e .either .ensures ∙ ap (l .so-far .bad ||_) (o .left-out .ensures)) (l .inv .1 ks ts h);
@@ -91,7 +94,7 @@ states-from-spec =
     add-commas
     further
     loop-again
-    add-t11
+    add-count
     (λ c κs. search needs)
     (λ c κs. search needs)
     (λ c κs. c .before .before .before .before .loop .inv .0 .0)

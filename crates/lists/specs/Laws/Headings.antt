@@ -80,8 +80,13 @@ module _ (w : List ℕ) (at i j k l : ℕ) (c q : Name) (s : StateList) (x : Sig
       → r .bad ≡ (s .bad || (differ (q .value) (s .first) || x .bad)) → r .next ≡ x .next → HeadingAt w at r
   unfolding parts signBytes heading? set? same
   heading-right o p u v y z a b en ei ec em ef eb ex =
-      record { within = subst (λ e. e ≤ length w) (sym ex) (b .within); gives = go }
+      record { within = subst (λ e. e ≤ length w) (sym ex) (b .within); onward = on; gives = go }
     where
+      on : at ≤ r .next
+      on =
+          omega
+          (arith, o .onward, p .onward, u .onward, v .onward, y .onward, z .onward, a .onward, b .onward, ex)
+
       go : (h : Heading) (ts : Tokens) → Text (ofHeading h ++ ts) (drop at w) → GivesHeading w r h ts
       go h ts t =
           let t₀ = subst (λ u. Text u (drop at w)) (parts-are h ts) t in

@@ -80,7 +80,7 @@ not-false true e = refl
 not-false false e = absurd (true≢false e)
 
 -- no member passes a test exactly if none that the list has does
-any-at : (p : ℕ → Bool) (a : List ℕ) (n : ℕ) → any p a ≡ false → has a n ≡ true → p n ≡ false
+pub any-at : (p : ℕ → Bool) (a : List ℕ) (n : ℕ) → any p a ≡ false → has a n ≡ true → p n ≡ false
 unfolding any has
 any-at p [] n e h = absurd (false≢true h)
 any-at p (m ∷ a) n e h = go (eqb m n) refl h (any-at p a n (or-right (p m) (any p a) e))
@@ -135,13 +135,13 @@ pub so-far-none : SoFar 0 false []
 unfolding any twice? maskOf
 so-far-none = record { is-bad = refl; is-mask = λ e. refl }
 
--- a number that is cut is new and in range exactly if the number is
-cap-new : (mask n : ℕ) → (notBelow (cap n) namedStates || bit mask (cap n)) ≡ (notBelow n namedStates || bit mask n)
+-- a number that is cut is in range and fails a test exactly if the number is and does
+pub cap-test : (f : ℕ → Bool) (n : ℕ) → (notBelow (cap n) namedStates || f (cap n)) ≡ (notBelow n namedStates || f n)
 unfolding cap
-cap-new mask n = go (decLt n 1000)
+cap-test f n = go (decLt n 1000)
   where
-    go : Dec (n < 1000) → (notBelow (cond (ltb n 1000) n 1000) namedStates || bit mask (cond (ltb n 1000) n 1000))
-        ≡ (notBelow n namedStates || bit mask n)
+    go : Dec (n < 1000) → (notBelow (cond (ltb n 1000) n 1000) namedStates || f (cond (ltb n 1000) n 1000))
+        ≡ (notBelow n namedStates || f n)
     go (yes h) = rw (lt-ltb n 1000 h)
     go (no h) = rw (le-ltb n 1000 (omega arith), le-ltb n 16 (omega arith))
 
@@ -170,7 +170,7 @@ module _ (mask : ℕ) (bad : Bool) (done : List ℕ) (n v : ℕ) (r : Listed) wh
       → SoFar (r .mask) (r .bad) (done ++ (n ∷ []))
   so-far-more e s l =
       let is : r .bad ≡ (bad || (notBelow n namedStates || bit mask n)) =
-      l .is-bad ∙ ap (λ k. bad || (notBelow k namedStates || bit mask k)) e ∙ ap (bad ||_) (cap-new mask n) in
+      l .is-bad ∙ ap (λ k. bad || (notBelow k namedStates || bit mask k)) e ∙ ap (bad ||_) (cap-test (bit mask) n) in
       record {
         is-bad =
             is
@@ -294,5 +294,6 @@ unfolding signBytes
 states-right w at i r b s =
     record {
       within = s .within;
+      onward = omega (arith, b .onward, s .onward);
       gives = λ ks ts t. s .gives ks ts (behind-right w at lbrace i t (b .behind));
     }
