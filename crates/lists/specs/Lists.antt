@@ -1,5 +1,5 @@
--- What is read of the lists of a chart: if the text goes on at a place with the tokens of a list and then with others,
--- the answer is what the list means, whether refusal 52 applies to it, and the others go on behind it.
+-- What is read of a sequential chart and its lists: if the text goes on at a place with the tokens of one of them and
+-- then with others, the answer is what it means, whether refusal 52 applies to it, and the others go on behind it.
 use mathlib.Core.Path.{_≡_}
 use mathlib.Core.Bool.{Bool, false, _||_, not}
 use mathlib.Core.Option.{Option}
@@ -8,17 +8,20 @@ use Prim.Native.Nat.{ℕ, _≤_, _<_, _/_}
 use lib.ListN.{length, drop}
 use Rattle.signals.specs.Mask.{_∪_, bit, single, within}
 use Rattle.meaning.specs.Check.{notBelow, differ}
-use Rattle.notation.specs.Syntax.{OneOrMore, Heading, Transition}
-use Rattle.notation.specs.Spelling.{letQ, lbrace, rbrace, sign, Tokens, ofNames, ofHeading, ofTransitionList}
-use Rattle.notation.specs.Spelling.{ofTransitions, Text}
+use Rattle.notation.specs.Syntax.{OneOrMore, Signals, Heading, Transition, Sequential}
+use Rattle.notation.specs.Spelling.{letQ, lbrace, rbrace, rpar, sign, Tokens, ofNames, ofHeading}
+use Rattle.notation.specs.Spelling.{ofTransitionList, ofTransitions, ofExtra, ofSequential, Text}
 use Rattle.reading.specs.Numbers.{namedStates}
-use Rattle.reading.specs.Names.{membersOf, membersOr, first, any, notAll?, set?, transition?}
-use Rattle.reading.specs.Meant.{maskOf, setOf}
+use Rattle.reading.specs.Names.{membersOf, membersOr, first, any, notAll?, set?, optional?, transition?}
+use Rattle.reading.specs.Names.{sequential?, nameOf}
+use Rattle.reading.specs.Meant.{maskOf, setOf, optionalOf, headFor}
 use Rattle.tokens.specs.Tokens.{cap}
+use Rattle.fields.specs.declared.SignalSet.{SignalSet}
 use Rattle.lists.specs.declared.Listed.{Listed}
 use Rattle.lists.specs.declared.StateList.{StateList}
 use Rattle.lists.specs.declared.Heading.{Heading as Headed}
 use Rattle.lists.specs.declared.TransitionList.{TransitionList}
+use Rattle.lists.specs.declared.Sequential.{Sequential as Drawn}
 
 -- ── states ──
 
@@ -106,3 +109,37 @@ pub record TransitionsAt (w : List ℕ) (at mask : ℕ) (r : TransitionList) : T
   pub onward : at ≤ r .next
   pub gives : (ts : Option (OneOrMore Transition)) (us : Tokens) → Text (ofTransitions ts ++ us) (drop at w)
       → GivesTransitions w mask r (membersOr ts) us
+
+-- ── sequential charts ──
+
+-- r is the extra set x, behind which the tokens ts go on: bad if a signal is out of range, else its mask
+pub record GivesExtra (w : List ℕ) (r : SignalSet) (x : Option Signals) (ts : Tokens) : Type 0 where
+  pub goes-on : Text ts (drop (r .next) w)
+  pub is-bad : r .bad ≡ optional? x
+  pub is-mask : r .bad ≡ false → r .mask ≡ optionalOf x
+
+-- the extra set that stands at a place, before a closing bracket
+pub record ExtraAt (w : List ℕ) (at : ℕ) (r : SignalSet) : Type 0 where
+  pub within : r .next ≤ length w
+  pub onward : at ≤ r .next
+  pub gives : (x : Option Signals) (ts : Tokens) → Text (ofExtra x ++ (sign rpar ∷ ts)) (drop at w)
+      → GivesExtra w r x (sign rpar ∷ ts)
+
+-- r is the sequential chart s, behind which the tokens ts go on: its name cut at 1,000, how many states and transitions
+-- there are; bad if 52 applies to it, else the other numbers of its record, and the mask of its states
+pub record GivesSequential (w : List ℕ) (r : Drawn) (s : Sequential) (ts : Tokens) : Type 0 where
+  pub goes-on : Text ts (drop (r .next) w)
+  pub is-name : r .name ≡ cap (nameOf s)
+  pub is-states : r .states ≡ headFor s .states
+  pub is-transitions : r .transitions ≡ headFor s .transitions
+  pub is-bad : r .bad ≡ sequential? s
+  pub is-initial : r .bad ≡ false → r .initial ≡ headFor s .initial
+  pub is-feedback : r .bad ≡ false → r .feedback ≡ headFor s .feedback
+  pub is-extra : r .bad ≡ false → r .extra ≡ headFor s .extra
+  pub is-mask : r .bad ≡ false → r .mask ≡ maskOf (membersOf (s .heading .states))
+
+-- the sequential chart that stands at a place
+pub record SequentialAt (w : List ℕ) (at : ℕ) (r : Drawn) : Type 0 where
+  pub within : r .next ≤ length w
+  pub onward : at ≤ r .next
+  pub gives : (s : Sequential) (ts : Tokens) → Text (ofSequential s ++ ts) (drop at w) → GivesSequential w r s ts

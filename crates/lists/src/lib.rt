@@ -1,12 +1,15 @@
-// The lists of a chart in a text that spells one, read into numbers: its states, its transitions. What is answered is
-// right if the list is there; the functions are safe on every text.
+// A sequential chart in a text that spells one, read into numbers: its list of states and its heading, its list of
+// transitions, all of it; and whether refusal 52 applies to it. What is answered is right if it is there; the functions
+// are safe on every text.
 ghost use mathlib.Core.Path.{_≡_};
 ghost use mathlib.Core.Bool.{_||_};
 ghost use Prim.Native.Nat.{_≤_};
 ghost use lib.ListN.{length};
-ghost use Rattle.signals.specs.Mask.{within};
 ghost use Rattle.lists.specs.Lists.{gap, Lists, StatesFrom, StatesAt, HeadingAt};
-ghost use Rattle.lists.specs.Lists.{lacks, TransitionsFrom, TransitionsAt};
+ghost use Rattle.lists.specs.Lists.{lacks, TransitionsFrom, TransitionsAt, ExtraAt, SequentialAt};
+
+// States are q0 to q15.
+const STATES: u64 = 16;
 
 // States read so far.
 pub struct Listed {
@@ -37,7 +40,7 @@ fn either(a: bool, b: bool) -> bool
 fn with_state(mask: u64, bad: bool, n: u64) -> Listed
     ensures { λ r. ⌜ Lists mask bad n r ⌝ }
 {
-    if n < 16 {
+    if n < STATES {
         return Listed {
             mask: signals::with(mask, n as u32),
             bad: either(bad, signals::has(mask, n as u32)),
@@ -124,7 +127,7 @@ pub fn heading_at(text: &[u8], at: usize) -> Heading
 fn lacks(mask: u64, n: u64) -> bool
     ensures { λ r. ⌜ r ≡ lacks mask n ⌝ }
 {
-    if n < 16 {
+    if n < STATES {
         return !signals::has(mask, n as u32);
     }
     true
@@ -180,4 +183,54 @@ pub fn transitions(text: &[u8], at: usize, mask: u64) -> TransitionList
         };
     }
     transitions_from(text, i, mask)
+}
+
+// The extra set, which may be left out, with the comma before it.
+fn extra_at(text: &[u8], at: usize) -> fields::SignalSet
+    requires { ⌜ at ≤ length (now text) ⌝ }
+    ensures { λ r. ⌜ ExtraAt (now (text .entry)) at r ⌝ }
+{
+    if tokens::peek(text, at) == b',' {
+        return fields::set(text, tokens::behind_sign(text, at, 1));
+    }
+    fields::SignalSet {
+        mask: 0,
+        bad: false,
+        next: at,
+    }
+}
+
+// A sequential chart: its name as far as it matters, what its record in the file says, the mask of its states, whether
+// it is refused, and the place behind it.
+pub struct Sequential {
+    pub name: u64,
+    pub states: usize,
+    pub initial: u64,
+    pub transitions: usize,
+    pub feedback: u64,
+    pub extra: u64,
+    pub mask: u64,
+    pub bad: bool,
+    pub next: usize,
+}
+
+// A sequential chart in round brackets.
+pub fn sequential_at(text: &[u8], at: usize) -> Sequential
+    requires { ⌜ at ≤ length (now text) ⌝ }
+    ensures { λ r. ⌜ SequentialAt (now (text .entry)) at r ⌝ }
+{
+    let h = heading_at(text, at);
+    let l = transitions(text, tokens::behind_sign(text, h.next, 1), h.mask);
+    let x = extra_at(text, l.next);
+    Sequential {
+        name: h.name,
+        states: h.count,
+        initial: h.initial,
+        transitions: l.count,
+        feedback: h.feedback,
+        extra: x.mask,
+        mask: h.mask,
+        bad: either(h.bad, either(l.bad, x.bad)),
+        next: tokens::behind_sign(text, x.next, 1),
+    }
 }

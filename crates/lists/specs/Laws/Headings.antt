@@ -29,7 +29,7 @@ use Rattle.lists.specs.Laws.States.{or-left, or-right, cap-in, members-c
 -- ── the initial state ──
 
 -- the first state of a list that is not refused is in range
-first-in : (ks : OneOrMore ℕ) → notAll? namedStates (membersOf ks) ≡ false → notBelow (first ks) namedStates ≡ false
+pub first-in : (ks : OneOrMore ℕ) → notAll? namedStates (membersOf ks) ≡ false → notBelow (first ks) namedStates ≡ false
 unfolding notAll? any
 first-in ks e =
     let a = or-left (any (λ n. notBelow n namedStates) (membersOf ks))
