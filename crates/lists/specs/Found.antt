@@ -1,12 +1,15 @@
 -- The sequential charts of a text, found from left to right: an opening bracket before a chart's name begins one, and
 -- no other token does.
 use mathlib.Core.Path.{_≡_}
-use mathlib.Core.Bool.{Bool, true, false}
+use mathlib.Core.Bool.{Bool, true, false, _||_, cond}
 use mathlib.Core.List.{List, [], _∷_, _++_}
-use Prim.Native.Nat.{ℕ}
+use Prim.Native.Nat.{ℕ, _+_, _≤_, _<_}
+use lib.Dec.{eqb}
+use lib.ListN.{length, drop}
 use Rattle.notation.specs.Syntax.{Sequential}
 use Rattle.notation.specs.Spelling.{Sign, lpar, rpar, lbrace, rbrace, lsq, rsq, comma, bar, slash, amp, minus, wordDec}
-use Rattle.notation.specs.Spelling.{wordBy, Letter, letC, letQ, letS, Token, sign, name, Tokens, ofSequential}
+use Rattle.notation.specs.Spelling.{wordBy, Letter, letC, letQ, letS, Token, sign, name, Tokens, ofSequential, Text}
+use Rattle.tokens.specs.Tokens.{blanks}
 
 -- tokens begin with a chart's name
 unfoldable pub named? : Tokens → Bool
@@ -38,3 +41,20 @@ pub data Found : Tokens → List Sequential → Type 0 where
   nothing : Found [] []
   passed : {ts : Tokens} {ss : List Sequential} (t : Token) → begins? t ts ≡ false → Found ts ss → Found (t ∷ ts) ss
   found : {ts : Tokens} {ss : List Sequential} (s : Sequential) → Found ts ss → Found (ofSequential s ++ ts) (s ∷ ss)
+
+-- ── tokens ──
+
+-- a byte begins a name
+unfoldable pub letter? : ℕ → Bool
+letter? b = eqb b 99 || (eqb b 113 || eqb b 115)
+
+-- how many bytes the sign has that begins with a byte
+unfoldable pub width : ℕ → ℕ
+width b = cond (eqb b 68) 3 (cond (eqb b 98) 2 1)
+
+-- r is the place behind the token that stands at a place; it is further on if there is a token
+pub record TokenAt (w : List ℕ) (at r : ℕ) : Type 0 where
+  pub within : r ≤ length w
+  pub onward : at ≤ r
+  pub further : at + blanks (drop at w) < length w → at < r
+  pub gives : (t : Token) (ts : Tokens) → Text (t ∷ ts) (drop at w) → Text ts (drop r w)

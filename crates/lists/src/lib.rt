@@ -6,6 +6,7 @@ ghost use mathlib.Core.Bool.{_||_};
 ghost use Prim.Native.Nat.{_≤_};
 ghost use lib.ListN.{length};
 ghost use Rattle.lists.specs.Lists.{gap, Lists, StatesFrom, StatesAt, HeadingAt};
+ghost use Rattle.lists.specs.Found.{letter?, width, TokenAt};
 ghost use Rattle.lists.specs.Lists.{lacks, TransitionsFrom, TransitionsAt, ExtraAt, SequentialAt};
 
 // States are q0 to q15.
@@ -233,4 +234,36 @@ pub fn sequential_at(text: &[u8], at: usize) -> Sequential
         bad: either(h.bad, either(l.bad, x.bad)),
         next: tokens::behind_sign(text, x.next, 1),
     }
+}
+
+// A byte begins a name.
+fn is_letter(b: u8) -> bool
+    ensures { λ r. ⌜ r ≡ letter? b ⌝ }
+{
+    (b == b'c') | ((b == b'q') | (b == b's'))
+}
+
+// How many bytes a sign has, by its first byte.
+fn width(b: u8) -> usize
+    ensures { λ r. ⌜ r ≡ width b ⌝ }
+{
+    if b == b'D' {
+        return 3;
+    }
+    if b == b'b' {
+        return 2;
+    }
+    1
+}
+
+// The place behind the next token.
+pub fn behind_token(text: &[u8], at: usize) -> usize
+    requires { ⌜ at ≤ length (now text) ⌝ }
+    ensures { λ r. ⌜ TokenAt (now (text .entry)) at r ⌝ }
+{
+    let b = tokens::peek(text, at);
+    if is_letter(b) {
+        return tokens::name_at(text, at).next;
+    }
+    tokens::behind_sign(text, at, width(b))
 }
