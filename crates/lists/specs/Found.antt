@@ -58,3 +58,7 @@ pub record TokenAt (w : List ℕ) (at r : ℕ) : Type 0 where
   pub onward : at ≤ r
   pub further : at + blanks (drop at w) < length w → at < r
   pub gives : (t : Token) (ts : Tokens) → Text (t ∷ ts) (drop at w) → Text ts (drop r w)
+
+-- r tells whether the token that stands at a place begins a sequential chart
+abbrev pub BeginsAt : List ℕ → ℕ → Bool → Type 0
+BeginsAt w at r = (t : Token) (ts : Tokens) → Text (t ∷ ts) (drop at w) → r ≡ begins? t ts

@@ -1,12 +1,13 @@
 // A sequential chart in a text that spells one, read into numbers: its list of states and its heading, its list of
-// transitions, all of it; and whether refusal 52 applies to it. What is answered is right if it is there; the functions
-// are safe on every text.
+// transitions, all of it; and whether refusal 52 applies to it. Then what the walk from chart to chart needs: where a
+// sequential chart begins, and the place behind a token. What is answered is right if it is there; the functions are
+// safe on every text.
 ghost use mathlib.Core.Path.{_≡_};
 ghost use mathlib.Core.Bool.{_||_};
 ghost use Prim.Native.Nat.{_≤_};
 ghost use lib.ListN.{length};
 ghost use Rattle.lists.specs.Lists.{gap, Lists, StatesFrom, StatesAt, HeadingAt};
-ghost use Rattle.lists.specs.Found.{letter?, width, TokenAt};
+ghost use Rattle.lists.specs.Found.{letter?, width, TokenAt, BeginsAt};
 ghost use Rattle.lists.specs.Lists.{lacks, TransitionsFrom, TransitionsAt, ExtraAt, SequentialAt};
 
 // States are q0 to q15.
@@ -266,4 +267,15 @@ pub fn behind_token(text: &[u8], at: usize) -> usize
         return tokens::name_at(text, at).next;
     }
     tokens::behind_sign(text, at, width(b))
+}
+
+// A sequential chart begins with the next token: a bracket, and behind it a chart's name.
+pub fn begins_chart(text: &[u8], at: usize) -> bool
+    requires { ⌜ at ≤ length (now text) ⌝ }
+    ensures { λ r. ⌜ BeginsAt (now (text .entry)) at r ⌝ }
+{
+    if tokens::peek(text, at) == b'(' {
+        return tokens::peek(text, tokens::behind_sign(text, at, 1)) == b'c';
+    }
+    false
 }

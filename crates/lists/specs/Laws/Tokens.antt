@@ -1,19 +1,21 @@
--- A token is told by its first byte: a name (`token-name`) or a sign (`token-sign`).
+-- A token is told by its first byte: a name (`token-name`) or a sign (`token-sign`); and whether it begins a sequential
+-- chart (`begins-bracket`, `begins-other`).
 use mathlib.Core.Path.{_≡_, refl, sym, ap, _∙_, subst}
 use mathlib.Core.Bool.{Bool, true, false, cond, true≢false, false≢true}
-use mathlib.Core.List.{List, _∷_}
+use mathlib.Core.List.{List, [], _∷_}
 use Prim.Native.Nat.{ℕ, _+_, _≤_, _<_}
 use native.Mathlib.Omega.{arith}
 use lib.Dec.{eqb}
 use lib.ListN.{length, drop, getD}
 use Rattle.notation.specs.Spelling.{Sign, lpar, rpar, lbrace, rbrace, lsq, rsq, comma, bar, slash, amp, minus, wordDec}
 use Rattle.notation.specs.Spelling.{wordBy, Letter, letC, letQ, letS, letter, Token, sign, signBytes, name, Tokens, Text}
+use Rattle.notation.specs.Spelling.{end, blankThen}
 use Rattle.notation.specs.Reader.{firstByte}
 use Rattle.tokens.specs.declared.Name.{Name}
 use Rattle.tokens.specs.Tokens.{blanks, afterBlanks, BehindSign, NameFrom}
 use Rattle.tokens.specs.Laws.Text.{behind-right, named-right}
 use Rattle.tokens.specs.Laws.Lists.{peek-sign, peek-name}
-use Rattle.lists.specs.Found.{letter?, width, TokenAt}
+use Rattle.lists.specs.Found.{letter?, width, TokenAt, named?, begins?, BeginsAt}
 
 sign-letter : (k : Sign) → letter? (firstByte k) ≡ false
 unfolding letter? firstByte
@@ -85,3 +87,74 @@ module _ (w : List ℕ) (at : ℕ) where
           behind-right w at k r t
           (b .behind ∙ ap (λ m. drop m (afterBlanks (drop at w))) (i ∙ ap width (peek-sign k t) ∙ sign-width k))
       go (name l m) ts t = absurd (false≢true (sym e ∙ ap letter? (peek-name l m t) ∙ name-letter l))
+
+-- ── where a sequential chart begins ──
+
+-- behind the last token stand blanks
+text-none : {w : List ℕ} → Text [] w → getD (afterBlanks w) 0 0 ≡ 0
+unfolding blanks
+text-none end = refl
+text-none (blankThen b e h) = rw e (text-none h)
+
+sign-c : (k : Sign) → eqb (firstByte k) 99 ≡ false
+unfolding firstByte
+sign-c lpar = refl
+sign-c rpar = refl
+sign-c lbrace = refl
+sign-c rbrace = refl
+sign-c lsq = refl
+sign-c rsq = refl
+sign-c comma = refl
+sign-c bar = refl
+sign-c slash = refl
+sign-c amp = refl
+sign-c minus = refl
+sign-c wordDec = refl
+sign-c wordBy = refl
+
+-- a chart's name is told by its letter
+named-right? : (u : List ℕ) (ts : Tokens) → Text ts u → eqb (getD (afterBlanks u) 0 0) 99 ≡ named? ts
+unfolding named? letter
+named-right? u [] t = ap (λ b. eqb b 99) (text-none t)
+named-right? u (sign k ∷ ts) t = ap (λ b. eqb b 99) (peek-sign k t) ∙ sign-c k
+named-right? u (name letC n ∷ ts) t = ap (λ b. eqb b 99) (peek-name letC n t)
+named-right? u (name letQ n ∷ ts) t = ap (λ b. eqb b 99) (peek-name letQ n t)
+named-right? u (name letS n ∷ ts) t = ap (λ b. eqb b 99) (peek-name letS n t)
+
+module _ (w : List ℕ) (at : ℕ) where
+  pub begins-other : (getD (afterBlanks (drop at w)) 0 0 ≡ 40 → ⊥) → BeginsAt w at false
+  unfolding begins? firstByte
+  begins-other p (name l n) ts t = refl
+  begins-other p (sign lpar) ts t = absurd (p (peek-sign lpar t))
+  begins-other p (sign rpar) ts t = refl
+  begins-other p (sign lbrace) ts t = refl
+  begins-other p (sign rbrace) ts t = refl
+  begins-other p (sign lsq) ts t = refl
+  begins-other p (sign rsq) ts t = refl
+  begins-other p (sign comma) ts t = refl
+  begins-other p (sign bar) ts t = refl
+  begins-other p (sign slash) ts t = refl
+  begins-other p (sign amp) ts t = refl
+  begins-other p (sign minus) ts t = refl
+  begins-other p (sign wordDec) ts t = refl
+  begins-other p (sign wordBy) ts t = refl
+
+  pub begins-bracket : (i : ℕ) → getD (afterBlanks (drop at w)) 0 0 ≡ 40 → BehindSign w at 1 i
+      → BeginsAt w at (eqb (getD (afterBlanks (drop i w)) 0 0) 99)
+  unfolding begins? firstByte letter signBytes
+  begins-bracket i p b (name letC n) ts t = absurd (let z = peek-name letC n t in omega arith)
+  begins-bracket i p b (name letQ n) ts t = absurd (let z = peek-name letQ n t in omega arith)
+  begins-bracket i p b (name letS n) ts t = absurd (let z = peek-name letS n t in omega arith)
+  begins-bracket i p b (sign lpar) ts t = named-right? (drop i w) ts (behind-right w at lpar i t (b .behind))
+  begins-bracket i p b (sign rpar) ts t = absurd (let z = peek-sign rpar t in omega arith)
+  begins-bracket i p b (sign lbrace) ts t = absurd (let z = peek-sign lbrace t in omega arith)
+  begins-bracket i p b (sign rbrace) ts t = absurd (let z = peek-sign rbrace t in omega arith)
+  begins-bracket i p b (sign lsq) ts t = absurd (let z = peek-sign lsq t in omega arith)
+  begins-bracket i p b (sign rsq) ts t = absurd (let z = peek-sign rsq t in omega arith)
+  begins-bracket i p b (sign comma) ts t = absurd (let z = peek-sign comma t in omega arith)
+  begins-bracket i p b (sign bar) ts t = absurd (let z = peek-sign bar t in omega arith)
+  begins-bracket i p b (sign slash) ts t = absurd (let z = peek-sign slash t in omega arith)
+  begins-bracket i p b (sign amp) ts t = absurd (let z = peek-sign amp t in omega arith)
+  begins-bracket i p b (sign minus) ts t = absurd (let z = peek-sign minus t in omega arith)
+  begins-bracket i p b (sign wordDec) ts t = absurd (let z = peek-sign wordDec t in omega arith)
+  begins-bracket i p b (sign wordBy) ts t = absurd (let z = peek-sign wordBy t in omega arith)
