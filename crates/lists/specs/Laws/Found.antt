@@ -6,7 +6,7 @@ use mathlib.Core.List.{List, [], _∷_, _++_, append-assoc, append-nil}
 use Prim.Native.Nat.{ℕ}
 use Rattle.notation.specs.Syntax.{OneOrMore, one, _▸_, Signals, Sequential, Single, sequential, decomposed, hidden}
 use Rattle.notation.specs.Syntax.{Chart, single, composed, Slaves, firstSlave, moreSlaves}
-use Rattle.notation.specs.Spelling.{lpar, rpar, lbrace, rbrace, lsq, rsq, comma, bar, wordDec, wordBy, letQ, letS, Token}
+use Rattle.notation.specs.Spelling.{lpar, rpar, lbrace, rbrace, lsq, rsq, comma, bar, wordDec, wordBy, letQ, letS}
 use Rattle.notation.specs.Spelling.{sign, name, Tokens, ofNames, ofSet, ofOptional, ofHeading, ofSequential, ofSingle}
 use Rattle.notation.specs.Spelling.{ofChart, ofPart, ofSlaves}
 use Rattle.reading.specs.Names.{sequentialsIn, sequentialsOf, sequentialsOfSlaves}
@@ -108,7 +108,8 @@ part-begins (composed a x b) us = refl
 
 -- the tokens of each form with others behind them
 abbrev masterText : Sequential → Slaves → Tokens → Tokens
-masterText s ps us = sign wordDec ∷ (ofSequential s ++ (sign wordBy ∷ sign lbrace ∷ (ofSlaves ps ++ (sign rbrace ∷ us))))
+masterText s ps us =
+    sign wordDec ∷ (ofSequential s ++ (sign wordBy ∷ sign lbrace ∷ (ofSlaves ps ++ (sign rbrace ∷ us))))
 
 abbrev hiddenText : Option Signals → Chart → Option Signals → Tokens → Tokens
 hiddenText x t y us = ofOptional x ++ (sign lsq ∷ (ofChart t ++ (sign rsq ∷ (ofOptional y ++ us))))

@@ -50,7 +50,8 @@ module _ (w : List ℕ) (at : ℕ) (r : SignalSet) where
           }
       go (some x) ts t = absurd (p (peek-sign comma t))
 
-  pub extra-some : (i : ℕ) → getD (afterBlanks (drop at w)) 0 0 ≡ 44 → BehindSign w at 1 i → SetAt w i r → ExtraAt w at r
+  pub extra-some : (i : ℕ) → getD (afterBlanks (drop at w)) 0 0 ≡ 44 → BehindSign w at 1 i → SetAt w i r
+      → ExtraAt w at r
   unfolding ofExtra optional? optionalOf set? firstByte signBytes
   extra-some i p b s =
       record { within = s .within; onward = omega (arith, b .onward, s .onward); gives = go }

@@ -8,8 +8,8 @@ use native.Mathlib.Omega.{arith}
 use lib.Dec.{eqb}
 use lib.ListN.{length, drop, getD}
 use Rattle.notation.specs.Spelling.{Sign, lpar, rpar, lbrace, rbrace, lsq, rsq, comma, bar, slash, amp, minus, wordDec}
-use Rattle.notation.specs.Spelling.{wordBy, Letter, letC, letQ, letS, letter, Token, sign, signBytes, name, Tokens, Text}
-use Rattle.notation.specs.Spelling.{end, blankThen}
+use Rattle.notation.specs.Spelling.{wordBy, Letter, letC, letQ, letS, letter, Token, sign, signBytes, name, Tokens}
+use Rattle.notation.specs.Spelling.{Text, end, blankThen}
 use Rattle.notation.specs.Reader.{firstByte}
 use Rattle.tokens.specs.declared.Name.{Name}
 use Rattle.tokens.specs.Tokens.{blanks, afterBlanks, BehindSign, NameFrom}
