@@ -76,7 +76,7 @@ fn wakes(small: &[u8], moves: &[u8; moves::SIZE], k: usize) -> bool
 }
 
 // Whether a guard holds, where what is surely offered is low and what may be offered is high.
-fn holds(g: Guard, low: u64, high: u64) -> bool
+pub fn holds(g: Guard, low: u64, high: u64) -> bool
     ensures { λ r. ⌜ r ≡ (within (g .needed) high && apart (g .barred) low) ⌝ }
 {
     let Lack::Nothing = signals::guard::look(g.needed, g.barred, high, low) else {
