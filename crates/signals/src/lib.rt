@@ -2,7 +2,7 @@
 ghost use mathlib.Core.Path.{_≡_};
 ghost use Prim.Native.Nat.{_<_};
 ghost use Rattle.signals.specs.Mask.{_∪_, _∖_, bit, single, within, apart};
-ghost use Rattle.signals.specs.Lowest.{IsLowest, IsLowestFree};
+ghost use Rattle.signals.specs.Lowest.{IsLowestFree};
 
 pub mod guard;
 
@@ -53,19 +53,6 @@ pub fn with(s: u64, n: u32) -> u64
     ensures { λ r. ⌜ r ≡ s ∪ single n ⌝ }
 {
     s | single(n)
-}
-
-pub fn lowest(s: u64) -> Found
-    ensures { λ r. ⌜ IsLowest s r ⌝ }
-{
-    let mut n: u32 = 0;
-    while n < 64 {
-        if has(s, n) {
-            return Found::At(n);
-        }
-        n += 1;
-    }
-    Found::Nothing
 }
 
 pub fn lowest_free(s: u64) -> Found

@@ -9,7 +9,7 @@ use mathlib.Core.Bool.{Bool, true, false, cond, true≢false}
 use mathlib.Core.List.{List}
 use mathlib.Core.Logic.{_≢_}
 use Prim.Native.Nat.{ℕ, zero, suc, _+_, _-_, _^_, _≤_, _<_}
-use native.Mathlib.Nat.{add-zero, mul-one, pow-le-pow-right}
+use native.Mathlib.Nat.{mul-one, pow-le-pow-right}
 use native.Mathlib.Omega.{arith}
 use borrow.Author.Tests.{ltb-false}
 use lib.Dec.{ltb, lit<}
@@ -21,7 +21,7 @@ use Rattle.layout.specs.declared.record.Transition.{Transition}
 use Rattle.meaning.specs.Numbers.{mostFromState, mostOpen, firstEdition, manyOpen}
 use Rattle.meaning.specs.Count.{anyUpTo, tally, one}
 use Rattle.meaning.specs.Count.Laws.{or-right, any-never, tally-cong}
-use Rattle.meaning.specs.Meaning.{Set, Chart, Move, noMove, takes, nth, lastPlace, refused}
+use Rattle.meaning.specs.Meaning.{Set, Chart, noMove, nth, lastPlace, refused}
 use Rattle.meaning.specs.File.{File, trailer, bodyOf, shapeOf, chartOf, fileAt, fileOf, wholeOf}
 use Rattle.meaning.specs.Check.{ends?, leaving, transitions?, refusalOf}
 use Rattle.meaning.specs.Check.Laws.{passed, counted}
@@ -33,19 +33,13 @@ use Rattle.meaning.specs.Laws.Many.{few-found, refused-many}
 use Rattle.meaning.specs.Laws.Names.{kap}
 use Rattle.meaning.specs.Laws.Editions.{one-stays}
 use Rattle.wiring.specs.Wired.{Stands}
+use Rattle.meaning.specs.Laws.Choices.{nth-from}
 use Rattle.wiring.specs.Stand.{stands}
 use Rattle.wiring.specs.Counted.{Counts, totalOf}
 use Rattle.wiring.specs.Fits.{count-fits}
 use Rattle.wiring.specs.Opened.{ruleIn, places-sum, lastOf, ruleOf, hitsOf, open-total, open-most}
 
 -- ── what an active chart may do ──
-
-pub nth-from : (m : Move) (f : ℕ → Transition) (k n i : ℕ) → i < n → nth m (from f k n) i ≡ takes (f (k + i))
-unfolding nth from
-nth-from m f k zero i l = absurd (omega arith)
-nth-from m f k (suc n) zero l = ap (λ z. takes (f z)) (sym (add-zero k))
-nth-from m f k (suc n) (suc i) l =
-    nth-from m f (suc k) n i (omega arith) ∙ ap (λ z. takes (f z)) (let e : suc k + i ≡ k + suc i = omega arith in e)
 
 -- the moves that an active chart in state s may make
 abbrev pub movesFrom : Chart → ℕ → ℕ

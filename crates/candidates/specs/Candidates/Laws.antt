@@ -1,6 +1,6 @@
 -- Laws for choosing candidates. In order: where a transition stands (from-byte), what a chart's transitions put out (puts-none, puts-more, puts-done),
 -- what the other charts might (join-more, others-done), one transition (left-other to left-put), a filling by one transition more (left-none to
--- left-room), a chart's list (length-from, nth-from), one chart more (mays-next to chart-tabled), the present states (stated-none, stated-next), all of it (chooses), and that actions have no signal
+-- left-room), a chart's list (length-from), one chart more (mays-next to chart-tabled), the present states (stated-none, stated-next), all of it (chooses), and that actions have no signal
 -- from 64 on (actions-small).
 use mathlib.Core.Path.{_≡_, refl, sym, _∙_, ap, ap₂, subst}
 use mathlib.Core.Bool.{Bool, true, false, cond, false≢true}
@@ -26,9 +26,10 @@ use Rattle.layout.specs.declared.record.Head.{Head}
 use Rattle.meaning.specs.Count.{tally, one}
 use Rattle.meaning.specs.Check.{leaving}
 use Rattle.meaning.specs.Numbers.{mostFromState, stayEdition}
-use Rattle.meaning.specs.Meaning.{Set, same, Move, noMove, takes, stay, nth, pick, actionOf, moves}
+use Rattle.meaning.specs.Meaning.{Set, same, Move, noMove, stay, nth, pick, actionOf, moves}
 use Rattle.meaning.specs.File.{chartOf, fileAt}
 use Rattle.meaning.specs.Laws.Bools.{same-refl, same→≡, same-≢}
+use Rattle.meaning.specs.Laws.Choices.{nth-from}
 use Rattle.wiring.specs.Wire.{join, Small, full}
 use Rattle.wiring.specs.Dropped.{join-cong}
 use Rattle.wiring.specs.Sure.{sureOf, sureIn, sure-small}
@@ -190,12 +191,6 @@ unfolding fromOn
 length-from f k zero = refl
 length-from f k (suc n) = ap suc (length-from f (suc k) n)
 
-pub nth-from : (f : ℕ → Transition) (k n u : ℕ) → u < n → nth noMove (fromOn f k n) u ≡ takes (f (k + u))
-unfolding fromOn nth
-nth-from f k zero u l = absurd (omega arith)
-nth-from f k (suc n) zero l = ap (λ z. takes (f z)) (let h : k ≡ k + 0 = omega arith in h)
-nth-from f k (suc n) (suc u) l = nth-from f (suc k) n u (omega arith) ∙ ap (λ z. takes (f z)) (let h : suc k + u ≡ k + suc u = omega arith in h)
-
 module _ (n : Shape) (b config : List ℕ) where
   pub mays-next : (c : ℕ) (may : List ℕ) (v start : ℕ) (head : Head) → Mays n b config c may → c < length may → start ≡ startOf n b c → head ≡ headAt n b c
       → v ≡ mayOf (fromOn (transitionAt n b) start (head .transitions)) (getD config c 0) → Mays n b config (c + 1) (set may c v)
@@ -238,7 +233,7 @@ module _ (n : Shape) (b config : List ℕ) where
       (rw (h .masks, h .small, h .count, es, eh) (subst (λ z. Until (chartOf n b) (λ d. getD config d 0) (n .charts) lows shuts m₀ s₀ (suc c) (made z .masks) (set (made z .small) (countCell c) (made z .count)))
       (length-from (transitionAt n b) (startOf n b c) (headAt n b c .transitions))
       (until-next (chartOf n b) (λ d. getD config d 0) (n .charts) lows shuts m₀ s₀ (r .sized .charts) c l m s (getD lows c 0) own others (getD shuts c 0) (fromStart n b (startOf n b c)) (tb .masks) un
-      (λ u q. nth-from (transitionAt n b) (startOf n b c) (headAt n b c .transitions) u (subst (λ z. u < z) (length-from (transitionAt n b) (startOf n b c) (headAt n b c .transitions)) q))
+      (λ u q. nth-from noMove (transitionAt n b) (startOf n b c) (headAt n b c .transitions) u (subst (λ z. u < z) (length-from (transitionAt n b) (startOf n b c) (headAt n b c .transitions)) q))
       (subst (λ z. tally z (λ u. one (same (fromStart n b (startOf n b c) u .from) (getD config c 0))) ≤ mostFromState) (sym (length-from (transitionAt n b) (startOf n b c) (headAt n b c .transitions))) (r .room c l))
       refl eo (et ∙ join-cong (n .charts) _ _ (λ e q. ap (λ z. cond (same e c) 0 z ∩ backAt m c e) (my e q))) refl)))
     where

@@ -40,7 +40,8 @@ use Rattle.wiring.specs.Counted.{spared}
 use Rattle.wiring.specs.Opened.{ruleIn}
 use Rattle.wiring.specs.Entries.{branchAt, addsAt, sumAt, totalAt, Rowed, part-fits, sum-part-fits, counts-store}
 use Rattle.wiring.specs.Entries.{total-part-fits, total-at, branch-at}
-use Rattle.wiring.specs.Few.{nth-from, few-from, movesFrom, mostMoves, moves-few, file-stands, open-counted}
+use Rattle.meaning.specs.Laws.Choices.{nth-from}
+use Rattle.wiring.specs.Few.{few-from, movesFrom, mostMoves, moves-few, file-stands, open-counted}
 use Rattle.nesting.specs.Nearest.{masterBy, stateBy}
 use Rattle.counting.specs.Counting.{mostCount, at, Countable, factorIn, branchIn, Small, stayingIn, addedIn}
 use Rattle.counting.specs.Counting.{sumIn, leavingIn, enclosesIn, Smalls}

@@ -20,7 +20,7 @@ use Rattle.layout.specs.declared.record.Head.{Head}
 use Rattle.meaning.specs.Numbers.{mostCharts, mostFromState, stayEdition}
 use Rattle.meaning.specs.Count.{tally, one}
 use Rattle.meaning.specs.Count.Laws.{tally-none, tally-more, tally-plus, tally-mono}
-use Rattle.meaning.specs.Meaning.{Set, same, Chart, lastPlace, untriggered}
+use Rattle.meaning.specs.Meaning.{Set, same, Chart, noMove, lastPlace, untriggered}
 use Rattle.meaning.specs.File.{chartOf}
 use Rattle.meaning.specs.Laws.Bools.{same-refl, same→≡, same-≢}
 use Rattle.wiring.specs.Dropped.{join-cong}
@@ -32,7 +32,8 @@ use Rattle.tables.specs.Fill.{othersAt, keepAt}
 use Rattle.tables.specs.Fill.Laws.{keep-stay}
 use Rattle.tables.specs.Triggers.{Noted, begun, passed, noted, SameTriggers, noted-kept, noted-trips, Told, shut, listed, told-kept, stayers}
 use Rattle.candidates.specs.Candidates.{Mays}
-use Rattle.candidates.specs.Candidates.Laws.{length-from, nth-from}
+use Rattle.meaning.specs.Laws.Choices.{nth-from}
+use Rattle.candidates.specs.Candidates.Laws.{length-from}
 use Rattle.staying.specs.Staying.{Notes, Beside, Noting, Tells, quiet, Telling, Stays}
 
 -- ── a trigger that is put down ──
@@ -98,14 +99,14 @@ module _ (f : ℕ → Transition) (start count q c : ℕ) (g₀ : List ℕ) wher
         go : (x : Bool) → same (t .from) q ≡ x → Noting f start count q c (p + 1) g₀ g′ k′
         go true e = let r = noting-room l (same→≡ (t .from) q e) in let z′ : triggersFor (c + 1) ≤ length g = rw (h .beside .size) z in
             rw (o .table ∙ ap (λ x. cond x (putTrigger g c k t) g) e, o .count ∙ ap (λ x. k + one x) e) (record {
-              noted = rw (add-one p, add-one k) (noted (noted-kept g (putTrigger g c k t) c (fromOn f start count) q (put-earlier g c k t m r z′) (h .noted)) t (nth-from f start count p l)
+              noted = rw (add-one p, add-one k) (noted (noted-kept g (putTrigger g c k t) c (fromOn f start count) q (put-earlier g c k t m r z′) (h .noted)) t (nth-from noMove f start count p l)
                   (same→≡ (t .from) q e) (put-needed g c k t m r z′) (put-barred g c k t m r z′));
               counts = counted e;
               beside = beside-put g c k t m r z′ g₀ (h .beside);
             })
         go false e = rw (o .table ∙ ap (λ x. cond x (putTrigger g c k t) g) e, o .count ∙ ap (λ x. k + one x) e) (record {
           noted = rw (add-one p) (subst (λ j. Noted g c (fromOn f start count) q (suc p) j) (let w : k ≡ k + 0 = omega arith in w)
-              (passed (h .noted) t (nth-from f start count p l) (λ w. false≢true (sym e ∙ rw w (same-refl q)))));
+              (passed (h .noted) t (nth-from noMove f start count p l) (λ w. false≢true (sym e ∙ rw w (same-refl q)))));
           counts = counted e;
           beside = h .beside;
         })
