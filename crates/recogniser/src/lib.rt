@@ -1,15 +1,16 @@
 // Whether a text spells a chart (docs/NOTATION.md), and where its first wrong byte is if not: one pass over the text,
-// without recursion. A text is walked back over only where more than levels::KEPT levels were open at once, and once
-// for so many of them: the time is linear up to megabytes of brackets.
+// without recursion. A text is walked back over only where more than levels::KEPT levels were open at once, and in
+// linear time in all (levels.rt says why).
 ghost use mathlib.Core.Path.{_≡_};
 ghost use mathlib.Core.List.{[]};
 ghost use Rattle.notation.specs.Reader.{reader};
-ghost use Rattle.recogniser.specs.Ring.{Keeps};
+ghost use Rattle.recogniser.specs.Ring.{Keeps, MarksIn};
 ghost use Rattle.recogniser.specs.Verdict.{verdictOf};
 
 pub mod bytes;
 pub mod levels;
 pub mod modes;
+pub mod start;
 pub mod table;
 
 // The text spells a chart, or its first wrong byte is at a place: the text's length if it only breaks off.
@@ -18,9 +19,18 @@ pub enum Verdict {
     Wrong(usize),
 }
 
-// The verdict, with a ring that keeps the level of the whole text to begin with.
-fn from_start(text: &[u8], ring: &mut [u8; levels::KEPT], start: levels::Kept) -> Verdict
-    requires { ⌜ Keeps (now ring) start [] ⌝ }
+// The verdict, with a ring that keeps the level of the whole text to begin with, and no mark.
+fn from_start(
+    text: &[u8],
+    ring: &mut levels::Ring,
+    places: &mut levels::Places,
+    firsts: &mut levels::Marks,
+    lasts: &mut levels::Marks,
+    tops: &mut levels::Tops,
+    start: levels::Kept,
+) -> Verdict
+    requires { ⌜ Keeps (now text) (now ring) (now places) start []
+        × MarksIn (now text) (now firsts) (now lasts) (now tops) start ⌝ }
     ensures { λ r. ⌜ r ≡ verdictOf (reader (now (text .entry))) ⌝ }
 {
     let mut kept = start;
@@ -29,17 +39,17 @@ fn from_start(text: &[u8], ring: &mut [u8; levels::KEPT], start: levels::Kept) -
     let mut i: usize = 0;
     while i < text.len() {
         let b = text[i];
-        kept = levels::refilled(text, i, ring, kept, modes::behind_part(m));
+        kept = levels::refilled(text, i, ring, places, firsts, lasts, tops, kept);
         let h = modes::advance(m, x, b, levels::innermost(ring, kept.end));
         if h == modes::NOWHERE {
             return Verdict::Wrong(i);
         }
-        kept = levels::noted(ring, kept, b);
+        kept = levels::noted(ring, places, firsts, lasts, tops, kept, i, b);
         m = h / 8;
         x = h % 8;
         i += 1;
     }
-    kept = levels::refilled(text, i, ring, kept, modes::behind_part(m));
+    kept = levels::refilled(text, i, ring, places, firsts, lasts, tops, kept);
     if modes::accepts(m, x, levels::innermost(ring, kept.end)) {
         return Verdict::Spells;
     }
@@ -51,13 +61,23 @@ pub fn recognise(text: &[u8]) -> Verdict
     ensures { λ r. ⌜ r ≡ verdictOf (reader (now (text .entry))) ⌝ }
 {
     let mut ring = [0u8; levels::KEPT];
+    let mut places = [0usize; levels::KEPT];
+    let mut firsts = [0usize; levels::MARKS];
+    let mut lasts = [0usize; levels::MARKS];
+    let mut tops = [0u8; levels::MARKS];
     from_start(
         text,
         &mut ring,
+        &mut places,
+        &mut firsts,
+        &mut lasts,
+        &mut tops,
         levels::Kept {
             end: 0,
             held: 1,
             fresh: false,
+            floor: 0,
+            marks: 0,
         },
     )
 }

@@ -1,13 +1,14 @@
 // The table of modes: what can come in each, and where it leads; and one byte further by it.
 ghost use mathlib.Core.Path.{_≡_};
 ghost use mathlib.Core.Bool.{_&&_, _||_};
-ghost use lib.Dec.{eqb, leb};
+ghost use lib.Dec.{eqb};
 ghost use Prim.Native.Nat.{_+_, _<_};
 ghost use lib.ListN.{getD};
 ghost use Rattle.scan.specs.Table.{numbers, table, lookup, refine};
 ghost use Rattle.scan.specs.Scan.{tokenAfter, advanceBetween, expect, advanceLetter, advanceNumber, advance};
 ghost use Rattle.scan.specs.Scan.{isWhole, accepts};
 use crate::bytes;
+use crate::start;
 use crate::table;
 
 // No text has the byte there.
@@ -34,7 +35,7 @@ fn row_is(i: usize, m: u64, b: u8) -> bool
 fn lookup(m: u64, b: u8) -> u8
     ensures { λ r. ⌜ r ≡ lookup table m b ⌝ }
 {
-    let mut i: usize = 0;
+    let mut i = start::first(m);
     while i < 507 {
         if row_is(i, m, b) {
             return table::entry(i + 2);
@@ -64,16 +65,6 @@ fn token_after(b: u8) -> u64
         return 4;
     }
     0
-}
-
-// Whether a mode stands behind a part, so that it matters what encloses the part.
-pub fn behind_part(m: u64) -> bool
-    ensures { λ r. ⌜ r ≡ (leb 2 m && leb m 4) ⌝ }
-{
-    if m < 2 {
-        return false;
-    }
-    m <= 4
 }
 
 // The mode, with the level around the part that it stands behind.

@@ -1,18 +1,17 @@
 -- How the levels around the end of the bytes change with one byte more: a bracket that is closed, a bar, a state's
 -- name.
-use mathlib.Core.Path.{_≡_}
 use mathlib.Core.Bool.{Bool, false, cond}
 use mathlib.Core.List.{List, [], _∷_}
-use Prim.Native.Nat.{ℕ, suc, _+_, _-_, _*_, _/_, _<_}
+use Prim.Native.Nat.{ℕ, zero, suc, _+_, _-_, _*_, _/_}
 use lib.Dec.{ltb}
-use lib.ListN.{length, getD}
 use Rattle.notation.specs.Spelling.{blank}
 use Rattle.scan.specs.Look.{opener}
 
--- a bracket is closed: the levels l without the first begin the levels m
-pub record Closes (l m : List ℕ) : Type 0 where
-  pub long : (j : ℕ) → suc j < length l → j < length m
-  pub same : (j : ℕ) → suc j < length l → getD m j 0 ≡ getD l (suc j) 0
+-- the levels outside the first n: what is left when n brackets are closed. The level of the whole text is always there.
+unfoldable pub below : ℕ → List ℕ → List ℕ
+below n [] = 0 ∷ []
+below zero (a ∷ l) = a ∷ l
+below (suc n) (a ∷ l) = below n l
 
 -- a bar: the level of a second part
 unfoldable pub secondOf : ℕ → ℕ

@@ -3,14 +3,14 @@
 use mathlib.Core.Path.{_≡_, refl, sym, ap, _∙_}
 use mathlib.Core.Bool.{Bool, true, false, cond, _||_, false≢true}
 use mathlib.Core.List.{List, [], _∷_}
-use Prim.Native.Nat.{ℕ, zero, suc, _+_, _-_, _*_, _/_, _≤_, _<_}
+use Prim.Native.Nat.{ℕ, zero, suc, _+_, _-_, _*_, _/_, _<_}
 use native.Mathlib.Omega.{arith}
 use borrow.Author.Tests.{eqb-true}
 use lib.Dec.{eqb, ltb}
 use lib.ListN.{length, getD}
 use Rattle.notation.specs.Spelling.{blank}
 use Rattle.scan.specs.Look.{opener, closer, around, level, backTo, look, levels}
-use Rattle.scan.specs.Levels.{Closes, secondOf, onFirst, fresh, slaveOf}
+use Rattle.scan.specs.Levels.{below, secondOf, onFirst, fresh, slaveOf}
 
 true-false : {c : Bool} → c ≡ false → c ≡ true → ⊥
 true-false e f = false≢true (sym e ∙ f)
@@ -58,33 +58,78 @@ levels-some (b ∷ v) n s q = go (closer b) (opener b) (eqb b 124) (blank b) n (
 
 -- ── a bracket is closed: the other levels stay ──
 
-closes-cons : (a : ℕ) (l : List ℕ) → Closes (a ∷ l) l
-closes-cons a l = record { long = λ j h. omega arith; same = λ j h. refl }
+pub below-none : (l : List ℕ) → 0 < length l → below 0 l ≡ l
+unfolding below
+below-none [] h = absurd (omega arith)
+below-none (a ∷ l) h = refl
 
-closes : (v : List ℕ) (n s : ℕ) (q p : Bool) → Closes (levels v n s q) (levels v (suc n) 0 p)
+pub below-below : (n : ℕ) (l : List ℕ) → below n (below 1 l) ≡ below (suc n) l
+unfolding below
+below-below zero [] = refl
+below-below (suc n) [] = refl
+below-below zero (a ∷ []) = refl
+below-below (suc n) (a ∷ []) = refl
+below-below zero (a ∷ b ∷ l) = refl
+below-below (suc n) (a ∷ b ∷ l) = refl
+
+pub below-one : (n : ℕ) (l : List ℕ) → below 1 (below n l) ≡ below (suc n) l
+unfolding below
+below-one zero [] = refl
+below-one (suc n) [] = refl
+below-one zero (a ∷ l) = refl
+below-one (suc n) (a ∷ l) = below-one n l
+
+pub below-at : (l : List ℕ) (j : ℕ) → getD (below 1 l) j 0 ≡ getD l (suc j) 0
+unfolding below
+below-at [] zero = refl
+below-at [] (suc j) = refl
+below-at (a ∷ []) zero = refl
+below-at (a ∷ []) (suc j) = refl
+below-at (a ∷ b ∷ l) j = refl
+
+pub below-head : (n : ℕ) (l : List ℕ) → getD (below n l) 0 0 ≡ getD l n 0
+unfolding below
+below-head zero [] = refl
+below-head (suc n) [] = refl
+below-head zero (a ∷ l) = refl
+below-head (suc n) (a ∷ l) = below-head n l
+
+pub below-some : (n : ℕ) (l : List ℕ) → 0 < length (below n l)
+unfolding below
+below-some zero [] = omega arith
+below-some (suc n) [] = omega arith
+below-some zero (a ∷ l) = omega arith
+below-some (suc n) (a ∷ l) = below-some n l
+
+pub below-first : (g : ℕ → ℕ) (n : ℕ) (l : List ℕ) → below (suc n) l ≡ below (suc n) (onFirst g l)
+unfolding below onFirst
+below-first g n [] = refl
+below-first g n (a ∷ l) = refl
+
+shuts : (v : List ℕ) (n s : ℕ) (q p : Bool) → levels v (suc n) 0 p ≡ below 1 (levels v n s q)
 unfolding levels backTo
-closes [] n s q p = record { long = λ j h. absurd (omega arith); same = λ j h. absurd (omega arith) }
-closes (b ∷ v) n s q p = go (closer b) (opener b) (eqb b 124) (blank b) n (λ n s q p. closes v n s q p)
+shuts [] n s q p = unfold below in refl
+shuts (b ∷ v) n s q p = go (closer b) (opener b) (eqb b 124) (blank b) n (λ n s q p. shuts v n s q p)
   where
-    go : (x y z u : Bool) (n : ℕ) → ((n s : ℕ) (q p : Bool) → Closes (levels v n s q) (levels v (suc n) 0 p))
-        → Closes (cond x (levels v (suc n) s false)
+    go : (x y z u : Bool) (n : ℕ) → ((n s : ℕ) (q p : Bool) → levels v (suc n) 0 p ≡ below 1 (levels v n s q))
+        → cond x (levels v (suc (suc n)) 0 false)
+        (cond y (levels v n 0 false) (cond z (levels v (suc n) 0 false)
+        (cond u (levels v (suc n) 0 p) (levels v (suc n) 0 (eqb b 113)))))
+        ≡ below 1 (cond x (levels v (suc n) s false)
         (cond y (level n (around b s q ∷ levels v 0 0 false) (λ m. levels v m s false))
         (cond z (level n (levels v n 1 false) (λ m. levels v n s false))
         (cond u (levels v n s q) (levels v n s (eqb b 113))))))
-        (cond x (levels v (suc (suc n)) 0 false)
-        (cond y (levels v n 0 false) (cond z (levels v (suc n) 0 false)
-        (cond u (levels v (suc n) 0 p) (levels v (suc n) 0 (eqb b 113))))))
     go true y z u n ih = ih (suc n) s false false
-    go false true z u zero ih = closes-cons (around b s q) (levels v 0 0 false)
+    go false true z u zero ih = unfold below in sym (below-none (levels v 0 0 false) (levels-some v 0 0 false))
     go false true z u (suc n) ih = ih n s false false
     go false false true u zero ih = ih zero 1 false false
     go false false true u (suc n) ih = ih (suc n) s false false
     go false false false true n ih = ih n s q p
     go false false false false n ih = ih n s (eqb b 113) (eqb b 113)
 
-pub levels-closer : (b : ℕ) (v : List ℕ) → closer b ≡ true → Closes (levels v 0 0 false) (levels (b ∷ v) 0 0 false)
+pub levels-closer : (b : ℕ) (v : List ℕ) → closer b ≡ true → levels (b ∷ v) 0 0 false ≡ below 1 (levels v 0 0 false)
 unfolding levels backTo
-levels-closer b v h = rw h (closes v 0 0 false false)
+levels-closer b v h = rw h (shuts v 0 0 false false)
 
 -- ── a bracket is opened: one level more ──
 

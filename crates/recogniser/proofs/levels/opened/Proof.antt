@@ -1,12 +1,27 @@
 -- `levels::opened` meets its contract: the level stands where the ring ends.
 use mathlib.Core.Path.{refl}
 use borrow.Author.Needs.{needs}
-use Rattle.recogniser.specs.Laws.Ring.{ring-open}
+use Rattle.recogniser.specs.Laws.Ring.{stands-open}
 use Rattle.recogniser.proofs.levels.opened.Statement.{statement}
 use Rattle.recogniser.proofs.levels.opened.Tie as tie
 
 returns : tie.Need-returns
-returns c = (refl, λ ls r. ring-open _ _ _ ls r _ _ (c .one-more .ensures .0) (c .one-more .ensures .1))
+returns c =
+    let w = c .before .with-room .ensures in (
+      refl,
+      λ text ls a h.
+          let s = w .1 .1 text ls h in
+          (stands-open text _ _ _ _ _ ls (s .0) (w .1 .0) _ _ a, s .1),
+    )
 
 pub opened-spec : {M : Type 1} → statement M
-opened-spec = tie.close (tie.spec (λ c. search needs) (λ c. search needs) (λ c κs. search needs) returns)
+opened-spec =
+    tie.close
+    (tie.spec
+    (λ c κs. search needs)
+    (λ c. search needs)
+    (λ c. search needs)
+    (λ c. search needs)
+    (λ c. search needs)
+    (λ c. search needs)
+    returns)

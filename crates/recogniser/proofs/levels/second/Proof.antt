@@ -2,14 +2,20 @@
 use mathlib.Core.Path.{refl}
 use borrow.Author.Needs.{needs}
 use Rattle.scan.specs.Levels.{secondOf}
-use Rattle.recogniser.specs.Laws.Ring.{ring-first-at}
+use Rattle.recogniser.specs.Laws.Ring.{stands-first}
 use Rattle.recogniser.proofs.levels.second.Statement.{statement}
 use Rattle.recogniser.proofs.levels.second.Tie as tie
 
 returns : tie.Need-returns
 returns c =
-    let d = c .before .before in
-    (refl, λ ls r. ring-first-at _ _ _ ls r _ (d .slot .ensures .0) secondOf _ (c .second-of .ensures))
+    let d = c .before .before in (
+      refl,
+      (
+        (refl, refl),
+        λ text places ls h. stands-first text _ places _ _ _ ls h (d .before .pre .1) _
+            (d .slot .ensures .0) secondOf _ (c .second-of .ensures),
+      ),
+    )
 
 pub second-spec : {M : Type 1} → statement M
 second-spec =

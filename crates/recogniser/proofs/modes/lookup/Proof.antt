@@ -1,14 +1,14 @@
 -- `modes::lookup` meets its contract: what is left of the table decides.
 use mathlib.Core.Path.{_≡_, refl, sym, ap, _∙_}
-use mathlib.Core.Bool.{Bool, true, false, cond, _&&_}
-use mathlib.Core.List.{List, [], _∷_}
-use Prim.Native.Nat.{ℕ, suc, _+_, _*_, _-_, _%_, _≤_, _<_}
+use mathlib.Core.Bool.{true, false, _&&_}
+use mathlib.Core.List.{List, _∷_}
+use Prim.Native.Nat.{ℕ, suc, _+_, _-_, _%_, _≤_}
 use native.Mathlib.Omega.{arith}
 use borrow.Author.Needs.{needs}
 use lib.Dec.{eqb}
 use lib.ListN.{length, getD, drop, drop-of-length-le}
 use lib.Seq.{drop-cons}
-use Rattle.scan.specs.Table.{Row, row, rowsOf, numbers, table, lookup}
+use Rattle.scan.specs.Table.{row, rowsOf, numbers, table, lookup}
 use Rattle.recogniser.proofs.modes.lookup.Statement.{statement}
 use Rattle.recogniser.proofs.modes.lookup.Tie as tie
 
@@ -69,7 +69,8 @@ lookup-spec =
     (tie.spec
     Inv-loop
     μ-loop
-    (λ c. (refl, omega arith, unfold table in refl))
+    (λ c κs. search needs)
+    (λ c. let f = c .first .ensures in (f .0, f .1 .0, f .1 .1 _))
     (λ c κs. omega arith)
     (λ c. omega arith)
     (λ c κs. omega arith)
