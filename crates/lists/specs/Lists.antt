@@ -4,18 +4,18 @@ use mathlib.Core.Path.{_≡_}
 use mathlib.Core.Bool.{Bool, false, _||_, not}
 use mathlib.Core.Option.{Option}
 use mathlib.Core.List.{List, [], _∷_, _++_}
-use Prim.Native.Nat.{ℕ, _≤_, _<_, _/_}
+use Prim.Native.Nat.{ℕ, _+_, _≤_, _<_, _/_}
 use lib.ListN.{length, drop}
 use Rattle.signals.specs.Mask.{_∪_, bit, single, within}
 use Rattle.meaning.specs.Check.{notBelow, differ}
 use Rattle.notation.specs.Syntax.{OneOrMore, Signals, Heading, Transition, Sequential}
-use Rattle.notation.specs.Spelling.{letQ, lbrace, rbrace, rpar, sign, Tokens, ofNames, ofHeading}
-use Rattle.notation.specs.Spelling.{ofTransitionList, ofTransitions, ofExtra, ofSequential, Text}
+use Rattle.notation.specs.Spelling.{letQ, lbrace, rbrace, rpar, comma, sign, Tokens, ofNames, ofHeading}
+use Rattle.notation.specs.Spelling.{ofTransition, ofTransitionList, ofTransitions, ofExtra, ofSequential, Text}
 use Rattle.reading.specs.Numbers.{namedStates}
-use Rattle.reading.specs.Names.{membersOf, membersOr, first, any, notAll?, set?, optional?, transition?}
-use Rattle.reading.specs.Names.{sequential?, nameOf}
+use Rattle.reading.specs.Names.{membersOf, membersOr, first, any, twice?, notAll?, set?, optional?}
+use Rattle.reading.specs.Names.{transition?, sequential?, nameOf}
 use Rattle.reading.specs.Meant.{maskOf, setOf, optionalOf, headFor}
-use Rattle.tokens.specs.Tokens.{cap}
+use Rattle.tokens.specs.Tokens.{cap, blanks}
 use Rattle.fields.specs.declared.SignalSet.{SignalSet}
 use Rattle.lists.specs.declared.Listed.{Listed}
 use Rattle.lists.specs.declared.StateList.{StateList}
@@ -25,12 +25,18 @@ use Rattle.lists.specs.declared.Sequential.{Sequential as Drawn}
 
 -- ── states ──
 
--- r is the states read so far with the state n: bad if it is out of range or there already, else in the mask
-pub record Lists (mask : ℕ) (bad : Bool) (n : ℕ) (r : Listed) : Type 0 where
-  pub is-bad : r .bad ≡ (bad || (notBelow n namedStates || bit mask n))
-  pub is-mask : n < namedStates → r .mask ≡ mask ∪ single n
+-- r is the names read so far with the name n, which has to be below a limit: bad if it is out of range or there
+-- already, else in the mask
+pub record Lists (limit mask : ℕ) (bad : Bool) (n : ℕ) (r : Listed) : Type 0 where
+  pub is-bad : r .bad ≡ (bad || (notBelow n limit || bit mask n))
+  pub is-mask : n < limit → r .mask ≡ mask ∪ single n
 
--- the mask has a state and not the one before it
+-- the mask and the flag of the names `done`, which have to be below a limit
+pub record SoFar (limit mask : ℕ) (bad : Bool) (done : List ℕ) : Type 0 where
+  pub is-bad : bad ≡ (any (λ n. notBelow n limit) done || twice? done)
+  pub is-mask : bad ≡ false → mask ≡ maskOf done
+
+-- the mask has a name and not the one before it
 abbrev pub gap : ℕ → Bool
 gap mask = not (within (mask / 2) mask)
 
@@ -79,6 +85,7 @@ pub record GivesHeading (w : List ℕ) (r : Headed) (h : Heading) (ts : Tokens) 
 pub record HeadingAt (w : List ℕ) (at : ℕ) (r : Headed) : Type 0 where
   pub within : r .next ≤ length w
   pub onward : at ≤ r .next
+  pub further : at + blanks (drop at w) < length w → at < r .next
   pub gives : (h : Heading) (ts : Tokens) → Text (ofHeading h ++ ts) (drop at w) → GivesHeading w r h ts
 
 -- ── transitions ──
@@ -86,6 +93,11 @@ pub record HeadingAt (w : List ℕ) (at : ℕ) (r : Headed) : Type 0 where
 -- the mask of a chart's states lacks the state n
 unfoldable pub lacks : ℕ → ℕ → Bool
 lacks mask n = notBelow n namedStates || not (bit mask n)
+
+-- each transition behind a comma
+unfoldable pub moreOf : List Transition → Tokens
+moreOf [] = []
+moreOf (t ∷ ts) = sign comma ∷ (ofTransition t ++ moreOf ts)
 
 -- r is the list of the transitions ts, behind which the tokens us go on: how many there are; where the mask is that
 -- of a list of states that is not refused, bad if 52 applies to one of them
@@ -138,8 +150,9 @@ pub record GivesSequential (w : List ℕ) (r : Drawn) (s : Sequential) (ts : Tok
   pub is-extra : r .bad ≡ false → r .extra ≡ headFor s .extra
   pub is-mask : r .bad ≡ false → r .mask ≡ maskOf (membersOf (s .heading .states))
 
--- the sequential chart that stands at a place
+-- the sequential chart that stands at a place; its end is further on if there is a token
 pub record SequentialAt (w : List ℕ) (at : ℕ) (r : Drawn) : Type 0 where
   pub within : r .next ≤ length w
   pub onward : at ≤ r .next
+  pub further : at + blanks (drop at w) < length w → at < r .next
   pub gives : (s : Sequential) (ts : Tokens) → Text (ofSequential s ++ ts) (drop at w) → GivesSequential w r s ts

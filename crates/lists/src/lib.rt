@@ -13,7 +13,7 @@ ghost use Rattle.lists.specs.Lists.{lacks, TransitionsFrom, TransitionsA
 // States are q0 to q15.
 const STATES: u64 = 16;
 
-// States read so far.
+// Names read so far.
 pub struct Listed {
     pub mask: u64,
     pub bad: bool,
@@ -29,7 +29,8 @@ pub struct StateList {
     pub next: usize,
 }
 
-fn either(a: bool, b: bool) -> bool
+// One of two tests applies.
+pub fn either(a: bool, b: bool) -> bool
     ensures { λ r. ⌜ r ≡ (a || b) ⌝ }
 {
     if a {
@@ -38,11 +39,12 @@ fn either(a: bool, b: bool) -> bool
     b
 }
 
-// One state more: it is bad if it is out of range or given before.
-fn with_state(mask: u64, bad: bool, n: u64) -> Listed
-    ensures { λ r. ⌜ Lists mask bad n r ⌝ }
+// One name more, of names below a limit: it is bad if it is out of range or given before.
+pub fn with_name(mask: u64, bad: bool, n: u64, limit: u64) -> Listed
+    requires { ⌜ limit ≤ 64 ⌝ }
+    ensures { λ r. ⌜ Lists limit mask bad n r ⌝ }
 {
-    if n < STATES {
+    if n < limit {
         return Listed {
             mask: signals::with(mask, n as u32),
             bad: either(bad, signals::has(mask, n as u32)),
@@ -55,7 +57,7 @@ fn with_state(mask: u64, bad: bool, n: u64) -> Listed
 }
 
 // A number is left out below the highest.
-fn left_out(mask: u64) -> bool
+pub fn left_out(mask: u64) -> bool
     ensures { λ r. ⌜ r ≡ gap mask ⌝ }
 {
     !signals::within(mask / 2, mask)
@@ -67,12 +69,12 @@ fn states_from(text: &[u8], at: usize) -> StateList
     ensures { λ r. ⌜ StatesFrom (now (text .entry)) at r ⌝ }
 {
     let n = tokens::name_at(text, at);
-    let mut so_far = with_state(0, false, n.value);
+    let mut so_far = with_name(0, false, n.value, STATES);
     let mut i = n.next;
     let mut commas: usize = 0;
     while tokens::peek(text, i) == b',' {
         let m = tokens::name_at(text, tokens::behind_sign(text, i, 1));
-        so_far = with_state(so_far.mask, so_far.bad, m.value);
+        so_far = with_name(so_far.mask, so_far.bad, m.value, STATES);
         i = m.next;
         commas += 1;
     }
@@ -126,7 +128,7 @@ pub fn heading_at(text: &[u8], at: usize) -> Heading
 }
 
 // The mask of a chart's states lacks a state.
-fn lacks(mask: u64, n: u64) -> bool
+pub fn lacks(mask: u64, n: u64) -> bool
     ensures { λ r. ⌜ r ≡ lacks mask n ⌝ }
 {
     if n < STATES {

@@ -1,4 +1,5 @@
--- Theorems on reading a text: a file that is read passes 1 to 11, and what a refusal says (Read); texts by computation
--- (Examples).
+-- Theorems on reading a text: a file that is read passes 1 to 11, and what a refusal says (Read); how long its body is
+-- (Body); texts by computation (Examples).
 pub mod Read
+pub mod Body
 pub mod Examples

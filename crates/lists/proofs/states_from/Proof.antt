@@ -27,7 +27,7 @@ abbrev μ-loop : tie.MeasureT-loop
 loop-holds : tie.Need-loop-holds Inv-loop μ-loop
 loop-holds c =
     let n = c .before .name-at .ensures in
-    ((n .is .within, (n .onward, omega arith)), λ ks ts h. going-first _ ks ts _ _ _ h n (c .with-state .ensures))
+    ((n .is .within, (n .onward, omega arith)), λ ks ts h. going-first _ ks ts _ _ _ h n (c .with-name .ensures))
 
 -- a comma takes the place further on
 further : tie.Need-loop-less Inv-loop μ-loop
@@ -57,7 +57,7 @@ loop-again c =
     let f = further c in (
       (n .is .within, (omega (arith, f, l .inv .0 .1 .0), omega (arith, f, l .inv .0 .1 .1))),
       λ ks ts h. going-more _ ks ts _ _ _ _ _ _ _ _ (sym (p .peek .ensures) ∙ t .if1 .taken) (b .behind-sign .ensures) n
-          (c .with-state2 .ensures) (l .inv .1 ks ts h),
+          (c .with-name2 .ensures) (l .inv .1 ks ts h),
     )
 
 add-count : tie.Need-add-t11 Inv-loop μ-loop

@@ -99,7 +99,7 @@ single-begins (hidden none t y) us = refl
 single-begins (hidden (some x) t y) us =
     ap named? (append-assoc (ofSet x) _ us) ∙ set-begins x _
 
-part-begins : (t : Chart) (us : Tokens) → named? (ofPart t ++ us) ≡ false
+pub part-begins : (t : Chart) (us : Tokens) → named? (ofPart t ++ us) ≡ false
 unfolding ofPart named?
 part-begins (single s) us = single-begins s us
 part-begins (composed a x b) us = refl
@@ -107,40 +107,40 @@ part-begins (composed a x b) us = refl
 -- ── a chart ──
 
 -- the tokens of each form with others behind them
-abbrev masterText : Sequential → Slaves → Tokens → Tokens
+abbrev pub masterText : Sequential → Slaves → Tokens → Tokens
 masterText s ps us =
     sign wordDec ∷ (ofSequential s ++ (sign wordBy ∷ sign lbrace ∷ (ofSlaves ps ++ (sign rbrace ∷ us))))
 
-abbrev hiddenText : Option Signals → Chart → Option Signals → Tokens → Tokens
+abbrev pub hiddenText : Option Signals → Chart → Option Signals → Tokens → Tokens
 hiddenText x t y us = ofOptional x ++ (sign lsq ∷ (ofChart t ++ (sign rsq ∷ (ofOptional y ++ us))))
 
-abbrev bothText : Chart → Signals → Chart → Tokens → Tokens
+abbrev pub bothText : Chart → Signals → Chart → Tokens → Tokens
 bothText a x b us = ofPart a ++ (sign bar ∷ (ofSet x ++ (sign bar ∷ (ofPart b ++ us))))
 
-abbrev pairText : ℕ → Chart → Tokens → Tokens
+abbrev pub pairText : ℕ → Chart → Tokens → Tokens
 pairText q t us = sign lpar ∷ name letQ q ∷ sign comma ∷ (ofChart t ++ (sign rpar ∷ us))
 
-master-text : (s : Sequential) (ps : Slaves) (us : Tokens) → ofSingle (decomposed s ps) ++ us ≡ masterText s ps us
+pub master-text : (s : Sequential) (ps : Slaves) (us : Tokens) → ofSingle (decomposed s ps) ++ us ≡ masterText s ps us
 unfolding ofSingle
 master-text s ps us =
     ap (sign wordDec ∷_)
     (append-assoc (ofSequential s) (sign wordBy ∷ sign lbrace ∷ (ofSlaves ps ++ (sign rbrace ∷ []))) us
     ∙ ap (λ u. ofSequential s ++ (sign wordBy ∷ sign lbrace ∷ u)) (append-assoc (ofSlaves ps) (sign rbrace ∷ []) us))
 
-hidden-text : (x : Option Signals) (t : Chart) (y : Option Signals) (us : Tokens)
+pub hidden-text : (x : Option Signals) (t : Chart) (y : Option Signals) (us : Tokens)
     → ofSingle (hidden x t y) ++ us ≡ hiddenText x t y us
 unfolding ofSingle
 hidden-text x t y us =
     append-assoc (ofOptional x) (sign lsq ∷ (ofChart t ++ (sign rsq ∷ ofOptional y))) us
     ∙ ap (λ u. ofOptional x ++ (sign lsq ∷ u)) (append-assoc (ofChart t) (sign rsq ∷ ofOptional y) us)
 
-both-text : (a : Chart) (x : Signals) (b : Chart) (us : Tokens)
+pub both-text : (a : Chart) (x : Signals) (b : Chart) (us : Tokens)
     → (ofPart a ++ (sign bar ∷ (ofSet x ++ (sign bar ∷ ofPart b)))) ++ us ≡ bothText a x b us
 both-text a x b us =
     append-assoc (ofPart a) (sign bar ∷ (ofSet x ++ (sign bar ∷ ofPart b))) us
     ∙ ap (λ u. ofPart a ++ (sign bar ∷ u)) (append-assoc (ofSet x) (sign bar ∷ ofPart b) us)
 
-part-text : (a : Chart) (x : Signals) (b : Chart) (us : Tokens)
+pub part-text : (a : Chart) (x : Signals) (b : Chart) (us : Tokens)
     → ofPart (composed a x b) ++ us ≡ sign lpar ∷ bothText a x b (sign rpar ∷ us)
 unfolding ofPart
 part-text a x b us =
@@ -150,12 +150,12 @@ part-text a x b us =
     (append-assoc (ofSet x) (sign bar ∷ (ofPart b ++ (sign rpar ∷ []))) us
     ∙ ap (λ u. ofSet x ++ (sign bar ∷ u)) (append-assoc (ofPart b) (sign rpar ∷ []) us)))
 
-pair-text : (q : ℕ) (t : Chart) (us : Tokens) → ofSlaves (firstSlave q t) ++ us ≡ pairText q t us
+pub pair-text : (q : ℕ) (t : Chart) (us : Tokens) → ofSlaves (firstSlave q t) ++ us ≡ pairText q t us
 unfolding ofSlaves
 pair-text q t us =
     ap (λ u. sign lpar ∷ name letQ q ∷ sign comma ∷ u) (append-assoc (ofChart t) (sign rpar ∷ []) us)
 
-pairs-text : (ps : Slaves) (q : ℕ) (t : Chart) (us : Tokens)
+pub pairs-text : (ps : Slaves) (q : ℕ) (t : Chart) (us : Tokens)
     → ofSlaves (moreSlaves ps q t) ++ us ≡ ofSlaves ps ++ (sign comma ∷ pairText q t us)
 unfolding ofSlaves
 pairs-text ps q t us =

@@ -80,7 +80,25 @@ module _ (w : List ℕ) (at i j k l : ℕ) (c q : Name) (s : StateList) (x : Sig
       → r .bad ≡ (s .bad || (differ (q .value) (s .first) || x .bad)) → r .next ≡ x .next → HeadingAt w at r
   unfolding parts signBytes heading? set? same
   heading-right o p u v y z a b en ei ec em ef eb ex =
-      record { within = subst (λ e. e ≤ length w) (sym ex) (b .within); onward = on; gives = go }
+      record {
+        within = subst (λ e. e ≤ length w) (sym ex) (b .within);
+        onward = on;
+        further =
+            λ f.
+            omega (
+              arith,
+              o .further (omega arith) f,
+              p .onward,
+              u .onward,
+              v .onward,
+              y .onward,
+              z .onward,
+              a .onward,
+              b .onward,
+              ex,
+            );
+        gives = go;
+      }
     where
       on : at ≤ r .next
       on =
@@ -111,7 +129,7 @@ module _ (w : List ℕ) (at i j k l : ℕ) (c q : Name) (s : StateList) (x : Sig
                 (differ (cap (h .initial)) (cap (first (h .states)))) (differ (h .initial) (first (h .states)))
                 (set? (h .feedback))
                 (λ e. ap not (cap-same (h .initial) (first (h .states))
-                (cap-in (first (h .states)) (first-in (h .states) e) .1)));
+                (cap-in namedStates (omega arith) (first (h .states)) (first-in (h .states) e) .1)));
             is-mask = λ e. em ∙ t₂ .is-mask (or-left (s .bad) (differ (q .value) (s .first) || x .bad) (sym eb ∙ e));
             is-feedback =
                 λ e. ef

@@ -66,12 +66,12 @@ module _ (w : List ℕ) (at : ℕ) (r : SignalSet) where
 -- ── the parts ──
 
 -- the tokens of a chart with others behind them, part by part
-unfoldable parts : Sequential → Tokens → Tokens
+unfoldable pub parts : Sequential → Tokens → Tokens
 parts s ts =
     ofHeading (s .heading)
     ++ (sign comma ∷ (ofTransitions (s .transitions) ++ (ofExtra (s .extra) ++ (sign rpar ∷ ts))))
 
-parts-are : (s : Sequential) (ts : Tokens) → ofSequential s ++ ts ≡ parts s ts
+pub parts-are : (s : Sequential) (ts : Tokens) → ofSequential s ++ ts ≡ parts s ts
 unfolding ofSequential parts
 parts-are s ts =
     append-assoc (ofHeading (s .heading))
@@ -98,7 +98,7 @@ initial-is h e =
     (or-right (notAll? namedStates (membersOf (h .states)))
     (differ (h .initial) (first (h .states)) || set? (h .feedback)) e) in
     let f = eqb-true (h .initial) (first (h .states)) (not-false (eqb (h .initial) (first (h .states))) d) in
-    cap-in (h .initial) (ap (λ k. notBelow k namedStates) f ∙ first-in (h .states) n) .0
+    cap-in namedStates (omega arith) (h .initial) (ap (λ k. notBelow k namedStates) f ∙ first-in (h .states) n) .0
 
 module _ (w : List ℕ) (at i : ℕ) (h : Headed) (l : TransitionList) (x : SignalSet) (r : Drawn) where
   pub sequential-right : HeadingAt w at h → BehindSign w (h .next) 1 i → TransitionsAt w i (h .mask) l
@@ -107,7 +107,12 @@ module _ (w : List ℕ) (at i : ℕ) (h : Headed) (l : TransitionList) (x : Sign
       → r .mask ≡ h .mask → r .bad ≡ (h .bad || (l .bad || x .bad)) → SequentialAt w at r
   unfolding parts signBytes heading? sequential? headFor
   sequential-right o p q u v en es ei et ef ee em eb =
-      record { within = v .within; onward = on; gives = go }
+      record {
+        within = v .within;
+        onward = on;
+        further = λ l. omega (arith, o .further l, p .onward, q .onward, u .onward, v .onward);
+        gives = go;
+      }
     where
       on : at ≤ r .next
       on = omega (arith, o .onward, p .onward, q .onward, u .onward, v .onward)

@@ -1,4 +1,4 @@
--- Laws of states read one after another: those that are read (`so-far-..`), a number left out (`gap-is`), and the loop
+-- Laws of names read one after another: those that are read (`so-far-..`), a number left out (`gap-is`), and the loop
 -- over their names (`going-..`).
 use mathlib.Core.Path.{_≡_, refl, sym, ap, _∙_, subst}
 use mathlib.Core.Bool.{Bool, true, false, _||_, not, cond, true≢false, false≢true}
@@ -25,7 +25,7 @@ use Rattle.tokens.specs.Laws.Lists.{firstName, restNames, moreNames, names-cons
 use Rattle.fields.specs.Laws.Sets.{any-snoc, mask-snoc}
 use Rattle.lists.specs.declared.Listed.{Listed}
 use Rattle.lists.specs.declared.StateList.{StateList}
-use Rattle.lists.specs.Lists.{Lists, gap, GivesStates, StatesFrom, StatesAt}
+use Rattle.lists.specs.Lists.{Lists, SoFar, gap, GivesStates, StatesFrom, StatesAt}
 
 -- ── masks ──
 
@@ -124,35 +124,31 @@ gap-is ns = go (gap m) (leftOut? ns) refl refl
         ∙ any-of (lacksBefore ns) ns
         (before (within-at (m / 2) m (eqb-true _ 0 (not-false _ e))))))
 
--- ── states read so far ──
+-- ── names read so far ──
 
--- the mask and the flag of the states `done`
-pub record SoFar (mask : ℕ) (bad : Bool) (done : List ℕ) : Type 0 where
-  pub is-bad : bad ≡ (any (λ n. notBelow n namedStates) done || twice? done)
-  pub is-mask : bad ≡ false → mask ≡ maskOf done
-
-pub so-far-none : SoFar 0 false []
+pub so-far-none : (limit : ℕ) → SoFar limit 0 false []
 unfolding any twice? maskOf
-so-far-none = record { is-bad = refl; is-mask = λ e. refl }
+so-far-none limit = record { is-bad = refl; is-mask = λ e. refl }
 
--- a number that is cut is in range and fails a test exactly if the number is and does
-pub cap-test : (f : ℕ → Bool) (n : ℕ) → (notBelow (cap n) namedStates || f (cap n)) ≡ (notBelow n namedStates || f n)
-unfolding cap
-cap-test f n = go (decLt n 1000)
-  where
-    go : Dec (n < 1000) → (notBelow (cond (ltb n 1000) n 1000) namedStates || f (cond (ltb n 1000) n 1000))
-        ≡ (notBelow n namedStates || f n)
-    go (yes h) = rw (lt-ltb n 1000 h)
-    go (no h) = rw (le-ltb n 1000 (omega arith), le-ltb n 16 (omega arith))
+module _ (limit : ℕ) (low : limit ≤ 1000) where
+  -- a number that is cut is in range and fails a test exactly if the number is and does
+  pub cap-test : (f : ℕ → Bool) (n : ℕ) → (notBelow (cap n) limit || f (cap n)) ≡ (notBelow n limit || f n)
+  unfolding cap
+  cap-test f n = go (decLt n 1000)
+    where
+      go : Dec (n < 1000) → (notBelow (cond (ltb n 1000) n 1000) limit || f (cond (ltb n 1000) n 1000))
+          ≡ (notBelow n limit || f n)
+      go (yes h) = rw (lt-ltb n 1000 h)
+      go (no h) = rw (le-ltb n 1000 (omega arith), le-ltb n limit (omega arith), le-ltb 1000 limit (omega arith))
 
--- a number that is cut and in range is the number
-pub cap-in : (n : ℕ) → notBelow n namedStates ≡ false → (cap n ≡ n) × (n < namedStates)
-unfolding cap
-cap-in n e = go (decLt n 16)
-  where
-    go : Dec (n < 16) → (cond (ltb n 1000) n 1000 ≡ n) × (n < 16)
-    go (yes h) = (rw (lt-ltb n 1000 (omega arith)), h)
-    go (no h) = absurd (true≢false (sym (ap not (le-ltb n 16 (omega arith))) ∙ e))
+  -- a number that is cut and in range is the number
+  pub cap-in : (n : ℕ) → notBelow n limit ≡ false → (cap n ≡ n) × (n < limit)
+  unfolding cap
+  cap-in n e = go (decLt n limit)
+    where
+      go : Dec (n < limit) → (cond (ltb n 1000) n 1000 ≡ n) × (n < limit)
+      go (yes h) = (rw (lt-ltb n 1000 (omega arith)), h)
+      go (no h) = absurd (true≢false (sym (ap not (le-ltb n limit (omega arith))) ∙ e))
 
 -- what was bad, a and b, and the new member, c out of range and d given before
 bad-more : (bad a b c d e : Bool) → bad ≡ (a || b) → (bad ≡ false → e ≡ d)
@@ -165,31 +161,32 @@ bad-more false true b c d e f g = absurd (false≢true f)
 bad-more false false true c d e f g = absurd (false≢true f)
 bad-more false false false c d e f g = ap (c ||_) (g refl)
 
-module _ (mask : ℕ) (bad : Bool) (done : List ℕ) (n v : ℕ) (r : Listed) where
-  pub so-far-more : v ≡ cap n → SoFar mask bad done → Lists mask bad v r
-      → SoFar (r .mask) (r .bad) (done ++ (n ∷ []))
+module _ (limit : ℕ) (low : limit ≤ 1000) (mask : ℕ) (bad : Bool) (done : List ℕ) (n v : ℕ) (r : Listed) where
+  pub so-far-more : v ≡ cap n → SoFar limit mask bad done → Lists limit mask bad v r
+      → SoFar limit (r .mask) (r .bad) (done ++ (n ∷ []))
   so-far-more e s l =
-      let is : r .bad ≡ (bad || (notBelow n namedStates || bit mask n)) =
-      l .is-bad ∙ ap (λ k. bad || (notBelow k namedStates || bit mask k)) e ∙ ap (bad ||_) (cap-test (bit mask) n) in
+      let is : r .bad ≡ (bad || (notBelow n limit || bit mask n)) =
+      l .is-bad ∙ ap (λ k. bad || (notBelow k limit || bit mask k)) e
+      ∙ ap (bad ||_) (cap-test limit low (bit mask) n) in
       record {
         is-bad =
             is
-            ∙ bad-more bad (any (λ k. notBelow k namedStates) done) (twice? done) (notBelow n namedStates) (has done n)
+            ∙ bad-more bad (any (λ k. notBelow k limit) done) (twice? done) (notBelow n limit) (has done n)
             (bit mask n) (s .is-bad) (λ f. ap (λ k. bit k n) (s .is-mask f) ∙ bit-mask done n)
-            ∙ sym (ap (_|| twice? (done ++ (n ∷ []))) (any-snoc (λ k. notBelow k namedStates) done n)
-            ∙ ap ((any (λ k. notBelow k namedStates) done || notBelow n namedStates) ||_) (twice-snoc done n));
+            ∙ sym (ap (_|| twice? (done ++ (n ∷ []))) (any-snoc (λ k. notBelow k limit) done n)
+            ∙ ap ((any (λ k. notBelow k limit) done || notBelow n limit) ||_) (twice-snoc done n));
         is-mask =
             λ f.
             let g = sym is ∙ f in
-            let b = or-left bad (notBelow n namedStates || bit mask n) g in
-            let c = cap-in n
-            (or-left (notBelow n namedStates) (bit mask n) (or-right bad (notBelow n namedStates || bit mask n) g)) in
-            l .is-mask (subst (λ k. k < namedStates) (sym (e ∙ c .0)) (c .1))
+            let b = or-left bad (notBelow n limit || bit mask n) g in
+            let c = cap-in limit low n
+            (or-left (notBelow n limit) (bit mask n) (or-right bad (notBelow n limit || bit mask n) g)) in
+            l .is-mask (subst (λ k. k < limit) (sym (e ∙ c .0)) (c .1))
             ∙ ap (λ k. mask ∪ single k) (e ∙ c .0) ∙ ap (_∪ single n) (s .is-mask b) ∙ sym (mask-snoc done n);
       }
 
 -- what was bad, a and b, and a number left out, c
-refused-more : (bad a b c g : Bool) → bad ≡ (a || b) → (bad ≡ false → g ≡ c) → (bad || g) ≡ (a || (b || c))
+pub refused-more : (bad a b c g : Bool) → bad ≡ (a || b) → (bad ≡ false → g ≡ c) → (bad || g) ≡ (a || (b || c))
 refused-more true true b c g f h = refl
 refused-more true false true c g f h = refl
 refused-more true false false c g f h = absurd (true≢false f)
@@ -221,11 +218,12 @@ pub record Going (w : List ℕ) (f i commas mask : ℕ) (bad : Bool) (ks : OneOr
   pub text : Text (moreNames letQ rest ++ (sign rbrace ∷ ts)) (drop i w)
   pub is-first : f ≡ cap (first ks)
   pub counted : suc commas ≡ length done
-  pub so-far : SoFar mask bad done
+  pub so-far : SoFar namedStates mask bad done
 
 module _ (w : List ℕ) (ks : OneOrMore ℕ) (ts : Tokens) where
   pub going-first : (at : ℕ) (n : Name) (r : Listed) → Text (ofNames letQ ks ++ (sign rbrace ∷ ts)) (drop at w)
-      → NameFrom w at n → Lists 0 false (n .value) r → Going w (n .value) (n .next) 0 (r .mask) (r .bad) ks ts
+      → NameFrom w at n → Lists namedStates 0 false (n .value) r
+      → Going w (n .value) (n .next) 0 (r .mask) (r .bad) ks ts
   going-first at n r h f j =
       let t = subst (λ u. Text (u ++ (sign rbrace ∷ ts)) (drop at w)) (names-cons letQ ks) h in
       let m = named-right w at letQ (firstName ks) n t (f .is) in
@@ -236,12 +234,13 @@ module _ (w : List ℕ) (ks : OneOrMore ℕ) (ts : Tokens) where
         text = m .1;
         is-first = m .0 ∙ ap cap (first-is ks);
         counted = refl;
-        so-far = so-far-more 0 false [] (firstName ks) (n .value) r (m .0) so-far-none j;
+        so-far = so-far-more namedStates (omega arith) 0 false [] (firstName ks) (n .value) r (m .0)
+            (so-far-none namedStates) j;
       }
 
   module _ (f i commas mask : ℕ) (bad : Bool) where
     pub going-more : (j : ℕ) (n : Name) (r : Listed) → getD (afterBlanks (drop i w)) 0 0 ≡ 44 → BehindSign w i 1 j
-        → NameFrom w j n → Lists mask bad (n .value) r → Going w f i commas mask bad ks ts
+        → NameFrom w j n → Lists namedStates mask bad (n .value) r → Going w f i commas mask bad ks ts
         → Going w f (n .next) (commas + 1) (r .mask) (r .bad) ks ts
     unfolding moreNames firstByte signBytes
     going-more j n r p b l q g = go (g .rest) (g .all) (g .text)
@@ -260,7 +259,7 @@ module _ (w : List ℕ) (ks : OneOrMore ℕ) (ts : Tokens) where
               text = m .1;
               is-first = g .is-first;
               counted = omega (arith, g .counted, length-snoc (g .done) k);
-              so-far = so-far-more mask bad (g .done) k (n .value) r (m .0) (g .so-far) q;
+              so-far = so-far-more namedStates (omega arith) mask bad (g .done) k (n .value) r (m .0) (g .so-far) q;
             }
 
     pub going-end : (r : StateList) → (getD (afterBlanks (drop i w)) 0 0 ≡ 44 → ⊥) → BehindSign w i 1 (r .next)

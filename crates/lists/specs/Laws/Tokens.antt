@@ -1,19 +1,20 @@
--- A token is told by its first byte: a name (`token-name`) or a sign (`token-sign`); and whether it begins a sequential
--- chart (`begins-bracket`, `begins-other`).
+-- A token is told by its first byte: a name (`token-name`) or a sign (`token-sign`); whether it begins a sequential
+-- chart (`begins-bracket`, `begins-other`); and whether there is one (`text-end`, `text-some`).
 use mathlib.Core.Path.{_≡_, refl, sym, ap, _∙_, subst}
 use mathlib.Core.Bool.{Bool, true, false, cond, true≢false, false≢true}
-use mathlib.Core.List.{List, [], _∷_}
-use Prim.Native.Nat.{ℕ, _+_, _≤_, _<_}
+use mathlib.Core.List.{List, [], _∷_, _++_}
+use Prim.Native.Nat.{ℕ, suc, _+_, _≤_, _<_}
 use native.Mathlib.Omega.{arith}
 use lib.Dec.{eqb}
-use lib.ListN.{length, drop, getD}
+use lib.ListN.{length, drop, getD, length-drop}
 use Rattle.notation.specs.Spelling.{Sign, lpar, rpar, lbrace, rbrace, lsq, rsq, comma, bar, slash, amp, minus, wordDec}
 use Rattle.notation.specs.Spelling.{wordBy, Letter, letC, letQ, letS, letter, Token, sign, signBytes, name, Tokens}
-use Rattle.notation.specs.Spelling.{Text, end, blankThen}
+use Rattle.notation.specs.Spelling.{bytesOf, Text, end, blankThen}
 use Rattle.notation.specs.Reader.{firstByte}
 use Rattle.tokens.specs.declared.Name.{Name}
 use Rattle.tokens.specs.Tokens.{blanks, afterBlanks, BehindSign, NameFrom}
-use Rattle.tokens.specs.Laws.Text.{behind-right, named-right}
+use Rattle.notation.specs.Laws.Signs.{sign-bytes}
+use Rattle.tokens.specs.Laws.Text.{text-token, behind-right, named-right}
 use Rattle.tokens.specs.Laws.Lists.{peek-sign, peek-name}
 use Rattle.lists.specs.Found.{letter?, width, TokenAt, named?, begins?, BeginsAt}
 
@@ -91,7 +92,7 @@ module _ (w : List ℕ) (at : ℕ) where
 -- ── where a sequential chart begins ──
 
 -- behind the last token stand blanks
-text-none : {w : List ℕ} → Text [] w → getD (afterBlanks w) 0 0 ≡ 0
+pub text-none : {w : List ℕ} → Text [] w → getD (afterBlanks w) 0 0 ≡ 0
 unfolding blanks
 text-none end = refl
 text-none (blankThen b e h) = rw e (text-none h)
@@ -158,3 +159,27 @@ module _ (w : List ℕ) (at : ℕ) where
   begins-bracket i p b (sign minus) ts t = absurd (let z = peek-sign minus t in omega arith)
   begins-bracket i p b (sign wordDec) ts t = absurd (let z = peek-sign wordDec t in omega arith)
   begins-bracket i p b (sign wordBy) ts t = absurd (let z = peek-sign wordBy t in omega arith)
+
+-- ── the end of a text ──
+
+blanks-all : {w : List ℕ} → Text [] w → blanks w ≡ length w
+unfolding blanks
+blanks-all end = refl
+blanks-all (blankThen b e h) = rw e (ap suc (blanks-all h))
+
+some-bytes : (t : Token) (v : List ℕ) → 0 < length (bytesOf t ++ v)
+unfolding bytesOf
+some-bytes (sign k) v = rw (sign-bytes k) (omega arith)
+some-bytes (name l n) v = omega arith
+
+module _ (w : List ℕ) (i : ℕ) where
+  -- no token is left
+  pub text-end : i ≤ length w → Text [] (drop i w) → i + blanks (drop i w) ≡ length w
+  text-end l h = omega (arith, blanks-all h, length-drop i w)
+
+  -- a token is left
+  pub text-some : (t : Token) (ts : Tokens) → Text (t ∷ ts) (drop i w) → i + blanks (drop i w) < length w
+  text-some t ts h =
+      let m = text-token h in
+      omega
+      (arith, some-bytes t (m .0), ap length (m .1), length-drop (blanks (drop i w)) (drop i w), length-drop i w)

@@ -23,7 +23,7 @@ use Rattle.tokens.specs.Laws.Lists.{peek-sign}
 use Rattle.fields.specs.declared.Passage.{Passage}
 use Rattle.fields.specs.Fields.{Passes, TransitionAt}
 use Rattle.lists.specs.declared.TransitionList.{TransitionList}
-use Rattle.lists.specs.Lists.{lacks, GivesTransitions, TransitionsFrom, TransitionsAt}
+use Rattle.lists.specs.Lists.{lacks, moreOf, GivesTransitions, TransitionsFrom, TransitionsAt}
 use Rattle.lists.specs.Laws.States.{or-left, any-at, bit-mask, cap-test, length-snoc}
 
 -- ── what 52 asks of a transition ──
@@ -35,9 +35,9 @@ passage? mask t =
     || (lacks mask (t .to) || (signals? (map signalOf (membersOr (t .guard))) || set? (t .action)))
 
 -- a number that is cut is lacking exactly if the number is
-cap-lacks : (mask n : ℕ) → lacks mask (cap n) ≡ lacks mask n
+pub cap-lacks : (mask n : ℕ) → lacks mask (cap n) ≡ lacks mask n
 unfolding lacks
-cap-lacks mask n = cap-test (λ k. not (bit mask k)) n
+cap-lacks mask n = cap-test namedStates (omega arith) (λ k. not (bit mask k)) n
 
 -- a transition as it is read
 pub passage-read : (w : List ℕ) (mask : ℕ) (p : Passage) (t : Transition) (us : Tokens) → Passes w p t us
@@ -49,7 +49,7 @@ passage-read w mask p t us q =
 
 module _ (mask : ℕ) (states : List ℕ) (e : notAll? namedStates states ≡ false) (m : mask ≡ maskOf states) where
   -- the mask lacks a state exactly if the list does
-  lacks-is : (n : ℕ) → lacks mask n ≡ not (has states n)
+  pub lacks-is : (n : ℕ) → lacks mask n ≡ not (has states n)
   unfolding lacks notAll?
   lacks-is n =
       ap (λ b. notBelow n namedStates || not b) (ap (λ k. bit k n) m ∙ bit-mask states n)
@@ -85,11 +85,6 @@ unfoldable pub restIn : OneOrMore Transition → List Transition
 restIn (one t) = []
 restIn (ts ▸ t) = restIn ts ++ (t ∷ [])
 
--- each transition behind a comma
-unfoldable pub moreOf : List Transition → Tokens
-moreOf [] = []
-moreOf (t ∷ ts) = sign comma ∷ (ofTransition t ++ moreOf ts)
-
 more-snoc : (ts : List Transition) (t : Transition)
     → moreOf (ts ++ (t ∷ [])) ≡ moreOf ts ++ (sign comma ∷ ofTransition t)
 unfolding moreOf
@@ -106,13 +101,13 @@ list-cons (ts ▸ t) =
     ∙ append-assoc (ofTransition (firstIn ts)) (moreOf (restIn ts)) (sign comma ∷ ofTransition t)
     ∙ ap (ofTransition (firstIn ts) ++_) (sym (more-snoc (restIn ts) t))
 
-members-list : (ts : OneOrMore Transition) → membersOf ts ≡ firstIn ts ∷ restIn ts
+pub members-list : (ts : OneOrMore Transition) → membersOf ts ≡ firstIn ts ∷ restIn ts
 unfolding membersOf firstIn restIn
 members-list (one t) = refl
 members-list (ts ▸ t) = ap (_++ (t ∷ [])) (members-list ts)
 
 -- the first transition, and then the others
-first-text : (w : List ℕ) (at : ℕ) (ts : OneOrMore Transition) (us : Tokens)
+pub first-text : (w : List ℕ) (at : ℕ) (ts : OneOrMore Transition) (us : Tokens)
     → Text (ofTransitionList ts ++ (sign rbrace ∷ us)) (drop at w)
     → Text (ofTransition (firstIn ts) ++ (moreOf (restIn ts) ++ (sign rbrace ∷ us))) (drop at w)
 first-text w at ts us h =
@@ -120,7 +115,7 @@ first-text w at ts us h =
     (ap (_++ (sign rbrace ∷ us)) (list-cons ts)
     ∙ append-assoc (ofTransition (firstIn ts)) (moreOf (restIn ts)) (sign rbrace ∷ us)) h
 
-any-more : {A : Type 0} (p : A → Bool) (a : List A) (t : A) → any p (a ++ (t ∷ [])) ≡ (any p a || p t)
+pub any-more : {A : Type 0} (p : A → Bool) (a : List A) (t : A) → any p (a ++ (t ∷ [])) ≡ (any p a || p t)
 unfolding any
 any-more p [] t = go (p t)
   where
@@ -208,12 +203,12 @@ module _ (w : List ℕ) (mask : ℕ) (ts : OneOrMore Transition) (us : Tokens) w
 -- ── a list in braces ──
 
 -- behind the opening brace
-none-text : (w : List ℕ) (at i : ℕ) (us : Tokens) → BehindSign w at 1 i → Text (ofTransitions none ++ us) (drop at w)
-    → Text (sign rbrace ∷ us) (drop i w)
+pub none-text : (w : List ℕ) (at i : ℕ) (us : Tokens) → BehindSign w at 1 i
+    → Text (ofTransitions none ++ us) (drop at w) → Text (sign rbrace ∷ us) (drop i w)
 unfolding ofTransitions signBytes
 none-text w at i us b t = behind-right w at lbrace i t (b .behind)
 
-some-text : (w : List ℕ) (at i : ℕ) (ts : OneOrMore Transition) (us : Tokens) → BehindSign w at 1 i
+pub some-text : (w : List ℕ) (at i : ℕ) (ts : OneOrMore Transition) (us : Tokens) → BehindSign w at 1 i
     → Text (ofTransitions (some ts) ++ us) (drop at w) → Text (ofTransitionList ts ++ (sign rbrace ∷ us)) (drop i w)
 unfolding ofTransitions signBytes
 some-text w at i ts us b t =
@@ -222,12 +217,12 @@ some-text w at i ts us b t =
     (b .behind)
 
 -- the byte that comes next tells whether the list is empty
-none-next : (w : List ℕ) (i : ℕ) (us : Tokens) → Text (sign rbrace ∷ us) (drop i w)
+pub none-next : (w : List ℕ) (i : ℕ) (us : Tokens) → Text (sign rbrace ∷ us) (drop i w)
     → getD (afterBlanks (drop i w)) 0 0 ≡ 125
 unfolding firstByte
 none-next w i us t = peek-sign rbrace t
 
-some-next : (w : List ℕ) (i : ℕ) (ts : OneOrMore Transition) (us : Tokens)
+pub some-next : (w : List ℕ) (i : ℕ) (ts : OneOrMore Transition) (us : Tokens)
     → Text (ofTransitionList ts ++ (sign rbrace ∷ us)) (drop i w) → getD (afterBlanks (drop i w)) 0 0 ≡ 40
 unfolding firstByte ofTransition
 some-next w i ts us t = peek-sign lpar (first-text w i ts us t)

@@ -15,7 +15,8 @@ use Rattle.tokens.specs.Tokens.{blanks, digits, cap, numberOn}
 
 module _ (w : List ℕ) (i : ℕ) where
   module _ (l : i < length w) where
-    at : drop i w ≡ getD w i 0 ∷ drop (i + 1) w
+    -- the byte at the place, and those behind it
+    pub at : drop i w ≡ getD w i 0 ∷ drop (i + 1) w
     at = drop-cons w i 0 l ∙ ap (λ k. getD w i 0 ∷ drop k w) (sym (add-one i))
 
     pub blanks-more : blank (getD w i 0) ≡ true → blanks (drop i w) ≡ suc (blanks (drop (i + 1) w))

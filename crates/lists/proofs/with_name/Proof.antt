@@ -1,12 +1,12 @@
--- `with_state` meets its contract.
+-- `with_name` meets its contract.
 use mathlib.Core.Path.{_≡_, refl, sym, ap, _∙_}
 use mathlib.Core.Bool.{Bool, true, false, _||_, not}
 use native.Mathlib.Omega.{arith}
 use borrow.Author.Needs.{needs}
 use borrow.Author.Tests.{lt-ltb, le-ltb}
 use Rattle.signals.specs.Mask.{bit}
-use Rattle.lists.proofs.with_state.Statement.{statement}
-use Rattle.lists.proofs.with_state.Tie as tie
+use Rattle.lists.proofs.with_name.Statement.{statement}
+use Rattle.lists.proofs.with_name.Tie as tie
 
 or-true : (b : Bool) → true ≡ (b || true)
 or-true true = refl
@@ -21,7 +21,7 @@ returns c =
     record {
       is-bad =
           c .either .ensures ∙ ap (a .bad ||_) (h .has .ensures)
-          ∙ sym (ap (λ b. a .bad || (not b || bit (a .mask) (a .n))) (lt-ltb (a .n) 16 l));
+          ∙ sym (ap (λ b. a .bad || (not b || bit (a .mask) (a .n))) (lt-ltb (a .n) (a .limit) l));
       is-mask = λ l. h .before .with .ensures;
     }
 
@@ -31,12 +31,12 @@ returns-2 c =
     let h = c .if1 .left in
     record {
       is-bad =
-          or-true (a .bad) ∙ sym (ap (λ b. a .bad || (not b || bit (a .mask) (a .n))) (le-ltb (a .n) 16 h));
+          or-true (a .bad) ∙ sym (ap (λ b. a .bad || (not b || bit (a .mask) (a .n))) (le-ltb (a .n) (a .limit) h));
       is-mask = λ l. absurd (omega arith);
     }
 
-pub with-state-spec : {M : Type 1} → statement M
-with-state-spec =
+pub with-name-spec : {M : Type 1} → statement M
+with-name-spec =
     tie.close
     (tie.spec
     (λ c. search needs)
