@@ -13,8 +13,9 @@
  * Every call returns 0 for success, or the number of its refusal (RULES 3).
  *   - Buffers (`config`, `next`, `rows`, `out`): a call that succeeds writes to the front of the buffer, and leaves the rest of it unchanged. A call
  *     that is refused leaves all of it unchanged, and so does a refused mestecur_post with `cases`.
- *   - Results (`input`, `output`, `mark`, `carried_on`, `length`, `plain`, `places`, `open`, `answer`, `signal`) are always written. If the call is
- *     refused, each place is MESTECUR_NO_PLACE and every other result is 0. The exception is `open` in refusal 24: it has the number that is too large.
+ *   - Results (`input`, `output`, `mark`, `carried_on`, `length`, `plain`, `places`, `open`, `answer`, `signal`, `place`) are always written. If the
+ *     call is refused, each of `places` is MESTECUR_NO_PLACE and every other result is 0. There are two exceptions: `open` in refusal 24 has the number
+ *     that is too large, and `place` in refusal 50 the place of the first wrong byte.
  *
  * Limits (RULES 2.8): 16 charts, 15 slaves, 64 nodes and 1,024 transitions in a file; 16 states and 64 transitions in a chart, 8 transitions from a
  * state; 16,777,216 open choices in a step.
@@ -95,6 +96,11 @@ enum {
  * lowest signal that is to blame, 0 if the guard is met. Refusals: 1 to 11, 25, 26. */
 uint8_t mestecur_lacking(const uint8_t *file, size_t file_len, size_t chart, size_t place, uint64_t offered, uint8_t *answer, uint8_t *signal);
 
+/* Reads a chart that is typed as text (docs/NOTATION.md, RULES 14), writes the file that it means to `out`, edition 1 and without a front, and its
+ * length to `length`. With refusal 50, `place` has the place of the first byte that no text could have there, counted from 0; it is `text_len` if the
+ * text only breaks off. In every other answer `place` is 0. A buffer of 15,848 bytes is always enough. Refusals: 50, 51, 52, 1 to 11, 45. */
+uint8_t mestecur_read(const uint8_t *text, size_t text_len, uint8_t *out, size_t out_len, size_t *length, size_t *place);
+
 /* A case of a book (RULES 11.1). Its configuration is the first `length` bytes of `config`; the others are not read. */
 typedef struct {
     uint64_t carried;   /* the set that refused days carry to the next one; 0 for a new case */
@@ -150,8 +156,13 @@ enum {
     MESTECUR_REWRITING_STATE = 41,   /* the result would have more than 8 transitions from one state */
     MESTECUR_REWRITING_CHART = 42,   /* the result would have more than 64 transitions in one chart */
     MESTECUR_REWRITING_NODES = 44,   /* the result would have more than 64 nodes */
-    MESTECUR_REWRITING_ROOM = 45,    /* the buffer is shorter than the result; of mestecur_clear too */
+    MESTECUR_REWRITING_ROOM = 45,    /* the buffer is shorter than the result; of mestecur_clear and mestecur_read too */
     MESTECUR_REWRITING_EDITION = 46, /* the file is edition 2, which can be neither rewritten nor cleared; tested right after 11 */
+
+    MESTECUR_NOTATION = 50, /* the text is not of the notation */
+    MESTECUR_NESTING = 51,  /* the typed chart is more than 16 deep */
+    MESTECUR_NAMES = 52,    /* a name is out of range; a chart, or a state in its list, is given twice or left out; an initial state is not the
+                               first of its list; or a state is used that its chart does not have */
 
     MESTECUR_BOOK = 60,         /* there is no case, or there are more than 64 */
     MESTECUR_ENTRY = 61,        /* an entry is for a case that is not in the book */

@@ -7,5 +7,6 @@ pub mod measure;
 pub mod parts;
 pub mod picture;
 pub mod posting;
+pub mod reading;
 pub mod table;
 pub mod worst;

@@ -1,6 +1,6 @@
 //! `bench [PART] [--picture FILE]`: measures and prints a table of each part, `check`, `step`, `many`
-//! (steps of nine charts and more), `staying` (steps of edition 2), `run`, `rewriting`, `posting` or
-//! `growth`, ratios first; all of them if none is named. The picture has the ratios of the parts measured
+//! (steps of nine charts and more), `staying` (steps of edition 2), `run`, `rewriting`, `posting`, `reading`
+//! or `growth`, ratios first; all of them if none is named. The picture has the ratios of the parts measured
 //! as bars on a log scale.
 //!
 //! `bench worst COUNT`: draws so many files of edition 2 of each of three shapes, and prints which of them
@@ -10,17 +10,18 @@ use bench::family::WORST;
 use bench::parts::{self, Part};
 use bench::picture::{picture, Bar};
 use bench::posting::posting;
+use bench::reading::reading;
 use bench::worst::worst;
 use reference::words;
 use std::process::ExitCode;
 
 /// What can be said on the command line.
 const USE: &str =
-    "use: bench [check | step | many | staying | run | rewriting | posting | growth] \
+    "use: bench [check | step | many | staying | run | rewriting | posting | reading | growth] \
     [--picture FILE] | worst COUNT";
 
 /// All parts, in the order of the table.
-const NAMES: [&str; 8] = [
+const NAMES: [&str; 9] = [
     "check",
     "step",
     "many",
@@ -28,6 +29,7 @@ const NAMES: [&str; 8] = [
     "run",
     "rewriting",
     "posting",
+    "reading",
     "growth",
 ];
 
@@ -79,6 +81,7 @@ fn measured(name: &str) -> Vec<Part> {
         "run" => parts::run(),
         "rewriting" => vec![parts::rewriting()],
         "posting" => vec![posting()],
+        "reading" => vec![reading()],
         _ => parts::growth(),
     }
 }

@@ -2,11 +2,13 @@
 //! without the words behind it.
 
 use crate::check::accept;
+use crate::clearing::clear;
 use crate::day::line;
 use crate::first::first_configuration;
 use crate::interface::interface;
 use crate::lacking::{lacking, shown as shown_by};
 use crate::limits::{refusal, SIGNALS};
+use crate::notation::file_of;
 use crate::plain::is_plain;
 use crate::rewriting::rewrite;
 use crate::run::{run_model, Row};
@@ -17,7 +19,7 @@ use crate::step::{accept_configuration, step_model, Place};
 const ROOM: usize = 65_536;
 
 /// What was refused, and the refusal.
-type Refused = (&'static str, u8);
+pub type Refused = (&'static str, u8);
 
 /// What is printed for a command on a file; nothing if it is no command or typed wrong.
 pub fn chart(command: &str, file: &[u8], words: &[&str]) -> Option<String> {
@@ -39,6 +41,8 @@ pub fn chart(command: &str, file: &[u8], words: &[&str]) -> Option<String> {
             rows_and_carried(file, &configuration(config)?, &sets?)
         }
         ("rewrite", []) => rewritten(file).map(|out| format!("{} bytes written\n", out.len())),
+        ("clear", []) => cleared(file).and_then(|out| lost(file, &out)),
+        ("read", []) => file_typed(file).map(|out| format!("{} bytes written\n", out.len())),
         _ => return None,
     };
     Some(answer.unwrap_or_else(|(what, number)| format!("{what} refused {number}\n")))
@@ -54,6 +58,41 @@ pub fn rewritten(file: &[u8]) -> Result<Vec<u8>, Refused> {
     }
     out.truncate(done.length);
     Ok(out)
+}
+
+/// The file without its dead transitions.
+pub fn cleared(file: &[u8]) -> Result<Vec<u8>, Refused> {
+    accept(file).map_err(of_file)?;
+    let mut out = vec![0; ROOM];
+    let done = clear(file, &mut out);
+    if done.refusal != refusal::SUCCESS {
+        return Err(("clearing", done.refusal));
+    }
+    out.truncate(done.length);
+    Ok(out)
+}
+
+/// A line for each chart that lost transitions.
+fn lost(file: &[u8], cleared: &[u8]) -> Result<String, Refused> {
+    let (old, new) = (
+        accept(file).map_err(of_file)?,
+        accept(cleared).map_err(of_file)?,
+    );
+    let charts = old.charts.iter().zip(&new.charts).enumerate();
+    Ok(charts
+        .filter_map(|(c, (before, after))| {
+            match before.transitions.len() - after.transitions.len() {
+                0 => None,
+                1 => Some(format!("chart {c} lost 1 transition\n")),
+                n => Some(format!("chart {c} lost {n} transitions\n")),
+            }
+        })
+        .collect())
+}
+
+/// The file that a text means.
+pub fn file_typed(text: &[u8]) -> Result<Vec<u8>, Refused> {
+    file_of(text).map_err(|(number, _)| ("text", number))
 }
 
 /// A refusal of the file.

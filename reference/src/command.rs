@@ -8,7 +8,7 @@
 use crate::limits::EARLIER_CHARTS;
 use crate::set::Set;
 use crate::step::NO_PLACES;
-use crate::{check, clear, first, interface, lacking, plain, rewrite, run, step, Places};
+use crate::{check, clear, first, interface, lacking, plain, read, rewrite, run, step, Places};
 
 /// The value of each byte of the buffer before a call.
 pub const FILL: u8 = 0xA5;
@@ -36,10 +36,12 @@ pub enum Op {
     Open,
     /// What a transition lacks: the inputs are the chart's number, the place, and the offered set.
     Lacking,
+    /// Typed text read into a file: the text stands where other calls have their file.
+    Read,
 }
 
 /// All ops; the place of each is its number in the header.
-pub const OPS: [Op; 10] = [
+pub const OPS: [Op; 11] = [
     Op::Check,
     Op::First,
     Op::Interface,
@@ -50,6 +52,7 @@ pub const OPS: [Op; 10] = [
     Op::Clear,
     Op::Open,
     Op::Lacking,
+    Op::Read,
 ];
 
 /// One call, with all that is passed to it.
@@ -219,6 +222,15 @@ impl Command {
         }
     }
 
+    /// The reading of a text, into a buffer of this length.
+    pub fn read(name: &str, text: Vec<u8>, room: usize) -> Command {
+        Command {
+            op: Op::Read,
+            room,
+            ..Command::check(name, text)
+        }
+    }
+
     /// Whether it is small enough to be recorded.
     pub fn can_be_recorded(&self) -> bool {
         let bytes = self.file.len().max(self.room);
@@ -289,6 +301,7 @@ impl Command {
             Op::Rewrite | Op::Clear => vec![one.to_string(), lent],
             Op::Plain => vec![one.to_string()],
             Op::Lacking => vec![one.to_string(), other.to_string()],
+            Op::Read => vec![one.to_string(), other.to_string(), lent],
         }
     }
 
@@ -338,6 +351,11 @@ impl Command {
                     Err(refusal) => (refusal, Numbers::NONE),
                 }
             }
+            Op::Read => {
+                let answer = read(file, lent);
+                let numbers = Numbers::two(answer.length as u64, answer.place as u64);
+                (answer.refusal, numbers)
+            }
         }
     }
 }
@@ -355,6 +373,7 @@ fn word(op: Op) -> &'static str {
         Op::Clear => "clear",
         Op::Open => "open",
         Op::Lacking => "lacking",
+        Op::Read => "read",
     }
 }
 

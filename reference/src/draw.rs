@@ -9,13 +9,16 @@ use crate::command::{Command, Op, OPS};
 use crate::generate::*;
 use crate::limits::*;
 use crate::model::Edition;
-use crate::record::{named, KINDS};
+use crate::record::{named, Kind, KINDS};
 use crate::set::Set;
+use crate::texts::typed::right_text;
 
 /// The most choices of one call, those of all inputs of a run together.
 const CHOICES: u64 = 5_000;
 /// The choices of a step that is called hard, from and to.
 const HARD_CHOICES: (u64, u64) = (2_000, 60_000);
+/// There are many named texts, most of them alike: of so many, one is altered.
+const TEXTS: usize = 8;
 
 /// A source of random calls.
 pub struct Draw {
@@ -26,7 +29,9 @@ pub struct Draw {
 impl Draw {
     /// The source of a seed.
     pub fn new(seed: u64) -> Draw {
-        let named = KINDS.into_iter().flat_map(named);
+        let of_files = KINDS.into_iter().filter(|&kind| kind != Kind::Read);
+        let texts = named(Kind::Read).into_iter().step_by(TEXTS);
+        let named = of_files.flat_map(named).chain(texts);
         Draw {
             random: Random::new(seed),
             named: named.map(|case| case.command).collect(),
@@ -66,7 +71,7 @@ fn files(random: &mut Random) -> Files {
 /// A call with a random file; half of the steps are compared with all that they answer in their
 /// lines.
 fn fresh(random: &mut Random, name: &str) -> Command {
-    let (kind, files) = (random.below(18), files(random));
+    let (kind, files) = (random.below(20), files(random));
     affordable(random, |random| match kind {
         0..=3 => file_command(random, files, name),
         4 | 5 => step_command(random, files, name),
@@ -75,7 +80,8 @@ fn fresh(random: &mut Random, name: &str) -> Command {
         10 | 11 => rewrite_command(random, files, name),
         12 | 13 => plain_command(random, files, name),
         14 | 15 => clear_command(random, files, name),
-        _ => lacking_command(random, files, name),
+        16 | 17 => lacking_command(random, files, name),
+        _ => read_command(random, files, name),
     })
 }
 
@@ -176,6 +182,10 @@ fn other_call(random: &mut Random, command: &mut Command) {
         Op::Run => room(random, command.inputs.len() * (ROW_HEAD_BYTES + charts)),
         Op::Rewrite => room(random, 2 * command.file.len() + NODES * NODE_BYTES),
         Op::Clear => room(random, command.file.len()),
+        Op::Read => {
+            command.file = right_text(random, &model);
+            room(random, model.file().len())
+        }
     };
 }
 

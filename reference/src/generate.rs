@@ -15,6 +15,7 @@ use crate::plain::{feedback_sets, pairs_from_one_state};
 use crate::run::run_model;
 use crate::set::Set;
 use crate::step::accept_configuration;
+use crate::texts::draw::text_and_room;
 
 /// A deterministic source of numbers (splitmix64).
 pub struct Random {
@@ -1062,4 +1063,23 @@ fn nearly(random: &mut Random, needed: Set, barred: Set) -> Set {
         (needed.signals().collect(), barred.signals().collect());
     let there = random.subset(&wanted, most);
     there.joined(random.subset(&unwanted, many))
+}
+
+/// The longest text that is recorded of those drawn at random.
+const RECORDED_TEXT: usize = 700;
+
+/// Random texts that are not long.
+pub fn read_commands(drawing: Drawing) -> Vec<Command> {
+    drawing.commands(|random, files, name| loop {
+        let command = read_command(random, files, name);
+        if command.file.len() <= RECORDED_TEXT {
+            return command;
+        }
+    })
+}
+
+/// One random text; its buffer is often just long enough for the file, or a byte short.
+pub fn read_command(random: &mut Random, _: Files, name: &str) -> Command {
+    let (text, room) = text_and_room(random);
+    Command::read(name, text, room)
 }

@@ -32,6 +32,14 @@ pub const SIGNALS: u32 = 64;
 pub const NO_PLACE: u8 = 255;
 /// RULES 5.11: the place of a chart that stayed.
 pub const STAYED: u8 = 254;
+/// RULES 14.3: typed charts are c0 to c7.
+pub const NAMED_CHARTS: usize = 8;
+/// RULES 14.3: typed states are q0 to q15.
+pub const NAMED_STATES: usize = 16;
+/// RULES 14.3: typed signals are s0 to s63.
+pub const NAMED_SIGNALS: usize = SIGNALS as usize;
+/// RULES 14.2: how deep a typed chart may be.
+pub const NESTING: usize = 16;
 /// RULES 3.4: the most bytes of the day program's input.
 pub const DAY_INPUT: usize = 65_536;
 
@@ -68,7 +76,7 @@ pub const KIND_COMPOSED: u8 = 1;
 /// RULES 2.6: the kind of a hidden node.
 pub const KIND_HIDDEN: u8 = 2;
 
-/// What a call returns (RULES 3.2 to 3.5, 3.7).
+/// What a call returns (RULES 3.2 to 3.5, 3.7, 3.8).
 pub mod refusal {
     /// none of the tests applies
     pub const SUCCESS: u8 = 0;
@@ -126,6 +134,12 @@ pub mod refusal {
     pub const REWRITING_ROOM: u8 = 45;
     /// the file has edition 2
     pub const REWRITING_EDITION: u8 = 46;
+    /// the text is not of the notation
+    pub const NOTATION: u8 = 50;
+    /// the typed chart is nested too deep
+    pub const NESTING: u8 = 51;
+    /// the names of the typed chart are not right
+    pub const NAMES: u8 = 52;
     /// the book has no case, or too many
     pub const BOOK: u8 = 60;
     /// an entry is for a case that is not in the book

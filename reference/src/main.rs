@@ -1,7 +1,7 @@
 //! The command line:
 //!
 //! - `reference record KIND COMMANDS LINES` writes the recorded calls of a kind (`file`, `step`,
-//!   `run`, `rewrite`, `plain`, `clear` or `lacking`) to the file COMMANDS and the lines they answer to the file LINES;
+//!   `run`, `rewrite`, `plain`, `clear`, `lacking` or `read`) to the file COMMANDS and the lines they answer to the file LINES;
 //!   of the kind `post` the recorded postings.
 //! - `reference file NAME` prints the file of a named case.
 //! - `reference show` reads recorded calls on standard input and prints the lines they answer.
@@ -25,7 +25,7 @@ use reference::command::decode_all;
 use reference::laws::{self, Engine, REFERENCE};
 use reference::record::{commands, encode, lines, named, Kind, KINDS};
 use reference::words;
-use reference::{book, cleared};
+use reference::{book, chart, cleared};
 use std::fmt::Display;
 use std::io::{Read, Write};
 use std::process::ExitCode;
@@ -42,8 +42,10 @@ fn main() -> ExitCode {
         ["file", name] => file(name),
         ["show"] => show(),
         ["day"] => day(),
-        ["chart", "rewrite", file, out] => rewrite(file, out),
-        ["chart", command, file, ref words @ ..] => chart(command, file, words),
+        ["chart", "rewrite", file, out] => written("rewrite", file, out, chart::rewritten),
+        ["chart", "clear", file, out] => written("clear", file, out, chart::cleared),
+        ["chart", "read", text, out] => written("read", text, out, chart::file_typed),
+        ["chart", command, file, ref words @ ..] => answer(command, file, words),
         ["replay"] => replay(),
         ["laws", seed, count] => told("laws", seed, count, laws::hold),
         ["cleared", seed, count] => told("cleared", seed, count, cleared::hold),
@@ -55,7 +57,7 @@ fn main() -> ExitCode {
 /// Writes the calls of a kind and their lines.
 fn record(kind: &str, calls: &str, answers: &str) -> Result<(), String> {
     let kind = Kind::of(kind)
-        .ok_or("the kinds are file, step, run, rewrite, plain, clear, lacking, post")?;
+        .ok_or("the kinds are file, step, run, rewrite, plain, clear, lacking, read, post")?;
     let commands = commands(kind);
     write(calls, &encode(&commands))?;
     write(answers, lines(&commands).as_bytes())?;
@@ -105,17 +107,20 @@ fn day() -> Result<(), String> {
 }
 
 /// Prints the command line tool's answer.
-fn chart(command: &str, file: &str, words: &[&str]) -> Result<(), String> {
-    let answer = reference::chart::chart(command, &read(file)?, words).ok_or(USE)?;
+fn answer(command: &str, file: &str, words: &[&str]) -> Result<(), String> {
+    let answer = chart::chart(command, &read(file)?, words).ok_or(USE)?;
     print(answer.as_bytes())
 }
 
-/// The same of the rewriting, which also writes a file.
-fn rewrite(file: &str, out: &str) -> Result<(), String> {
-    if let Ok(bytes) = reference::chart::rewritten(&read(file)?) {
+/// What makes a file of a file or of a text.
+type Make = fn(&[u8]) -> Result<Vec<u8>, chart::Refused>;
+
+/// The same of a command that also writes a file.
+fn written(command: &str, file: &str, out: &str, make: Make) -> Result<(), String> {
+    if let Ok(bytes) = make(&read(file)?) {
         write(out, &bytes)?;
     }
-    chart("rewrite", file, &[])
+    answer(command, file, &[])
 }
 
 /// The engines that laws are asked of.

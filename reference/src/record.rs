@@ -15,10 +15,11 @@ pub enum Kind {
     Plain,
     Clear,
     Lacking,
+    Read,
 }
 
 /// All kinds.
-pub const KINDS: [Kind; 7] = [
+pub const KINDS: [Kind; 8] = [
     Kind::File,
     Kind::Step,
     Kind::Run,
@@ -26,6 +27,7 @@ pub const KINDS: [Kind; 7] = [
     Kind::Plain,
     Kind::Clear,
     Kind::Lacking,
+    Kind::Read,
 ];
 
 /// The random calls of a recording of each kind: with files of edition 1, then of edition 2.
@@ -37,6 +39,9 @@ const RANDOM_PLAINS: [Drawing; 2] = both((0x706c_6169, 300), (0x706c_616a, 40));
 const RANDOM_CLEARINGS: [Drawing; 2] = both((0x636c_6561, 200), (0x636c_6562, 30));
 
 const RANDOM_QUESTIONS: [Drawing; 2] = both((0x6c61_636b, 400), (0x6c61_636c, 100));
+
+/// Texts have no edition of their own: the file that is read is edition 1.
+const RANDOM_TEXTS: [Drawing; 2] = both((0x7265_6164, 200), (0x7265_6165, 0));
 
 /// Steps whose lines show all that they answer, and after them the calls with files of nine charts
 /// and more.
@@ -99,6 +104,7 @@ impl Kind {
             "plain" => Some(Kind::Plain),
             "clear" => Some(Kind::Clear),
             "lacking" => Some(Kind::Lacking),
+            "read" => Some(Kind::Read),
             _ => None,
         }
     }
@@ -141,6 +147,7 @@ pub fn named(kind: Kind) -> Vec<Case> {
             cases::many::clear_cases(),
         ],
         Kind::Lacking => vec![cases::lacking::cases()],
+        Kind::Read => vec![cases::read::cases()],
     };
     lists.into_iter().flatten().collect()
 }
@@ -155,6 +162,7 @@ pub fn random(kind: Kind) -> Vec<Command> {
         Kind::Plain => (RANDOM_PLAINS, generate::plain_commands),
         Kind::Clear => (RANDOM_CLEARINGS, generate::clear_commands),
         Kind::Lacking => (RANDOM_QUESTIONS, generate::lacking_commands),
+        Kind::Read => (RANDOM_TEXTS, generate::read_commands),
     };
     let later: Vec<Drawing> = match kind {
         Kind::File => LARGE_FILES.to_vec(),
@@ -164,6 +172,7 @@ pub fn random(kind: Kind) -> Vec<Command> {
         Kind::Plain => LARGE_PLAINS.to_vec(),
         Kind::Clear => LARGE_CLEARINGS.to_vec(),
         Kind::Lacking => LARGE_QUESTIONS.to_vec(),
+        Kind::Read => vec![],
     };
     let earlier = drawings.into_iter().flat_map(make);
     let later = later.into_iter().flat_map(make).map(Command::whole_line);

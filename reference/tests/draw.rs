@@ -16,6 +16,11 @@ fn drawn(seed: u64, count: usize) -> Vec<Command> {
         .collect()
 }
 
+/// The calls that take a file.
+fn of_files() -> impl Iterator<Item = Op> {
+    OPS.into_iter().filter(|&op| op != Op::Read)
+}
+
 /// The refusals of a call beside 1 to 11 (RULES 3.6).
 fn own_refusals(op: Op) -> &'static [u8] {
     match op {
@@ -26,6 +31,7 @@ fn own_refusals(op: Op) -> &'static [u8] {
         Op::Rewrite => &[40, 41, 42, 44, 45, 46],
         Op::Clear => &[45, 46],
         Op::Lacking => &[25, 26],
+        Op::Read => &[45, 50, 51, 52],
     }
 }
 
@@ -36,7 +42,11 @@ fn every_call_meets_each_of_its_refusals() {
         let calls = commands.iter().filter(|command| command.op == op);
         let found: BTreeSet<u8> = calls.map(|command| command.answer().refusal).collect();
         let mut expected = BTreeSet::from([refusal::SUCCESS]);
-        expected.extend(refusal::TOO_SHORT..=refusal::NUMBERING);
+        match op {
+            // the others of 1 to 11 are met by no text
+            Op::Read => expected.extend([3, 6, 7, 8, 11]),
+            _ => expected.extend(refusal::TOO_SHORT..=refusal::NUMBERING),
+        }
         expected.extend(own_refusals(op));
         assert_eq!(found, expected, "{op:?}");
     }
@@ -53,7 +63,7 @@ fn some_steps_are_hard_and_few_are() {
 #[test]
 fn many_files_are_large() {
     let commands = drawn(7, 9_000);
-    for op in OPS {
+    for op in of_files() {
         let calls = commands.iter().filter(|command| command.op == op);
         let accepted: Vec<Model> = calls.filter_map(|c| accept(&c.file).ok()).collect();
         let large = accepted.iter().filter(|m| m.charts.len() > EARLIER_CHARTS);
@@ -69,7 +79,7 @@ fn many_files_are_large() {
 #[test]
 fn a_third_of_the_files_are_edition_2() {
     let commands = drawn(6, 9_000);
-    for op in OPS {
+    for op in of_files() {
         let calls = commands.iter().filter(|command| command.op == op);
         let accepted: Vec<Model> = calls.filter_map(|c| accept(&c.file).ok()).collect();
         let second = accepted.iter().filter(|m| m.edition == Edition::Second);

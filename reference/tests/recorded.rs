@@ -68,6 +68,7 @@ fn every_refusal_of_every_call_is_reached() {
     reach_exactly(Kind::Rewrite, &|_| true, &[40, 41, 42, 44, 45, 46]);
     reach_exactly(Kind::Plain, &|_| true, &[]);
     reach_exactly(Kind::Clear, &|_| true, &[45, 46]);
+    reach(Kind::Read, &|_| true, &[0, 3, 6, 7, 8, 11, 45, 50, 51, 52]);
 }
 
 #[test]
@@ -78,6 +79,7 @@ fn random_calls_alone_reach_most_refusals() {
         (Kind::Run, vec![20, 21, 27]),
         (Kind::Rewrite, vec![40, 41, 45, 46]),
         (Kind::Clear, vec![45, 46]),
+        (Kind::Read, vec![0, 7, 8, 45, 50, 51, 52]),
     ] {
         reach(kind, &|r| r.is_random, &numbers);
     }
@@ -153,6 +155,10 @@ fn a_refusal_leaves_all_lent_bytes_and_gives_empty_answers() {
                 Op::Plain => format!("{name} plain {number} 0\n"),
                 Op::Clear => format!("{name} clear {number} 0 {untouched}\n"),
                 Op::Lacking => format!("{name} lacking {number} 0 0\n"),
+                Op::Read => {
+                    let place = reference::read(&command.file, &mut []).place;
+                    format!("{name} read {number} 0 {place} {untouched}\n")
+                }
                 Op::Open => {
                     format!("{name} open {number} {zeros} n {none}{none} {open} {untouched}\n")
                 }
@@ -181,6 +187,7 @@ fn there_are_enough_of_each_kind() {
     assert!(count(Kind::Plain, false) > 80 && count(Kind::Plain, true) >= 300);
     assert!(count(Kind::Clear, false) > 70 && count(Kind::Clear, true) >= 200);
     assert!(count(Kind::Lacking, false) > 80 && count(Kind::Lacking, true) >= 400);
+    assert!(count(Kind::Read, false) > 400 && count(Kind::Read, true) >= 200);
 }
 
 /// The random steps that are given, with their models and marks.
@@ -299,6 +306,18 @@ fn lines_by_hand() {
         line(Command::clear("c", n1().file(), 2)),
         "c clear 45 0 a5a5\n"
     );
+    let text = b"(c0,{q0},q0,{},{})".to_vec();
+    let whole = line(Command::read("t", text.clone(), 57));
+    assert!(
+        whole.starts_with("t read 0 56 0 010000")
+            && whole.ends_with("2c0000000100010100000000a5\n")
+    );
+    assert_eq!(
+        line(Command::read("t", text.clone(), 0)),
+        "t read 45 0 0 -\n"
+    );
+    let cut = text[..9].to_vec();
+    assert_eq!(line(Command::read("t", cut, 1)), "t read 50 0 9 a5\n");
 }
 
 #[test]

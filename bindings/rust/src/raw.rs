@@ -94,4 +94,14 @@ extern "C" {
         answer: *mut u8,
         signal: *mut u8,
     ) -> u8;
+
+    /// Reads typed text, and writes the file that it means.
+    pub fn mestecur_read(
+        text: *const u8,
+        text_len: usize,
+        out: *mut u8,
+        out_len: usize,
+        length: *mut usize,
+        place: *mut usize,
+    ) -> u8;
 }

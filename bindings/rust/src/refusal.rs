@@ -9,7 +9,7 @@ use std::num::NonZeroU8;
 pub struct Refusal(NonZeroU8);
 
 /// Why a call is refused, by number (RULES 3). The day program's numbers are not here: no call gives them.
-const WORDS: [(u8, &str); 29] = [
+const WORDS: [(u8, &str); 32] = [
     (1, "fewer than 12 bytes, so there is no trailer"),
     (2, "the edition is neither 1 nor 2"),
     (
@@ -70,6 +70,13 @@ const WORDS: [(u8, &str); 29] = [
     (
         46,
         "edition 2, in which charts may stay; only edition 1 can be rewritten or cleared",
+    ),
+    (50, "the text is not of the notation"),
+    (51, "the typed chart is nested more than 16 deep"),
+    (
+        52,
+        "a name is out of range, or the charts or the states of a chart are not typed as they have to be: \
+         each number from 0 on once, the initial state first, and no state used that its chart does not have",
     ),
     (60, "posting: a book needs 1 to 64 cases"),
     (

@@ -199,6 +199,18 @@ fn print_lacking(file: &[u8], inputs: &[u64]) {
     end_line();
 }
 
+// A text, in place of the file, that is read into the buffer.
+fn print_reading(text: &[u8], out: &mut [u8]) {
+    let f = texts::read(text, out);
+    print_refusal(b" read ", f.refusal);
+    space();
+    io::print_decimal(STDOUT_FILENO, f.length as u64);
+    space();
+    io::print_decimal(STDOUT_FILENO, f.place as u64);
+    print_buffer(out);
+    end_line();
+}
+
 // The call that a command asks for, on its file, its configuration, what is carried, its inputs and a buffer.
 fn print_call(op: u8, file: &[u8], config: &[u8], carried: u64, inputs: &[u64], lent: &mut [u8]) {
     match op {
@@ -211,6 +223,7 @@ fn print_call(op: u8, file: &[u8], config: &[u8], carried: u64, inputs: &[u64], 
         7 => print_clearing(file, lent),
         8 => print_open(file, config, input_at(inputs, 0), lent),
         9 => print_lacking(file, inputs),
+        10 => print_reading(file, lent),
         _ => print_plain(file),
     }
 }

@@ -18,6 +18,7 @@ pub enum Command {
     Clear,
     Lacking,
     Why,
+    Read,
     Other,
 }
 
@@ -76,6 +77,9 @@ fn command_of(word: &[u8]) -> Command {
     if typed::is(word, b"why") {
         return Command::Why;
     }
+    if typed::is(word, b"read") {
+        return Command::Read;
+    }
     Command::Other
 }
 
@@ -97,6 +101,7 @@ fn fewest(c: Command) -> usize {
         Command::Run => 5,
         Command::Rewrite => 4,
         Command::Clear => 4,
+        Command::Read => 4,
         Command::Lacking => 6,
         Command::Why => 5,
         _ => 3,

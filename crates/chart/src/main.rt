@@ -2,6 +2,7 @@
 // Answers and refusals go to standard output; what is wrong with a command or a file's name goes to standard error.
 mod ask;
 mod tell;
+mod typing;
 mod why;
 mod words;
 
@@ -32,6 +33,7 @@ fn answer(c: Command, file: &[u8]) {
         Command::Clear => tell::clear(file),
         Command::Lacking => why::lacking(file),
         Command::Why => why::why(file),
+        Command::Read => typing::read(file),
         Command::Other => {}
     }
 }

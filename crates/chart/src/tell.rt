@@ -33,7 +33,7 @@ fn row_room() -> [u8; MOST_SETS * layout::row::MOST_BYTES]
     [0; MOST_SETS * layout::row::MOST_BYTES]
 }
 
-fn out_room() -> [u8; 65536]
+pub fn out_room() -> [u8; 65536]
     ensures { λ r. ⌜ 65536 ≡ length r ⌝ }
 {
     [0; 65536]
@@ -288,7 +288,7 @@ fn is_saved(bytes: &[u8]) -> bool {
 }
 
 // The same, and says how long the file is.
-fn save(bytes: &[u8]) {
+pub fn save(bytes: &[u8]) {
     if is_saved(bytes) {
         io::print_decimal(STDOUT_FILENO, bytes.len() as u64);
         say(b" bytes written\n");

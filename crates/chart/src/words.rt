@@ -121,12 +121,30 @@ fn say_rewriting(refusal: u8) {
     }
 }
 
+// Why a text is refused (RULES 14).
+fn say_text(refusal: u8) {
+    if refusal == texts::NOT_NOTATION {
+        say(b"not the notation of charts");
+    }
+    if refusal == texts::TOO_DEEP {
+        say(b"charts are nested more than 16 deep");
+    }
+    if refusal == texts::BAD_NAME {
+        say(
+            b"a name is out of range (c0 to c7, q0 to q15, s0 to s63), a chart or a state of a \
+              list is given twice, a number below the highest is left out, an initial state is \
+              not the first of its list, or a state is used that its chart lacks",
+        );
+    }
+}
+
 // A refusal's words, to the line's end.
 pub fn end_refused(refusal: u8) {
     say(b": ");
     say_file(refusal);
     say_step(refusal);
     say_rewriting(refusal);
+    say_text(refusal);
     say(b"\n");
 }
 
@@ -156,6 +174,11 @@ pub fn clearing_refusal(r: u8) {
     } else {
         refused(b"clearing", r);
     }
+}
+
+// The same where a text was to be read; 1 to 11 are those of the file that it means.
+pub fn text_refusal(r: u8) {
+    refused(b"text", r);
 }
 
 // The same of a question about a transition.
@@ -194,7 +217,8 @@ pub fn help(fd: i32) {
           chart rewrite FILE OUT         writes the same chart without slaves to the file OUT\n  \
           chart clear FILE OUT           writes the same chart without dead transitions to the file OUT\n  \
           chart lacking FILE CHART PLACE SET  whether a transition's guard is met when its chart is offered the set, or what it lacks\n  \
-          chart why FILE CONFIG SET      the same of each transition from the present states, under the input alone\n\
+          chart why FILE CONFIG SET      the same of each transition from the present states, under the input alone\n  \
+          chart read TEXT OUT            writes the file that a typed text means (docs/NOTATION.md) to the file OUT\n\
           \n\
           CONFIG is the state of each chart, such as 0.1. SET is a list of signals, such as s0,s3; a number in hex, such as 0x9; or - for none.\n\
           A step is shown as its number, its output in hex, the configuration after it, y if all permitted choices agree or else n, and its\n\

@@ -13,6 +13,7 @@ use Rattle.meaning.specs.Rewriting.{rewriteRefusal, rewriteLength, rewriteOut}
 use Rattle.meaning.specs.Plain.{plainOf}
 use Rattle.clearing.specs.Clearing.{clearRefusal, clearLength, clearOut}
 use Rattle.lacks.specs.Lacking.{lackingOf, caseIn, signalIn}
+use Rattle.reading.specs.Read.{readRefusal, readLength, readPlace, readOut}
 use Rattle.lacks.specs.Lacking.{refusalIn as refusedIn}
 pub mod Laws
 
@@ -51,3 +52,8 @@ ClearReturns f b r c size = (r ≡ clearRefusal f (length b)) × (c ≡ clearOut
 abbrev pub LackingReturns : List ℕ → ℕ → ℕ → Set → ℕ → ℕ → ℕ → Type 0
 LackingReturns f chart place o r answer signal =
     let a = lackingOf f chart place o in (r ≡ refusedIn a) × (answer ≡ caseIn a) × (signal ≡ signalIn a)
+
+-- length of the file, and place of the first wrong byte (RULES 14)
+abbrev pub ReadReturns : List ℕ → List ℕ → ℕ → List ℕ → ℕ → ℕ → Type 0
+ReadReturns text b r c size place =
+    (r ≡ readRefusal text (length b)) × (c ≡ readOut text b) × (size ≡ readLength text (length b)) × (place ≡ readPlace text)

@@ -1,10 +1,10 @@
-// The engine and the posting for programs in C and Rust (include/mestecur.h). A slice passes as a pointer and a length. Each function returns 0 or the
+// The engine, the posting and the typed notation for programs in C and Rust (include/mestecur.h). A slice passes as a pointer and a length. Each function returns 0 or the
 // refusal. A single number behind a pointer is an answer, and is 0 where the call is refused, but for the number of open choices in 24; places are
 // answers too, and are 255 then.
 ghost use mathlib.Core.Path.{_≡_};
 ghost use Rattle.meaning.specs.Count.{one};
 ghost use Rattle.exports.specs.Contracts.{CheckReturns, FirstReturns, InterfaceReturns, PlainReturns, StepReturns};
-ghost use Rattle.exports.specs.Contracts.{RunReturns, RewriteReturns, ClearReturns, LackingReturns};
+ghost use Rattle.exports.specs.Contracts.{RunReturns, RewriteReturns, ClearReturns, LackingReturns, ReadReturns};
 ghost use Rattle.posting.specs.Posting.{PostSays};
 use posting::Case;
 use posting::Entry;
@@ -135,4 +135,20 @@ pub extern "C" fn mestecur_lacking(
     *answer = a.answer;
     *signal = a.signal;
     a.refusal
+}
+
+#[no_mangle]
+pub extern "C" fn mestecur_read(
+    text: &[u8],
+    out: &mut [u8],
+    size: &mut usize,
+    place: &mut usize,
+) -> u8
+    ensures { λ r. ⌜ ReadReturns (now (text .entry)) (now (out .entry)) r (now (out .exit)) (now (size .exit))
+        (now (place .exit)) ⌝ }
+{
+    let f = texts::read(text, out);
+    *size = f.length;
+    *place = f.place;
+    f.refusal
 }

@@ -9,6 +9,7 @@ pub mod first_interface;
 pub mod lacking;
 pub mod many;
 pub mod plain;
+pub mod read;
 pub mod rewrite;
 pub mod rows;
 pub mod run;

@@ -81,6 +81,11 @@ pub fn raw(command: &Command, lent: &mut [u8]) -> (u8, Numbers) {
                 );
                 (refusal, Numbers::two(u64::from(answer), u64::from(signal)))
             }
+            Op::Read => {
+                let mut place = BEFORE as usize;
+                let refusal = mestecur_read(file, long, out, room, &mut length, &mut place);
+                (refusal, Numbers::two(length as u64, place as u64))
+            }
         }
     }
 }
@@ -96,6 +101,7 @@ pub fn binding(command: &Command, lent: &mut [u8]) -> (u8, Numbers) {
             mestecur::interface(file).map(|found| Numbers::two(found.input.0, found.output.0))
         }
         Op::Step | Op::Open => return step(file, config, inputs[0], lent),
+        Op::Read => return read(file, lent),
         Op::Run => mestecur::run(file, config, Set(command.carried.0), &inputs, lent)
             .map(|carried| Numbers::two(carried.0, 0)),
         Op::Rewrite => mestecur::rewrite(file, lent).map(|length| Numbers::two(length as u64, 0)),
@@ -137,6 +143,14 @@ fn step(file: &[u8], config: &[u8], input: Set, lent: &mut [u8]) -> (u8, Numbers
                 },
             )
         }
+    }
+}
+
+/// A text read through the binding.
+fn read(text: &[u8], lent: &mut [u8]) -> (u8, Numbers) {
+    match mestecur::read(text, lent) {
+        Ok(length) => (0, Numbers::two(length as u64, 0)),
+        Err(refused) => (refused.number(), Numbers::two(0, refused.place as u64)),
     }
 }
 

@@ -7,7 +7,7 @@ pub mod same;
 
 use crate::cases::charts::whole_case;
 use crate::cases::run::rows_bytes;
-use crate::command::{hex, Call, Command, Numbers};
+use crate::command::{hex, Call, Command, Numbers, Op};
 use crate::draw::Draw;
 use crate::generate::Random;
 use crate::Set;
@@ -30,10 +30,17 @@ const POSTS: usize = 10;
 /// The inputs of a run that is longer than the day program's can be.
 const LONG_RUN: usize = 8_189;
 
-/// Makes a long run and so many random calls and postings in both engines; the first one that differs,
+/// How many brackets and transitions the long texts have.
+const BRACKETS: usize = 250_000;
+const TYPED_TRANSITIONS: usize = 65_536;
+
+/// Makes a long run, reads long texts, and makes so many random calls and postings in both engines; the first one that differs,
 /// in words. Gives the number of postings.
 pub fn agree(seed: u64, count: usize) -> Result<usize, String> {
     compare(&long_run(seed))?;
+    for text in long_texts() {
+        compare(&Command::read("long-text", text.into_bytes(), 8))?;
+    }
     let mut draw = Draw::new(seed);
     for place in 0..count {
         let command = draw.command(&format!("fuzz-{seed}-{place}"));
@@ -52,6 +59,32 @@ fn long_run(seed: u64) -> Command {
     let inputs: Vec<Set> = (0..LONG_RUN).map(|_| Set(random.bits() & 3)).collect();
     let room = rows_bytes(LONG_RUN, 1);
     Command::run("long-run", whole_case().file(), &[0], &inputs, room)
+}
+
+/// Long texts: brackets that are open, closed, and closed once too often; more transitions in
+/// a chart and in two charts than their counts have bytes for.
+fn long_texts() -> Vec<String> {
+    let (open, closed) = ("[".repeat(BRACKETS), "]".repeat(BRACKETS));
+    let (chart, list) = (
+        "(c0,{q0},q0,{},{})",
+        ["(q0,q0,/{}),"; TYPED_TRANSITIONS].concat(),
+    );
+    let with = |name: &str, more: &str| format!("({name},{{q0}},q0,{{}},{{{list}{more}}})");
+    vec![
+        open.clone(),
+        "(".repeat(BRACKETS),
+        format!("{open}{chart}{closed}"),
+        format!("{open}{chart}{closed}]"),
+        format!("{open}{chart}{}", &closed[1..]),
+        with("c0", "(q0,q0,/{})"),
+        with("c0", ""),
+        format!(
+            "{}|{{}}|{}",
+            with("c0", "(q0,q0,/{})"),
+            with("c1", "(q0,q0,/{})")
+        ),
+        format!("(c0,{{{}q0}},q0,{{}},{{}})", "q0,".repeat(BRACKETS / 3)),
+    ]
 }
 
 /// Makes one call here, in the engine and through its binding for Rust.
@@ -102,12 +135,22 @@ fn difference(command: &Command, expected: &Told, who: &str, told: &Told) -> Str
             "carried {:x?}, inputs {:x?}",
             command.carried, command.inputs
         ),
+        match command.op {
+            Op::Read => format!("the text begins with {:?}", beginning(&command.file)),
+            _ => format!("a file of {} bytes", command.file.len()),
+        },
         match command.can_be_recorded() {
             true => format!("recorded form: {}", hex(&command.encode())),
             false => "too large to be recorded".to_string(),
         },
     ];
     lines.join("\n")
+}
+
+/// The first bytes of a text, to be shown.
+fn beginning(text: &[u8]) -> String {
+    let most = text.len().min(200);
+    String::from_utf8_lossy(&text[..most]).into_owned()
 }
 
 /// What was told, on a line.

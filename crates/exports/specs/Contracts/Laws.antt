@@ -4,7 +4,8 @@ use mathlib.Core.List.{List}
 use Prim.Native.Nat.{ℕ}
 use Rattle.meaning.specs.Meaning.{Set}
 use Rattle.engine.specs.Contracts.Laws.{one, both}
-use Rattle.exports.specs.Contracts.{CheckReturns, FirstReturns, InterfaceReturns, PlainReturns, StepReturns, RunReturns, RewriteReturns, ClearReturns, LackingReturns}
+use Rattle.exports.specs.Contracts.{CheckReturns, FirstReturns, InterfaceReturns, PlainReturns, StepReturns}
+use Rattle.exports.specs.Contracts.{RunReturns, RewriteReturns, ClearReturns, LackingReturns, ReadReturns}
 
 module _ (f : List ℕ) where
   pub check-determined : (r r′ : ℕ) → CheckReturns f r → CheckReturns f r′ → r ≡ r′
@@ -45,3 +46,8 @@ module _ (f : List ℕ) where
       → LackingReturns f chart place o r′ a′ s′ → (r ≡ r′) × (a ≡ a′) × (s ≡ s′)
   lacking-determined chart place o r r′ a a′ s s′ p q =
       (one r r′ (p .0) (q .0), one a a′ (p .1) (q .1), one s s′ (p .2) (q .2))
+
+pub read-determined : (text b : List ℕ) (r r′ : ℕ) (c c′ : List ℕ) (n n′ k k′ : ℕ) → ReadReturns text b r c n k
+    → ReadReturns text b r′ c′ n′ k′ → (r ≡ r′) × (c ≡ c′) × (n ≡ n′) × (k ≡ k′)
+read-determined text b r r′ c c′ n n′ k k′ p q =
+    (one r r′ (p .0) (q .0), one c c′ (p .1) (q .1), one n n′ (p .2) (q .2), one k k′ (p .3) (q .3))
