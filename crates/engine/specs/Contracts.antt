@@ -21,7 +21,7 @@ use Rattle.engine.specs.declared.file.StateCounts.{StateCounts}
 use Rattle.engine.specs.declared.interface.Faces.{Faces}
 use Rattle.engine.specs.declared.plainness.Plainness.{Plainness}
 use Rattle.engine.specs.declared.rewriting.Rewritten.{Rewritten}
-use Rattle.stepping.specs.declared.run.Ran.{Ran}
+use Rattle.running.specs.declared.Ran.{Ran}
 use Rattle.stepping.specs.declared.step.Stepped.{Stepped}
 pub mod Laws
 

@@ -1,7 +1,7 @@
 // The run (RULES 6): the file is opened once, and its body run.
 ghost use Rattle.engine.specs.Contracts.{RunSays};
 use checks::limits;
-use stepping::run::Ran;
+use running::Ran;
 
 // A run from a configuration, with what is carried there: a row for each input, at the front of `rows`, and what is carried after the last.
 pub fn run(file: &[u8], config: &[u8], carried: u64, inputs: &[u64], rows: &mut [u8]) -> Ran
@@ -10,10 +10,10 @@ pub fn run(file: &[u8], config: &[u8], carried: u64, inputs: &[u64], rows: &mut 
     let o = checks::opening::opened(file);
     let r = o.refusal;
     if r != limits::ACCEPTED {
-        return stepping::run::refused(r);
+        return running::refused(r);
     }
     let n = o.shape;
     let start = o.start;
     let end = o.end;
-    stepping::run::of_body(n, &file[start..end], config, carried, inputs, rows)
+    running::of_body(n, &file[start..end], config, carried, inputs, rows)
 }

@@ -67,7 +67,7 @@ fn bad_states(n: Shape, body: &[u8], config: &[u8]) -> bool
 }
 
 // 20 and 21.
-pub(crate) fn config_refusal(n: Shape, body: &[u8], config: &[u8]) -> u8
+pub fn config_refusal(n: Shape, body: &[u8], config: &[u8]) -> u8
     requires { ⌜ Holds n (now body) ⌝ }
     ensures { λ r. ⌜ r ≡ firstOf (configTestsIn (fileAt n (now (body .entry))) (now (config .entry))) ⌝ }
 {
@@ -182,9 +182,9 @@ fn counted(n: Shape, body: &[u8], config: &[u8], small: &[u8]) -> Ways
 }
 
 // What a step comes to: how many choices are open, and what was found among them.
-pub(crate) struct Tried {
-    pub(crate) open_choices: u64,
-    pub(crate) found: Found,
+pub struct Tried {
+    pub open_choices: u64,
+    pub found: Found,
 }
 
 // Nothing was looked for among so many open choices.
@@ -198,7 +198,7 @@ fn untried(open_choices: u64) -> Tried
 }
 
 // 24, 23, or 0 if the step is given.
-pub(crate) fn refusal_of(t: Tried) -> u8
+pub fn refusal_of(t: Tried) -> u8
     ensures { λ r. ⌜ r ≡ triedRefusal t ⌝ }
 {
     if t.open_choices > limits::MOST_OPEN {
@@ -212,7 +212,7 @@ pub(crate) fn refusal_of(t: Tried) -> u8
 }
 
 // One step of a wired body from a configuration. There is nothing to look for where no choice is open; where too many are, nothing is looked for.
-pub(crate) fn try_wired(
+pub fn try_wired(
     n: Shape,
     body: &[u8],
     config: &[u8],
@@ -272,7 +272,7 @@ fn try_new(n: Shape, body: &[u8], config: &[u8], input: u64) -> Tried
 }
 
 // The first n states, over the front of the caller's buffer.
-pub(crate) fn put_states(buffer: &mut [u8], states: [u8; CHARTS], n: usize)
+pub fn put_states(buffer: &mut [u8], states: [u8; CHARTS], n: usize)
     requires { ⌜ (n ≤ mostCharts) × (n ≤ length (now buffer)) ⌝ }
     ensures { λ _. ⌜ now (buffer .exit) ≡ laidOver (take n states) (now (buffer .entry)) ⌝ }
 {

@@ -9,7 +9,7 @@ use lib.ListN.{length, take, drop, length-take, length-drop, take-append-drop}
 use lib.Seq.{drop-drop, length-take-le}
 use Rattle.meaning.specs.Calls.{laidOver}
 use Rattle.line.specs.Line.{lineOf, linesOf}
-use Rattle.stepping.specs.Run.Laws.{laid, laid-length, next-row, next-at}
+use Rattle.running.specs.Run.Laws.{laid, laid-length, next-row, next-at}
 use Rattle.day.specs.Day.Laws.{text-fits, text-before, text-behind, lines-next}
 use Rattle.day.proofs.put_lines.Statement.{statement}
 use Rattle.day.proofs.put_lines.Tie as tie

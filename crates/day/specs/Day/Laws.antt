@@ -27,7 +27,7 @@ use Rattle.checks.specs.declared.opening.Opening.{Opening}
 use Rattle.engine.specs.Contracts.Laws.{both}
 use Rattle.stepping.specs.Step.{configTestsIn}
 use Rattle.stepping.specs.Step.Laws.{checked}
-use Rattle.stepping.specs.Run.Laws.{leads, bytes-passed, after-rows}
+use Rattle.running.specs.Run.Laws.{leads, bytes-passed, after-rows}
 use Rattle.line.specs.Line.{lineOf, fileRefused, frontOf, dayRefusal, inputsOf, linesOf, dayLines, dayOf, dayFrom}
 use Rattle.day.specs.Day.{Accepted, DaySays}
 

@@ -1,7 +1,7 @@
 -- `exports::mestecur_run` hands on what `run` answers. Assumes nothing.
 use mathlib.Core.Path.{ap}
 use borrow.Author.Needs.{needs}
-use Rattle.stepping.specs.declared.run.Ran.{Ran}
+use Rattle.running.specs.declared.Ran.{Ran}
 use Rattle.exports.proofs.mestecur_run.Statement.{statement}
 use Rattle.exports.proofs.mestecur_run.Tie as tie
 

@@ -9,7 +9,7 @@ use lib.Seq.{sets, sets-eq, length-sets, drop-cons, set-at, take-at, drop-at, ta
 use Rattle.layout.specs.Le.{bytes}
 use Rattle.layout.specs.Le.Laws.{length-bytes}
 use Rattle.meaning.specs.Calls.{laidOver}
-use Rattle.stepping.specs.Run.Laws.{laid}
+use Rattle.running.specs.Run.Laws.{laid}
 use Rattle.posting.proofs.put_fields.Statement.{statement}
 use Rattle.posting.proofs.put_fields.Tie as tie
 

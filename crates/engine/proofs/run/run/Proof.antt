@@ -10,10 +10,10 @@ use Rattle.meaning.specs.File.{trailer, shapeOf, bodyOf, fileAt}
 use Rattle.meaning.specs.Check.{refusalOf}
 use Rattle.checks.specs.Open.{Stands}
 use Rattle.stepping.specs.Step.Laws.{checked, file-is}
-use Rattle.stepping.specs.declared.run.Ran.{Ran}
+use Rattle.running.specs.declared.Ran.{Ran}
 use Rattle.engine.specs.Contracts.{RunSays}
-use Rattle.stepping.specs.Run.{BodyRuns}
-use Rattle.stepping.specs.Run.Laws.{run-refused, bytes-refused, none-carried, run-passed, bytes-passed, carried-passed}
+use Rattle.running.specs.Run.{BodyRuns}
+use Rattle.running.specs.Run.Laws.{run-refused, bytes-refused, none-carried, run-passed, bytes-passed, carried-passed}
 use Rattle.engine.proofs.run.run.Statement.{statement}
 use Rattle.engine.proofs.run.run.Tie as tie
 

@@ -1,4 +1,4 @@
--- `run::put_row` meets its contract: the fields of a step given, or those of a refusal. Assumes nothing.
+-- `put_row` meets its contract: the fields of a step given, or those of a refusal. Assumes nothing.
 use mathlib.Core.Path.{_≡_}
 use mathlib.Core.List.{List, _∷_, _++_}
 use Prim.Native.Nat.{ℕ}
@@ -7,11 +7,11 @@ use lib.ListN.{take}
 use Rattle.layout.specs.Le.{bytes}
 use Rattle.meaning.specs.Count.{one}
 use Rattle.meaning.specs.Calls.{rowOf}
 use Rattle.stepping.specs.Step.{triedAnswer, triedRefusal}
 use Rattle.stepping.specs.Step.Laws.{tried-given, tried-refused}
 use Rattle.stepping.specs.declared.step.Tried.{Tried}
-use Rattle.stepping.proofs.run.put_row.Statement.{statement}
-use Rattle.stepping.proofs.run.put_row.Tie as tie
+use Rattle.running.proofs.put_row.Statement.{statement}
+use Rattle.running.proofs.put_row.Tie as tie
 
 module _ (row : List ℕ) (t : Tried) (s : List ℕ) (n r : ℕ) (q : r ≡ triedRefusal t) where
   of-given : (m : ℕ) → r ≡ 0 → m ≡ one (t .found .agree)

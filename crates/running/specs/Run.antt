@@ -10,8 +10,8 @@ use Rattle.meaning.specs.Meaning.{Set, ∅, same}
 use Rattle.meaning.specs.File.{File}
 use Rattle.meaning.specs.Check.{firstOf}
 use Rattle.meaning.specs.Calls.{laidOver, rowsOf, carriedOf}
 use Rattle.stepping.specs.Step.{configTestsIn}
-use Rattle.stepping.specs.declared.run.Ran.{Ran}
+use Rattle.running.specs.declared.Ran.{Ran}
 pub mod Laws
 
 unfoldable pub runRefusalAfter : File → List ℕ → ℕ → ℕ → ℕ

@@ -9,9 +9,9 @@ ghost use Rattle.meaning.specs.Count.{one};
 ghost use Rattle.meaning.specs.File.{fileAt};
 ghost use Rattle.meaning.specs.Calls.{laidOver, afterStep, carriedAfter, rowOf, rowsOf, carriedOf};
 ghost use Rattle.meaning.specs.Laws.Runs.{Valid};
 ghost use Rattle.stepping.specs.Step.{Checked, Prepared, triedAnswer};
-ghost use Rattle.stepping.specs.Run.{BodyRuns};
-use crate::step::Tried;
+ghost use Rattle.running.specs.Run.{BodyRuns};
+use stepping::step::Tried;
 use cells::CHARTS;
 use cells::masks;
 use cells::small;
@@ -58,7 +58,7 @@ fn put_fields(
     layout::number::put64(row, 0, output);
     row[MARK] = mark;
     row[REFUSAL] = refusal;
-    crate::step::put_states(&mut row[STATES..], states, charts);
+    stepping::step::put_states(&mut row[STATES..], states, charts);
 }
 
 // The row of a step from a configuration.
@@ -66,7 +66,7 @@ fn put_row(row: &mut [u8], t: Tried, states: [u8; CHARTS], charts: usize)
     requires { ⌜ (charts ≤ mostCharts) × (length (now row) ≡ 10 + charts) ⌝ }
     ensures { λ _. ⌜ now (row .exit) ≡ rowOf (triedAnswer charts t) (take charts states) ⌝ }
 {
-    let refusal = crate::step::refusal_of(t);
+    let refusal = stepping::step::refusal_of(t);
     if refusal == limits::ACCEPTED {
         let f = t.found;
         let next = f.next;
@@ -102,7 +102,7 @@ fn after(t: Tried, states: [u8; CHARTS], offered: u64, left: usize) -> Stand
     let rest = left - 1;
     let f = t.found;
     let next = f.next;
-    if crate::step::refusal_of(t) != limits::ACCEPTED {
+    if stepping::step::refusal_of(t) != limits::ACCEPTED {
         return present(states, offered, rest);
     }
     present(next, 0, rest)
@@ -132,7 +132,7 @@ fn put_rows(
     while left > 0 {
         let i = inputs.len() - left;
         let offered = held | inputs[i];
-        let t = crate::step::try_wired(n, body, &states[..charts], offered, down, masks, small);
+        let t = stepping::step::try_wired(n, body, &states[..charts], offered, down, masks, small);
         let e = at + w;
         put_row(&mut rows[at..e], t, states, charts);
         let p = after(t, states, offered, left);
@@ -170,7 +170,7 @@ pub fn of_body(
     requires { ⌜ Checked n (now body) ⌝ }
     ensures { λ r. ⌜ BodyRuns (fileAt n (now (body .entry))) (now (config .entry)) carried (now (inputs .entry)) (now (rows .entry)) r (now (rows .exit)) ⌝ }
 {
-    let r = crate::step::config_refusal(n, body, config);
+    let r = stepping::step::config_refusal(n, body, config);
     if r != limits::ACCEPTED {
         return refused(r);
     }

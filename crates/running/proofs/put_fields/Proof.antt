@@ -1,4 +1,4 @@
--- `run::put_fields` meets its contract: the ten bytes in front of the configuration, then the configuration, are all of the row. Assumes nothing.
+-- `put_fields` meets its contract: the ten bytes in front of the configuration, then the configuration, are all of the row. Assumes nothing.
 use mathlib.Core.Path.{_≡_, ap, _∙_}
 use mathlib.Core.List.{List, [], _∷_, _++_, append-assoc, append-nil}
 use Prim.Native.Nat.{ℕ, _+_, _-_, _≤_}
@@ -9,9 +9,9 @@ use lib.Seq.{sets, sets-eq, length-sets, drop-cons, set-at, take-at, drop-at, ta
 use Rattle.layout.specs.Le.{bytes}
 use Rattle.layout.specs.Le.Laws.{length-bytes}
 use Rattle.meaning.specs.Calls.{laidOver}
-use Rattle.stepping.specs.Run.Laws.{laid}
-use Rattle.stepping.proofs.run.put_fields.Statement.{statement}
-use Rattle.stepping.proofs.run.put_fields.Tie as tie
+use Rattle.running.specs.Run.Laws.{laid}
+use Rattle.running.proofs.put_fields.Statement.{statement}
+use Rattle.running.proofs.put_fields.Tie as tie
 
 -- states laid over all that stands behind ten bytes
 laid-states : (l front rest states v : List ℕ) (k : ℕ) → l ≡ front ++ rest → length front ≡ 10 → length rest ≡ k → length states ≡ k

@@ -1,4 +1,4 @@
--- `run::after` meets its contract: an input less is left; a step given has the next states and carries nothing, and a refused one leaves the
+-- `after` meets its contract: an input less is left; a step given has the next states and carries nothing, and a refused one leaves the
 -- states and carries what it was offered. Assumes nothing.
 use mathlib.Core.Path.{_≡_, refl}
 use mathlib.Core.List.{List}
@@ -7,11 +7,11 @@ use native.Mathlib.Omega.{arith}
 use borrow.Author.Needs.{needs}
 use lib.ListN.{take}
 use Rattle.meaning.specs.Calls.{afterStep, carriedAfter}
 use Rattle.stepping.specs.Step.{triedAnswer, triedRefusal}
 use Rattle.stepping.specs.Step.Laws.{tried-refused, tried-given}
 use Rattle.stepping.specs.declared.step.Tried.{Tried}
-use Rattle.stepping.proofs.run.after.Statement.{statement}
-use Rattle.stepping.proofs.run.after.Tie as tie
+use Rattle.running.proofs.after.Statement.{statement}
+use Rattle.running.proofs.after.Tie as tie
 
 module _ (t : Tried) (s d : List ℕ) (i x n r : ℕ) (k : r ≡ triedRefusal t) where
   abbrev Leads : Type 0

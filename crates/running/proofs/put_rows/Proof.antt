@@ -1,4 +1,4 @@
--- `run::put_rows` meets its contract: before each input the rows written, then those of the inputs that are left from the present configuration, are
+-- `put_rows` meets its contract: before each input the rows written, then those of the inputs that are left from the present configuration, are
 -- all rows. Assumes nothing.
 use mathlib.Core.Path.{_≡_, refl, sym, ap, _∙_}
 use mathlib.Core.List.{List, _++_}
@@ -13,10 +13,10 @@ use Rattle.meaning.specs.Meaning.{Answer}
 use Rattle.meaning.specs.File.{chartOf, fileAt}
 use Rattle.meaning.specs.Calls.{afterStep, carriedAfter, rowOf, laidOver}
 use Rattle.meaning.specs.Laws.Runs.{Valid, Stand, stepFrom, standAfter, rowsFrom, carriedFrom, valid-after, length-next, rows-all}
 use Rattle.stepping.specs.Step.{Checked, Prepared, triedAnswer}
-use Rattle.stepping.specs.Run.Laws.{leads, laid, laid-before, laid-after, laid-length, run-step, carry-step, run-done, carry-done, next-row, next-at}
-use Rattle.stepping.proofs.run.put_rows.Statement.{statement}
-use Rattle.stepping.proofs.run.put_rows.Tie as tie
+use Rattle.running.specs.Run.Laws.{leads, laid, laid-before, laid-after, laid-length, run-step, carry-step, run-done, carry-done, next-row, next-at}
+use Rattle.running.proofs.put_rows.Statement.{statement}
+use Rattle.running.proofs.put_rows.Tie as tie
 
 module _ (n : Shape) (b inputs : List ℕ) (start : Stand) (rows₀ : List ℕ) where
   -- i inputs were taken: their rows stand before `at`, and they led to the stand t

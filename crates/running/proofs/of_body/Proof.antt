@@ -1,4 +1,4 @@
--- `run::of_body` meets its contract: 20 and 21, then 27, then all rows. Assumes nothing.
+-- `of_body` meets its contract: 20 and 21, then 27, then all rows. Assumes nothing.
 use mathlib.Core.Path.{_≡_, sym, _∙_}
 use mathlib.Core.List.{List}
 use Prim.Native.Nat.{ℕ, _+_, _/_, _≤_, _<_}
@@ -13,12 +13,12 @@ use Rattle.meaning.specs.Calls.{laidOver, rowsOf, carriedOf}
 use Rattle.meaning.specs.Laws.Runs.{Valid}
 use Rattle.cells.specs.Table.{masksFor}
 use Rattle.plan.specs.Wire.Laws.{blank-new}
 use Rattle.stepping.specs.Step.{configTestsIn}
 use Rattle.stepping.specs.Step.Laws.{config-is}
-use Rattle.stepping.specs.Run.{BodyRuns}
-use Rattle.stepping.specs.Run.Laws.{Refuses, after-config, after-room, after-rows, room, no-room}
-use Rattle.stepping.proofs.run.of_body.Statement.{statement}
-use Rattle.stepping.proofs.run.of_body.Tie as tie
+use Rattle.running.specs.Run.{BodyRuns}
+use Rattle.running.specs.Run.Laws.{Refuses, after-config, after-room, after-rows, room, no-room}
+use Rattle.running.proofs.of_body.Statement.{statement}
+use Rattle.running.proofs.of_body.Tie as tie
 
 module _ (n : Shape) (b config : List ℕ) (carried : ℕ) (inputs rows : List ℕ) (r : ℕ) (e : r ≡ firstOf (configTestsIn (fileAt n b) config)) where
   by-config : (r ≡ 0 → ⊥) → Refuses (fileAt n b) config carried inputs rows r

@@ -18,10 +18,10 @@ use Rattle.meaning.specs.Check.{Test, firstOf, refusalOf}
 use Rattle.meaning.specs.Check.Laws.{firstOf-++, firstOf-before, firstOf-here, firstOf-next, firstOf-[]}
 use Rattle.meaning.specs.Calls.{laidOver, rowOf, rowsOf, carriedOf, runRefusal, runBytes, runCarried}
 use Rattle.meaning.specs.Laws.Runs.{Leads, body-leads, Valid, Stand, stepFrom, standAfter, rowsFrom, carriedFrom, rows-next, carried-next}
 use Rattle.stepping.specs.Step.{configTestsIn, Checked}
 use Rattle.stepping.specs.Step.Laws.{behind-refused, behind-passed, config-passes}
-use Rattle.stepping.specs.Run.{runRefusalAfter, runAfter, carriedRun, BodyRuns}
-use Rattle.stepping.specs.declared.run.Ran.{Ran}
+use Rattle.running.specs.Run.{runRefusalAfter, runAfter, carriedRun, BodyRuns}
+use Rattle.running.specs.declared.Ran.{Ran}
 
 -- ── behind 1 to 11 ──
 

@@ -1,4 +1,4 @@
--- `run::states_of` meets its contract: the states passed are the configuration's. Assumes nothing.
+-- `states_of` meets its contract: the states passed are the configuration's. Assumes nothing.
 use mathlib.Core.Path.{_≡_, refl, _∙_}
 use mathlib.Core.List.{List}
 use Prim.Native.Nat.{ℕ, _+_, _-_, _≤_, _<_}
@@ -7,8 +7,8 @@ use native.Mathlib.Omega.{arith}
 use lib.ListN.{length, getD, take, set, length-set}
 use lib.Seq.{take-suc, take-suc-set, take-length}
 use Rattle.meaning.specs.Numbers.{mostCharts}
-use Rattle.stepping.proofs.run.states_of.Statement.{statement}
-use Rattle.stepping.proofs.run.states_of.Tie as tie
+use Rattle.running.proofs.states_of.Statement.{statement}
+use Rattle.running.proofs.states_of.Tie as tie
 
 take-next : (s config : List ℕ) (c : ℕ) → c < length s → c < length config → take c s ≡ take c config
     → take (c + 1) (set s c (getD config c 0)) ≡ take (c + 1) config
