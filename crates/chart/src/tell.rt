@@ -52,7 +52,7 @@ pub fn check(file: &[u8]) {
 fn charts(file: &[u8]) -> usize
     ensures { λ r. ⌜ r ≤ mostCharts ⌝ }
 {
-    let o = checks::opening::opened(file);
+    let o = opening::opened(file);
     let r = o.refusal;
     if r != limits::ACCEPTED {
         words::refusal(r);
@@ -340,11 +340,11 @@ fn lost_in_bodies(n: Shape, body: &[u8], m: Shape, cleared: &[u8])
 
 // The same of each chart, from the files.
 fn lost_in_charts(file: &[u8], cleared: &[u8]) {
-    let o = checks::opening::opened(file);
+    let o = opening::opened(file);
     if o.refusal != limits::ACCEPTED {
         return;
     }
-    let p = checks::opening::opened(cleared);
+    let p = opening::opened(cleared);
     if p.refusal != limits::ACCEPTED {
         return;
     }

@@ -96,7 +96,7 @@ fn all_lines(n: Shape, body: &[u8], config: &[u8], set: u64)
 
 // The same of a file that is in order, for a configuration of it.
 fn all_of(file: &[u8], config: &[u8], set: u64) {
-    let o = checks::opening::opened(file);
+    let o = opening::opened(file);
     if o.refusal != limits::ACCEPTED {
         return;
     }

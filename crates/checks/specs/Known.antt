@@ -1,4 +1,4 @@
--- What is known of a body once checks have passed, as the later checks and the readers need it. Laws are in Known/Laws.antt.
+-- What is known of a body once checks have passed, as the later checks and the readers need it. Laws are in Known/Laws.antt and, of a node, Known/Node.antt.
 use mathlib.Core.Path.{_≡_}
 use mathlib.Core.Bool.{false}
 use mathlib.Core.List.{List}
@@ -9,6 +9,7 @@ use Rattle.meaning.specs.Numbers.{mostCharts, mostSlaves, mostNodes, mostTransi
 use Rattle.meaning.specs.File.{fileAt}
 use Rattle.meaning.specs.Check.{slaves?, nodes?}
 pub mod Laws
+pub mod Node
 
 -- after 3 and 4: the counts are within their limits and make the body's size
 pub record Sized (n : Shape) (b : List ℕ) : Type 0 where

@@ -1,12 +1,6 @@
-// The file check: refusals 1 to 11 (RULES 3.2), each in its own module, and the opening of a file that passes them.
-pub mod body;
+// The file check, refusals 1 to 7 (RULES 3.2), each in its own module; 8 to 11 are in the crate naming, and the crate opening
+// makes all of them in order.
 pub mod charts;
-pub mod inside;
 pub mod limits;
-pub mod names;
-pub mod nodes;
-pub mod opening;
-pub mod parts;
-pub mod slaves;
 pub mod trailer;
 pub mod zeros;

@@ -5,7 +5,7 @@ ghost use lib.Dec.{ltb};
 ghost use Rattle.layout.specs.Body.{sizeOf};
 ghost use Rattle.meaning.specs.File.{shapeOf};
 ghost use Rattle.meaning.specs.Check.{edition?, counts?, differ, firstOf};
-ghost use Rattle.checks.specs.Open.{trailerTests};
+ghost use Rattle.checks.specs.Trailer.{trailerTests};
 use crate::limits;
 use layout::body::Shape;
 use layout::record::Trailer;

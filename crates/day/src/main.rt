@@ -32,7 +32,7 @@ fn opened(input: &[u8]) -> Front
     requires { ⌜ length (now input) ≤ 65536 ⌝ }
     ensures { λ o. ⌜ Opened (now (input .entry)) o ⌝ }
 {
-    let o = checks::opening::opened(input);
+    let o = opening::opened(input);
     let r = o.refusal;
     if r != limits::ACCEPTED {
         return refused(r);

@@ -44,7 +44,7 @@ fn of_body(n: Shape, body: &[u8], out: &mut [u8]) -> Cleared
 pub fn clear(file: &[u8], out: &mut [u8]) -> Cleared
     ensures { λ r. ⌜ ClearSays (now (file .entry)) (now (out .entry)) r (now (out .exit)) ⌝ }
 {
-    let o = checks::opening::opened(file);
+    let o = opening::opened(file);
     let r = o.refusal;
     if r != limits::ACCEPTED {
         return refused(r);

@@ -13,7 +13,7 @@ use layout::body::Shape;
 pub fn check(file: &[u8]) -> u8
     ensures { λ r. ⌜ CheckSays (now (file .entry)) r ⌝ }
 {
-    checks::opening::opened(file).refusal
+    opening::opened(file).refusal
 }
 
 // What a configuration is compared with (RULES 3.3): 0 or the file's refusal, how many charts it has, and how many states each of them has; 0 past
@@ -51,7 +51,7 @@ fn put_counts(n: Shape, body: &[u8], states: &mut [u8])
 pub fn states(file: &[u8]) -> StateCounts
     ensures { λ r. ⌜ StatesSays (now (file .entry)) r ⌝ }
 {
-    let o = checks::opening::opened(file);
+    let o = opening::opened(file);
     let r = o.refusal;
     if r != limits::ACCEPTED {
         return no_states(r);
@@ -86,7 +86,7 @@ fn put_initials(n: Shape, body: &[u8], config: &mut [u8])
 pub fn first(file: &[u8], config: &mut [u8]) -> u8
     ensures { λ r. ⌜ FirstSays (now (file .entry)) (now (config .entry)) r (now (config .exit)) ⌝ }
 {
-    let o = checks::opening::opened(file);
+    let o = opening::opened(file);
     let r = o.refusal;
     if r != limits::ACCEPTED {
         return r;

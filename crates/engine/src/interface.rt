@@ -86,8 +86,8 @@ fn of_body(n: Shape, body: &[u8]) -> Faces
     let own = charts(n, body);
     let input = own.input;
     let output = own.output;
-    let inputs = checks::parts::table(n, body, &input, checks::parts::Off::Input);
-    let outputs = checks::parts::table(n, body, &output, checks::parts::Off::Output);
+    let inputs = parts::table(n, body, &input, parts::Off::Input);
+    let outputs = parts::table(n, body, &output, parts::Off::Output);
     let last = n.nodes - 1;
     Faces {
         refusal: limits::ACCEPTED,
@@ -99,7 +99,7 @@ fn of_body(n: Shape, body: &[u8]) -> Faces
 pub fn interface(file: &[u8]) -> Faces
     ensures { λ r. ⌜ InterfaceSays (now (file .entry)) r ⌝ }
 {
-    let o = checks::opening::opened(file);
+    let o = opening::opened(file);
     let r = o.refusal;
     if r != limits::ACCEPTED {
         return Faces {

@@ -9,7 +9,7 @@ use lacks::Lacking;
 pub fn lacking(file: &[u8], chart: usize, place: usize, offered: u64) -> Lacking
     ensures { λ r. ⌜ LackingSays (now (file .entry)) chart place offered r ⌝ }
 {
-    let o = checks::opening::opened(file);
+    let o = opening::opened(file);
     let r = o.refusal;
     if r != limits::ACCEPTED {
         return Lacking::Refused(r);

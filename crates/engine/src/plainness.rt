@@ -21,7 +21,7 @@ fn not_plain(refusal: u8) -> Plainness
 pub fn plain(file: &[u8]) -> Plainness
     ensures { λ r. ⌜ PlainSays (now (file .entry)) r ⌝ }
 {
-    let o = checks::opening::opened(file);
+    let o = opening::opened(file);
     let r = o.refusal;
     if r != limits::ACCEPTED {
         return not_plain(r);

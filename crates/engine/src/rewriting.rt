@@ -74,7 +74,7 @@ fn of_body(n: Shape, body: &[u8], out: &mut [u8]) -> Rewritten
 pub fn rewriting(file: &[u8], out: &mut [u8]) -> Rewritten
     ensures { λ r. ⌜ RewritingSays (now (file .entry)) (now (out .entry)) r (now (out .exit)) ⌝ }
 {
-    let o = checks::opening::opened(file);
+    let o = opening::opened(file);
     let r = o.refusal;
     if r != limits::ACCEPTED {
         return refused(r);

@@ -7,7 +7,7 @@ use running::Ran;
 pub fn run(file: &[u8], config: &[u8], carried: u64, inputs: &[u64], rows: &mut [u8]) -> Ran
     ensures { λ r. ⌜ RunSays (now (file .entry)) (now (config .entry)) carried (now (inputs .entry)) (now (rows .entry)) r (now (rows .exit)) ⌝ }
 {
-    let o = checks::opening::opened(file);
+    let o = opening::opened(file);
     let r = o.refusal;
     if r != limits::ACCEPTED {
         return running::refused(r);

@@ -8,7 +8,7 @@ use stepping::step::Stepped;
 pub fn step(file: &[u8], config: &[u8], input: u64, next: &mut [u8]) -> Stepped
     ensures { λ r. ⌜ StepSays (now (file .entry)) (now (config .entry)) input (now (next .entry)) r (now (next .exit)) ⌝ }
 {
-    let o = checks::opening::opened(file);
+    let o = opening::opened(file);
     let r = o.refusal;
     if r != limits::ACCEPTED {
         return stepping::step::refused(r, 0);

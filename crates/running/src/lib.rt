@@ -11,7 +11,6 @@ ghost use Rattle.meaning.specs.Calls.{laidOver, afterStep, carriedAfter, rowOf,
 ghost use Rattle.meaning.specs.Laws.Runs.{Valid};
 ghost use Rattle.stepping.specs.Step.{Checked, Prepared, triedAnswer};
 ghost use Rattle.running.specs.Run.{BodyRuns};
-use stepping::step::Tried;
 use cells::CHARTS;
 use cells::masks;
 use cells::small;
@@ -20,6 +19,7 @@ use layout::body::Shape;
 use layout::row::MARK;
 use layout::row::REFUSAL;
 use layout::row::STATES;
+use stepping::step::Tried;
 
 // What a run answers, its rows aside: 0 or the refusal, and what is carried after the last input, nothing if the run is refused (RULES 1.4, 6.4).
 pub struct Ran {

@@ -67,7 +67,7 @@ fn put_all(bytes: &[u8], out: &mut [u8], at: usize) -> usize
 fn deliver(file: &[u8], out: &mut [u8]) -> FileRead
     ensures { λ r. ⌜ Delivers (now (file .entry)) (now (out .entry)) r (now (out .exit)) ⌝ }
 {
-    let r = checks::opening::opened(file).refusal;
+    let r = opening::opened(file).refusal;
     if r != limits::ACCEPTED {
         return refused(r, 0);
     }

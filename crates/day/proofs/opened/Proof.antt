@@ -5,7 +5,7 @@ use Prim.Native.Nat.{ℕ, _-_, _/_, _%_}
 use native.Mathlib.Omega.{arith}
 use borrow.Author.Needs.{needs}
 use Rattle.meaning.specs.Check.{refusalOf}
-use Rattle.checks.specs.Open.{Stands}
+use Rattle.opening.specs.Open.{Stands}
 use Rattle.line.specs.Line.{dayRefusal}
 use Rattle.day.specs.Day.{Opened}
 use Rattle.day.specs.Day.Laws.{by-file, by-front, by-none, front-is, charts-are, leads-of}

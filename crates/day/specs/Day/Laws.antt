@@ -22,8 +22,8 @@ use Rattle.meaning.specs.Check.Laws.{alike, firstOf-here, firstOf-next, firstOf
 use Rattle.meaning.specs.Calls.{laidOver, firstRefusal, initials, firstBytes, rowsOf, runBytes}
 use Rattle.meaning.specs.Calls.Laws.{length-made, getD-made}
 use Rattle.meaning.specs.Laws.Runs.{Leads, Valid, rows-all}
-use Rattle.checks.specs.Open.{Stands}
-use Rattle.checks.specs.declared.opening.Opening.{Opening}
+use Rattle.opening.specs.Open.{Stands}
+use Rattle.opening.specs.declared.Opening.{Opening}
 use Rattle.engine.specs.Contracts.Laws.{both}
 use Rattle.stepping.specs.Step.{configTestsIn}
 use Rattle.stepping.specs.Step.Laws.{checked}

@@ -9,7 +9,7 @@ use Rattle.layout.specs.declared.body.Shape.{Shape}
 use Rattle.meaning.specs.Numbers.{stayEdition}
 use Rattle.meaning.specs.File.{trailer, shapeOf, bodyOf, fileAt, fileOf}
 use Rattle.meaning.specs.Check.{refusalOf}
-use Rattle.checks.specs.Open.{Stands}
+use Rattle.opening.specs.Open.{Stands}
 use Rattle.engine.specs.declared.clear.Cleared.{Cleared}
 use Rattle.engine.specs.Contracts.{ClearSays}
 use Rattle.engine.specs.Clearing.{ClearsBody}

@@ -16,7 +16,7 @@ use Rattle.meaning.specs.File.{fileAt, chartOf}
 use Rattle.layout.specs.Body.Laws.{startOf-none}
 use Rattle.checks.specs.Known.Laws.{in-all, start-next}
 use Rattle.engine.specs.Faces.{OwnOf}
-use Rattle.checks.specs.Parts.Laws.{fill-more}
+use Rattle.parts.specs.Parts.Laws.{fill-more}
 use Rattle.engine.proofs.interface.charts.Statement.{statement}
 use Rattle.engine.proofs.interface.charts.Tie as tie
 

@@ -10,9 +10,9 @@ use Rattle.meaning.specs.File.{File, fileAt, wholeOf}
 use Rattle.meaning.specs.Laws.Folds.{in-fold, out-fold}
 use Rattle.meaning.specs.Check.Nodes.{Treed}
 use Rattle.engine.specs.Faces.{OwnOf}
-use Rattle.checks.specs.Parts.{Filled}
-use Rattle.checks.specs.Parts.Laws.{filled}
-use Rattle.checks.specs.declared.parts.Off.the-variants.{Input, Output}
+use Rattle.parts.specs.Parts.{Filled}
+use Rattle.parts.specs.Parts.Laws.{filled}
+use Rattle.parts.specs.declared.Off.the-variants.{Input, Output}
 use Rattle.engine.specs.declared.interface.Faces.{Faces}
 use Rattle.engine.proofs.interface.of_body.Statement.{statement}
 use Rattle.engine.proofs.interface.of_body.Tie as tie

@@ -19,7 +19,7 @@ use Rattle.meaning.specs.Check.Laws.{passed}
 use Rattle.meaning.specs.Rewriting.{rewriteLength, rewriteOut}
 use Rattle.agreement.specs.Passed.{ready}
 use Rattle.agreement.specs.Step.{nearest-is}
-use Rattle.checks.specs.Open.{Stands}
+use Rattle.opening.specs.Open.{Stands}
 use Rattle.checks.specs.Known.{Sized, Summed}
 use Rattle.rewrite.specs.Known.{Checked, Upward}
 use Rattle.stepping.specs.Step.Laws.{checked, file-is}

@@ -4,7 +4,7 @@ use Prim.Native.Nat.{ℕ, _-_, _≤_, _<_}
 use native.Mathlib.Omega.{arith}
 use lib.ListN.{length, getD, length-set}
 use Rattle.meaning.specs.Numbers.{mostCharts}
-use Rattle.checks.specs.Parts.Laws.{fill-more}
+use Rattle.parts.specs.Parts.Laws.{fill-more}
 use Rattle.plan.proofs.wire.down_row.Statement.{statement}
 use Rattle.plan.proofs.wire.down_row.Tie as tie
 

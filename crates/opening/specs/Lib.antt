@@ -1,0 +1,2 @@
+-- What the check tells the calls that read a file.
+pub mod Open

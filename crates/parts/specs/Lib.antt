@@ -1,0 +1,2 @@
+-- Tables of the nodes' values.
+pub mod Parts
