@@ -1,17 +1,11 @@
 // Whether a text spells a chart (docs/NOTATION.md), and where its first wrong byte is if not: one pass over the text,
 // without recursion. A text is walked back over only where more than levels::KEPT levels were open at once, and in
-// linear time in all (levels.rt says why).
+// linear time in all (crate levels says why).
 ghost use mathlib.Core.Path.{_≡_};
 ghost use mathlib.Core.List.{[]};
 ghost use Rattle.notation.specs.Reader.{reader};
-ghost use Rattle.recogniser.specs.Ring.{Keeps, MarksIn};
+ghost use Rattle.levels.specs.Ring.{Keeps, MarksIn};
 ghost use Rattle.recogniser.specs.Verdict.{verdictOf};
-
-pub mod bytes;
-pub mod levels;
-pub mod modes;
-pub mod start;
-pub mod table;
 
 // The text spells a chart, or its first wrong byte is at a place: the text's length if it only breaks off.
 pub enum Verdict {

@@ -4,7 +4,7 @@ ghost use mathlib.Core.Path.{_≡_};
 ghost use Prim.Native.Nat.{_+_, _*_, _-_, _≤_};
 ghost use lib.ListN.{length, drop, getD};
 ghost use Rattle.tokens.specs.Tokens.{blanks, afterBlanks, cap, NumberAt, BehindSign, NameFrom};
-use recogniser::bytes;
+use scan::bytes;
 
 // The number of a name as far as it matters, and the place behind it.
 pub struct Name {

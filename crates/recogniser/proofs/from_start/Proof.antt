@@ -13,7 +13,7 @@ use Rattle.scan.specs.Look.{look, rev}
 use Rattle.scan.specs.Scan.{advance, accepts, scanFrom, scan}
 use Rattle.scan.specs.Laws.Back.{rev-take}
 use Rattle.scan.specs.Laws.Steps.{scan-stops, scan-goes, scan-ends}
-use Rattle.recogniser.specs.Ring.{Keeps, MarksIn}
+use Rattle.levels.specs.Ring.{Keeps, MarksIn}
 use Rattle.recogniser.specs.Laws.Loop.{first-level, verdictAt, scan-verdict}
 use Rattle.recogniser.proofs.from_start.Statement.{statement}
 use Rattle.recogniser.proofs.from_start.Tie as tie

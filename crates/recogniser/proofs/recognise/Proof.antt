@@ -1,8 +1,8 @@
 -- `recognise` meets its contract: to begin with, the ring has the level of the whole text, which is 0.
 use mathlib.Core.Path.{refl}
 use borrow.Author.Needs.{needs}
-use Rattle.recogniser.specs.Laws.Ring.{keeps-start}
-use Rattle.recogniser.specs.Laws.Marks.{no-marks}
+use Rattle.levels.specs.Laws.Ring.{keeps-start}
+use Rattle.levels.specs.Laws.Marks.{no-marks}
 use Rattle.recogniser.proofs.recognise.Statement.{statement}
 use Rattle.recogniser.proofs.recognise.Tie as tie
 

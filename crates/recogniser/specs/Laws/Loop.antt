@@ -14,7 +14,7 @@ use Rattle.scan.specs.Laws.Scan.{verdict, scan-reader}
 use Rattle.recogniser.specs.declared.Verdict.{Verdict}
 use Rattle.recogniser.specs.declared.Verdict.the-variants.{Spells, Wrong}
 use Rattle.recogniser.specs.Verdict.{verdictOf}
-use Rattle.recogniser.specs.Ring.{slotOf, Ring}
+use Rattle.levels.specs.Ring.{slotOf, Ring}
 
 -- ── the level ──
 

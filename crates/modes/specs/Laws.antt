@@ -1,0 +1,2 @@
+-- Laws for the proofs of modes: where a search of the table may start.
+pub mod Start
