@@ -1,6 +1,7 @@
 // The candidates of a step: for each chart the transitions that it may take now, and what later charts may put out. How the tables are laid out
 // is in the crate search (Table); that a search over them answers the step is in the crate tables.
 ghost use mathlib.Core.Path.{_≡_};
+ghost use mathlib.Core.Bool.{cond};
 ghost use mathlib.Core.List.{List};
 ghost use Prim.Native.Nat.{ℕ, _+_, _*_, _≤_, _<_};
 ghost use lib.ListN.{length, getD};
@@ -156,17 +157,26 @@ fn sides_of(
     Sides { may, low }
 }
 
-// What the charts other than c might put in for it.
-pub fn others(masks: &[u64], charts: usize, may: [u64; CHARTS], c: usize) -> u64
-    requires { ⌜ (masksFor charts ≤ length (now masks)) × (charts ≤ mostCharts) × (c < charts) ⌝ }
-    ensures { λ r. ⌜ r ≡ othersAt (now (masks .entry)) charts (λ e. getD may e 0) c ⌝ }
+// What chart e might put out, if it is not chart c.
+fn but(may: &[u64; CHARTS], c: usize, e: usize) -> u64
+    requires { ⌜ e < mostCharts ⌝ }
+    ensures { λ r. ⌜ r ≡ cond (same e c) 0 (getD (now (may .entry)) e 0) ⌝ }
 {
-    let mut rest = may;
-    rest[c] = 0;
+    if e == c {
+        return 0;
+    }
+    may[e]
+}
+
+// What the charts other than c might put in for it.
+pub fn others(masks: &[u64], charts: usize, may: &[u64; CHARTS], c: usize) -> u64
+    requires { ⌜ (masksFor charts ≤ length (now masks)) × (charts ≤ mostCharts) × (c < charts) ⌝ }
+    ensures { λ r. ⌜ r ≡ othersAt (now (masks .entry)) charts (λ e. getD (now (may .entry)) e 0) c ⌝ }
+{
     let mut u: u64 = 0;
     let mut e: usize = 0;
     while e < charts {
-        u = u | rest[e] & masks::back(masks, c, e);
+        u = u | but(may, c, e) & masks::back(masks, c, e);
         e += 1;
     }
     u
@@ -281,16 +291,16 @@ fn list_chart(
     n: Shape,
     body: &[u8],
     config: &[u8],
-    lows: [u64; CHARTS],
-    may: [u64; CHARTS],
-    shuts: [u64; CHARTS],
+    lows: &[u64; CHARTS],
+    may: &[u64; CHARTS],
+    shuts: &[u64; CHARTS],
     masks: &mut [u64],
     small: &mut [u8],
     c: usize,
     start: usize,
 ) -> usize
-    requires { ⌜ Ready n (now body) (now config) × Mays n (now body) (now config) (n .charts) may × Tabled (n .charts) (now masks) (now small) × (c < n .charts) × (start ≡ startOf n (now body) c) ⌝ }
-    ensures { λ r. ⌜ (r ≡ startOf n (now (body .entry)) (c + 1)) × Tabled (n .charts) (now (masks .exit)) (now (small .exit)) × NextChart n (now (body .entry)) (now (config .entry)) lows shuts c (now (masks .entry)) (now (small .entry)) (now (masks .exit)) (now (small .exit)) ⌝ }
+    requires { ⌜ Ready n (now body) (now config) × Mays n (now body) (now config) (n .charts) (now may) × Tabled (n .charts) (now masks) (now small) × (c < n .charts) × (start ≡ startOf n (now body) c) ⌝ }
+    ensures { λ r. ⌜ (r ≡ startOf n (now (body .entry)) (c + 1)) × Tabled (n .charts) (now (masks .exit)) (now (small .exit)) × NextChart n (now (body .entry)) (now (config .entry)) (now (lows .entry)) (now (shuts .entry)) c (now (masks .entry)) (now (small .entry)) (now (masks .exit)) (now (small .exit)) ⌝ }
 {
     let head = layout::body::head_at(n, body, c);
     let count = head.transitions as usize;
@@ -313,14 +323,14 @@ fn list_all(
     n: Shape,
     body: &[u8],
     config: &[u8],
-    lows: [u64; CHARTS],
-    may: [u64; CHARTS],
-    shuts: [u64; CHARTS],
+    lows: &[u64; CHARTS],
+    may: &[u64; CHARTS],
+    shuts: &[u64; CHARTS],
     masks: &mut [u64],
     small: &mut [u8],
 )
-    requires { ⌜ Ready n (now body) (now config) × Mays n (now body) (now config) (n .charts) may × Tabled (n .charts) (now masks) (now small) ⌝ }
-    ensures { λ _. ⌜ UntilChart n (now (body .entry)) (now (config .entry)) lows shuts (now (masks .entry)) (now (small .entry)) (n .charts) (now (masks .exit)) (now (small .exit)) ⌝ }
+    requires { ⌜ Ready n (now body) (now config) × Mays n (now body) (now config) (n .charts) (now may) × Tabled (n .charts) (now masks) (now small) ⌝ }
+    ensures { λ _. ⌜ UntilChart n (now (body .entry)) (now (config .entry)) (now (lows .entry)) (now (shuts .entry)) (now (masks .entry)) (now (small .entry)) (n .charts) (now (masks .exit)) (now (small .exit)) ⌝ }
 {
     let mut start: usize = 0;
     let mut c: usize = 0;
@@ -416,7 +426,7 @@ pub fn choose(
     let known = sides_of(n, body, config, base, masks, small);
     let low = known.low;
     let may = known.may;
-    list_all(n, body, config, low, may, shuts, masks, small);
+    list_all(n, body, config, &low, &may, &shuts, masks, small);
     ahead_all(masks, small, n.charts);
     known
 }

@@ -97,13 +97,13 @@ fn tell_all(
     body: &[u8],
     config: &[u8],
     low: [u64; CHARTS],
-    may: [u64; CHARTS],
+    may: &[u64; CHARTS],
     shuts: [u64; CHARTS],
     masks: &[u64],
     guards: &mut [u64],
 ) -> [u8; triggers::STAYS]
     requires { ⌜ Ready n (now body) (now config) × (masksFor (n .charts) ≤ length (now masks)) × (triggersFor (n .charts) ≤ length (now guards)) ⌝ }
-    ensures { λ r. ⌜ Telling n (now (body .entry)) (now (config .entry)) low may shuts (now (masks .entry)) (n .charts) (now (guards .exit)) r ⌝ }
+    ensures { λ r. ⌜ Telling n (now (body .entry)) (now (config .entry)) low (now (may .entry)) shuts (now (masks .entry)) (n .charts) (now (guards .exit)) r ⌝ }
 {
     let mut stays = [0u8; triggers::STAYS];
     stays[triggers::SOME_STAY] = 1;
@@ -150,5 +150,5 @@ pub fn stays(
     if n.edition != checks::limits::STAY_EDITION as usize {
         return [0u8; triggers::STAYS];
     }
-    tell_all(n, body, config, low, may, shuts, masks, guards)
+    tell_all(n, body, config, low, &may, shuts, masks, guards)
 }

@@ -34,7 +34,7 @@ returns c =
     let a = c .before .before .before .before .before .before .before .args in
     let l = c .before .before .loop in
     let e : l .c ≡ a .n .charts = omega arith in
-    subst (λ z. UntilChart (a .n) (a .body .now) (a .config .now) (a .lows) (a .shuts) (a .masks .now) (a .small .now) z (l .masks) (l .small)) e (l .inv .2)
+    subst (λ z. UntilChart (a .n) (a .body .now) (a .config .now) (a .lows .now) (a .shuts .now) (a .masks .now) (a .small .now) z (l .masks) (l .small)) e (l .inv .2)
 
 pub list-all-spec : {M : Type 1} → statement M
 list-all-spec =

@@ -1,5 +1,5 @@
 -- Laws for choosing candidates. In order: where a transition stands (from-byte), what a chart's transitions put out (puts-none, puts-more, puts-done),
--- what the other charts might (join-more, others-done), one transition (left-other to left-put), a filling by one transition more (left-none to
+-- what the other charts might (join-more), one transition (left-other to left-put), a filling by one transition more (left-none to
 -- left-room), a chart's list (length-from), one chart more (mays-next to chart-tabled), the present states (stated-none, stated-next), all of it (chooses), and that actions have no signal
 -- from 64 on (actions-small).
 use mathlib.Core.Path.{_≡_, refl, sym, _∙_, ap, ap₂, subst}
@@ -112,14 +112,6 @@ module _ (f : ℕ → Transition) (start count q : ℕ) where
 pub join-more : (k : ℕ) (f : ℕ → Set) (u : Set) → u ≡ join k f → u ∪ f k ≡ join (k + 1) f
 unfolding join
 join-more k f u e = rw (add-one k, e)
-
-pub others-done : (m may : List ℕ) (N c : ℕ) → c < length may → join N (λ e. getD (set may c 0) e 0 ∩ backAt m c e) ≡ othersAt m N (λ e. getD may e 0) c
-unfolding othersAt
-others-done m may N c l = join-cong N _ _ (λ e r. ap (λ z. z ∩ backAt m c e) (go e (same e c) refl))
-  where
-    go : (e : ℕ) (x : Bool) → same e c ≡ x → getD (set may c 0) e 0 ≡ cond x 0 (getD may e 0)
-    go e true y = rw (same→≡ e c y) (getD-set-same may c 0 0 l)
-    go e false y = getD-set-other may c e 0 0 (λ w. false≢true (sym y ∙ rw w (same-refl c)))
 
 -- ── one transition, by the way it goes ──
 

@@ -52,7 +52,7 @@ loop-again c =
       omega (arith, h .before .if1 .taken),
       start-next (s .args .n) (s .args .body .now) (l .c) (l .start) (h .head-at .ensures) (l .inv .1),
       t .tell .ensures .beside .size ∙ l .inv .2,
-      telling-next (s .args .n) (s .args .body .now) (s .args .config .now) (s .args .t4) (s .args .may) (s .args .t6) (s .args .masks .now) (l .c) (l .guards) (l .stays) _ (l .start) _ _ _ (l .inv .3)
+      telling-next (s .args .n) (s .args .body .now) (s .args .config .now) (s .args .t4) (s .args .may .now) (s .args .t6) (s .args .masks .now) (l .c) (l .guards) (l .stays) _ (l .start) _ _ _ (l .inv .3)
           (omega (arith, h .before .if1 .taken, s .pre .0 .sized .charts)) (l .inv .1) (h .head-at .ensures) (t .before .before .before .others .ensures) (t .tell .ensures),
     )
 
@@ -61,7 +61,7 @@ returns c =
     let l = c .before .before .loop in
     let s = c .before .before .before .before .before .before .before in
     let e : l .c ≡ s .args .n .charts = omega arith in
-    subst (λ z. Telling (s .args .n) (s .args .body .now) (s .args .config .now) (s .args .t4) (s .args .may) (s .args .t6) (s .args .masks .now) z (l .guards) (l .stays)) e (l .inv .3)
+    subst (λ z. Telling (s .args .n) (s .args .body .now) (s .args .config .now) (s .args .t4) (s .args .may .now) (s .args .t6) (s .args .masks .now) z (l .guards) (l .stays)) e (l .inv .3)
 
 pub tell-all-spec : {M : Type 1} → statement M
 tell-all-spec =
