@@ -47,18 +47,18 @@ module _ (at : ℕ) (g : ℕ → ℕ) (l : List ℕ) where
 
 -- ── feedback, row by row ──
 
--- the masks m are l with f joined to the first n rows
-pub record Joined (n : ℕ) (l m : List ℕ) (f : ℕ → ℕ → ℕ) : Type 0 where
-  pub in-rows : (c d : ℕ) → c < mostCharts → d < n → backAt m c d ≡ backAt l c d ∪ f c d
+-- the masks m of N charts are l with f joined to the first n rows
+pub record Joined (N n : ℕ) (l m : List ℕ) (f : ℕ → ℕ → ℕ) : Type 0 where
+  pub in-rows : (c d : ℕ) → c < N → d < n → backAt m c d ≡ backAt l c d ∪ f c d
   pub rest : (k : ℕ) → backRow n ≤ k → getD m k 0 ≡ getD l k 0
 
-pub joined-none : (l : List ℕ) (f : ℕ → ℕ → ℕ) → Joined 0 l l f
-joined-none l f = record { in-rows = λ c d p q. absurd (omega arith); rest = λ k p. refl }
+pub joined-none : (N : ℕ) (l : List ℕ) (f : ℕ → ℕ → ℕ) → Joined N 0 l l f
+joined-none N l f = record { in-rows = λ c d p q. absurd (omega arith); rest = λ k p. refl }
 
 -- one row more, of feedback in x over the rows p
-pub joined-more : (n x : ℕ) (p l m m′ : List ℕ) → Joined n l m (λ c d. downIn p c ∩ upIn p d ∩ x)
-    → RowAt (backRow n) mostCharts (λ c. backAt m c n ∪ (upIn p n ∩ x ∩ downIn p c)) m m′ → Joined (n + 1) l m′ (λ c d. downIn p c ∩ upIn p d ∩ x)
-joined-more n x p l m m′ h f =
+pub joined-more : (N n x : ℕ) (p l m m′ : List ℕ) → N ≤ mostCharts → Joined N n l m (λ c d. downIn p c ∩ upIn p d ∩ x)
+    → RowAt (backRow n) N (λ c. backAt m c n ∪ (upIn p n ∩ x ∩ downIn p c)) m m′ → Joined N (n + 1) l m′ (λ c d. downIn p c ∩ upIn p d ∩ x)
+joined-more N n x p l m m′ few h f =
     record {
       in-rows = λ c d u v.
           below-more (λ (d : ℕ). backAt m′ c d ≡ backAt l c d ∪ downIn p c ∩ upIn p d ∩ x) n

@@ -4,7 +4,7 @@
 use mathlib.Core.Path.{_≡_, refl, sym, ap, ap₂, subst, _∙_}
 use mathlib.Core.Bool.{false}
 use mathlib.Core.List.{List, [], _∷_}
-use Prim.Native.Nat.{ℕ, zero, suc, _+_, _*_, _<_}
+use Prim.Native.Nat.{ℕ, zero, suc, _+_, _*_, _≤_, _<_}
 use native.Mathlib.Nat.{zero-add}
 use native.Mathlib.Numerals.{add-one}
 use native.Mathlib.Omega.{arith}
@@ -63,23 +63,24 @@ module _ {n : Shape} {b : List ℕ} (w : Wirable n b) {j : ℕ} (p : j < n .node
 -- ── rows that are joined ──
 
 -- the same rows by another name
-pub rows-as : {l : List ℕ} {f f′ g g′ : ℕ → Set} → AreRows l f g → ((c : ℕ) → f c ≡ f′ c) → ((c : ℕ) → g c ≡ g′ c) → AreRows l f′ g′
+pub rows-as : {N : ℕ} {l : List ℕ} {f f′ g g′ : ℕ → Set} → AreRows N l f g → ((c : ℕ) → f c ≡ f′ c) → ((c : ℕ) → g c ≡ g′ c) → AreRows N l f′ g′
 rows-as h e e′ = record { down-is = λ c u. h .down-is c u ∙ e c; up-is = λ c u. h .up-is c u ∙ e′ c; long = h .long }
 
 -- the two rows put one after the other
-pub rows-put : {l m m′ : List ℕ} {f g : ℕ → Set} → length l ≡ rowsSize → RowAt 0 mostCharts f l m → RowAt mostCharts mostCharts g m m′ → AreRows m′ f g
-rows-put {l} {m} n h h′ =
+pub rows-put : {N : ℕ} {l m m′ : List ℕ} {f g : ℕ → Set} → N ≤ mostCharts → length l ≡ rowsSize → RowAt 0 N f l m → RowAt mostCharts N g m m′ → AreRows N m′ f g
+rows-put {N} {l} {m} few n h h′ =
     record {
-      down-is = λ c u. h′ .below c u ∙ ap (λ (k : ℕ). getD m k 0) (sym (zero-add c)) ∙ h .in-row c u;
+      down-is = λ c u. h′ .below c (omega arith) ∙ ap (λ (k : ℕ). getD m k 0) (sym (zero-add c)) ∙ h .in-row c u;
       up-is = λ c u. h′ .in-row c u;
       long = h′ .long ∙ h .long ∙ n;
     }
 
 -- the rows q less x and y, joined one after the other
-pub rows-join : (l q : List ℕ) (x y : Set) {m m′ : List ℕ} → length l ≡ rowsSize → RowAt 0 mostCharts (λ c. getD l (0 + c) 0 ∪ (getD q (0 + c) 0 ∖ x)) l m
-    → RowAt mostCharts mostCharts (λ c. getD m (mostCharts + c) 0 ∪ (getD q (mostCharts + c) 0 ∖ y)) m m′ → JoinsRows l m′ (λ c. downIn q c ∖ x) (λ c. upIn q c ∖ y)
-rows-join l q x y n h h′ =
-    let r = rows-put n h h′ in
+pub rows-join : (N : ℕ) (l q : List ℕ) (x y : Set) {m m′ : List ℕ} → N ≤ mostCharts → length l ≡ rowsSize
+    → RowAt 0 N (λ c. getD l (0 + c) 0 ∪ (getD q (0 + c) 0 ∖ x)) l m
+    → RowAt mostCharts N (λ c. getD m (mostCharts + c) 0 ∪ (getD q (mostCharts + c) 0 ∖ y)) m m′ → JoinsRows N l m′ (λ c. downIn q c ∖ x) (λ c. upIn q c ∖ y)
+rows-join N l q x y few n h h′ =
+    let r = rows-put few n h h′ in
     record {
       down-is = λ c u. r .down-is c u ∙ ap (λ (k : ℕ). getD l k 0 ∪ (getD q k 0 ∖ x)) (zero-add c);
       up-is = λ c u. r .up-is c u ∙ ap (λ (s : Set). s ∪ (upIn q c ∖ y)) (h .above (mostCharts + c) (omega arith));
@@ -87,8 +88,8 @@ rows-join l q x y n h h′ =
     }
 
 -- joined to empty rows
-pub rows-first : {m : List ℕ} {f g : ℕ → Set} → JoinsRows (replicate rowsSize 0) m f g → AreRows m f g
-rows-first {m} {f} {g} h =
+pub rows-first : {N : ℕ} {m : List ℕ} {f g : ℕ → Set} → N ≤ mostCharts → JoinsRows N (replicate rowsSize 0) m f g → AreRows N m f g
+rows-first {N} {m} {f} {g} few h =
     record {
       down-is = λ c u. h .down-is c u ∙ first c (f c) (omega arith);
       up-is = λ c u. h .up-is c u ∙ first (mostCharts + c) (g c) (omega arith);
@@ -99,7 +100,7 @@ rows-first {m} {f} {g} h =
     first k s u = ap (λ (z : Set). z ∪ s) (getD-replicate rowsSize k 0 0 u) ∙ sets (s ∷ []) [] (∅ₑ ∪ₑ A ≐ A) tt
 
 -- rows joined whole, which is less nothing
-rows-whole : (l q : List ℕ) {m : List ℕ} {f g : ℕ → Set} → AreRows q f g → JoinsRows l m (λ c. downIn q c ∖ 0) (λ c. upIn q c ∖ 0) → JoinsRows l m f g
+rows-whole : {N : ℕ} (l q : List ℕ) {m : List ℕ} {f g : ℕ → Set} → AreRows N q f g → JoinsRows N l m (λ c. downIn q c ∖ 0) (λ c. upIn q c ∖ 0) → JoinsRows N l m f g
 rows-whole l q h j =
     record {
       down-is = λ c u. j .down-is c u ∙ ap (λ (s : Set). downIn l c ∪ s) (less-none (downIn q c) ∙ h .down-is c u);
@@ -123,7 +124,7 @@ module _ {n : Shape} {b : List ℕ} (w : Wirable n b) {j : ℕ} (p : j < n .node
   -- ── hidden ──
 
   pub wires-hide : r .kind ≡ 2 → {l m q o o′ : List ℕ} → Wires F (treeOf F (r .a)) l m (replicate rowsSize 0) q
-      → JoinsRows o o′ (λ c. downIn q c ∖ r .x) (λ c. upIn q c ∖ r .y) → Wires F t l m o o′
+      → JoinsRows (n .charts) o o′ (λ c. downIn q c ∖ r .x) (λ c. upIn q c ∖ r .y) → Wires F t l m o o′
   unfolding fileAt
   wires-hide e₂ {l} {m} {q} {o} h g =
       record {
@@ -144,13 +145,13 @@ module _ {n : Shape} {b : List ℕ} (w : Wirable n b) {j : ℕ} (p : j < n .node
       k : F .kind j ≡ 2
       k = sym (is .kind) ∙ e₂
 
-      hq : AreRows q (down (treeOf F (r .a))) (up (treeOf F (r .a)))
-      hq = rows-first (h .rows-are)
+      hq : AreRows (n .charts) q (down (treeOf F (r .a))) (up (treeOf F (r .a)))
+      hq = rows-first (w .sized .charts) (h .rows-are)
 
   -- ── composed ──
 
   pub wires-comp : r .kind ≡ 1 → {l l′ m m′ q q′ o o′ : List ℕ} → Wires F (treeOf F (r .a)) l l′ (replicate rowsSize 0) q → Wires F (treeOf F (r .b)) l′ m q q′
-      → Feeds (n .charts) m m′ q′ (r .x) → JoinsRows o o′ (λ c. downIn q′ c ∖ 0) (λ c. upIn q′ c ∖ 0) → Wires F t l m′ o o′
+      → Feeds (n .charts) m m′ q′ (r .x) → JoinsRows (n .charts) o o′ (λ c. downIn q′ c ∖ 0) (λ c. upIn q′ c ∖ 0) → Wires F t l m′ o o′
   unfolding fileAt
   wires-comp e₁ {l} {l′} {m} {m′} {q} {q′} {o} h h′ f g =
       record {
@@ -161,10 +162,10 @@ module _ {n : Shape} {b : List ℕ} (w : Wirable n b) {j : ℕ} (p : j < n .node
       k : F .kind j ≡ 1
       k = sym (is .kind) ∙ e₁
 
-      hq : AreRows q (down (treeOf F (r .a))) (up (treeOf F (r .a)))
-      hq = rows-first (h .rows-are)
+      hq : AreRows (n .charts) q (down (treeOf F (r .a))) (up (treeOf F (r .a)))
+      hq = rows-first (w .sized .charts) (h .rows-are)
 
-      both : AreRows q′ (down t) (up t)
+      both : AreRows (n .charts) q′ (down t) (up t)
       both =
           record {
             down-is = λ c u.
@@ -179,12 +180,12 @@ module _ {n : Shape} {b : List ℕ} (w : Wirable n b) {j : ℕ} (p : j < n .node
           }
 
       -- first the left part's, then the right part's, then that between them
-      rejoin : (c d : ℕ) → c < mostCharts → d < F .charts → backAt m c d ∪ downIn q′ c ∩ upIn q′ d ∩ r .x
+      rejoin : (c d : ℕ) → c < F .charts → d < F .charts → backAt m c d ∪ downIn q′ c ∩ upIn q′ d ∩ r .x
           ≡ backAt l c d ∪ ((back (F .chart) (treeOf F (F .a j)) c d ∪ back (F .chart) (treeOf F (F .b j)) c d) ∪ down t c ∩ up t d ∩ F .x j)
       rejoin c d u v =
           ap₂ _∪_
           (h′ .back-is c d u v ∙ ap₂ _∪_ (h .back-is c d u v ∙ ap (λ (k : ℕ). backAt l c d ∪ back (F .chart) (treeOf F k) c d) (is .a)) (ap (λ (k : ℕ). back (F .chart) (treeOf F k) c d) (is .b)))
-          (ap₂ _∩_ (ap₂ _∩_ (both .down-is c u) (both .up-is d (omega (arith, v, w .sized .charts)))) (is .x))
+          (ap₂ _∩_ (ap₂ _∩_ (both .down-is c u) (both .up-is d v)) (is .x))
           ∙ sets (backAt l c d ∷ back (F .chart) (treeOf F (F .a j)) c d ∷ back (F .chart) (treeOf F (F .b j)) c d ∷ (down t c ∩ up t d ∩ F .x j) ∷ []) []
           (A ∪ₑ B ∪ₑ C ∪ₑ D ≐ A ∪ₑ (B ∪ₑ C ∪ₑ D)) tt
 
@@ -196,10 +197,10 @@ mine F d k = gather (F .master) (λ i. treeOf F (F .node i)) d k
 
 -- the rows q are chart d's with those of its slaves among the first k, and m is l with these slaves' feedback joined to it
 pub record Gathers (F : File) (d k : ℕ) (l m q : List ℕ) : Type 0 where
-  pub rows-are : AreRows q (λ c. own d c ∪ downs (mine F d k) c) (λ c. own d c ∪ ups (mine F d k) c)
+  pub rows-are : AreRows (F .charts) q (λ c. own d c ∪ downs (mine F d k) c) (λ c. own d c ∪ ups (mine F d k) c)
   pub back-is : Joins (F .charts) l m (backs (F .chart) (mine F d k))
 
-pub gathers-none : (F : File) (d : ℕ) (l : List ℕ) {q : List ℕ} → AreRows q (own d) (own d) → Gathers F d 0 l l q
+pub gathers-none : (F : File) (d : ℕ) (l : List ℕ) {q : List ℕ} → AreRows (F .charts) q (own d) (own d) → Gathers F d 0 l l q
 unfolding gather down up back
 gathers-none F d l h =
     record {
@@ -287,7 +288,7 @@ module _ {n : Shape} {b : List ℕ} (w : Wirable n b) {j : ℕ} (p : j < n .node
   H = fileAt n b
 
   pub wires-chart : {i : ℕ} {l m m′ q o o′ : List ℕ} {h : Head} → i ≡ n .slaves → Gathers H (r .a) i l m q → h ≡ headAt n b (r .a) → Feeds (n .charts) m m′ q (h .feedback)
-      → JoinsRows o o′ (λ c. downIn q c ∖ 0) (λ c. upIn q c ∖ 0) → Wires H (treeOf H j) l m′ o o′
+      → JoinsRows (n .charts) o o′ (λ c. downIn q c ∖ 0) (λ c. upIn q c ∖ 0) → Wires H (treeOf H j) l m′ o o′
   unfolding fileAt
   wires-chart {i} {l} {m} {m′} {q} {o} {o′} {h} last g₀ y f z =
       record {
@@ -295,7 +296,7 @@ module _ {n : Shape} {b : List ℕ} (w : Wirable n b) {j : ℕ} (p : j < n .node
         back-is = λ c d u v.
             f c d u v
             ∙ ap₂ _∪_ (g .back-is c d u v ∙ ap (λ (k : ℕ). backAt l c d ∪ backs (H .chart) (mine H k (n .slaves)) c d) (is-node n b j e .a))
-            (ap₂ _∩_ (ap₂ _∩_ (all .down-is c u) (all .up-is d (omega (arith, v, w .sized .charts)))) (is-feedback n b (r .a) y ∙ ap (λ (k : ℕ). H .chart k .feedback) (is-node n b j e .a)))
+            (ap₂ _∩_ (ap₂ _∩_ (all .down-is c u) (all .up-is d v)) (is-feedback n b (r .a) y ∙ ap (λ (k : ℕ). H .chart k .feedback) (is-node n b j e .a)))
             ∙ sets (backAt l c d ∷ backs (H .chart) (mine H (H .a j) (n .slaves)) c d ∷ (down (treeOf H j) c ∩ up (treeOf H j) d ∩ H .chart (H .a j) .feedback) ∷ []) []
             (A ∪ₑ B ∪ₑ C ≐ A ∪ₑ (B ∪ₑ C)) tt
             ∙ ap (λ (s : Set). backAt l c d ∪ s) (sym (back₀ H (w .sound .ordered) j c d p k));
@@ -307,14 +308,14 @@ module _ {n : Shape} {b : List ℕ} (w : Wirable n b) {j : ℕ} (p : j < n .node
       g : Gathers H (r .a) (n .slaves) l m q
       g = subst (λ (k : ℕ). Gathers H (r .a) k l m q) last g₀
 
-      all : AreRows q (down (treeOf H j)) (up (treeOf H j))
+      all : AreRows (n .charts) q (down (treeOf H j)) (up (treeOf H j))
       all =
           rows-as (g .rows-are)
           (λ c. ap (λ (k : ℕ). own k c ∪ downs (mine H k (n .slaves)) c) (is-node n b j e .a) ∙ sym (down₀ H (w .sound .ordered) j c p k))
           (λ c. ap (λ (k : ℕ). own k c ∪ ups (mine H k (n .slaves)) c) (is-node n b j e .a) ∙ sym (up₀ H (w .sound .ordered) j c p k))
 
   -- a chart without slaves
-  pub wires-lone : anyUpTo (n .slaves) (λ i. same (slaveAt n b i .chart) (r .a)) ≡ false → {l m o o′ : List ℕ} → JoinsRows o o′ (own (r .a)) (own (r .a))
+  pub wires-lone : anyUpTo (n .slaves) (λ i. same (slaveAt n b i .chart) (r .a)) ≡ false → {l m o o′ : List ℕ} → JoinsRows (n .charts) o o′ (own (r .a)) (own (r .a))
       × Joins (n .charts) l m (λ c d. own (r .a) c ∩ own (r .a) d ∩ headAt n b (r .a) .feedback) → Wires H (treeOf H j) l m o o′
   unfolding fileAt
   wires-lone none {l} {m} {o} {o′} g =
@@ -353,10 +354,10 @@ module _ {n : Shape} {b : List ℕ} (w : Wirable n b) {j : ℕ} (p : j < n .node
 
 -- ── the whole, from empty masks ──
 
-pub wires-whole : (F : File) (l m r : List ℕ) → Blank l → Wires F (wholeOf F) l m (replicate rowsSize 0) r → Whole F m r
-wires-whole F l m r e h =
+pub wires-whole : (F : File) (l m r : List ℕ) → F .charts ≤ mostCharts → Blank l → Wires F (wholeOf F) l m (replicate rowsSize 0) r → Whole F m r
+wires-whole F l m r few e h =
     record {
-      rows-are = rows-first (h .rows-are);
+      rows-are = rows-first few (h .rows-are);
       back-is = λ c d u v. h .back-is c d u v ∙ ap (λ (s : Set). s ∪ back (F .chart) (wholeOf F) c d) (e (backCell c d))
           ∙ sets (back (F .chart) (wholeOf F) c d ∷ []) [] (∅ₑ ∪ₑ A ≐ A) tt;
     }

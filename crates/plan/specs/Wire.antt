@@ -12,9 +12,9 @@ use Rattle.cells.specs.Table.{backAt, upAt}
 use Rattle.wiring.specs.Wire.{down, up, back}
 pub mod Laws
 
--- the masks m are l, with f joined to what each chart is offered of the first N charts' actions
+-- the masks m are l, with f joined to what each of N charts is offered of each one's action
 abbrev pub Joins : ℕ → List ℕ → List ℕ → (ℕ → ℕ → Set) → Type 0
-Joins N l m f = (c d : ℕ) → c < mostCharts → d < N → backAt m c d ≡ backAt l c d ∪ f c d
+Joins N l m f = (c d : ℕ) → c < N → d < N → backAt m c d ≡ backAt l c d ∪ f c d
 
 -- m is l with f in the n masks from `at` on
 pub record RowAt (at n : ℕ) (f : ℕ → Set) (l m : List ℕ) : Type 0 where
@@ -37,15 +37,15 @@ downIn l c = getD l c 0
 abbrev pub upIn : List ℕ → ℕ → Set
 upIn l c = getD l (mostCharts + c) 0
 
--- the rows l are f and g
-pub record AreRows (l : List ℕ) (f g : ℕ → Set) : Type 0 where
-  pub down-is : (c : ℕ) → c < mostCharts → downIn l c ≡ f c
-  pub up-is : (c : ℕ) → c < mostCharts → upIn l c ≡ g c
+-- the rows l of N charts are f and g
+pub record AreRows (N : ℕ) (l : List ℕ) (f g : ℕ → Set) : Type 0 where
+  pub down-is : (c : ℕ) → c < N → downIn l c ≡ f c
+  pub up-is : (c : ℕ) → c < N → upIn l c ≡ g c
   pub long : length l ≡ rowsSize
 
 -- the rows m are l with f and g joined to them
-abbrev pub JoinsRows : List ℕ → List ℕ → (ℕ → Set) → (ℕ → Set) → Type 0
-JoinsRows l m f g = AreRows m (λ c. downIn l c ∪ f c) (λ c. upIn l c ∪ g c)
+abbrev pub JoinsRows : ℕ → List ℕ → List ℕ → (ℕ → Set) → (ℕ → Set) → Type 0
+JoinsRows N l m f g = AreRows N m (λ c. downIn l c ∪ f c) (λ c. upIn l c ∪ g c)
 
 -- the masks m are l with feedback of x over the rows p joined to them
 abbrev pub Feeds : ℕ → List ℕ → List ℕ → List ℕ → Set → Type 0
@@ -55,7 +55,7 @@ Feeds N l m p x = Joins N l m (λ c d. downIn p c ∩ upIn p d ∩ x)
 
 -- the rows q are p with those of the tree t joined to them, and the masks m are l with t's feedback joined to them
 pub record Wires (F : File) (t : Tree) (l m p q : List ℕ) : Type 0 where
-  pub rows-are : JoinsRows p q (down t) (up t)
+  pub rows-are : JoinsRows (F .charts) p q (down t) (up t)
   pub back-is : Joins (F .charts) l m (back (F .chart) t)
 
 -- all masks are empty
@@ -64,8 +64,8 @@ Blank l = (k : ℕ) → getD l k 0 ≡ 0
 
 -- the rows r are those of the whole, and the masks m have its feedback
 pub record Whole (F : File) (m r : List ℕ) : Type 0 where
-  pub rows-are : AreRows r (down (wholeOf F)) (up (wholeOf F))
-  pub back-is : (c d : ℕ) → c < mostCharts → d < F .charts → backAt m c d ≡ back (F .chart) (wholeOf F) c d
+  pub rows-are : AreRows (F .charts) r (down (wholeOf F)) (up (wholeOf F))
+  pub back-is : (c d : ℕ) → c < F .charts → d < F .charts → backAt m c d ≡ back (F .chart) (wholeOf F) c d
 
 -- what comes out of the whole is put among the masks l, as the rows r have it for the first N charts
 pub record UpPut (N : ℕ) (r l m : List ℕ) : Type 0 where

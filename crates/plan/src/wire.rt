@@ -35,59 +35,59 @@ fn own(d: usize, c: usize) -> u64
     if c == d { signals::ALL } else { 0 }
 }
 
-// Chart d's own row, the masks from `at` on. Each mask is tested for, since a single store at d would be waited for.
-fn own_row(part: &mut [u64; ROWS], at: usize, d: usize)
-    requires { ⌜ (length (now part) ≡ rowsSize) × (at ≤ mostCharts) ⌝ }
-    ensures { λ _. ⌜ RowAt at mostCharts (own d) (now (part .entry)) (now (part .exit)) ⌝ }
+// Chart d's own row, the masks of all charts from `at` on. Each mask is tested for, since a single store at d would be waited for.
+fn own_row(part: &mut [u64; ROWS], at: usize, charts: usize, d: usize)
+    requires { ⌜ (length (now part) ≡ rowsSize) × (at ≤ mostCharts) × (charts ≤ mostCharts) ⌝ }
+    ensures { λ _. ⌜ RowAt at charts (own d) (now (part .entry)) (now (part .exit)) ⌝ }
 {
     let mut c: usize = 0;
-    while c < CHARTS {
+    while c < charts {
         part[at + c] = own(d, c);
         c += 1;
     }
 }
 
 // A chart by itself: everything gets down to it, and up from it.
-fn alone(part: &mut [u64; ROWS], d: usize)
-    requires { ⌜ length (now part) ≡ rowsSize ⌝ }
-    ensures { λ _. ⌜ AreRows (now (part .exit)) (own d) (own d) ⌝ }
+fn alone(part: &mut [u64; ROWS], charts: usize, d: usize)
+    requires { ⌜ (length (now part) ≡ rowsSize) × (charts ≤ mostCharts) ⌝ }
+    ensures { λ _. ⌜ AreRows charts (now (part .exit)) (own d) (own d) ⌝ }
 {
-    own_row(part, 0, d);
-    own_row(part, UP_ROW, d);
+    own_row(part, 0, charts, d);
+    own_row(part, UP_ROW, charts, d);
 }
 
-// Joins a part's row less x to the same row, the masks from `at` on.
-fn join_row(rows: &mut [u64; ROWS], part: &[u64; ROWS], at: usize, x: u64)
-    requires { ⌜ (length (now rows) ≡ rowsSize) × (at ≤ mostCharts) ⌝ }
-    ensures { λ _. ⌜ RowAt at mostCharts (λ c. getD (now (rows .entry)) (at + c) 0 ∪ (getD (now (part .entry)) (at + c) 0 ∖ x)) (now (rows .entry)) (now (rows .exit)) ⌝ }
+// Joins a part's row less x to the same row, the masks of all charts from `at` on.
+fn join_row(rows: &mut [u64; ROWS], part: &[u64; ROWS], at: usize, charts: usize, x: u64)
+    requires { ⌜ (length (now rows) ≡ rowsSize) × (at ≤ mostCharts) × (charts ≤ mostCharts) ⌝ }
+    ensures { λ _. ⌜ RowAt at charts (λ c. getD (now (rows .entry)) (at + c) 0 ∪ (getD (now (part .entry)) (at + c) 0 ∖ x)) (now (rows .entry)) (now (rows .exit)) ⌝ }
 {
     let mut c: usize = 0;
-    while c < CHARTS {
+    while c < charts {
         rows[at + c] = rows[at + c] | signals::less(part[at + c], x);
         c += 1;
     }
 }
 
 // Joins a part's rows to those of what it stands in, without x on the way in and without y on the way out.
-fn join(rows: &mut [u64; ROWS], part: &[u64; ROWS], x: u64, y: u64)
-    requires { ⌜ length (now rows) ≡ rowsSize ⌝ }
-    ensures { λ _. ⌜ JoinsRows (now (rows .entry)) (now (rows .exit)) (λ c. downIn (now (part .entry)) c ∖ x) (λ c. upIn (now (part .entry)) c ∖ y) ⌝ }
+fn join(rows: &mut [u64; ROWS], part: &[u64; ROWS], charts: usize, x: u64, y: u64)
+    requires { ⌜ (length (now rows) ≡ rowsSize) × (charts ≤ mostCharts) ⌝ }
+    ensures { λ _. ⌜ JoinsRows charts (now (rows .entry)) (now (rows .exit)) (λ c. downIn (now (part .entry)) c ∖ x) (λ c. upIn (now (part .entry)) c ∖ y) ⌝ }
 {
-    join_row(rows, part, 0, x);
-    join_row(rows, part, UP_ROW, y);
+    join_row(rows, part, 0, charts, x);
+    join_row(rows, part, UP_ROW, charts, y);
 }
 
 // Each chart is offered of chart d's action what is in m and gets down to it. Most rows have nothing to feed.
-fn feed_row(masks: &mut [u64], d: usize, m: u64, part: &[u64; ROWS])
-    requires { ⌜ (masksFor (d + 1) ≤ length (now masks)) × (d < mostCharts) ⌝ }
-    ensures { λ _. ⌜ RowAt (backRow d) mostCharts (λ c. backAt (now (masks .entry)) c d ∪ (m ∩ downIn (now (part .entry)) c))
+fn feed_row(masks: &mut [u64], charts: usize, d: usize, m: u64, part: &[u64; ROWS])
+    requires { ⌜ (masksFor charts ≤ length (now masks)) × (charts ≤ mostCharts) × (d < charts) ⌝ }
+    ensures { λ _. ⌜ RowAt (backRow d) charts (λ c. backAt (now (masks .entry)) c d ∪ (m ∩ downIn (now (part .entry)) c))
         (now (masks .entry)) (now (masks .exit)) ⌝ }
 {
     if m == 0 {
         return;
     }
     let mut c: usize = 0;
-    while c < CHARTS {
+    while c < charts {
         let offered = masks::back(masks, c, d) | (m & part[c]);
         masks::put_back(masks, c, d, offered);
         c += 1;
@@ -104,7 +104,7 @@ fn feed(masks: &mut [u64], charts: usize, part: &[u64; ROWS], x: u64)
     }
     let mut d: usize = 0;
     while d < charts {
-        feed_row(masks, d, part[UP_ROW + d] & x, part);
+        feed_row(masks, charts, d, part[UP_ROW + d] & x, part);
         d += 1;
     }
 }
@@ -127,7 +127,7 @@ fn is_master(n: Shape, body: &[u8], c: u8) -> bool
 // A chart that has no slaves: of each of its rows a single mask is not empty, and of its feedback too. Most charts have none.
 fn lone(n: Shape, body: &[u8], d: usize, masks: &mut [u64], rows: &mut [u64; ROWS])
     requires { ⌜ Holds n (now body) × (d < n .charts) × (n .charts ≤ mostCharts) × (masksFor (n .charts) ≤ length (now masks)) × (length (now rows) ≡ rowsSize) ⌝ }
-    ensures { λ _. ⌜ JoinsRows (now (rows .entry)) (now (rows .exit)) (own d) (own d)
+    ensures { λ _. ⌜ JoinsRows (n .charts) (now (rows .entry)) (now (rows .exit)) (own d) (own d)
         × Joins (n .charts) (now (masks .entry)) (now (masks .exit)) (λ c e. own d c ∩ own d e ∩ headAt n (now (body .entry)) d .feedback) ⌝ }
 {
     let head = layout::body::head_at(n, body, d);
@@ -147,7 +147,7 @@ pub fn wire(n: Shape, body: &[u8], j: usize, masks: &mut [u64], rows: &mut [u64;
     let mut part = [0u64; ROWS];
     if node.kind == 2 {
         wire(n, body, a, masks, &mut part);
-        join(rows, &part, node.x, node.y);
+        join(rows, &part, n.charts, node.x, node.y);
         return;
     }
     if node.kind == 1 {
@@ -155,14 +155,14 @@ pub fn wire(n: Shape, body: &[u8], j: usize, masks: &mut [u64], rows: &mut [u64;
         wire(n, body, a, masks, &mut part);
         wire(n, body, b, masks, &mut part);
         feed(masks, n.charts, &part, node.x);
-        join(rows, &part, 0, 0);
+        join(rows, &part, n.charts, 0, 0);
         return;
     }
     if !is_master(n, body, node.a) {
         lone(n, body, a, masks, rows);
         return;
     }
-    alone(&mut part, a);
+    alone(&mut part, n.charts, a);
     let mut i: usize = 0;
     while i < n.slaves {
         let slave = layout::body::slave_at(n, body, i);
@@ -173,7 +173,7 @@ pub fn wire(n: Shape, body: &[u8], j: usize, masks: &mut [u64], rows: &mut [u64;
     }
     let head = layout::body::head_at(n, body, a);
     feed(masks, n.charts, &part, head.feedback);
-    join(rows, &part, 0, 0);
+    join(rows, &part, n.charts, 0, 0);
 }
 
 // What of each chart's action gets up out of the whole, among a search's masks.

@@ -182,7 +182,7 @@ module _ (n : Shape) (b a m s m′ s′ config base shuts lows : List ℕ) (sz :
       record {
         down-is = p .wired .down-is;
         up-is = λ d l. ch .wires .ups d (omega (arith, sz .charts)) ∙ p .wired .up-is d l;
-        back-is = λ c d l r. ch .wires .backs c d l (omega (arith, sz .charts)) ∙ p .wired .back-is c d l r;
+        back-is = λ c d l r. ch .wires .backs c d (omega (arith, sz .charts)) (omega (arith, sz .charts)) ∙ p .wired .back-is c d l r;
         nearest-is = λ c l. let q = p .wired .nearest-is c l in
             (ch .masters (masterCell c) (omega (arith, sz .charts)) (omega (arith, sz .charts)) ∙ q .0, ch .masters (slaveStateCell c) (omega (arith, sz .charts)) (omega (arith, sz .charts)) ∙ q .1);
       }
@@ -201,7 +201,7 @@ module _ (n : Shape) (b a m s m′ s′ config base shuts lows : List ℕ) (sz :
   rows =
       record {
         few = sz .charts;
-        back-at = λ c d l r. wired-again .back-is c d (omega (arith, sz .charts)) r;
+        back-at = wired-again .back-is;
         up-at = λ d l. wired-again .up-is d l;
         outside = λ c l e. let q : masterAt s′ c ≡ 255 = wired-again .nearest-is c l .0 ∙ ap (masterBy F) e in omega arith;
         inside = λ c i l e. let q = wired-again .nearest-is c l in (q .0 ∙ ap (masterBy F) e, q .1 ∙ ap (stateBy F) e);
@@ -214,7 +214,7 @@ module _ (n : Shape) (b a m s m′ s′ config base shuts lows : List ℕ) (sz :
       (sh : Shut n b config shuts) where
     base-is : (c : ℕ) → c < F .charts → getD base c 0 ≡ inp ∩ down (wholeOf F) c
     unfolding fileAt
-    base-is c l = lw c (omega (arith, sz .charts)) ∙ ap (λ z. inp ∩ z) (p .wired .down-is c (omega (arith, sz .charts)))
+    base-is c l = lw c (omega (arith, sz .charts)) ∙ ap (λ z. inp ∩ z) (p .wired .down-is c l)
 
     small-input : Small inp
     unfolding full

@@ -91,7 +91,7 @@ module _ (t : ℕ) where
       (omega (arith, s .pre .0), (s .pre .1 .0, omega (arith, s .pre .1 .1), s .pre .1 .2, refl))
 
   join-requires : lts.Need-join-requires (callees t) (at t) wire.Post Inv-loop μ-loop
-  join-requires c κs = entry (hidden-read (hidden (hidden-wired c .before))) .pre .1 .3
+  join-requires c κs = let s = entry (hidden-read (hidden (hidden-wired c .before))) in (s .pre .1 .3, s .pre .1 .0 .sized .charts)
 
   same-length : lts.Need-same-length (callees t) (at t) wire.Post Inv-loop μ-loop
   same-length c = hidden-wired (c .before) .wire .kept .1 .1 .1 .0
@@ -148,7 +148,7 @@ module _ (t : ℕ) where
       (rw (w′ .wire3 .kept .1 .1 .1 .0 ∙ w .wire2 .kept .1 .1 .1 .0) (s .pre .1 .2), s .pre .1 .0 .sized .charts)
 
   join-requires-2 : lts.Need-join-requires-2 (callees t) (at t) wire.Post Inv-loop μ-loop
-  join-requires-2 c κs = entry (composed-read (composed (left (right (fed c .before) .before) .before))) .pre .1 .3
+  join-requires-2 c κs = let s = entry (composed-read (composed (left (right (fed c .before) .before) .before))) in (s .pre .1 .3, s .pre .1 .0 .sized .charts)
 
   same-length-2 : lts.Need-same-length-2 (callees t) (at t) wire.Post Inv-loop μ-loop
   same-length-2 c =
@@ -212,8 +212,18 @@ module _ (t : ℕ) where
       let none = sym (z .before .is-master .ensures) ∙ not-true _ (z .if3 .taken) in
       wires-lone (s .pre .1 .0) (s .pre .1 .1) (r .node-at .ensures) (k .before .before .if1 .left) (k .if2 .left) none (o .lone .ensures)
 
+  -- back from where a chart's own rows are made, to the function's entry
+  abbrev alone-entry : lts.After-part7 (callees t) (at t) wire.Post Inv-loop μ-loop → lts.Start (callees t) (at t) wire.Post Inv-loop μ-loop
+  alone-entry c = c .before .before .before .before .before .before .before .before .before .before .before
+
+  alone-requires : lts.Need-alone-requires (callees t) (at t) wire.Post Inv-loop μ-loop
+  alone-requires c κs = (refl, alone-entry c .pre .1 .0 .sized .charts)
+
   loop-holds : lts.Need-loop-holds (callees t) (at t) wire.Post Inv-loop μ-loop
-  loop-holds c = (omega arith, refl, gathers-none _ _ _ (c .alone .ensures))
+  unfolding fileAt
+  loop-holds c =
+      let s = alone-entry (c .before) in
+      (omega arith, refl, gathers-none (fileAt (s .args .n) (s .args .body .now)) _ _ (c .alone .ensures))
 
   slave-at-requires : lts.Need-slave-at-requires (callees t) (at t) wire.Post Inv-loop μ-loop
   slave-at-requires c κs = (entry (chart-read (charted (c .before .before))) .pre .1 .0 .sized .holds, c .if4 .taken)
@@ -265,7 +275,7 @@ module _ (t : ℕ) where
       (rw (l .loop .inv .1) (s .pre .1 .2), s .pre .1 .0 .sized .charts)
 
   join-requires-3 : lts.Need-join-requires-3 (callees t) (at t) wire.Post Inv-loop μ-loop
-  join-requires-3 c κs = entry (chart-read (charted (loop (head (chart-fed c .before) .before)))) .pre .1 .3
+  join-requires-3 c κs = let s = entry (chart-read (charted (loop (head (chart-fed c .before) .before)))) in (s .pre .1 .3, s .pre .1 .0 .sized .charts)
 
   same-length-3 : lts.Need-same-length-4 (callees t) (at t) wire.Post Inv-loop μ-loop
   same-length-3 c =
@@ -310,7 +320,7 @@ pub +wire-spec : {M : Type 1} → statement M
     (lone-requires t)
     (lone-length t)
     (lone-returns t)
-    (λ c κs. refl)
+    (alone-requires t)
     (loop-holds t)
     (slave-at-requires t)
     (λ c. search needs)

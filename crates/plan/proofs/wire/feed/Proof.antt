@@ -13,7 +13,7 @@ use Rattle.plan.proofs.wire.feed.Statement.{statement}
 use Rattle.plan.proofs.wire.feed.Tie as tie
 
 abbrev Inv-loop : tie.InvT-loop
-Inv-loop masks₀ charts part x d₀ masks d = (d ≤ charts) × (length masks ≡ length masks₀) × Joined d masks₀ masks (λ c d. downIn part c ∩ upIn part d ∩ x)
+Inv-loop masks₀ charts part x d₀ masks d = (d ≤ charts) × (length masks ≡ length masks₀) × Joined charts d masks₀ masks (λ c d. downIn part c ∩ upIn part d ∩ x)
 
 abbrev μ-loop : tie.MeasureT-loop
 μ-loop masks₀ charts part x d₀ masks d = charts - d
@@ -26,20 +26,20 @@ returns-empty : tie.Need-returns Inv-loop μ-loop
 returns-empty c = let a = c .before .before .args in none (a .charts) (a .masks .now) (a .part .now) (a .x) (c .if1 .taken)
 
 loop-holds : tie.Need-loop-holds Inv-loop μ-loop
-loop-holds c = (omega arith, refl, joined-none _ _)
+loop-holds c = (omega arith, refl, joined-none _ _ _)
 
 loop-again : tie.Need-loop-again Inv-loop μ-loop
 loop-again c =
     let f = c .before .before .feed-row in
     let i = c .before .before .before .before .before .before .loop .inv in
     let a = c .before .before .before .before .before .before .before .before .before .args in
-    (omega arith, f .kept .0 ∙ i .1, joined-more _ (a .x) (a .part .now) _ _ _ (i .2) (f .ensures))
+    (omega arith, f .kept .0 ∙ i .1, joined-more (a .charts) _ (a .x) (a .part .now) _ _ _ (c .before .before .before .before .before .before .before .before .before .pre .1) (i .2) (f .ensures))
 
 feed-row-requires : tie.Need-feed-row-requires Inv-loop μ-loop
 feed-row-requires c κs =
     let t = c .before .before .before in
     let s = t .before .before .before in
-    (omega (arith, t .loop .inv .1, s .pre .0), omega (arith, s .pre .1))
+    (omega (arith, t .loop .inv .1, s .pre .0), s .pre .1, omega arith)
 
 returns : tie.Need-returns-2 Inv-loop μ-loop
 returns c k d p q = c .before .loop .inv .2 .in-rows k d p (omega arith)

@@ -6,7 +6,6 @@ use native.Mathlib.Omega.{arith}
 use lib.ListN.{length}
 use Rattle.signals.specs.Mask.{_∪_, _∩_}
 use Rattle.signals.specs.Decide.{sets, A, B, ∅ₑ, _∩ₑ_, _≐_}
-use Rattle.meaning.specs.Numbers.{mostCharts}
 use Rattle.cells.specs.Table.{backRow, backCell, masksFor, backAt}
 use Rattle.plan.specs.Wire.{RowAt, downIn}
 use Rattle.plan.proofs.Filled.{row-none, row-empty, row-more}
@@ -14,10 +13,10 @@ use Rattle.plan.proofs.wire.feed_row.Statement.{statement}
 use Rattle.plan.proofs.wire.feed_row.Tie as tie
 
 abbrev Inv-loop : tie.InvT-loop
-Inv-loop masks₀ d m part c₀ masks c = (c ≤ mostCharts) × RowAt (backRow d) c (λ k. backAt masks₀ k d ∪ (m ∩ downIn part k)) masks₀ masks
+Inv-loop masks₀ charts d m part c₀ masks c = (c ≤ charts) × RowAt (backRow d) c (λ k. backAt masks₀ k d ∪ (m ∩ downIn part k)) masks₀ masks
 
 abbrev μ-loop : tie.MeasureT-loop
-μ-loop masks₀ d m part c₀ masks c = mostCharts - c
+μ-loop masks₀ charts d m part c₀ masks c = charts - c
 
 nothing : (m s : ℕ) → m ≡ 0 → m ∩ s ≡ 0
 nothing m s e = sets (m ∷ s ∷ []) (A ≐ ∅ₑ ∷ []) (A ∩ₑ B ≐ ∅ₑ) tt e
@@ -30,7 +29,7 @@ loop-holds c = (omega arith, row-none _ _ _)
 
 -- the masks are as many as they were
 roomy : (t : tie.At-loop Inv-loop μ-loop) → masksFor (t .before .before .before .args .d + 1) ≤ length (t .loop .masks)
-roomy t = omega (arith, t .loop .inv .1 .long, t .before .before .before .pre .0)
+roomy t = omega (arith, t .loop .inv .1 .long, t .before .before .before .pre .0, t .before .before .before .pre .2)
 
 loop-again : tie.Need-loop-again Inv-loop μ-loop
 loop-again c =
@@ -39,12 +38,12 @@ loop-again c =
     let t = b .before .before .before in
     let l = t .loop in
     let a = t .before .before .before .args in
-    let f = t .before .before .before .pre .1 in
+    let few = t .before .before .before .pre in
     let e = ap (λ (x : ℕ). x ∪ (a .m ∩ downIn (a .part .now) (l .c))) (b .back .ensures ∙ l .inv .1 .above (backCell (l .c) (a .d)) (omega arith)) in
     (omega arith, rw (p .put-back .ensures) (row-more (backRow (a .d)) (l .c) _ _ (a .masks .now) (l .masks) (omega (arith, roomy t)) e (l .inv .1)))
 
 returns : tie.Need-returns-2 Inv-loop μ-loop
-returns c = let e : c .before .loop .c ≡ mostCharts = omega arith in rw e at (c .before .loop .inv .1)
+returns c = let e : c .before .loop .c ≡ c .before .before .before .before .args .charts = omega arith in rw e at (c .before .loop .inv .1)
 
 pub feed-row-spec : {M : Type 1} → statement M
 feed-row-spec =
@@ -54,10 +53,10 @@ feed-row-spec =
     μ-loop
     returns-empty
     loop-holds
-    (λ c κs. let t = c .before .before in (roomy t, omega arith, t .before .before .before .pre .1))
+    (λ c κs. let t = c .before .before in let s = t .before .before .before in (roomy t, omega (arith, s .pre .1), omega (arith, s .pre .1, s .pre .2)))
     (λ c. omega arith)
     (λ c. omega arith)
-    (λ c κs. let t = c .before .before .before .before .before in (roomy t, omega arith, t .before .before .before .pre .1))
+    (λ c κs. let t = c .before .before .before .before .before in let s = t .before .before .before in (roomy t, omega (arith, s .pre .1), omega (arith, s .pre .1, s .pre .2)))
     (λ c. omega arith)
     (λ c. omega arith)
     loop-again

@@ -9,7 +9,7 @@ returns c =
     let r = c .before .before in
     let s = r .before .before in
     let a = s .args in
-    rows-join (a .rows .now) (a .part .now) (a .x) (a .y) (s .pre) (r .join-row .ensures) (c .join-row2 .ensures)
+    rows-join (a .charts) (a .rows .now) (a .part .now) (a .x) (a .y) (s .pre .1) (s .pre .0) (r .join-row .ensures) (c .join-row2 .ensures)
 
 pub join-spec : {M : Type 1} → statement M
 join-spec = tie.close (tie.spec (λ c κs. search needs) (λ c κs. search needs) returns)

@@ -31,8 +31,8 @@ join-at l k x i y n on off = go (same i k) refl
         getD-set-other l k i (getD l k 0 ∪ x) 0 z ∙ sets (getD l i 0 ∷ y ∷ []) (B ≐ ∅ₑ ∷ []) (A ≐ A ∪ₑ B) tt (off z)
 
 module _ (d : ℕ) (few : d < mostCharts) where
-  pub rows-joined : (l : List ℕ) → length l ≡ rowsSize → let m = set l d (getD l d 0 ∪ full) in JoinsRows l (set m (mostCharts + d) (getD m (mostCharts + d) 0 ∪ full)) (own d) (own d)
-  rows-joined l n =
+  pub rows-joined : (N : ℕ) (l : List ℕ) → N ≤ mostCharts → length l ≡ rowsSize → let m = set l d (getD l d 0 ∪ full) in JoinsRows N l (set m (mostCharts + d) (getD m (mostCharts + d) 0 ∪ full)) (own d) (own d)
+  rows-joined N l q n =
       let m : List ℕ = set l d (getD l d 0 ∪ full) in
       let nm : length m ≡ rowsSize = length-set l d (getD l d 0 ∪ full) ∙ n in
       record {
@@ -65,7 +65,7 @@ returns c =
     let s = h .before .before .before in
     let a = s .args in
     let few : a .d < mostCharts = omega (arith, s .pre .1, s .pre .2) in (
-      rows-joined (a .d) few (a .rows .now) (s .pre .4),
+      rows-joined (a .d) few (a .n .charts) (a .rows .now) (s .pre .2) (s .pre .4),
       rw (p .put-back .ensures)
           (square-joined (a .d) few (a .n .charts) (a .masks .now) _ _ (b .back .result) (ap (λ (z : Head). z .feedback) (h .head-at .ensures)) (b .back .ensures) (s .pre .1) (s .pre .2) (s .pre .3)),
     )

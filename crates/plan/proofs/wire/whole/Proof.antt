@@ -13,7 +13,7 @@ returns : tie.Need-returns
 unfolding fileAt
 returns c =
     let w = c .before .before in
-    wires-whole _ _ _ _ (w .before .before .before .before .before .before .pre .2) (w .wire .ensures)
+    wires-whole _ _ _ _ (w .before .before .before .before .before .before .pre .0 .sized .charts) (w .before .before .before .before .before .before .pre .2) (w .wire .ensures)
 
 pub whole-spec : {M : Type 1} → statement M
 whole-spec = tie.close (tie.spec (λ c. search needs) wire-requires (λ c. search needs) returns)

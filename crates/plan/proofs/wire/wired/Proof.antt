@@ -15,9 +15,9 @@ returns c =
     let s = w .before .before .before .before .before in
     let few = s .pre .0 .sized .charts in
     record {
-      down-is = λ d p. c .down-row .ensures d p ∙ w .whole .ensures .rows-are .down-is d p;
-      up-is = λ d p. r .put-up .ensures .up-is d p ∙ w .whole .ensures .rows-are .up-is d (omega arith);
-      back-is = λ a d p e. r .put-up .ensures .back-kept a d p (omega arith) ∙ w .whole .ensures .back-is a d p e;
+      down-is = λ d p. c .down-row .ensures d (omega arith) ∙ w .whole .ensures .rows-are .down-is d p;
+      up-is = λ d p. r .put-up .ensures .up-is d p ∙ w .whole .ensures .rows-are .up-is d p;
+      back-is = λ a d p e. r .put-up .ensures .back-kept a d (omega arith) (omega arith) ∙ w .whole .ensures .back-is a d p e;
       nearest-is = q .nearest .ensures;
     }
 
