@@ -8,7 +8,7 @@ use Prim.Native.Nat.{ℕ, zero, suc, _+_, _*_, _≤_, _<_}
 use native.Mathlib.Nat.{zero-add}
 use native.Mathlib.Numerals.{add-one}
 use native.Mathlib.Omega.{arith}
-use lib.ListN.{length, getD, replicate, getD-replicate}
+use lib.ListN.{length, getD, replicate, length-replicate, getD-replicate}
 use Rattle.signals.specs.Mask.{_∪_, _∩_, _∖_}
 use Rattle.signals.specs.Decide.{sets, A, B, C, D, ∅ₑ, _∪ₑ_, _∖ₑ_, _≐_}
 use Rattle.layout.specs.Body.{headAt, slaveAt, nodeAt}
@@ -28,7 +28,7 @@ use Rattle.wiring.specs.Wire.{own, down, downs, up, ups, back, backs}
 use Rattle.wiring.specs.Rows.{down₀, down₁, down₂, up₀, up₁, up₂, back₀, back₁, back₂, slaves-out, downs-step, ups-step, backs-step}
 use Rattle.nesting.specs.Known.{Wirable}
 use Rattle.nesting.proofs.Records.{Is, IsSlave, is-node, is-slave, lower-a, lower-b}
-use Rattle.plan.specs.Wire.{Blank, Joins, RowAt, rowsSize, downIn, upIn, AreRows, JoinsRows, Feeds, Wires, Whole}
+use Rattle.plan.specs.Wire.{Blank, Joins, RowAt, rowsSize, downIn, upIn, AreRows, Empty, JoinsRows, Feeds, Wires, Whole}
 
 -- ── a record that was read ──
 
@@ -75,41 +75,60 @@ rows-put {N} {l} {m} few n h h′ =
       long = h′ .long ∙ h .long ∙ n;
     }
 
--- the rows q less x and y, joined one after the other
-pub rows-join : (N : ℕ) (l q : List ℕ) (x y : Set) {m m′ : List ℕ} → N ≤ mostCharts → length l ≡ rowsSize
-    → RowAt 0 N (λ c. getD l (0 + c) 0 ∪ (getD q (0 + c) 0 ∖ x)) l m
-    → RowAt mostCharts N (λ c. getD m (mostCharts + c) 0 ∪ (getD q (mostCharts + c) 0 ∖ y)) m m′ → JoinsRows N l m′ (λ c. downIn q c ∖ x) (λ c. upIn q c ∖ y)
-rows-join N l q x y few n h h′ =
+-- two rows changed one after the other: what is at each place is made of what was there by f and g
+pub rows-changed : (N : ℕ) (l : List ℕ) (f g : ℕ → Set → Set) {m m′ : List ℕ} → N ≤ mostCharts → length l ≡ rowsSize
+    → RowAt 0 N (λ c. f (0 + c) (getD l (0 + c) 0)) l m → RowAt mostCharts N (λ c. g (mostCharts + c) (getD m (mostCharts + c) 0)) m m′
+    → AreRows N m′ (λ c. f c (downIn l c)) (λ c. g (mostCharts + c) (upIn l c))
+rows-changed N l f g few n h h′ =
     let r = rows-put few n h h′ in
     record {
-      down-is = λ c u. r .down-is c u ∙ ap (λ (k : ℕ). getD l k 0 ∪ (getD q k 0 ∖ x)) (zero-add c);
-      up-is = λ c u. r .up-is c u ∙ ap (λ (s : Set). s ∪ (upIn q c ∖ y)) (h .above (mostCharts + c) (omega arith));
+      down-is = λ c u. r .down-is c u ∙ ap (λ (k : ℕ). f k (getD l k 0)) (zero-add c);
+      up-is = λ c u. r .up-is c u ∙ ap (g (mostCharts + c)) (h .above (mostCharts + c) (omega arith));
       long = r .long;
     }
 
+nothing-first : (x s : Set) → x ≡ 0 → x ∪ s ≡ s
+nothing-first x s h = sets (x ∷ s ∷ []) (A ≐ ∅ₑ ∷ []) (A ∪ₑ B ≐ B) tt h
+
 -- joined to empty rows
-pub rows-first : {N : ℕ} {m : List ℕ} {f g : ℕ → Set} → N ≤ mostCharts → JoinsRows N (replicate rowsSize 0) m f g → AreRows N m f g
-rows-first {N} {m} {f} {g} few h =
+rows-first : {N : ℕ} {l m : List ℕ} {f g : ℕ → Set} → Empty N l → JoinsRows N l m f g → AreRows N m f g
+rows-first e h =
     record {
-      down-is = λ c u. h .down-is c u ∙ first c (f c) (omega arith);
-      up-is = λ c u. h .up-is c u ∙ first (mostCharts + c) (g c) (omega arith);
+      down-is = λ c u. h .down-is c u ∙ nothing-first _ _ (e .down-is c u);
+      up-is = λ c u. h .up-is c u ∙ nothing-first _ _ (e .up-is c u);
       long = h .long;
     }
-  where
-    first : (k : ℕ) (s : Set) → k < rowsSize → getD (replicate rowsSize 0) k 0 ∪ s ≡ s
-    first k s u = ap (λ (z : Set). z ∪ s) (getD-replicate rowsSize k 0 0 u) ∙ sets (s ∷ []) [] (∅ₑ ∪ₑ A ≐ A) tt
 
--- rows joined whole, which is less nothing
-rows-whole : {N : ℕ} (l q : List ℕ) {m : List ℕ} {f g : ℕ → Set} → AreRows N q f g → JoinsRows N l m (λ c. downIn q c ∖ 0) (λ c. upIn q c ∖ 0) → JoinsRows N l m f g
-rows-whole l q h j =
+-- and the other way round
+rows-over : {N : ℕ} {l m : List ℕ} {f g : ℕ → Set} → Empty N l → AreRows N m f g → JoinsRows N l m f g
+rows-over e h =
     record {
-      down-is = λ c u. j .down-is c u ∙ ap (λ (s : Set). downIn l c ∪ s) (less-none (downIn q c) ∙ h .down-is c u);
-      up-is = λ c u. j .up-is c u ∙ ap (λ (s : Set). upIn l c ∪ s) (less-none (upIn q c) ∙ h .up-is c u);
-      long = j .long;
+      down-is = λ c u. h .down-is c u ∙ sym (nothing-first _ _ (e .down-is c u));
+      up-is = λ c u. h .up-is c u ∙ sym (nothing-first _ _ (e .up-is c u));
+      long = h .long;
     }
-  where
-    less-none : (s : Set) → s ∖ 0 ≡ s
-    less-none s = sets (s ∷ []) [] (A ∖ₑ ∅ₑ ≐ A) tt
+
+pub empty-new : {N : ℕ} → N ≤ mostCharts → Empty N (replicate rowsSize 0)
+empty-new few =
+    record {
+      down-is = λ c u. getD-replicate rowsSize c 0 0 (omega arith);
+      up-is = λ c u. getD-replicate rowsSize (mostCharts + c) 0 0 (omega arith);
+      long = length-replicate {A = ℕ} rowsSize 0;
+    }
+
+-- a part that was wired by itself, joined to other rows
+pub wires-part : (F : File) (t : Tree) {l m q o o′ : List ℕ} → F .charts ≤ mostCharts → Wires F t l m (replicate rowsSize 0) q
+    → JoinsRows (F .charts) o o′ (downIn q) (upIn q) → Wires F t l m o o′
+wires-part F t {o = o} few h g =
+    let q = rows-first (empty-new few) (h .rows-are) in
+    record {
+      rows-are = record {
+        down-is = λ c u. g .down-is c u ∙ ap (λ (s : Set). downIn o c ∪ s) (q .down-is c u);
+        up-is = λ c u. g .up-is c u ∙ ap (λ (s : Set). upIn o c ∪ s) (q .up-is c u);
+        long = g .long;
+      };
+      back-is = h .back-is;
+    }
 
 module _ {n : Shape} {b : List ℕ} (w : Wirable n b) {j : ℕ} (p : j < n .nodes) {r : Node} (e : r ≡ nodeAt n b j) where
   abbrev F : File
@@ -123,20 +142,20 @@ module _ {n : Shape} {b : List ℕ} (w : Wirable n b) {j : ℕ} (p : j < n .node
 
   -- ── hidden ──
 
-  pub wires-hide : r .kind ≡ 2 → {l m q o o′ : List ℕ} → Wires F (treeOf F (r .a)) l m (replicate rowsSize 0) q
-      → JoinsRows (n .charts) o o′ (λ c. downIn q c ∖ r .x) (λ c. upIn q c ∖ r .y) → Wires F t l m o o′
+  pub wires-hide : r .kind ≡ 2 → {l m o q q′ : List ℕ} → Empty (n .charts) o → Wires F (treeOf F (r .a)) l m o q
+      → AreRows (n .charts) q′ (λ c. downIn q c ∖ r .x) (λ c. upIn q c ∖ r .y) → Wires F t l m o q′
   unfolding fileAt
-  wires-hide e₂ {l} {m} {q} {o} h g =
+  wires-hide e₂ {l} {m} {o} {q} em h g =
       record {
-        rows-are = record {
+        rows-are = rows-over em (record {
           down-is = λ c u.
-              g .down-is c u
-              ∙ ap (λ (s : Set). downIn o c ∪ s) (ap (λ (s : Set). s ∖ r .x) (hq .down-is c u) ∙ ap₂ (λ (k : ℕ) (s : Set). down (treeOf F k) c ∖ s) (is .a) (is .x) ∙ sym (down₂ F (w .sound .ordered) j c p k));
+              g .down-is c u ∙ ap (λ (s : Set). s ∖ r .x) (hq .down-is c u)
+              ∙ ap₂ (λ (k : ℕ) (s : Set). down (treeOf F k) c ∖ s) (is .a) (is .x) ∙ sym (down₂ F (w .sound .ordered) j c p k);
           up-is = λ c u.
-              g .up-is c u
-              ∙ ap (λ (s : Set). upIn o c ∪ s) (ap (λ (s : Set). s ∖ r .y) (hq .up-is c u) ∙ ap₂ (λ (k : ℕ) (s : Set). up (treeOf F k) c ∖ s) (is .a) (is .y) ∙ sym (up₂ F (w .sound .ordered) j c p k));
+              g .up-is c u ∙ ap (λ (s : Set). s ∖ r .y) (hq .up-is c u)
+              ∙ ap₂ (λ (k : ℕ) (s : Set). up (treeOf F k) c ∖ s) (is .a) (is .y) ∙ sym (up₂ F (w .sound .ordered) j c p k);
           long = g .long;
-        };
+        });
         back-is = λ c d u v.
             h .back-is c d u v
             ∙ ap (λ (s : Set). backAt l c d ∪ s) (ap (λ (k : ℕ). back (F .chart) (treeOf F k) c d) (is .a) ∙ sym (back₂ F (w .sound .ordered) j c d p k));
@@ -146,16 +165,16 @@ module _ {n : Shape} {b : List ℕ} (w : Wirable n b) {j : ℕ} (p : j < n .node
       k = sym (is .kind) ∙ e₂
 
       hq : AreRows (n .charts) q (down (treeOf F (r .a))) (up (treeOf F (r .a)))
-      hq = rows-first (w .sized .charts) (h .rows-are)
+      hq = rows-first em (h .rows-are)
 
   -- ── composed ──
 
-  pub wires-comp : r .kind ≡ 1 → {l l′ m m′ q q′ o o′ : List ℕ} → Wires F (treeOf F (r .a)) l l′ (replicate rowsSize 0) q → Wires F (treeOf F (r .b)) l′ m q q′
-      → Feeds (n .charts) m m′ q′ (r .x) → JoinsRows (n .charts) o o′ (λ c. downIn q′ c ∖ 0) (λ c. upIn q′ c ∖ 0) → Wires F t l m′ o o′
+  pub wires-comp : r .kind ≡ 1 → {l l′ m m′ o q q′ : List ℕ} → Empty (n .charts) o → Wires F (treeOf F (r .a)) l l′ o q → Wires F (treeOf F (r .b)) l′ m q q′
+      → Feeds (n .charts) m m′ q′ (r .x) → Wires F t l m′ o q′
   unfolding fileAt
-  wires-comp e₁ {l} {l′} {m} {m′} {q} {q′} {o} h h′ f g =
+  wires-comp e₁ {l} {l′} {m} {m′} {o} {q} {q′} em h h′ f =
       record {
-        rows-are = rows-whole o q′ both g;
+        rows-are = rows-over em both;
         back-is = λ c d u v. f c d u v ∙ rejoin c d u v ∙ ap (λ (s : Set). backAt l c d ∪ s) (sym (back₁ F (w .sound .ordered) j c d p k));
       }
     where
@@ -163,7 +182,7 @@ module _ {n : Shape} {b : List ℕ} (w : Wirable n b) {j : ℕ} (p : j < n .node
       k = sym (is .kind) ∙ e₁
 
       hq : AreRows (n .charts) q (down (treeOf F (r .a))) (up (treeOf F (r .a)))
-      hq = rows-first (w .sized .charts) (h .rows-are)
+      hq = rows-first em (h .rows-are)
 
       both : AreRows (n .charts) q′ (down t) (up t)
       both =
@@ -287,12 +306,12 @@ module _ {n : Shape} {b : List ℕ} (w : Wirable n b) {j : ℕ} (p : j < n .node
   abbrev H : File
   H = fileAt n b
 
-  pub wires-chart : {i : ℕ} {l m m′ q o o′ : List ℕ} {h : Head} → i ≡ n .slaves → Gathers H (r .a) i l m q → h ≡ headAt n b (r .a) → Feeds (n .charts) m m′ q (h .feedback)
-      → JoinsRows (n .charts) o o′ (λ c. downIn q c ∖ 0) (λ c. upIn q c ∖ 0) → Wires H (treeOf H j) l m′ o o′
+  pub wires-chart : {i : ℕ} {l m m′ o q : List ℕ} {h : Head} → i ≡ n .slaves → Empty (n .charts) o → Gathers H (r .a) i l m q → h ≡ headAt n b (r .a)
+      → Feeds (n .charts) m m′ q (h .feedback) → Wires H (treeOf H j) l m′ o q
   unfolding fileAt
-  wires-chart {i} {l} {m} {m′} {q} {o} {o′} {h} last g₀ y f z =
+  wires-chart {i} {l} {m} {m′} {o} {q} {h} last em g₀ y f =
       record {
-        rows-are = rows-whole o q all z;
+        rows-are = rows-over em all;
         back-is = λ c d u v.
             f c d u v
             ∙ ap₂ _∪_ (g .back-is c d u v ∙ ap (λ (k : ℕ). backAt l c d ∪ backs (H .chart) (mine H k (n .slaves)) c d) (is-node n b j e .a))
@@ -357,7 +376,7 @@ module _ {n : Shape} {b : List ℕ} (w : Wirable n b) {j : ℕ} (p : j < n .node
 pub wires-whole : (F : File) (l m r : List ℕ) → F .charts ≤ mostCharts → Blank l → Wires F (wholeOf F) l m (replicate rowsSize 0) r → Whole F m r
 wires-whole F l m r few e h =
     record {
-      rows-are = rows-first few (h .rows-are);
+      rows-are = rows-first (empty-new few) (h .rows-are);
       back-is = λ c d u v. h .back-is c d u v ∙ ap (λ (s : Set). s ∪ back (F .chart) (wholeOf F) c d) (e (backCell c d))
           ∙ sets (back (F .chart) (wholeOf F) c d ∷ []) [] (∅ₑ ∪ₑ A ≐ A) tt;
     }

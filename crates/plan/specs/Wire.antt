@@ -43,6 +43,10 @@ pub record AreRows (N : ℕ) (l : List ℕ) (f g : ℕ → Set) : Type 0 where
   pub up-is : (c : ℕ) → c < N → upIn l c ≡ g c
   pub long : length l ≡ rowsSize
 
+-- the rows l of N charts are empty
+abbrev pub Empty : ℕ → List ℕ → Type 0
+Empty N l = AreRows N l (λ c. 0) (λ c. 0)
+
 -- the rows m are l with f and g joined to them
 abbrev pub JoinsRows : ℕ → List ℕ → List ℕ → (ℕ → Set) → (ℕ → Set) → Type 0
 JoinsRows N l m f g = AreRows N m (λ c. downIn l c ∪ f c) (λ c. upIn l c ∪ g c)

@@ -1,6 +1,7 @@
 // The wiring of a file: its tree folded into masks, once, so that a step looks at no tree. What the masks are is in the crate wiring (Wire), and that a
 // step may go by them too.
 ghost use mathlib.Core.Path.{_≡_};
+ghost use mathlib.Core.Bool.{true, false};
 ghost use Prim.Native.Nat.{_+_, _*_, _≤_, _<_};
 ghost use lib.ListN.{length, getD};
 ghost use Rattle.signals.specs.Mask.{_∪_, _∩_, _∖_};
@@ -13,7 +14,7 @@ ghost use Rattle.wiring.specs.Wire.{own};
 ghost use Rattle.cells.specs.Table.{backRow, masksFor, backAt, Row, smallSize};
 ghost use Rattle.nesting.specs.Known.{Wirable};
 ghost use Rattle.nesting.specs.Nearest.{Right};
-ghost use Rattle.plan.specs.Wire.{Blank, Joins, rowsSize, downIn, upIn, RowAt, AreRows, JoinsRows, Feeds, Wires, Whole, UpPut};
+ghost use Rattle.plan.specs.Wire.{Blank, Joins, rowsSize, downIn, upIn, RowAt, AreRows, Empty, JoinsRows, Feeds, Wires, Whole, UpPut};
 ghost use Rattle.plan.specs.Noted.{Notes, NotedNone, NearestIn};
 ghost use Rattle.plan.specs.Wired.{Wired};
 use cells::CHARTS;
@@ -56,25 +57,46 @@ fn alone(part: &mut [u64; ROWS], charts: usize, d: usize)
     own_row(part, UP_ROW, charts, d);
 }
 
-// Joins a part's row less x to the same row, the masks of all charts from `at` on.
-fn join_row(rows: &mut [u64; ROWS], part: &[u64; ROWS], at: usize, charts: usize, x: u64)
+// Joins a part's row to the same row, the masks of all charts from `at` on.
+fn join_row(rows: &mut [u64; ROWS], part: &[u64; ROWS], at: usize, charts: usize)
     requires { ⌜ (length (now rows) ≡ rowsSize) × (at ≤ mostCharts) × (charts ≤ mostCharts) ⌝ }
-    ensures { λ _. ⌜ RowAt at charts (λ c. getD (now (rows .entry)) (at + c) 0 ∪ (getD (now (part .entry)) (at + c) 0 ∖ x)) (now (rows .entry)) (now (rows .exit)) ⌝ }
+    ensures { λ _. ⌜ RowAt at charts (λ c. getD (now (rows .entry)) (at + c) 0 ∪ getD (now (part .entry)) (at + c) 0) (now (rows .entry)) (now (rows .exit)) ⌝ }
 {
     let mut c: usize = 0;
     while c < charts {
-        rows[at + c] = rows[at + c] | signals::less(part[at + c], x);
+        rows[at + c] = rows[at + c] | part[at + c];
         c += 1;
     }
 }
 
-// Joins a part's rows to those of what it stands in, without x on the way in and without y on the way out.
-fn join(rows: &mut [u64; ROWS], part: &[u64; ROWS], charts: usize, x: u64, y: u64)
+// Joins a part's rows to those of what it stands in.
+fn join(rows: &mut [u64; ROWS], part: &[u64; ROWS], charts: usize)
     requires { ⌜ (length (now rows) ≡ rowsSize) × (charts ≤ mostCharts) ⌝ }
-    ensures { λ _. ⌜ JoinsRows charts (now (rows .entry)) (now (rows .exit)) (λ c. downIn (now (part .entry)) c ∖ x) (λ c. upIn (now (part .entry)) c ∖ y) ⌝ }
+    ensures { λ _. ⌜ JoinsRows charts (now (rows .entry)) (now (rows .exit)) (downIn (now (part .entry))) (upIn (now (part .entry))) ⌝ }
 {
-    join_row(rows, part, 0, charts, x);
-    join_row(rows, part, UP_ROW, charts, y);
+    join_row(rows, part, 0, charts);
+    join_row(rows, part, UP_ROW, charts);
+}
+
+// Takes x from a row, the masks of all charts from `at` on.
+fn less_row(rows: &mut [u64; ROWS], at: usize, charts: usize, x: u64)
+    requires { ⌜ (length (now rows) ≡ rowsSize) × (at ≤ mostCharts) × (charts ≤ mostCharts) ⌝ }
+    ensures { λ _. ⌜ RowAt at charts (λ c. getD (now (rows .entry)) (at + c) 0 ∖ x) (now (rows .entry)) (now (rows .exit)) ⌝ }
+{
+    let mut c: usize = 0;
+    while c < charts {
+        rows[at + c] = signals::less(rows[at + c], x);
+        c += 1;
+    }
+}
+
+// Hides x on the way into a part, and y on the way out.
+fn hide(rows: &mut [u64; ROWS], charts: usize, x: u64, y: u64)
+    requires { ⌜ (length (now rows) ≡ rowsSize) × (charts ≤ mostCharts) ⌝ }
+    ensures { λ _. ⌜ AreRows charts (now (rows .exit)) (λ c. downIn (now (rows .entry)) c ∖ x) (λ c. upIn (now (rows .entry)) c ∖ y) ⌝ }
+{
+    less_row(rows, 0, charts, x);
+    less_row(rows, UP_ROW, charts, y);
 }
 
 // Each chart is offered of chart d's action what is in m and gets down to it. Most rows have nothing to feed.
@@ -124,6 +146,17 @@ fn is_master(n: Shape, body: &[u8], c: u8) -> bool
     false
 }
 
+// Whether a node of this kind that names a is a chart without slaves.
+fn is_lone(n: Shape, body: &[u8], kind: u8, a: u8) -> bool
+    requires { ⌜ Holds n (now body) ⌝ }
+    ensures { λ r. ⌜ (r ≡ true → (kind ≡ 0) × (anyUpTo (n .slaves) (λ i. same (slaveAt n (now (body .entry)) i .chart) a) ≡ false)) ⌝ }
+{
+    if kind != 0 {
+        return false;
+    }
+    !is_master(n, body, a)
+}
+
 // A chart that has no slaves: of each of its rows a single mask is not empty, and of its feedback too. Most charts have none.
 fn lone(n: Shape, body: &[u8], d: usize, masks: &mut [u64], rows: &mut [u64; ROWS])
     requires { ⌜ Holds n (now body) × (d < n .charts) × (n .charts ≤ mostCharts) × (masksFor (n .charts) ≤ length (now masks)) × (length (now rows) ≡ rowsSize) ⌝ }
@@ -137,43 +170,48 @@ fn lone(n: Shape, body: &[u8], d: usize, masks: &mut [u64], rows: &mut [u64; ROW
     masks::put_back(masks, d, d, offered);
 }
 
-// Joins the rows of node j's part to `rows`, and its feedback to a search's masks. Both are lent, so that a frame has the rows of one part alone.
-pub fn wire(n: Shape, body: &[u8], j: usize, masks: &mut [u64], rows: &mut [u64; ROWS])
-    requires { ⌜ Wirable n (now body) × (j < n .nodes) × (masksFor (n .charts) ≤ length (now masks)) × (length (now rows) ≡ rowsSize) ⌝ }
+// Joins the rows of node j's part to `rows`, and its feedback to a search's masks. Empty rows become the part's own; where there is something in them,
+// the part has rows of its own first.
+pub fn wire(n: Shape, body: &[u8], j: usize, masks: &mut [u64], rows: &mut [u64; ROWS], empty: bool)
+    requires { ⌜ Wirable n (now body) × (j < n .nodes) × (masksFor (n .charts) ≤ length (now masks)) × (length (now rows) ≡ rowsSize)
+        × (empty ≡ true → Empty (n .charts) (now rows)) ⌝ }
     ensures { λ _. ⌜ Wires (fileAt n (now (body .entry))) (treeOf (fileAt n (now (body .entry))) j) (now (masks .entry)) (now (masks .exit)) (now (rows .entry)) (now (rows .exit)) ⌝ }
 {
     let node = layout::body::node_at(n, body, j);
     let a = node.a as usize;
-    let mut part = [0u64; ROWS];
+    if is_lone(n, body, node.kind, node.a) {
+        lone(n, body, a, masks, rows);
+        return;
+    }
+    if !empty {
+        let mut part = [0u64; ROWS];
+        wire(n, body, j, masks, &mut part, true);
+        join(rows, &part, n.charts);
+        return;
+    }
     if node.kind == 2 {
-        wire(n, body, a, masks, &mut part);
-        join(rows, &part, n.charts, node.x, node.y);
+        wire(n, body, a, masks, rows, true);
+        hide(rows, n.charts, node.x, node.y);
         return;
     }
     if node.kind == 1 {
         let b = node.b as usize;
-        wire(n, body, a, masks, &mut part);
-        wire(n, body, b, masks, &mut part);
-        feed(masks, n.charts, &part, node.x);
-        join(rows, &part, n.charts, 0, 0);
+        wire(n, body, a, masks, rows, true);
+        wire(n, body, b, masks, rows, false);
+        feed(masks, n.charts, rows, node.x);
         return;
     }
-    if !is_master(n, body, node.a) {
-        lone(n, body, a, masks, rows);
-        return;
-    }
-    alone(&mut part, n.charts, a);
+    alone(rows, n.charts, a);
     let mut i: usize = 0;
     while i < n.slaves {
         let slave = layout::body::slave_at(n, body, i);
         if slave.chart == node.a {
-            wire(n, body, slave.node as usize, masks, &mut part);
+            wire(n, body, slave.node as usize, masks, rows, false);
         }
         i += 1;
     }
     let head = layout::body::head_at(n, body, a);
-    feed(masks, n.charts, &part, head.feedback);
-    join(rows, &part, n.charts, 0, 0);
+    feed(masks, n.charts, rows, head.feedback);
 }
 
 // What of each chart's action gets up out of the whole, among a search's masks.
@@ -208,7 +246,7 @@ fn whole(n: Shape, body: &[u8], masks: &mut [u64]) -> [u64; ROWS]
 {
     let mut rows = [0u64; ROWS];
     let last = n.nodes - 1;
-    wire(n, body, last, masks, &mut rows);
+    wire(n, body, last, masks, &mut rows, true);
     rows
 }
 

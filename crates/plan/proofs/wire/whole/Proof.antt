@@ -2,12 +2,12 @@
 use mathlib.Core.Path.{refl}
 use borrow.Author.Needs.{needs}
 use Rattle.meaning.specs.File.{fileAt}
-use Rattle.plan.proofs.Wiring.{wires-whole}
+use Rattle.plan.proofs.Wiring.{empty-new, wires-whole}
 use Rattle.plan.proofs.wire.whole.Statement.{statement}
 use Rattle.plan.proofs.wire.whole.Tie as tie
 
 wire-requires : tie.Need-wire-requires
-wire-requires c κs = let s = c .before .before .before .before .before in (s .pre .0, search needs, s .pre .1, refl)
+wire-requires c κs = let s = c .before .before .before .before .before in (s .pre .0, search needs, s .pre .1, refl, λ z. empty-new (s .pre .0 .sized .charts))
 
 returns : tie.Need-returns
 unfolding fileAt
