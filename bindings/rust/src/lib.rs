@@ -118,7 +118,7 @@ pub fn step(file: &[u8], config: &[u8], input: Set, next: &mut [u8]) -> Result<S
     Ok(Step {
         output: Set(output),
         mark: mark == 1,
-        places: places.map(Place::of),
+        places: Place::all(&places, config.len()),
         open,
     })
 }

@@ -32,6 +32,15 @@ impl Place {
         }
     }
 
+    /// The places of so many charts, from the bytes in the engine's answer; none behind them.
+    pub(crate) fn all(numbers: &[u8; CHARTS], charts: usize) -> Places {
+        let mut places = [Place::None; CHARTS];
+        for (place, &number) in places.iter_mut().zip(numbers).take(charts) {
+            *place = Place::of(number);
+        }
+        places
+    }
+
     /// Its byte in the engine's answer.
     pub fn number(self) -> u8 {
         match self {
