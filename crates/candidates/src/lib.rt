@@ -197,11 +197,11 @@ fn lasts(t: Transition, low: u64, own: u64, others: u64, shut: u64) -> bool
     ensures { λ r. ⌜ r ≡ lastsBy low own others shut t ⌝ }
 {
     let sure = low | t.action & own;
-    let guard = search::Guard {
+    let guard = settling::Guard {
         needed: t.needed,
         barred: t.barred,
     };
-    search::holds(guard, sure, sure | others) & !is_shut(shut, t.to)
+    settling::holds(guard, sure, sure | others) & !is_shut(shut, t.to)
 }
 
 fn is_at(masks: &[u64], small: &[u8], c: usize, v: usize, t: Transition) -> bool

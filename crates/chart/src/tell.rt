@@ -177,11 +177,11 @@ fn carried(set: u64) {
 fn took(chart: usize, place: u8) {
     say(b"chart ");
     io::print_decimal(STDOUT_FILENO, chart as u64);
-    if place == search::NO_PLACE {
+    if place == settling::NO_PLACE {
         say(b" took no transition\n");
         return;
     }
-    if place == search::STAY_PLACE {
+    if place == settling::STAY_PLACE {
         say(b" stayed\n");
         return;
     }

@@ -8,7 +8,7 @@ use native.Mathlib.Omega.{arith}
 use lib.ListN.{length, getD, set, length-set}
 use lib.Seq.{getD-set-same, getD-set-other}
 use Rattle.meaning.specs.Numbers.{mostCharts}
-use Rattle.search.specs.Hunt.{BytesPut}
+use Rattle.settling.specs.Hunt.{BytesPut}
 
 module _ (at : ℕ) (r l : List ℕ) where
   -- the first c bytes of r are put

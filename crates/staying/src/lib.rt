@@ -81,7 +81,7 @@ fn tell(
     ensures { λ r. ⌜ Tells (fromOn (transitionAt n (now (body .entry))) start count) state c low high shut (now (guards .entry)) (now (guards .exit)) r ⌝ }
 {
     let have = note_chart(n, body, start, count, state, guards, c);
-    if search::trips(guards, c, have, low, high) {
+    if settling::trips(guards, c, have, low, high) {
         return 0;
     }
     if candidates::is_shut(shut, state) {

@@ -15,10 +15,10 @@ use Rattle.meaning.specs.Check.{Test, firstOf, differ, notBelow, charts?, trans
 use Rattle.meaning.specs.Check.Nodes.{Sound}
 use Rattle.meaning.specs.Open.{openIn}
 use Rattle.meaning.specs.Calls.{foundIn, stepIn, allPlaces, placesFound, placesIn, openFor, nextIn}
-use Rattle.search.specs.Trail.{beginning}
-use Rattle.search.specs.Hunt.{over, nothing}
-use Rattle.search.specs.Stays.{huntsBoth}
-use Rattle.search.specs.declared.Found.{Found}
+use Rattle.settling.specs.Trail.{beginning}
+use Rattle.settling.specs.Hunt.{over, nothing}
+use Rattle.settling.specs.Stays.{huntsBoth}
+use Rattle.settling.specs.declared.Found.{Found}
 use Rattle.tables.specs.Filled.{answerOf}
 use Rattle.tables.specs.Whole.{Opens}
 use Rattle.checks.specs.Known.{Sized, Summed}

@@ -12,7 +12,7 @@ ghost use Rattle.meaning.specs.Open.{openIn};
 ghost use Rattle.meaning.specs.Calls.{laidOver, Valid};
 ghost use Rattle.cells.specs.Table.{masksFor, smallSize, Row, Tables};
 ghost use Rattle.cells.specs.Triggers.{triggers, Guards};
-ghost use Rattle.search.specs.Hunt.{nothing};
+ghost use Rattle.settling.specs.Hunt.{nothing};
 ghost use Rattle.plan.specs.Noted.{NearestIn};
 ghost use Rattle.plan.specs.Wire.{Blank};
 ghost use Rattle.candidates.specs.Candidates.{Ready, Mays};
@@ -25,7 +25,7 @@ use cells::small;
 use cells::triggers;
 use checks::limits;
 use layout::body::Shape;
-use search::Found;
+use settling::Found;
 
 // What a step answers, the next configuration aside (RULES 5.9): 0 or the refusal, the output, the mark, the places, 254 for a chart that stayed
 // and 255 for one that took none, and how many choices are open.
@@ -45,7 +45,7 @@ pub fn refused(r: u8, open_choices: u64) -> Stepped
         refusal: r,
         output: 0,
         mark: false,
-        places: [search::NO_PLACE; CHARTS],
+        places: [settling::NO_PLACE; CHARTS],
         open_choices,
     }
 }

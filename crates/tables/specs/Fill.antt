@@ -17,7 +17,7 @@ use Rattle.wiring.specs.Dropped.{ahead, test}
 use Rattle.wiring.specs.Sure.{sureOf, sureIn}
 use Rattle.wiring.specs.Hunt.{mayOf}
 use Rattle.cells.specs.Table.{SameWiring, SameLists, aheadCell, neededAt, barredAt, actionAt, backAt, aheadAt, putMasks, placeFrom, countCell, smallSize, toAt, countAt, masterAt, stateAt, putSmall}
-use Rattle.search.specs.Stays.{staysAt}
+use Rattle.settling.specs.Stays.{staysAt}
 use Rattle.tables.specs.Filled.{Listed, mayAt}
 pub mod Laws
 

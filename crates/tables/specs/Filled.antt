@@ -14,9 +14,9 @@ use Rattle.wiring.specs.Wire.{join, down, up, back}
 use Rattle.wiring.specs.Sure.{surely}
 use Rattle.wiring.specs.Dropped.{ahead}
 use Rattle.cells.specs.Table.{neededAt, barredAt, actionAt, backAt, aheadAt, upAt, toAt, countAt, masterAt, slaveStateAt, stateAt, placeAt}
-use Rattle.search.specs.Hunt.{answerIn}
-use Rattle.search.specs.Stays.{staysAt, calm}
-use Rattle.search.specs.declared.Found.{Found}
+use Rattle.settling.specs.Hunt.{answerIn}
+use Rattle.settling.specs.Stays.{staysAt, calm}
+use Rattle.settling.specs.declared.Found.{Found}
 
 module _ (m s : List ℕ) where
   -- candidate v of chart c is a transition, as far as a step sees it

@@ -25,9 +25,9 @@ use Rattle.wiring.specs.Wired.{awake, awake-by, Stands, offer}
 use Rattle.wiring.specs.Dropped.{ahead, test, sures, low, high, passes, join-cong}
 use Rattle.wiring.specs.Hunt.{awake-below, every-cong}
 use Rattle.cells.specs.Table.{neededAt, barredAt, actionAt, backAt, aheadAt, toAt, masterAt, slaveStateAt, stateAt, placeAt}
-use Rattle.search.specs.Trail.{Trail}
-use Rattle.search.specs.Hunt.{isAwake, wakes, taken, idled, rested, passesAt, fineAt}
-use Rattle.search.specs.Stays.{staysAt, calm, stayed, calmAt, quietAt}
+use Rattle.settling.specs.Trail.{Trail}
+use Rattle.settling.specs.Hunt.{isAwake, wakes, taken, idled, rested, passesAt, fineAt}
+use Rattle.settling.specs.Stays.{staysAt, calm, stayed, calmAt, quietAt}
 use Rattle.tables.specs.Filled.{Is, mayAt, Rows, Candidates, Stayers}
 
 -- ── a choice, one chart more settled ──

@@ -11,9 +11,9 @@ use lib.Seq.{take-at}
 use Rattle.meaning.specs.Numbers.{mostCharts, noPlace}
 use Rattle.meaning.specs.Meaning.{same, Outcome, eqList, agree, given, answer, firstPlaces}
 use Rattle.meaning.specs.Calls.{allPlaces}
-use Rattle.search.specs.Hunt.{over, nothing}
+use Rattle.settling.specs.Hunt.{over, nothing}
 use Rattle.meaning.specs.Laws.Choices.{eqList-refl}
-use Rattle.search.specs.Hunt.Laws.{head, over-first, Alike, alike-refl, alike-one, alike-sym, alike-trans, alike-fewer, alike-append, alike-answer, Among, among-alike, alike-drop, answer-over}
+use Rattle.settling.specs.Hunt.Laws.{head, over-first, Alike, alike-refl, alike-one, alike-sym, alike-trans, alike-fewer, alike-append, alike-answer, Among, among-alike, alike-drop, answer-over}
 use Rattle.tables.specs.Filled.{answerOf, trimmed}
 
 -- ── outcomes of 8 states ──

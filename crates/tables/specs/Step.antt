@@ -15,10 +15,10 @@ use Rattle.meaning.specs.Laws.Trees.{Ordered, Rule11}
 use Rattle.meaning.specs.Laws.Names.{Rule10, kap}
 use Rattle.wiring.specs.Wire.{down, Small}
 use Rattle.wiring.specs.Stand.{stands}
-use Rattle.search.specs.Trail.{beginning}
-use Rattle.search.specs.Hunt.{over, nothing}
-use Rattle.search.specs.Stays.{huntsBoth}
-use Rattle.search.specs.declared.Found.{Found}
+use Rattle.settling.specs.Trail.{beginning}
+use Rattle.settling.specs.Hunt.{over, nothing}
+use Rattle.settling.specs.Stays.{huntsBoth}
+use Rattle.settling.specs.declared.Found.{Found}
 use Rattle.tables.specs.Filled.{Rows, Candidates, Stayers, Lows, answerOf}
 use Rattle.tables.specs.Fill.{keepAt, Chosen, Raised, stuck}
 use Rattle.tables.specs.Fill.Laws.{candidates, stayers-last, lows-are, hunts-stuck}

@@ -15,7 +15,7 @@ use Rattle.meaning.specs.Meaning.{Set, same, Chart, Move, noMove, takes, stay, 
 use Rattle.signals.specs.Guard.{guard, isMet}
 use Rattle.meaning.specs.Laws.Bools.{same-refl, same-≢}
 use Rattle.cells.specs.Triggers.{triggerNeeded, triggerBarred}
-use Rattle.search.specs.Stays.{trips, staysAt, calm}
+use Rattle.settling.specs.Stays.{trips, staysAt, calm}
 use Rattle.tables.specs.Filled.{Stayers}
 
 -- of the first p of chart c's transitions ts those from state q are triggers: n of them

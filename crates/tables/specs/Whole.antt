@@ -29,10 +29,10 @@ use Rattle.wiring.specs.Hunt.{opens, fine, hunt, hunted-all, mayOf, may-of, beh
 use Rattle.wiring.specs.Filter.{lasts, kept}
 use Rattle.wiring.specs.Stand.{stands}
 use Rattle.cells.specs.Table.{actionAt, countAt, placeAt}
-use Rattle.search.specs.Trail.{Trail, beginning}
-use Rattle.search.specs.Hunt.{each, wakes, taken, rested, fineAt, over, nothing}
-use Rattle.search.specs.Stays.{staysAt, stayed, quietAt, huntsBoth}
-use Rattle.search.specs.Hunt.Laws.{among-each}
+use Rattle.settling.specs.Trail.{Trail, beginning}
+use Rattle.settling.specs.Hunt.{each, wakes, taken, rested, fineAt, over, nothing}
+use Rattle.settling.specs.Stays.{staysAt, stayed, quietAt, huntsBoth}
+use Rattle.settling.specs.Hunt.Laws.{among-each}
 use Rattle.tables.specs.Filled.{Is, Listed, start, other, fails, again, fresh, mayAt, Rows, Candidates, Stayers, Lows, answerOf}
 use Rattle.tables.specs.Fill.{opensBy, opening}
 use Rattle.tables.specs.Padded.{Padded, padded-fewer, padded-none, padded-one, padded-append, padded-nothing, padded-again, Sizes, found, found-places}

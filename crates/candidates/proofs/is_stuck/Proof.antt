@@ -12,7 +12,7 @@ use Rattle.meaning.specs.Count.Laws.{any-none, any-more, any-at}
 use Rattle.meaning.specs.Meaning.{same}
 use Rattle.cells.specs.Table.{countAt, masterAt}
 use Rattle.cells.specs.Triggers.{toldAt}
-use Rattle.search.specs.Stays.{staysAt}
+use Rattle.settling.specs.Stays.{staysAt}
 use Rattle.tables.specs.Fill.{stuck}
 use Rattle.candidates.proofs.is_stuck.Statement.{statement}
 use Rattle.candidates.proofs.is_stuck.Tie as tie

@@ -17,35 +17,35 @@ use Rattle.signals.specs.Mask.{_∪_, _∩_, apart}
 use Rattle.meaning.specs.Numbers.{mostCharts, mostFromState}
 use Rattle.meaning.specs.Meaning.{Outcome}
 use Rattle.meaning.specs.Laws.Bools.{and-l, and-r, same-refl, same-≢}
-use Rattle.search.specs.declared.Found.{Found}
-use Rattle.search.specs.declared.Guard.{Guard}
+use Rattle.settling.specs.declared.Found.{Found}
+use Rattle.settling.specs.declared.Guard.{Guard}
 use lib.ListN.{length}
 use Rattle.cells.specs.Table.{masksFor, actionAt, upAt, countAt}
 use Rattle.cells.specs.Triggers.{toldAt}
-use Rattle.search.specs.Trail.{Trail, trailIn, Keeps}
+use Rattle.settling.specs.Trail.{Trail, trailIn, Keeps}
 use Rattle.cells.specs.Trail.{Room}
-use Rattle.search.specs.Trail.Laws.{keeps-refl, keeps-trans, keeps-fewer, keeps-room, room-fewer, trail-kept}
-use Rattle.search.specs.Hunt.{each, wakes, taken, rested, fineAt, outcomeIn, settleOf, over, foundIn, Held, Takes}
-use Rattle.search.specs.Stays.{staysAt, stayed, calmAll, quietAt, huntsBoth, huntsCalm, Hunted}
-use Rattle.search.specs.Stays.Laws.{fine-same}
-use Rattle.search.specs.Hunt.Laws.{Stopped, over-append, over-stopped, each-none, over-each, over-each-stopped}
-use Rattle.search.specs.Asks.{asksOf}
-use Rattle.search.specs.Asks.Laws.{ownAt, asked-never, asked-some, asks-kept, fine-taken, fine-rested}
+use Rattle.settling.specs.Trail.Laws.{keeps-refl, keeps-trans, keeps-fewer, keeps-room, room-fewer, trail-kept}
+use Rattle.settling.specs.Hunt.{each, wakes, taken, rested, fineAt, outcomeIn, settleOf, over, foundIn, Held, Takes}
+use Rattle.settling.specs.Stays.{staysAt, stayed, calmAll, quietAt, huntsBoth, huntsCalm, Hunted}
+use Rattle.settling.specs.Stays.Laws.{fine-same}
+use Rattle.settling.specs.Hunt.Laws.{Stopped, over-append, over-stopped, each-none, over-each, over-each-stopped}
+use Rattle.settling.specs.Asks.{asksOf}
+use Rattle.settling.specs.Asks.Laws.{ownAt, asked-never, asked-some, asks-kept, fine-taken, fine-rested}
 use Rattle.search.proofs.hunt.Reads as hunt
 use Rattle.search.proofs.hunt.Kinds as hunt-kinds
 use Rattle.search.proofs.+hunt.Lts-hunt as lts
-use Rattle.search.proofs.all_calm.Reads as all-calm-reads
-use Rattle.search.proofs.asks.Reads as asks-reads
+use Rattle.settling.proofs.all_calm.Reads as all-calm-reads
+use Rattle.settling.proofs.asks.Reads as asks-reads
 use Rattle.cells.proofs.small.count.Reads as count-reads
 use Rattle.cells.proofs.triggers.told.Reads as told-reads
 use Rattle.search.proofs.disagree.Reads as disagree-reads
-use Rattle.search.proofs.fits.Reads as fits-reads
-use Rattle.search.proofs.rest.Reads as rest-reads
+use Rattle.settling.proofs.fits.Reads as fits-reads
+use Rattle.settling.proofs.rest.Reads as rest-reads
 use Rattle.search.proofs.settle.Reads as settle-reads
 use Rattle.search.proofs.shown_by.Reads as shown-by-reads
-use Rattle.search.proofs.stay.Reads as stay-reads
-use Rattle.search.proofs.take.Reads as take-reads
-use Rattle.search.proofs.wakes.Reads as wakes-reads
+use Rattle.settling.proofs.stay.Reads as stay-reads
+use Rattle.settling.proofs.take.Reads as take-reads
+use Rattle.settling.proofs.wakes.Reads as wakes-reads
 use Rattle.signals.proofs.apart.Reads as apart-reads
 use Rattle.search.proofs.+hunt.{statement}
 use Rattle.search.proofs.+hunt.Tie.{close}

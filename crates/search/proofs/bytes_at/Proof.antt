@@ -6,7 +6,7 @@ use native.Mathlib.Omega.{arith}
 use lib.ListN.{getD, replicate}
 use Rattle.meaning.specs.Numbers.{mostCharts}
 use Rattle.meaning.specs.Calls.{made}
-use Rattle.search.specs.Trail.Laws.{made-filled}
+use Rattle.settling.specs.Trail.Laws.{made-filled}
 use Rattle.search.proofs.bytes_at.Statement.{statement}
 use Rattle.search.proofs.bytes_at.Tie as tie
 

@@ -4,7 +4,7 @@ use Prim.Native.Nat.{_+_, _*_}
 use borrow.Author.Needs.{needs}
 use lib.ListN.{getD}
 use Rattle.cells.specs.Trail.{steps}
-use Rattle.search.specs.Trail.Laws.{filled-made, filled-behind}
+use Rattle.settling.specs.Trail.Laws.{filled-made, filled-behind}
 use Rattle.search.proofs.entry.Statement.{statement}
 use Rattle.search.proofs.entry.Tie as tie
 

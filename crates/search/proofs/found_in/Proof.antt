@@ -7,8 +7,8 @@ use lib.ListN.{getD}
 use Rattle.meaning.specs.Numbers.{mostCharts}
 use Rattle.meaning.specs.Meaning.{same}
 use Rattle.meaning.specs.Calls.{made}
-use Rattle.search.specs.declared.Found.{Found}
-use Rattle.search.specs.Hunt.{placesCell, hasCell, agreeCell, foundIn}
+use Rattle.settling.specs.declared.Found.{Found}
+use Rattle.settling.specs.Hunt.{placesCell, hasCell, agreeCell, foundIn}
 use Rattle.search.proofs.found_in.Statement.{statement}
 use Rattle.search.proofs.found_in.Tie as tie
 

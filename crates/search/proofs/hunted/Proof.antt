@@ -9,13 +9,13 @@ use Rattle.meaning.specs.Numbers.{mostCharts, noPlace}
 use Rattle.meaning.specs.Meaning.{same}
 use Rattle.meaning.specs.Calls.{made}
 use Rattle.meaning.specs.Calls.Laws.{made-cong}
-use Rattle.search.specs.declared.Found.{Found}
+use Rattle.settling.specs.declared.Found.{Found}
 use Rattle.cells.specs.Trail.{movesSize, placeIn, columnIn}
-use Rattle.search.specs.Trail.{beginning, trailIn}
-use Rattle.search.specs.Trail.Laws.{filled-behind, begun}
-use Rattle.search.specs.Hunt.{over, nothing, placesCell, hasCell, agreeCell, foundSize, foundIn, Held, BytesPut}
-use Rattle.search.specs.Stays.{calmAt, huntsBoth, huntsCalm}
-use Rattle.search.specs.Stays.Laws.{every-none}
+use Rattle.settling.specs.Trail.{beginning, trailIn}
+use Rattle.settling.specs.Trail.Laws.{filled-behind, begun}
+use Rattle.settling.specs.Hunt.{over, nothing, placesCell, hasCell, agreeCell, foundSize, foundIn, Held, BytesPut}
+use Rattle.settling.specs.Stays.{calmAt, huntsBoth, huntsCalm}
+use Rattle.settling.specs.Stays.Laws.{every-none}
 use Rattle.search.proofs.hunted.Statement.{statement}
 use Rattle.search.proofs.hunted.Tie as tie
 

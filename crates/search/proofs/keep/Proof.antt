@@ -12,8 +12,8 @@ use Rattle.meaning.specs.Meaning.{same}
 use Rattle.meaning.specs.Calls.{made}
 use Rattle.meaning.specs.Calls.Laws.{made-cong}
 use Rattle.cells.specs.Trail.{steps, nextIn, placeIn, columnIn}
-use Rattle.search.specs.Trail.Laws.{length-filled, column-next, made-list}
-use Rattle.search.specs.Hunt.{placesCell, hasCell, agreeCell, foundSize, outcomeIn, firstFound, foundIn, Held, BytesPut}
+use Rattle.settling.specs.Trail.Laws.{length-filled, column-next, made-list}
+use Rattle.settling.specs.Hunt.{placesCell, hasCell, agreeCell, foundSize, outcomeIn, firstFound, foundIn, Held, BytesPut}
 use Rattle.search.proofs.keep.Statement.{statement}
 use Rattle.search.proofs.keep.Tie as tie
 

@@ -13,7 +13,7 @@ use Rattle.meaning.specs.Calls.{made}
 use Rattle.meaning.specs.Calls.Laws.{length-made, getD-made}
 use Rattle.meaning.specs.Laws.Choices.{eqList-more, eqList-differ, eqList-end}
 use Rattle.cells.specs.Trail.{nextIn, columnIn}
-use Rattle.search.specs.Trail.Laws.{length-filled, column-next}
+use Rattle.settling.specs.Trail.Laws.{length-filled, column-next}
 use Rattle.search.proofs.same_states.Statement.{statement}
 use Rattle.search.proofs.same_states.Tie as tie
 

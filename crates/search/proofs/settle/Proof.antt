@@ -12,8 +12,8 @@ use lib.Seq.{getD-set-same, getD-set-other}
 use Rattle.meaning.specs.Numbers.{mostCharts}
 use Rattle.meaning.specs.Meaning.{same, Outcome, eqList}
 use Rattle.meaning.specs.Calls.Laws.{made-cong}
-use Rattle.search.specs.declared.Found.{Found}
-use Rattle.search.specs.Hunt.{placesCell, hasCell, agreeCell, outcomeIn, firstFound, settleOf, foundIn, Held}
+use Rattle.settling.specs.declared.Found.{Found}
+use Rattle.settling.specs.Hunt.{placesCell, hasCell, agreeCell, outcomeIn, firstFound, settleOf, foundIn, Held}
 use Rattle.search.proofs.settle.Statement.{statement}
 use Rattle.search.proofs.settle.Tie as tie
 

@@ -27,7 +27,7 @@ use Rattle.wiring.specs.Dropped.{join-cong}
 use Rattle.wiring.specs.Hunt.{mayOf}
 use Rattle.cells.specs.Table.{backAt}
 use Rattle.cells.specs.Triggers.{triggerNeededCell, triggerBarredCell, triggersFor, triggerNeeded, triggerBarred, putTrigger, staysSize}
-use Rattle.search.specs.Stays.{trips}
+use Rattle.settling.specs.Stays.{trips}
 use Rattle.tables.specs.Fill.{othersAt, keepAt}
 use Rattle.tables.specs.Fill.Laws.{keep-stay}
 use Rattle.tables.specs.Triggers.{Noted, begun, passed, noted, SameTriggers, noted-kept, noted-trips, Told, shut, listed, told-kept, stayers}

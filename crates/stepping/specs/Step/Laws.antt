@@ -31,8 +31,8 @@ use Rattle.wiring.specs.Wire.{Small, full, down}
 use Rattle.wiring.specs.Spared.{permitted-spared}
 use Rattle.wiring.specs.Few.{file-stands}
 use Rattle.cells.specs.Table.{Row, InRow, masterCell, slaveStateCell, masterAt, slaveStateAt}
-use Rattle.search.specs.Hunt.{nothing}
-use Rattle.search.specs.declared.Found.{Found}
+use Rattle.settling.specs.Hunt.{nothing}
+use Rattle.settling.specs.declared.Found.{Found}
 use Rattle.tables.specs.Filled.{Rows, answerOf, trimmed}
 use Rattle.tables.specs.Fill.{opensBy}
 use Rattle.tables.specs.Step.{step-found, step-places}

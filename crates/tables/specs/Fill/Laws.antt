@@ -30,10 +30,10 @@ use Rattle.wiring.specs.Hunt.{mayOf}
 use Rattle.wiring.specs.Filter.{lasts}
 use Rattle.wiring.specs.Sure.{sureOf, sureIn, surely, outside}
 use Rattle.cells.specs.Table.{SameWiring, SameLists, block, upCell, backCell, aheadCell, neededCell, barredCell, actionCell, masksFor, neededAt, barredAt, actionAt, backAt, aheadAt, putMasks, countFrom, masterFrom, stateFrom, placeFrom, toCell, countCell, masterCell, stateCell, placeCell, smallSize, toAt, countAt, masterAt, stateAt, placeAt, putSmall}
-use Rattle.search.specs.Trail.{Trail}
-use Rattle.search.specs.Hunt.{each, wakes, taken, rested, fineAt}
-use Rattle.search.specs.Stays.{staysAt, stayed, quietAt, huntsBoth}
-use Rattle.search.specs.Hunt.Laws.{each-none}
+use Rattle.settling.specs.Trail.{Trail}
+use Rattle.settling.specs.Hunt.{each, wakes, taken, rested, fineAt}
+use Rattle.settling.specs.Stays.{staysAt, stayed, quietAt, huntsBoth}
+use Rattle.settling.specs.Hunt.Laws.{each-none}
 use Rattle.tables.specs.Filled.{Is, Listed, start, other, fails, again, fresh, mayAt, Rows, Candidates, Stayers, Lows}
 use Rattle.tables.specs.Whole.{nth-takes}
 use Rattle.tables.specs.Fill.{opensBy, opening, keptBy, lastsBy, othersAt, sureAt, Raised, Filling, isAt, isAgain, put, pickFilling, considered, listing, keepAt, Until, Chosen, AheadRow, aheadBy, AheadFrom, stuck}

@@ -1,8 +1,8 @@
 -- `step::searched` meets its contract: where a chart that is surely active has no candidate and cannot stay, a search would find nothing.
 use mathlib.Core.Path.{sym, ap, _∙_}
 use borrow.Author.Needs.{needs}
-use Rattle.search.specs.Trail.{beginning}
-use Rattle.search.specs.Hunt.{over, nothing}
+use Rattle.settling.specs.Trail.{beginning}
+use Rattle.settling.specs.Hunt.{over, nothing}
 use Rattle.tables.specs.Fill.Laws.{hunts-stuck}
 use Rattle.stepping.proofs.step.searched.Statement.{statement}
 use Rattle.stepping.proofs.step.searched.Tie as tie

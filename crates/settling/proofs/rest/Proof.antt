@@ -1,0 +1,10 @@
+-- `search::rest` meets its contract: what `idle` leaves is what it promises.
+use borrow.Author.Needs.{needs}
+use Rattle.settling.proofs.rest.Statement.{statement}
+use Rattle.settling.proofs.rest.Tie as tie
+
+returns : tie.Need-returns
+returns c = c .before .before .idle .ensures
+
+pub rest-spec : {M : Type 1} → statement M
+rest-spec = tie.close (tie.spec (λ c κs. search needs) (λ c. search needs) returns)
