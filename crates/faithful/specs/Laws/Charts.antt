@@ -21,7 +21,7 @@ use Rattle.reading.specs.Names.{names?}
 use Rattle.reading.specs.Meant.{gathered, transitionFor, transitionsIn, headFor, chartsOf, transitionsOf, bodyFor}
 use Rattle.reading.specs.Meant.{trailerFor, fileFor}
 use Rattle.lists.specs.Laws.States.{or-left, or-right, length-snoc}
-use Rattle.outline.specs.Laws.Trees.{any-append}
+use Rattle.reading.specs.Laws.Lists.{any-append}
 use Rattle.roster.specs.Laws.Sorted.{InOrder, sorted-same, sorted-order, any-perm, length-perm, gathered-snoc}
 use Rattle.faithful.specs.Typed.{ChartIs, ChartsTyped}
 use Rattle.faithful.specs.Laws.Small.{transition-small, transitions-fine}
@@ -30,7 +30,7 @@ use Rattle.faithful.specs.Laws.Back.{At, at-below, shapeFor, file-back, 
 -- ── members of lists ──
 
 module _ {A : Type 0} where
-  mem-perm : {a : A} {l m : List A} → List·Permᴰ l m → List·Memᴰ a l → List·Memᴰ a m
+  pub mem-perm : {a : A} {l m : List A} → List·Permᴰ l m → List·Memᴰ a l → List·Memᴰ a m
   mem-perm List·Permᴰ·nil h = h
   mem-perm (List·Permᴰ·cons e d) h =
       ⊎-elim (λ q. List·Memᴰ·head (q ∙ e)) (λ w. List·Memᴰ·tail (mem-perm d w)) (List·Memᴰ·cases-cons h)
@@ -42,11 +42,11 @@ module _ {A : Type 0} where
   mem-perm (List·Permᴰ·trans d e) h = mem-perm e (mem-perm d h)
 
   -- a place more in front
-  at-more : (b : A) (l : List A) (i : ℕ) (a : A) → At l i a → At (b ∷ l) (suc i) a
+  pub at-more : (b : A) (l : List A) (i : ℕ) (a : A) → At l i a → At (b ∷ l) (suc i) a
   at-more b l i a h =
       record { before = b ∷ h .before; after = h .after; is = ap (b ∷_) (h .is); counted = ap suc (h .counted) }
 
-  at-head : (a : A) (l : List A) → At (a ∷ l) 0 a
+  pub at-head : (a : A) (l : List A) → At (a ∷ l) 0 a
   at-head a l = record { before = []; after = l; is = refl; counted = refl }
 
   mem-at : (l : List A) (a : A) → List·Memᴰ a l → (i : ℕ) × At l i a
@@ -57,7 +57,7 @@ module _ {A : Type 0} where
       (λ w. let r = mem-at l a w in (suc (r .0), at-more b l (r .0) a (r .1)))
       (List·Memᴰ·cases-cons h)
 
-  at-place : (l : List A) (i : ℕ) → i < length l → (a : A) × At l i a
+  pub at-place : (l : List A) (i : ℕ) → i < length l → (a : A) × At l i a
   at-place [] i h = absurd (omega arith)
   at-place (a ∷ l) zero h = (a, at-head a l)
   at-place (a ∷ l) (suc i) h = let r = at-place l i (omega arith) in (r .0, at-more a l i (r .0) (r .1))
@@ -65,7 +65,7 @@ module _ {A : Type 0} where
   at-mem : (l : List A) (i : ℕ) (a : A) → At l i a → List·Memᴰ a l
   at-mem l i a h = subst (List·Memᴰ a) (sym (h .is)) (Memᴰ·append-right (h .before) (List·Memᴰ·head refl))
 
-  at-fine : (p : A → Bool) (l : List A) (i : ℕ) (a : A) → any p l ≡ false → At l i a → p a ≡ false
+  pub at-fine : (p : A → Bool) (l : List A) (i : ℕ) (a : A) → any p l ≡ false → At l i a → p a ≡ false
   unfolding any
   at-fine p l i a e h =
       or-left (p a) (any p (h .after))
@@ -85,7 +85,7 @@ module _ {A : Type 0} where
       let f = h .counted in
       omega arith
 
-  gathered-append : {B : Type 0} (f : A → List B) (l m : List A) → gathered f (l ++ m) ≡ gathered f l ++ gathered f m
+  pub gathered-append : {B : Type 0} (f : A → List B) (l m : List A) → gathered f (l ++ m) ≡ gathered f l ++ gathered f m
   unfolding gathered
   gathered-append f [] m = refl
   gathered-append f (a ∷ l) m =
@@ -104,7 +104,7 @@ module _ (t : Chart) (n : names? t ≡ false) where
   pub in-order : InOrder nameOf 0 (chartsOf t)
   in-order = sorted-order nameOf namedCharts (sequentialsOf t) named
 
-  charts-fine : any sequential? (chartsOf t) ≡ false
+  pub charts-fine : any sequential? (chartsOf t) ≡ false
   unfolding names?
   charts-fine =
       any-perm sequential? same-charts
@@ -187,7 +187,7 @@ module _ (t : Chart) (n : names? t ≡ false) where
 
   -- ── all of them ──
 
-  each-chart : (s : Sequential) → List·Memᴰ s (sequentialsOf t)
+  pub each-chart : (s : Sequential) → List·Memᴰ s (sequentialsOf t)
       → (nameOf s < length (chartsOf t)) × ChartIs (chartOf (shapeFor t) (bodyFor t) (nameOf s)) s
   each-chart s m =
       let a = mem-at (chartsOf t) s (mem-perm (Permᴰ·symm same-charts) m) in
@@ -195,7 +195,8 @@ module _ (t : Chart) (n : names? t ≡ false) where
       subst (λ c. (c < length (chartsOf t)) × ChartIs (chartOf (shapeFor t) (bodyFor t) c) s) (sym k)
       (at-below (chartsOf t) (a .0) s (a .1), chart-is (a .0) s (a .1))
 
-  chart-typed : (c : ℕ) → c < length (chartsOf t) → (s : Sequential) × List·Memᴰ s (sequentialsOf t) × (nameOf s ≡ c)
+  pub chart-typed : (c : ℕ) → c < length (chartsOf t)
+      → (s : Sequential) × List·Memᴰ s (sequentialsOf t) × (nameOf s ≡ c)
   chart-typed c l =
       let a = at-place (chartsOf t) c l in
       let m = mem-perm same-charts (at-mem (chartsOf t) c (a .0) (a .1)) in

@@ -66,7 +66,7 @@ module _ {A : Type 0} (key : A → ℕ) where
       go true e i = more (eqb-true (key a) k e) i
       go false e i = i
 
-  keys-sorted : (n : ℕ) (l : List A) → Each (λ a. key a < n) (sortedBy key n l)
+  pub keys-sorted : (n : ℕ) (l : List A) → Each (λ a. key a < n) (sortedBy key n l)
   unfolding sortedBy
   keys-sorted zero l = none
   keys-sorted (suc n) l =
@@ -99,7 +99,7 @@ module _ {A : Type 0} (key : A → ℕ) where
   NotFalling [] = Unit {0}
   NotFalling (a ∷ l) = Each (λ b. key a ≤ key b) l × NotFalling l
 
-  append-level : (n : ℕ) (l m : List A) → NotFalling l → NotFalling m → Each (λ a. key a ≤ n) l
+  pub append-level : (n : ℕ) (l m : List A) → NotFalling l → NotFalling m → Each (λ a. key a ≤ n) l
       → Each (λ a. n ≤ key a) m → NotFalling (l ++ m)
   unfolding NotFalling
   append-level n [] m r s e f = s

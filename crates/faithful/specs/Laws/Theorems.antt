@@ -21,8 +21,7 @@ use Rattle.reading.specs.Meant.{chartsOf, layChart, nodesOf, bodyFor, trailerFo
 use Rattle.reading.specs.Read.{chartTests, refusalIn, readRefusal, readFile}
 use Rattle.reading.specs.Laws.Read.{read-spells}
 use Rattle.lists.specs.Laws.States.{or-left, or-right}
-use Rattle.outline.specs.Tree.{refused?}
-use Rattle.outline.specs.Laws.Trees.{refused-is}
+use Rattle.outline.specs.Laws.Filed.{not-refused}
 use Rattle.roster.specs.Laws.Sorted.{few-names, length-perm}
 use Rattle.faithful.specs.Typed.{Means, Faithful}
 use Rattle.faithful.specs.Laws.Back.{shapeFor, file-back, slave-is, node-is}
@@ -30,61 +29,62 @@ use Rattle.faithful.specs.Laws.Charts.{named, same-charts, charts-typed}
 use Rattle.faithful.specs.Laws.Parts.{once-typed}
 use Rattle.faithful.specs.Laws.Tree.{Reads, chart-means}
 
--- ── the tree ──
+-- ── what 52 gives ──
 
-module _ (t : Chart) (n : names? t ≡ false) (c : counts? (trailerFor t) ≡ false) (p : refusalOf (fileFor t) ≡ 0) where
-  -- the file that its body holds
-  abbrev body : File
-  body = fileAt (shapeFor t) (bodyFor t)
-
-  back : fileOf (fileFor t) ≡ body
-  back = file-back t (counted (trailerFor t) c)
-
-  body-treed : Treed body
-  body-treed =
-      let q = passed (fileFor t) p in
-      subst Treed back (treed (fileOf (fileFor t)) (q .slaves) (q .nodes) (q .naming))
-
-  few-charts : length (chartsOf t) ≤ namedCharts
+module _ (t : Chart) (n : names? t ≡ false) where
+  pub few-charts : length (chartsOf t) ≤ namedCharts
   few-charts =
       let f = few-names nameOf namedCharts (sequentialsOf t) (named t n) in
       let e = length-perm (same-charts t n) in
       omega arith
 
-  body-reads : Reads body (nodesOf t) (layChart t 0 .slaves)
-  unfolding fileAt shapeOf trailerFor
-  body-reads =
-      record {
-        nodes = refl;
-        node = λ j r m x y. node-is t j r m x y;
-        slaves = refl;
-        slave = λ i r m. slave-is t i r m;
-        ordered = body-treed .ordered;
-        rise = ap slaves? (sym back) ∙ passed (fileFor t) p .slaves;
-        few = λ j l k. let a = body-treed .chart-there j l k in let f = few-charts in omega arith;
-      }
-
-  fine : refused? t ≡ false
-  unfolding names?
-  fine = refused-is t ∙ or-right (notAll? namedCharts (map nameOf (sequentialsOf t))) _ n
-
-  once : twice? (map nameOf (sequentialsOf t)) ≡ false
+  pub once : twice? (map nameOf (sequentialsOf t)) ≡ false
   unfolding notAll?
   once =
       let ns = map nameOf (sequentialsOf t) in
       or-left (twice? ns) (leftOut? ns)
       (or-right (any (λ k. notBelow k namedCharts) ns) (twice? ns || leftOut? ns) (named t n))
 
-  body-means : Means body (wholeOf body) t
-  unfolding fileAt shapeOf trailerFor
-  body-means =
-      let z : 0 + length (nodesOf t) - 1 ≡ length (nodesOf t) - 1 = omega arith in
-      subst (λ j. Means body (treeOf body j) t) z
-      (chart-means body (nodesOf t) (layChart t 0 .slaves) body-reads t fine 0 (once-typed (sequentialsOf t) once)
-      (record { before = []; after = []; is = sym (append-nil (nodesOf t)); counted = refl }) (λ c i. refl))
+-- ── the tree ──
 
-  pub tree-typed : Means (fileOf (fileFor t)) (wholeOf (fileOf (fileFor t))) t
-  tree-typed = subst (λ F. Means F (wholeOf F) t) (sym back) body-means
+module _ (t : Chart) (n : names? t ≡ false) where
+  -- the file that its body holds
+  abbrev body : File
+  body = fileAt (shapeFor t) (bodyFor t)
+
+  module _ (w : Treed body) (e : slaves? body ≡ false) where
+    body-reads : Reads body (nodesOf t) (layChart t 0 .slaves)
+    unfolding fileAt shapeOf trailerFor
+    body-reads =
+        record {
+          nodes = refl;
+          node = λ j r m x y. node-is t j r m x y;
+          slaves = refl;
+          slave = λ i r m. slave-is t i r m;
+          ordered = w .ordered;
+          rise = e;
+          few = λ j l k. let a = w .chart-there j l k in let f = few-charts t n in omega arith;
+        }
+
+    pub body-means : Means body (wholeOf body) t
+    unfolding fileAt shapeOf trailerFor
+    body-means =
+        let z : 0 + length (nodesOf t) - 1 ≡ length (nodesOf t) - 1 = omega arith in
+        subst (λ j. Means body (treeOf body j) t) z
+        (chart-means body (nodesOf t) (layChart t 0 .slaves) body-reads t (not-refused t n) 0
+        (once-typed (sequentialsOf t) (once t n))
+        (record { before = []; after = []; is = sym (append-nil (nodesOf t)); counted = refl }) (λ c i. refl))
+
+  module _ (c : counts? (trailerFor t) ≡ false) (p : refusalOf (fileFor t) ≡ 0) where
+    back : fileOf (fileFor t) ≡ body
+    back = file-back t (counted (trailerFor t) c)
+
+    pub tree-typed : Means (fileOf (fileFor t)) (wholeOf (fileOf (fileFor t))) t
+    tree-typed =
+        let q = passed (fileFor t) p in
+        subst (λ F. Means F (wholeOf F) t) (sym back)
+        (body-means (subst Treed back (treed (fileOf (fileFor t)) (q .slaves) (q .nodes) (q .naming)))
+        (ap slaves? (sym back) ∙ q .slaves))
 
 -- ── texts ──
 

@@ -22,7 +22,8 @@ use Rattle.tokens.specs.Laws.Lists.{peek-sign, peek-name}
 use Rattle.fields.specs.declared.Joined.{Joined}
 use Rattle.fields.specs.declared.Guard.{Guard}
 use Rattle.fields.specs.Fields.{Joins, Means, LiteralAt, LiteralsAt, GuardAt}
-use Rattle.fields.specs.Laws.Sets.{any-snoc, mask-snoc, joins-bad, joins-before, joins-mask}
+use Rattle.fields.specs.Laws.Sets.{mask-snoc, joins-bad, joins-before, joins-mask}
+use Rattle.reading.specs.Laws.Lists.{any-snoc}
 
 -- ── literals ──
 

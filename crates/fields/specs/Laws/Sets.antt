@@ -19,6 +19,7 @@ use Rattle.notation.specs.Reader.{firstByte}
 use Rattle.reading.specs.Numbers.{namedSignals}
 use Rattle.reading.specs.Names.{membersOf, membersOr, any, signals?}
 use Rattle.reading.specs.Meant.{maskOf}
+use Rattle.reading.specs.Laws.Lists.{any-snoc}
 use Rattle.tokens.specs.declared.Name.{Name}
 use Rattle.tokens.specs.Tokens.{blanks, cap, afterBlanks, BehindSign, NameFrom}
 use Rattle.tokens.specs.Laws.Text.{behind-right, named-right}
@@ -46,19 +47,6 @@ cap-is n = go (decLt n 1000)
     go (yes h) l = rw (lt-ltb n 1000 h)
     go (no h) l =
         absurd (let z : ltb n 1000 ≡ false = le-ltb n 1000 (omega arith) in let k = (rw z at l) in omega arith)
-
-pub any-snoc : (p : ℕ → Bool) (a : List ℕ) (n : ℕ) → any p (a ++ (n ∷ [])) ≡ (any p a || p n)
-unfolding any
-any-snoc p [] n = go (p n)
-  where
-    go : (c : Bool) → (c || false) ≡ c
-    go true = refl
-    go false = refl
-any-snoc p (m ∷ a) n = ap (p m ||_) (any-snoc p a n) ∙ go (p m)
-  where
-    go : (c : Bool) → (c || (any p a || p n)) ≡ ((c || any p a) || p n)
-    go true = refl
-    go false = refl
 
 pub mask-snoc : (a : List ℕ) (n : ℕ) → maskOf (a ++ (n ∷ [])) ≡ maskOf a ∪ single n
 unfolding maskOf

@@ -22,44 +22,11 @@ use Rattle.tokens.specs.declared.Name.{Name}
 use Rattle.tokens.specs.Tokens.{cap, afterBlanks, BehindSign, NameFrom}
 use Rattle.tokens.specs.Laws.Text.{behind-right, named-right}
 use Rattle.tokens.specs.Laws.Lists.{firstName, restNames, moreNames, names-cons, peek-sign}
-use Rattle.fields.specs.Laws.Sets.{any-snoc, mask-snoc}
+use Rattle.fields.specs.Laws.Sets.{mask-snoc}
+use Rattle.reading.specs.Laws.Lists.{any-of, any-snoc, bit-mask, twice-snoc}
 use Rattle.lists.specs.declared.Listed.{Listed}
 use Rattle.lists.specs.declared.StateList.{StateList}
 use Rattle.lists.specs.Lists.{Lists, SoFar, gap, GivesStates, StatesFrom, StatesAt}
-
--- ── masks ──
-
--- a state is in the mask of a list exactly if the list has it
-pub bit-mask : (ns : List ℕ) (n : ℕ) → bit (maskOf ns) n ≡ has ns n
-unfolding maskOf has any
-bit-mask [] n = bit-none n
-bit-mask (m ∷ ns) n = bit-union n (single m) (maskOf ns) ∙ ap (_|| bit (maskOf ns) n) (bit-single m n)
-    ∙ ap (eqb m n ||_) (bit-mask ns n)
-
--- ── given twice ──
-
-eqb-sym : (m n : ℕ) → eqb m n ≡ eqb n m
-eqb-sym m n = go (eqb m n) (eqb n m) refl refl
-  where
-    go : (a b : Bool) → eqb m n ≡ a → eqb n m ≡ b → a ≡ b
-    go true true e f = refl
-    go false false e f = refl
-    go true false e f = absurd (true≢false (sym (eq-eqb n m (sym (eqb-true m n e))) ∙ f))
-    go false true e f = absurd (true≢false (sym (eq-eqb m n (sym (eqb-true n m f))) ∙ e))
-
-shuffle : (h t e k : Bool) → ((h || e) || (t || k)) ≡ ((h || t) || (e || k))
-shuffle true t e k = refl
-shuffle false true true k = refl
-shuffle false true false k = refl
-shuffle false false e k = refl
-
-twice-snoc : (a : List ℕ) (n : ℕ) → twice? (a ++ (n ∷ [])) ≡ (twice? a || has a n)
-unfolding twice? has any
-twice-snoc [] n = refl
-twice-snoc (m ∷ a) n =
-    ap (_|| twice? (a ++ (n ∷ []))) (any-snoc (λ k. eqb k m) a n) ∙ ap ((has a m || eqb n m) ||_) (twice-snoc a n)
-    ∙ ap (λ e. (has a m || e) || (twice? a || has a n)) (eqb-sym n m)
-    ∙ shuffle (has a m) (twice? a) (eqb m n) (has a n)
 
 -- ── left out ──
 
@@ -70,10 +37,6 @@ or-left false b e = refl
 pub or-right : (a b : Bool) → (a || b) ≡ false → b ≡ false
 or-right true b e = absurd (true≢false e)
 or-right false b e = e
-
-or-true : (a : Bool) → (a || true) ≡ true
-or-true true = refl
-or-true false = refl
 
 pub not-false : (b : Bool) → not b ≡ false → b ≡ true
 not-false true e = refl
@@ -88,13 +51,6 @@ any-at p (m ∷ a) n e h = go (eqb m n) refl h (any-at p a n (or-right (p m) (an
     go : (c : Bool) → eqb m n ≡ c → (c || has a n) ≡ true → (has a n ≡ true → p n ≡ false) → p n ≡ false
     go true f g k = ap p (sym (eqb-true m n f)) ∙ or-left (p m) (any p a) e
     go false f g k = k g
-
-any-of : (p : ℕ → Bool) (a : List ℕ) → ((n : ℕ) → has a n ≡ true → p n ≡ false) → any p a ≡ false
-unfolding any has
-any-of p [] h = refl
-any-of p (m ∷ a) h =
-    ap (_|| any p a) (h m (ap (_|| has a m) (eq-eqb m m refl)))
-    ∙ any-of p a (λ n k. h n (ap (eqb m n ||_) k ∙ or-true (eqb m n)))
 
 -- the mask of a list has a gap exactly if a number below the highest is left out
 pub gap-is : (ns : List ℕ) → gap (maskOf ns) ≡ leftOut? ns

@@ -24,7 +24,8 @@ use Rattle.fields.specs.declared.Passage.{Passage}
 use Rattle.fields.specs.Fields.{Passes, TransitionAt}
 use Rattle.lists.specs.declared.TransitionList.{TransitionList}
 use Rattle.lists.specs.Lists.{lacks, moreOf, GivesTransitions, TransitionsFrom, TransitionsAt}
-use Rattle.lists.specs.Laws.States.{or-left, any-at, bit-mask, cap-test, length-snoc}
+use Rattle.lists.specs.Laws.States.{or-left, any-at, cap-test, length-snoc}
+use Rattle.reading.specs.Laws.Lists.{bit-mask}
 
 -- ── what 52 asks of a transition ──
 

@@ -1,6 +1,6 @@
 -- The file of a chart to which 52 does not apply has as many nodes and slaves as are counted on the tree:
 -- `nodes-filed`, `slaves-filed`. No slave is lost where they are sorted by chart and state, since every chart and state
--- has a name.
+-- has a name (`all-fit`).
 use mathlib.Core.Path.{_≡_, refl, sym, ap, _∙_}
 use mathlib.Core.Bool.{Bool, false, _||_}
 use mathlib.Core.List.{List, [], _∷_, _++_, map}
@@ -19,7 +19,8 @@ use Rattle.reading.specs.Meant.{sortedBy, Placed, laySlaves, withNode, beside, 
 use Rattle.reading.specs.Meant.{placed, nodesOf, slavesOf}
 use Rattle.lists.specs.Laws.States.{or-left, or-right, not-false}
 use Rattle.outline.specs.Tree.{lacking, refusedSingle?, refused?, refusedSlaves?, nodesIn, slavesIn}
-use Rattle.outline.specs.Laws.Trees.{any-append, refused-is}
+use Rattle.outline.specs.Laws.Trees.{refused-is}
+use Rattle.reading.specs.Laws.Lists.{any-append}
 use Rattle.outline.specs.Laws.Sorted.{Each, none, more, each-append, each-sorted, each-of, length-sorted}
 use Rattle.outline.specs.Laws.Laid.{has-below, laid}
 
@@ -110,7 +111,7 @@ mutual
 -- ── the file ──
 
 module _ (t : Chart) (e : names? t ≡ false) where
-  not-refused : refused? t ≡ false
+  pub not-refused : refused? t ≡ false
   unfolding names?
   not-refused =
       refused-is t
@@ -124,6 +125,9 @@ module _ (t : Chart) (e : names? t ≡ false) where
       ∙ or-left (any (λ n. notBelow n namedCharts) l) (twice? l || leftOut? l)
       (or-left (notAll? namedCharts l) (any sequential? (sequentialsOf t) || parts? t) e)
 
+  pub all-fit : Each Fits (layChart t 0 .slaves)
+  all-fit = chart-fits t not-refused all-named 0
+
   pub nodes-filed : length (nodesOf t) ≡ nodesIn t
   nodes-filed = laid t not-refused 0 .nodes
 
@@ -134,7 +138,7 @@ module _ (t : Chart) (e : names? t ≡ false) where
   pub slaves-filed : length (slavesOf t) ≡ slavesIn t
   slaves-filed =
       let l = layChart t 0 .slaves in
-      let f = chart-fits t not-refused all-named 0 in
+      let f = all-fit in
       length-sorted (λ s. s .chart) namedCharts (sortedBy (λ s. s .state) namedStates l)
       (each-sorted (λ s. s .state) namedStates l (each-of (λ s g. g .chart) f))
       ∙ length-sorted (λ s. s .state) namedStates l (each-of (λ s g. g .state) f) ∙ slaves-met

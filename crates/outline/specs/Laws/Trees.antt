@@ -9,6 +9,7 @@ use Rattle.notation.specs.Syntax.{Sequential, Single, sequential, decomposed, h
 use Rattle.notation.specs.Syntax.{firstSlave, moreSlaves, depthSingle, depth}
 use Rattle.reading.specs.Names.{membersOf, any, set?, optional?, sequential?, sequentialsIn, sequentialsOf}
 use Rattle.reading.specs.Names.{sequentialsOfSlaves, singleParts?, parts?, slaveParts?}
+use Rattle.reading.specs.Laws.Lists.{any-append}
 use Rattle.outline.specs.Tree.{lacking, refusedSingle?, refused?, refusedSlaves?}
 
 -- ── depth ──
@@ -25,15 +26,6 @@ depth-some (single s) = single-some s
 depth-some (composed a x b) = omega arith
 
 -- ── what 52 asks ──
-
-pub any-append : {A : Type 0} (p : A → Bool) (a b : List A) → any p (a ++ b) ≡ (any p a || any p b)
-unfolding any
-any-append p [] b = refl
-any-append p (u ∷ a) b = ap (p u ||_) (any-append p a b) ∙ go (p u)
-  where
-    go : (c : Bool) → (c || (any p a || any p b)) ≡ ((c || any p a) || any p b)
-    go true = refl
-    go false = refl
 
 -- tests are made in one order or in another
 regroup : (s p x t q : Bool) → ((s || p) || (x || (t || q))) ≡ ((s || t) || (p || (x || q)))

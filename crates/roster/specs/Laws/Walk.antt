@@ -25,7 +25,8 @@ use Rattle.lists.specs.declared.Sequential.{Sequential as Drawn}
 use Rattle.lists.specs.Lists.{gap, SoFar, GivesSequential, SequentialAt}
 use Rattle.lists.specs.Found.{Found, nothing, passed, found, begins?, named?, TokenAt, BeginsAt}
 use Rattle.lists.specs.Laws.Found.{found-all}
-use Rattle.lists.specs.Laws.States.{so-far-more, or-left, or-right, bit-mask, gap-is}
+use Rattle.lists.specs.Laws.States.{so-far-more, or-left, or-right, gap-is}
+use Rattle.reading.specs.Laws.Lists.{bit-mask}
 use Rattle.lists.specs.Laws.States.{refused-more, cap-test, cap-in, length-snoc}
 use Rattle.lists.specs.Laws.Tokens.{text-end, text-some}
 use Rattle.lists.specs.Laws.Transitions.{any-more}

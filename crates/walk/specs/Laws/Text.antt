@@ -21,7 +21,7 @@ use Rattle.reading.specs.Names.{has}
 use Rattle.reading.specs.Meant.{all, layChart, slavesOf}
 use Rattle.lists.specs.Laws.States.{or-left, or-right}
 use Rattle.forms.specs.Laws.Bytes.{calm-end}
-use Rattle.outline.specs.Laws.Trees.{any-append}
+use Rattle.reading.specs.Laws.Lists.{any-append}
 use Rattle.walk.specs.declared.Cursor.{Cursor}
 use Rattle.walk.specs.Room.{Tries}
 use Rattle.walk.specs.Order.{PutsAll}
