@@ -1,6 +1,6 @@
 -- The rewritten file in bytes passes 1 to 11, if the file does and 40 to 44 do not apply; and what is read of it is the rewritten file.
 use mathlib.Core.Path.{_≡_, refl, sym, _∙_, ap, ap₂, subst}
-use mathlib.Core.Bool.{Bool, true, false, _&&_, _||_, not, cond, true≢false, false≢true}
+use mathlib.Core.Bool.{Bool, true, false, _&&_, _||_, not, cond, true≢false}
 use mathlib.Core.List.{List, [], _∷_, _++_, append-nil}
 use Prim.Native.Nat.{ℕ, zero, suc, _+_, _*_, _-_, _≤_, _<_}
 use native.Mathlib.Omega.{arith}
@@ -9,23 +9,24 @@ use lib.Dec.{ltb}
 use lib.ListN.{length, getD, drop, List·getD-append}
 use lib.Seq.{getD-drop}
 use Rattle.layout.specs.Le.{bytes}
-use Rattle.layout.specs.Record.{trailerBytes, headBytes, transitionBytes, nodeBytes}
+use Rattle.layout.specs.Record.{trailerBytes, headBytes, transitionBytes, slaveBytes, nodeBytes}
 use Rattle.layout.specs.Record.Laws.{length-trailer, length-head, length-transition, length-node}
 use Rattle.layout.specs.Body.{transitionsFrom, nodesFrom, sizeOf, headAt, transitionAt, nodeAt, startOf}
 use Rattle.layout.specs.declared.body.Shape.{Shape}
 use Rattle.layout.specs.declared.record.Trailer.{Trailer}
 use Rattle.layout.specs.declared.record.Head.{Head}
 use Rattle.layout.specs.declared.record.Transition.{Transition}
+use Rattle.layout.specs.declared.record.Slave.{Slave}
 use Rattle.layout.specs.declared.record.Node.{Node}
 use Rattle.meaning.specs.Numbers.{firstEdition, mostCharts, mostSlaves, mostNodes, mostTransitions, mostStates, mostInChart, mostFromState}
 use Rattle.meaning.specs.Count.{anyUpTo, tally, one}
 use Rattle.meaning.specs.Count.Laws.{any-all, any-never, tally-cong, tally-front}
 use Rattle.meaning.specs.Meaning.{same}
 use Rattle.meaning.specs.File.{File, endOf, trailer, bodyOf, shapeOf, fileAt, fileOf}
-use Rattle.meaning.specs.Check.{edition?, differ, notBelow, counts?, distance?, nonzero, zeros?, chart?, charts?, ends?, leaving, transitions?, slaves?, nodeOfKind?, nodes?, names, named, held, naming?, inside?, refusalOf}
+use Rattle.meaning.specs.Check.{edition?, differ, notBelow, counts?, distance?, nonzero, zeros?, chart?, charts?, ends?, leaving, transitions?, slaves?, nodeOfKind?, nodes?, names, named, holds, held, naming?, inside?, refusalOf}
 use Rattle.meaning.specs.Rewriting.{chartWith, rewrittenChart, rewrite, leavingIn, transitionsIn, noFree?, fromState?, inChart?, headFor, shapeIn, bodyBytes, encode}
 use Rattle.meaning.specs.Rewriting.Laws.{list-most, sum-most}
-use Rattle.meaning.specs.Laws.Bools.{same-refl, same→≡, same-≢}
+use Rattle.meaning.specs.Laws.Bools.{and-l, and-r, same-refl, same→≡, same-≢, same→≢}
 use Rattle.meaning.specs.Laws.Trees.{Ordered}
 use Rattle.meaning.specs.Laws.Names.{Rule10}
 use Rattle.agreement.specs.Every.{every-at}
@@ -77,6 +78,11 @@ transition-zero t zero l = refl
 transition-zero t (suc zero) l = refl
 transition-zero t (suc (suc i)) l = absurd (omega arith)
 
+pub slave-zero : (d : Slave) (i : ℕ) → i < 1 → getD (slaveBytes d) (3 + i) 0 ≡ 0
+unfolding slaveBytes
+slave-zero d zero l = refl
+slave-zero d (suc i) l = absurd (omega arith)
+
 pub node-zero : (d : Node) (i : ℕ) → i < 1 → getD (nodeBytes d) (3 + i) 0 ≡ 0
 unfolding nodeBytes
 node-zero d zero l = refl
@@ -103,6 +109,26 @@ unfolding leavingIn tally
 leaving-list [] s = refl
 leaving-list (t ∷ ts) s = tally-front (length ts) (λ u. one (same (getD (t ∷ ts) u noTransition .from) s))
     ∙ ap (λ z. one (same (t .from) s) + z) (leaving-list ts s)
+
+-- ── a file that meets what 10 says ──
+
+pub naming-is : (F : File) → Rule10 F → naming? F ≡ false
+unfolding naming?
+naming-is F r = neither _ _ (neither _ _ (any-all (F .charts) _ (λ c l. equal (held F c) 1 (r .once c l)))
+    (any-all (F .nodes) _ (λ j l. equal (named F j) _ (due j l (same (suc j) (F .nodes)) refl))))
+    (any-all (F .slaves) _ (λ i l. any-all (F .nodes) _ (λ j m. higher i j l m (holds F j (F .master i)) refl)))
+  where
+    due : (j : ℕ) → j < F .nodes → (d : Bool) → same (suc j) (F .nodes) ≡ d → named F j ≡ cond d 0 1
+    due j l true e = r .named-last j (same→≡ (suc j) (F .nodes) e)
+    due j l false e = r .named-once j (let z = same→≢ (suc j) (F .nodes) e in omega (arith, z))
+
+    higher : (i j : ℕ) → i < F .slaves → j < F .nodes → (d : Bool) → holds F j (F .master i) ≡ d
+        → (d && notBelow (F .node i) j) ≡ false
+    higher i j l m true e =
+        let k = same→≡ (F .kind j) 0 (and-l _ _ e) in
+        let a = same→≡ (F .a j) (F .master i) (and-r (same (F .kind j) 0) _ e) in
+        lower (F .node i) j (r .master-higher i j l m k a)
+    higher i j l m false e = refl
 
 module _ (F : File) (rg : Regular F) (gv : Given F) where
   abbrev R : File
@@ -255,14 +281,13 @@ module _ (F : File) (rg : Regular F) (gv : Given F) where
       (node-is R fits k l)))
 
   naming : naming? G ≡ false
-  unfolding naming? fileAt shapeIn anyUpTo
-  naming = neither _ _ (neither _ _ (any-all (R .charts) _ (λ c l. equal (held G c) 1 (held-same c ∙ r10 .once c l)))
-      (any-all (R .nodes) _ (λ j l. equal (named G j) _ (named-same j ∙ due j l (same (suc j) (R .nodes)) refl)))) refl
-    where
-      due : (j : ℕ) → j < R .nodes → (d : Bool) → same (suc j) (R .nodes) ≡ d → named R j ≡ cond d 0 1
-      due j l true e = r10 .named-last j (same→≡ (suc j) (R .nodes) e)
-      due j l false e = r10 .named-once j (let z : suc j ≡ R .nodes
-          → ⊥ = λ q. false≢true (sym e ∙ ap (λ z. same z (R .nodes)) q ∙ same-refl (R .nodes)) in omega arith)
+  unfolding fileAt shapeIn
+  naming = naming-is G (record {
+    once = λ c l. held-same c ∙ r10 .once c l;
+    named-once = λ j l. named-same j ∙ r10 .named-once j l;
+    named-last = λ j e. named-same j ∙ r10 .named-last j e;
+    master-higher = λ i j l m k e. absurd (omega arith);
+  })
 
   inside : inside? G ≡ false
   unfolding inside? fileAt shapeIn anyUpTo

@@ -40,8 +40,9 @@ use Rattle.meaning.specs.Laws.Alike.{ConfigsAlike, answer-alike, step-refusal-a
 use Rattle.meaning.specs.Laws.Many.{Decided, found-or-many, few-is, is-few, step-few, refused-many}
 use Rattle.meaning.specs.Laws.Until.{StepsAgreeWhere, same-step-where, same-rows-where, same-run-where}
 use Rattle.meaning.specs.Laws.Until.{same-carried-where}
-use Rattle.propositions.specs.Exchange.Records.{Turned, in-turned, out-turned, open-turned, found-turned, step-turned}
-use Rattle.propositions.specs.Exchange.Records.{places-turned-found, configs-turned}
+use Rattle.propositions.specs.Exchange.Answers.{TreesAlike, in-alike, out-alike, open-alike, found-alike}
+use Rattle.propositions.specs.Exchange.Answers.{steps-in-alike, places-found-alike, configs-alike}
+use Rattle.propositions.specs.Exchange.Records.{turned-alike}
 use Rattle.clearing.specs.Cleared.{Clearable, found-is, places-are, open-is, step-is, configs-cleared, in-is}
 use Rattle.clearing.specs.Cleared.{out-in, clear-twice}
 use Rattle.clearing.specs.Encodes.{InOrder, reads, reads-so, encoded-passes, encoded-bytes}
@@ -160,20 +161,20 @@ module _ (f : List ℕ) (ab : AllBytes f) (room : ℕ) (ok : clearRefusal f room
   can = clearable f ab p (allowed f room ok .one)
 
   -- the records read back are the cleared ones, but for the order of parts
-  turn : Turned (clear F) (fileOf f′)
+  pub alike : TreesAlike (clear F) (fileOf f′)
   unfolding clearBytes
-  turn = reads-so (clear F) order
+  alike = turned-alike (clear F) (fileOf f′) (reads-so (clear F) order) trees (order .some-node)
 
   configs : ConfigsAlike F (fileOf f′)
   configs =
       configs-join F (clear F) (fileOf f′) (configs-cleared F)
-      (configs-turned (clear F) (fileOf f′) turn trees (order .some-node))
+      (configs-alike (clear F) (fileOf f′) alike)
 
   -- ── open choices: there are no more of them ──
 
   pub never-more : (config : List ℕ) → openIn (fileOf f′) config ≤ openIn F config
   never-more config =
-      rw (open-turned (clear F) (fileOf f′) turn trees (order .some-node) config) (open-is F can config)
+      rw (open-alike (clear F) (fileOf f′) alike config) (open-is F can config)
 
   few-too : (config : List ℕ) → manyOpen? F config ≡ false → manyOpen? (fileOf f′) config ≡ false
   few-too config e =
@@ -182,11 +183,11 @@ module _ (f : List ℕ) (ab : AllBytes f) (room : ℕ) (ok : clearRefusal f room
   -- the same is found
   found-same : (config : List ℕ) (i : Set) → foundIn (fileOf f′) config i ≡ foundIn F config i
   found-same config i =
-      found-turned (clear F) (fileOf f′) turn trees (order .some-node) config i ∙ found-is F can config i
+      found-alike (clear F) (fileOf f′) alike config i ∙ found-is F can config i
 
   steps : StepsAgreeWhere manyOpen F (fileOf f′)
   steps config v i q =
-      step-turned (clear F) (fileOf f′) turn trees (order .some-node) config i ∙ step-is F can config i q
+      steps-in-alike (clear F) (fileOf f′) alike config i ∙ step-is F can config i q
 
   -- the first configuration
   pub same-first : (buffer : List ℕ) → firstBytes f′ buffer ≡ firstBytes f buffer
@@ -248,7 +249,7 @@ module _ (f : List ℕ) (ab : AllBytes f) (room : ℕ) (ok : clearRefusal f room
       where
         renewed-places : placesFound (fileOf f′) config i ≡ newPlaces (F .chart) zero (placesFound F config i)
         renewed-places =
-            places-turned-found (clear F) (fileOf f′) turn trees (order .some-node) config i
+            places-found-alike (clear F) (fileOf f′) alike config i
             ∙ places-are F can config i
             ∙ unfold placesFound in new-all (F .chart) (firstPlaces (outcomesIn F config i))
 
@@ -293,7 +294,7 @@ module _ (f : List ℕ) (ab : AllBytes f) (room : ℕ) (ok : clearRefusal f room
   unfolding inputOf
   same-input = answer-alike (refusalOf f) (refusalOf f′) rs (inFace (F .chart) (wholeOf F))
       (inFace (fileOf f′ .chart) (wholeOf (fileOf f′))) (λ n. ∅)
-      (λ e. in-turned (clear F) (fileOf f′) turn trees (order .some-node) ∙ in-is F)
+      (λ e. in-alike (clear F) (fileOf f′) alike ∙ in-is F)
 
   -- the output interface is within the old one
   pub output-within : Within (outputOf f′) (outputOf f)
@@ -303,7 +304,7 @@ module _ (f : List ℕ) (ab : AllBytes f) (room : ℕ) (ok : clearRefusal f room
       ∙ ap (λ t. cond t (outFace (fileOf f′ .chart) (wholeOf (fileOf f′))) ∅ ∖ cond t
       (outFace (F .chart) (wholeOf F)) ∅) (same-refl 0)
       ∙ ap (λ z. z ∖ outFace (F .chart) (wholeOf F))
-      (out-turned (clear F) (fileOf f′) turn trees (order .some-node)) ∙ out-in F
+      (out-alike (clear F) (fileOf f′) alike) ∙ out-in F
 
   -- clearing twice is clearing once
   pub twice : clearBytes f′ ≡ f′

@@ -29,7 +29,7 @@ use Rattle.agreement.specs.Every.{Every, every-at, every-imp}
 use Rattle.agreement.specs.Encoded.{noTransition, Fits, slaveIn, nodeIn, head-there, some-transition-there, slave-there, node-there, head-is, start-is, transition-is, trailerFor, length-encode, end-is, trailer-there, trailer-is, body-is, shape-is, file-is}
 use Rattle.agreement.specs.Reads.{Reads, reads-back}
 use Rattle.agreement.specs.Passed.{passes}
-use Rattle.agreement.specs.Again.{neither, equal, lower, there, head-zero, transition-zero, node-zero, trailer-zero, zeros-at, leaving-list}
+use Rattle.agreement.specs.Again.{neither, equal, lower, there, head-zero, transition-zero, slave-zero, node-zero, trailer-zero, zeros-at, leaving-list}
 use Rattle.agreement.specs.Bytes.{Bytes, end, byte, all-bytes, and, nought, in-turn, head-bytes, transitions-bytes, node-bytes, trailer-bytes}
 use Rattle.propositions.specs.Exchange.Records.{Turned, kept, slaves-turned, nodes-turned, naming-turned, inside-turned}
 
@@ -64,11 +64,6 @@ reads-turned F G r = record {
   nodes = r .nodes;
   node = λ j l. kept (r .node j l);
 }
-
-slave-zero : (d : Slave) (i : ℕ) → i < 1 → getD (slaveBytes d) (3 + i) 0 ≡ 0
-unfolding slaveBytes
-slave-zero d zero l = refl
-slave-zero d (suc i) l = absurd (omega arith)
 
 slave-bytes : (r : Slave) → r .chart < 256 → r .state < 256 → r .node < 256 → Bytes (slaveBytes r)
 unfolding slaveBytes

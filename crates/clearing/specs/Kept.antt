@@ -28,13 +28,12 @@ use Rattle.meaning.specs.Rewriting.{unionUpTo, lacking, used, free, call, calls
 use Rattle.agreement.specs.Reads.{Reads}
 use Rattle.agreement.specs.Slaveless.{encode-same}
 use Rattle.agreement.specs.Written.{encode-again}
-use Rattle.propositions.specs.Exchange.Records.{plain-turned}
+use Rattle.propositions.specs.Exchange.Answers.{plain-alike}
 use Rattle.clearing.specs.Clearing.{dead, alive, lost, clearedChart, clear, clearBytes, clearRefusal}
 use Rattle.clearing.specs.Alive.{alive-most, guards-alive, actions-alive}
 use Rattle.clearing.specs.Cleared.{tree-cleared}
-use Rattle.clearing.specs.Encodes.{reads-so}
-use Rattle.clearing.specs.New.{in-order, leaving-alive}
-use Rattle.clearing.specs.Calls.{allowed, same-check, new-edition}
+use Rattle.clearing.specs.New.{leaving-alive}
+use Rattle.clearing.specs.Calls.{allowed, same-check, new-edition, alike}
 
 -- ── nothing to clear ──
 
@@ -109,12 +108,11 @@ pub plain-stays : (f : List ℕ) → AllBytes f → (room : ℕ) → clearRefusa
 unfolding plainOf clearBytes
 plain-stays f ab room ok h =
     let a = allowed f room ok in
-    let o = in-order f ab (passed f (a .checked)) (a .one) in
     let p = and-r (same (trailer f .edition) firstEdition) _
     (sym (ap (λ n. cond (same n 0) (same (trailer f .edition) firstEdition && plainIn (fileOf f)) false) (a .checked)
     ∙ ap (λ b. cond b (same (trailer f .edition) firstEdition && plainIn (fileOf f)) false) (same-refl 0)) ∙ h) in
     rw (same-check f ab room ok, same-refl 0, new-edition f ab room ok, same-refl firstEdition)
-    (plain-turned (clear (fileOf f)) (fileOf (clearBytes f)) (reads-so (clear (fileOf f)) o) ∙ plain-in (fileOf f) p)
+    (plain-alike (clear (fileOf f)) (fileOf (clearBytes f)) (alike f ab room ok) ∙ plain-in (fileOf f) p)
 
 -- ── the rewriting of the cleared file ──
 

@@ -1,33 +1,24 @@
 -- Over the records of a file: a and b are exchanged in some of its composed nodes (`Turned`). In this order: the trees
--- of its nodes; tests 8 to 11; a step, its places and its open choices, the interfaces, whether the file is plain.
+-- of its nodes; tests 8 to 11; that all answers are alike (`turned-alike`).
 use mathlib.Core.Path.{_≡_, refl, sym, _∙_, ap, ap₂, subst}
 use mathlib.Core.Bool.{Bool, true, false, _&&_, _||_, not, cond, or-comm}
-use mathlib.Core.List.{List, []}
 use Prim.Native.Nat.{ℕ, zero, suc, _+_, _-_, _<_, _≤_}
 use native.Mathlib.Omega.{arith}
 use lib.Dec.{ltb}
-use lib.ListN.{getD}
 use Rattle.layout.specs.declared.record.Node.{Node}
-use Rattle.meaning.specs.Numbers.{mostOpen, manyOpen}
 use Rattle.meaning.specs.Count.{anyUpTo, tally, one}
 use Rattle.meaning.specs.Count.Laws.{any-cong, tally-cong}
-use Rattle.signals.specs.Mask.{_∪_}
-use Rattle.meaning.specs.Meaning.{Set, ∅, same, Tree, Slaves, comp, hide, snoc, inFace, outFace, outcomes, refused}
-use Rattle.meaning.specs.Meaning.{answer, firstPlaces}
+use Rattle.meaning.specs.Meaning.{∅, same, Tree, Slaves, comp, hide, snoc}
 use Rattle.meaning.specs.File.{File, byKind, whole, gather, build, treeOf, wholeOf, Has, HasS}
 use Rattle.meaning.specs.Check.{notBelow, differ, rising, inOrder, slave?, slaves?, nodeOfKind?, nodes?, holds, held, names, named, naming?, inside?}
 use Rattle.meaning.specs.Check.Laws.{below}
 use Rattle.meaning.specs.Check.Nodes.{Treed}
-use Rattle.meaning.specs.Open.{openChoices, openIn}
-use Rattle.meaning.specs.Calls.{outcomesIn, foundIn, manyOpen?, stepIn, placesFound, placesIn, allPlaces}
 use Rattle.meaning.specs.Rewriting.{unionUpTo}
-use Rattle.meaning.specs.Plain.{fedBack, anyDoubtful, plainIn}
 use Rattle.meaning.specs.Laws.Bools.{same→≡}
-use Rattle.meaning.specs.Laws.Alike.{ConfigsAlike, StepsAlike}
 use Rattle.agreement.specs.Encoded.{slaveIn, nodeIn}
 use Rattle.propositions.specs.Exchange.Trees.{Exchanged, Slaved, chart, parts, turned, inside, master, none}
-use Rattle.propositions.specs.Exchange.Trees.{more, in-exchanged, out-face-exchanged, outcomes-exchanged}
-use Rattle.propositions.specs.Exchange.Trees.{open-exchanged}
+use Rattle.propositions.specs.Exchange.Trees.{more}
+use Rattle.propositions.specs.Exchange.Answers.{TreesAlike, union-alike}
 
 -- a node with a and b exchanged
 abbrev pub exchanged : Node → Node
@@ -244,73 +235,14 @@ module _ (F G : File) (r : Turned F G) where
       ap (λ s. Has (treeOf G (s .node)) c && notBelow (s .chart) c) (r .slave i l)
       ∙ ap (λ z. z && notBelow (F .master i) c) (has-exchanged w (tree-turned w (F .node i) (w .node-there i l .0)) c)))
 
-  -- ── a step, a run, the interfaces ──
+  -- ── what an answer depends on ──
 
-  module _ (w : Treed F) (some : 1 ≤ F .nodes) where
-    pub whole-turned : Ex (wholeOf F) (wholeOf G)
-    whole-turned = subst (λ n. Ex (wholeOf F) (treeOf G (n - 1))) (sym (r .nodes))
-        (tree-turned w (F .nodes - 1) (omega arith))
-
-    pub in-turned : inFace (G .chart) (wholeOf G) ≡ inFace (F .chart) (wholeOf F)
-    in-turned = in-exchanged (F .chart) (G .chart) (F .state) (G .state) whole-turned
-
-    pub out-turned : outFace (G .chart) (wholeOf G) ≡ outFace (F .chart) (wholeOf F)
-    out-turned = out-face-exchanged (F .chart) (G .chart) (F .state) (G .state) whole-turned
-
-    pub outcomes-turned : (config : List ℕ) (i : Set) → outcomesIn G config i ≡ outcomesIn F config i
-    outcomes-turned config i =
-        ap (outcomes (G .chart) (G .state) (λ c. getD config c 0) (wholeOf G) i) (r .charts)
-        ∙ outcomes-exchanged (F .chart) (G .chart) (F .state) (G .state) (F .charts) (r .chart)
-        (λ c. getD config c 0) whole-turned i
-
-    pub open-turned : (config : List ℕ) → openIn G config ≡ openIn F config
-    open-turned config =
-        ap (openChoices (G .chart) (G .state) (λ c. getD config c 0) (wholeOf G)) (r .charts)
-        ∙ open-exchanged (F .chart) (G .chart) (F .state) (G .state) (F .charts) (r .chart)
-        (λ c. getD config c 0) whole-turned
-
-    pub found-turned : (config : List ℕ) (i : Set) → foundIn G config i ≡ foundIn F config i
-    unfolding foundIn
-    found-turned config i = ap answer (outcomes-turned config i)
-
-    pub step-turned : (config : List ℕ) (i : Set) → stepIn G config i ≡ stepIn F config i
-    unfolding stepIn manyOpen?
-    step-turned config i =
-        ap₂ (λ n a. cond (ltb mostOpen n) (refused manyOpen) a) (open-turned config) (found-turned config i)
-
-    pub places-turned-found : (config : List ℕ) (i : Set) → placesFound G config i ≡ placesFound F config i
-    unfolding placesFound
-    places-turned-found config i = ap (λ os. allPlaces (firstPlaces os)) (outcomes-turned config i)
-
-    pub places-turned : (config : List ℕ) (i : Set) → placesIn G config i ≡ placesIn F config i
-    unfolding placesIn manyOpen?
-    places-turned config i =
-        ap₂ (λ n ps. cond (ltb mostOpen n) (allPlaces []) ps) (open-turned config) (places-turned-found config i)
-
-    pub configs-turned : ConfigsAlike F G
-    configs-turned = record {
-      charts = r .charts;
-      states = λ c l. ap (λ C. C .states) (r .chart c l);
-      initials = λ c l. ap (λ C. C .initial) (r .chart c l);
-    }
-
-    pub steps-turned : StepsAlike F G
-    steps-turned = record { configs = configs-turned; step = step-turned }
-
-  -- ── plain files ──
-
-  union-alike : (n : ℕ) (f g : ℕ → Set) → ((i : ℕ) → i < n → f i ≡ g i) → unionUpTo n f ≡ unionUpTo n g
-  unfolding unionUpTo
-  union-alike zero f g h = refl
-  union-alike (suc n) f g h = ap₂ _∪_ (union-alike n f g (λ i l. h i (omega arith))) (h n (omega arith))
-
-  pub plain-turned : plainIn G ≡ plainIn F
-  unfolding plainIn fedBack
-  plain-turned = ap not (ap₂ (λ n s. anyUpTo n (λ c. anyDoubtful s (G .chart c .transitions))) (r .charts) fed
-      ∙ any-cong (F .charts) _ _ (λ c l. ap (λ C. anyDoubtful (fedBack F) (C .transitions)) (r .chart c l)))
-    where
-      fed : fedBack G ≡ fedBack F
-      fed = ap₂ _∪_ (ap (λ n. unionUpTo n (λ c. G .chart c .feedback)) (r .charts)
-          ∙ union-alike (F .charts) _ _ (λ c l. ap (λ C. C .feedback) (r .chart c l)))
-          (ap (λ n. unionUpTo n (λ j. cond (same (G .kind j) 1) (G .x j) ∅)) (r .nodes)
-          ∙ union-alike (F .nodes) _ _ (λ j l. stand-alike j l (λ d. cond (same (d .kind) 1) (d .x) ∅) (λ e. refl)))
+  pub turned-alike : Treed F → 1 ≤ F .nodes → TreesAlike F G
+  turned-alike w some = record {
+    charts = r .charts;
+    chart = r .chart;
+    whole = subst (λ n. Ex (wholeOf F) (treeOf G (n - 1))) (sym (r .nodes))
+        (tree-turned w (F .nodes - 1) (omega arith));
+    fed = ap (λ n. unionUpTo n (λ j. cond (same (G .kind j) 1) (G .x j) ∅)) (r .nodes)
+        ∙ union-alike (F .nodes) _ _ (λ j l. stand-alike j l (λ d. cond (same (d .kind) 1) (d .x) ∅) (λ e. refl));
+  }
