@@ -175,6 +175,14 @@ pub data Text : Tokens → List ℕ → Type 0 where
 abbrev pub Spells : List ℕ → Chart → Type 0
 Spells w t = Text (ofChart t) w
 
+-- the text without blanks
+unfoldable pub bytesOfAll : Tokens → List ℕ
+bytesOfAll [] = []
+bytesOfAll (t ∷ ts) = bytesOf t ++ bytesOfAll ts
+
+unfoldable pub write : Chart → List ℕ
+write t = bytesOfAll (ofChart t)
+
 -- ── the place of refusal 50 ──
 
 -- the bytes w begin some text that spells a chart

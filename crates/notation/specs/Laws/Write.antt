@@ -1,19 +1,12 @@
--- Every chart has a text: its tokens one after another, without blanks (`write`). The reader answers the chart again
+-- The text of a chart without blanks (`write`) spells it (`write-spells`). The reader answers the chart again
 -- (`read-write`), so two charts with one text are one chart (`write-injective`).
 use mathlib.Core.Path.{_≡_, ap}
-use mathlib.Core.List.{List, [], _∷_, _++_}
+use mathlib.Core.List.{List, [], _∷_}
 use Prim.Native.Nat.{ℕ}
 use Rattle.notation.specs.Syntax.{Chart}
-use Rattle.notation.specs.Spelling.{Tokens, bytesOf, ofChart, Text, end, tokenThen, Spells}
+use Rattle.notation.specs.Spelling.{Tokens, bytesOfAll, write, ofChart, Text, end, tokenThen, Spells}
 use Rattle.notation.specs.Reader.{spelt, reader}
 use Rattle.notation.specs.Laws.Theorems.{complete}
-
-unfoldable pub bytesOfAll : Tokens → List ℕ
-bytesOfAll [] = []
-bytesOfAll (t ∷ ts) = bytesOf t ++ bytesOfAll ts
-
-unfoldable pub write : Chart → List ℕ
-write t = bytesOfAll (ofChart t)
 
 text-all : (ts : Tokens) → Text ts (bytesOfAll ts)
 unfolding bytesOfAll
