@@ -1,0 +1,16 @@
+-- `counts` meets its contract.
+use borrow.Author.Tests.{eq-eqb, ne-eqb}
+use Rattle.indent.specs.Layout.{counted}
+use Rattle.indent.proofs.counts.Statement.{statement}
+use Rattle.indent.proofs.counts.Tie as tie
+
+returns : tie.Need-returns
+unfolding counted
+returns c = rw (eq-eqb _ _ (c .if1 .taken))
+
+returns-2 : tie.Need-returns-2
+unfolding counted
+returns-2 c = rw (ne-eqb _ _ (c .if1 .left))
+
+pub counts-spec : {M : Type 1} → statement M
+counts-spec = tie.close (tie.spec returns returns-2)
