@@ -20,8 +20,8 @@
  * Limits (RULES 2.8): 16 charts, 15 slaves, 64 nodes and 1,024 transitions in a file; 16 states and 64 transitions in a chart, 8 transitions from a
  * state; 16,777,216 open choices in a step.
  *
- * A file is edition 1 or edition 2, by a byte of its trailer (RULES 7). Every call takes both, except mestecur_rewrite and mestecur_clear, which take
- * edition 1 only.
+ * A file is edition 1 or edition 2, by a byte of its trailer (RULES 7). Every call takes both, except mestecur_rewrite, mestecur_clear and
+ * mestecur_write, which take edition 1 only.
  *
  * A set of signals is a 64-bit number in which bit n is signal n, 0 to 63. A configuration has one byte for each chart, its present state. */
 #ifndef MESTECUR_H
@@ -98,8 +98,13 @@ uint8_t mestecur_lacking(const uint8_t *file, size_t file_len, size_t chart, siz
 
 /* Reads a chart that is typed as text (docs/NOTATION.md, RULES 14), writes the file that it means to `out`, edition 1 and without a front, and its
  * length to `length`. With refusal 50, `place` has the place of the first byte that no text could have there, counted from 0; it is `text_len` if the
- * text only breaks off. In every other answer `place` is 0. A buffer of 15,848 bytes is always enough. Refusals: 50, 51, 52, 1 to 11, 45. */
+ * text only breaks off. In every other answer `place` is 0. A buffer of 30,408 bytes is always enough. Refusals: 50, 51, 52, 1 to 11, 45. */
 uint8_t mestecur_read(const uint8_t *text, size_t text_len, uint8_t *out, size_t out_len, size_t *length, size_t *place);
+
+/* Writes to `out` the text of the file (docs/NOTATION.md, RULES 15), without blanks and without a zero byte at its end, and its length to `length`.
+ * mestecur_read makes of it a file that makes the same steps, and whose text is the same. A buffer of 874,514 bytes is always enough.
+ * Refusals: 1 to 11, 46, 51, 45. */
+uint8_t mestecur_write(const uint8_t *file, size_t file_len, uint8_t *out, size_t out_len, size_t *length);
 
 /* A case of a book (RULES 11.1). Its configuration is the first `length` bytes of `config`; the others are not read. */
 typedef struct {
@@ -156,11 +161,11 @@ enum {
     MESTECUR_REWRITING_STATE = 41,   /* the result would have more than 8 transitions from one state */
     MESTECUR_REWRITING_CHART = 42,   /* the result would have more than 64 transitions in one chart */
     MESTECUR_REWRITING_NODES = 44,   /* the result would have more than 64 nodes */
-    MESTECUR_REWRITING_ROOM = 45,    /* the buffer is shorter than the result; of mestecur_clear and mestecur_read too */
-    MESTECUR_REWRITING_EDITION = 46, /* the file is edition 2, which can be neither rewritten nor cleared; tested right after 11 */
+    MESTECUR_REWRITING_ROOM = 45,    /* the buffer is shorter than the result; of mestecur_clear, mestecur_read and mestecur_write too */
+    MESTECUR_REWRITING_EDITION = 46, /* the file is edition 2, which can't be rewritten, cleared or written as text; tested right after 11 */
 
     MESTECUR_NOTATION = 50, /* the text is not of the notation */
-    MESTECUR_NESTING = 51,  /* the typed chart is more than 16 deep */
+    MESTECUR_NESTING = 51,  /* the typed chart is more than 16 deep; of mestecur_write, the chart of the file */
     MESTECUR_NAMES = 52,    /* a name is out of range; a chart, or a state in its list, is given twice or left out; an initial state is not the
                                first of its list; or a state is used that its chart does not have */
 

@@ -10,3 +10,4 @@ pub mod posting;
 pub mod reading;
 pub mod table;
 pub mod worst;
+pub mod writing;

@@ -1,7 +1,7 @@
 //! `bench [PART] [--picture FILE]`: measures and prints a table of each part, `check`, `step`, `many`
-//! (steps of nine charts and more), `staying` (steps of edition 2), `run`, `rewriting`, `posting`, `reading`
-//! or `growth`, ratios first; all of them if none is named. The picture has the ratios of the parts measured
-//! as bars on a log scale.
+//! (steps of nine charts and more), `staying` (steps of edition 2), `run`, `rewriting`, `posting`, `reading`,
+//! `writing` or `growth`, ratios first; all of them if none is named. The picture has the ratios of the parts
+//! measured as bars on a log scale.
 //!
 //! `bench worst COUNT`: draws so many files of edition 2 of each of three shapes, and prints which of them
 //! has the hardest step.
@@ -12,16 +12,17 @@ use bench::picture::{picture, Bar};
 use bench::posting::posting;
 use bench::reading::reading;
 use bench::worst::worst;
+use bench::writing::writing;
 use reference::words;
 use std::process::ExitCode;
 
 /// What can be said on the command line.
 const USE: &str =
-    "use: bench [check | step | many | staying | run | rewriting | posting | reading | growth] \
+    "use: bench [check | step | many | staying | run | rewriting | posting | reading | writing | growth] \
     [--picture FILE] | worst COUNT";
 
 /// All parts, in the order of the table.
-const NAMES: [&str; 9] = [
+const NAMES: [&str; 10] = [
     "check",
     "step",
     "many",
@@ -30,6 +31,7 @@ const NAMES: [&str; 9] = [
     "rewriting",
     "posting",
     "reading",
+    "writing",
     "growth",
 ];
 
@@ -82,6 +84,7 @@ fn measured(name: &str) -> Vec<Part> {
         "rewriting" => vec![parts::rewriting()],
         "posting" => vec![posting()],
         "reading" => vec![reading()],
+        "writing" => vec![writing()],
         _ => parts::growth(),
     }
 }

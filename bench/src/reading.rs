@@ -10,10 +10,8 @@ use std::hint::black_box;
 const MEGABYTE: usize = 1_000_000;
 /// The most transitions of a chart, as many from each of eight states as there may be.
 const TRANSITIONS: usize = 64;
-/// The charts of the largest text that is accepted.
-const CHARTS: usize = 8;
 /// A chart of one state.
-const SMALL: &str = "(c0,{q0},q0,{},{})";
+pub const SMALL: &str = "(c0,{q0},q0,{},{})";
 /// A buffer for every file that a text can mean.
 const ROOM: usize = 32_768;
 
@@ -37,7 +35,8 @@ pub fn reading() -> Part {
             rows: vec![
                 row("one chart of one state", 0, SMALL),
                 row("samples/29-february.text", 0, sample),
-                row("8 charts, 512 transitions", 0, &largest()),
+                row("8 charts, 512 transitions", 0, &largest(8)),
+                row("16 charts, 1,024 transitions", 0, &largest(16)),
                 row("a megabyte of open brackets", 50, &"[".repeat(MEGABYTE)),
                 row("a megabyte of brackets, closed", 51, &closed),
                 row(
@@ -52,8 +51,8 @@ pub fn reading() -> Part {
     }
 }
 
-/// Charts with as many transitions as they can have, composed.
-fn largest() -> String {
+/// So many charts with as many transitions as they can have, composed.
+pub fn largest(charts: usize) -> String {
     let transition = |place: usize| {
         format!(
             "(q{},q{},s{}&-s{}/{{s{}}})",
@@ -68,10 +67,10 @@ fn largest() -> String {
     let states = "q0,q1,q2,q3,q4,q5,q6,q7";
     let chart =
         |number: usize| format!("(c{number},{{{states}}},q0,{{s1}},{{{}}})", list.join(","));
-    let inner = (1..CHARTS - 1).fold(chart(0), |left, number| {
+    let inner = (1..charts - 1).fold(chart(0), |left, number| {
         format!("({left}|{{}}|{})", chart(number))
     });
-    format!("{inner}|{{}}|{}", chart(CHARTS - 1))
+    format!("{inner}|{{}}|{}", chart(charts - 1))
 }
 
 /// A text, and its refusal in both.

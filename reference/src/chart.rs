@@ -9,6 +9,8 @@ use crate::interface::interface;
 use crate::lacking::{lacking, shown as shown_by};
 use crate::limits::{refusal, SIGNALS};
 use crate::notation::file_of;
+use crate::notation::laid_out::laid_out;
+use crate::notation::write::text_of;
 use crate::plain::is_plain;
 use crate::rewriting::rewrite;
 use crate::run::{run_model, Row};
@@ -43,6 +45,8 @@ pub fn chart(command: &str, file: &[u8], words: &[&str]) -> Option<String> {
         ("rewrite", []) => rewritten(file).map(|out| format!("{} bytes written\n", out.len())),
         ("clear", []) => cleared(file).and_then(|out| lost(file, &out)),
         ("read", []) => file_typed(file).map(|out| format!("{} bytes written\n", out.len())),
+        ("write", []) => text(file).map(|text| text + "\n"),
+        ("show", []) => text(file).map(|text| laid_out(&text)),
         _ => return None,
     };
     Some(answer.unwrap_or_else(|(what, number)| format!("{what} refused {number}\n")))
@@ -93,6 +97,12 @@ fn lost(file: &[u8], cleared: &[u8]) -> Result<String, Refused> {
 /// The file that a text means.
 pub fn file_typed(text: &[u8]) -> Result<Vec<u8>, Refused> {
     file_of(text).map_err(|(number, _)| ("text", number))
+}
+
+/// The text of a file.
+fn text(file: &[u8]) -> Result<String, Refused> {
+    accept(file).map_err(of_file)?;
+    text_of(file).map_err(|number| ("writing", number))
 }
 
 /// A refusal of the file.

@@ -8,7 +8,9 @@
 use crate::limits::EARLIER_CHARTS;
 use crate::set::Set;
 use crate::step::NO_PLACES;
-use crate::{check, clear, first, interface, lacking, plain, read, rewrite, run, step, Places};
+use crate::{
+    check, clear, first, interface, lacking, plain, read, rewrite, run, step, write, Places,
+};
 
 /// The value of each byte of the buffer before a call.
 pub const FILL: u8 = 0xA5;
@@ -38,10 +40,12 @@ pub enum Op {
     Lacking,
     /// Typed text read into a file: the text stands where other calls have their file.
     Read,
+    /// The text of a file.
+    Write,
 }
 
 /// All ops; the place of each is its number in the header.
-pub const OPS: [Op; 11] = [
+pub const OPS: [Op; 12] = [
     Op::Check,
     Op::First,
     Op::Interface,
@@ -53,6 +57,7 @@ pub const OPS: [Op; 11] = [
     Op::Open,
     Op::Lacking,
     Op::Read,
+    Op::Write,
 ];
 
 /// One call, with all that is passed to it.
@@ -231,6 +236,15 @@ impl Command {
         }
     }
 
+    /// The text of a file, into a buffer of this length.
+    pub fn write(name: &str, file: Vec<u8>, room: usize) -> Command {
+        Command {
+            op: Op::Write,
+            room,
+            ..Command::check(name, file)
+        }
+    }
+
     /// Whether it is small enough to be recorded.
     pub fn can_be_recorded(&self) -> bool {
         let bytes = self.file.len().max(self.room);
@@ -298,7 +312,7 @@ impl Command {
                 let (places, open) = (hex(&numbers.places), numbers.open.to_string());
                 vec![Set(one).hex(), mark.to_string(), places, open, lent]
             }
-            Op::Rewrite | Op::Clear => vec![one.to_string(), lent],
+            Op::Rewrite | Op::Clear | Op::Write => vec![one.to_string(), lent],
             Op::Plain => vec![one.to_string()],
             Op::Lacking => vec![one.to_string(), other.to_string()],
             Op::Read => vec![one.to_string(), other.to_string(), lent],
@@ -356,6 +370,10 @@ impl Command {
                 let numbers = Numbers::two(answer.length as u64, answer.place as u64);
                 (answer.refusal, numbers)
             }
+            Op::Write => {
+                let written = write(file, lent);
+                (written.refusal, Numbers::two(written.length as u64, 0))
+            }
         }
     }
 }
@@ -374,6 +392,7 @@ fn word(op: Op) -> &'static str {
         Op::Open => "open",
         Op::Lacking => "lacking",
         Op::Read => "read",
+        Op::Write => "write",
     }
 }
 

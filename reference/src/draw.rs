@@ -9,6 +9,7 @@ use crate::command::{Command, Op, OPS};
 use crate::generate::*;
 use crate::limits::*;
 use crate::model::Edition;
+use crate::notation::write::written;
 use crate::record::{named, Kind, KINDS};
 use crate::set::Set;
 use crate::texts::typed::right_text;
@@ -71,7 +72,7 @@ fn files(random: &mut Random) -> Files {
 /// A call with a random file; half of the steps are compared with all that they answer in their
 /// lines.
 fn fresh(random: &mut Random, name: &str) -> Command {
-    let (kind, files) = (random.below(20), files(random));
+    let (kind, files) = (random.below(22), files(random));
     affordable(random, |random| match kind {
         0..=3 => file_command(random, files, name),
         4 | 5 => step_command(random, files, name),
@@ -81,7 +82,8 @@ fn fresh(random: &mut Random, name: &str) -> Command {
         12 | 13 => plain_command(random, files, name),
         14 | 15 => clear_command(random, files, name),
         16 | 17 => lacking_command(random, files, name),
-        _ => read_command(random, files, name),
+        18 | 19 => read_command(random, files, name),
+        _ => write_command(random, files, name),
     })
 }
 
@@ -186,6 +188,7 @@ fn other_call(random: &mut Random, command: &mut Command) {
             command.file = right_text(random, &model);
             room(random, model.file().len())
         }
+        Op::Write => room(random, written(&model).len()),
     };
 }
 

@@ -10,6 +10,7 @@ use crate::file::Records;
 use crate::interface::chart_input;
 use crate::limits::*;
 use crate::model::{Chart, Edition, Model, Node, Slave, Transition};
+use crate::notation::write::{depth, written};
 use crate::open::by_parts;
 use crate::plain::{feedback_sets, pairs_from_one_state};
 use crate::run::run_model;
@@ -1082,4 +1083,45 @@ pub fn read_commands(drawing: Drawing) -> Vec<Command> {
 pub fn read_command(random: &mut Random, _: Files, name: &str) -> Command {
     let (text, room) = text_and_room(random);
     Command::read(name, text, room)
+}
+
+/// Random writings.
+pub fn write_commands(drawing: Drawing) -> Vec<Command> {
+    drawing.commands(write_command)
+}
+
+/// One random writing; its buffer is often just long enough for the text, or a byte short. Some of the
+/// files are hidden about as deep as they may be.
+pub fn write_command(random: &mut Random, files: Files, name: &str) -> Command {
+    let bytes = random.pick(&[200, 300, 500, 800]);
+    let (shape, mut model) = bounded(random, files, bytes);
+    deaden(random, &shape, &mut model);
+    if random.chance(25) {
+        hide_again(random, &shape, &mut model);
+    }
+    let needed = written(&model).len();
+    let file = seldom_damaged(random, &model, 12);
+    let command = Command::write(name, file, room(random, needed));
+    match command.answer().refusal {
+        refusal::SUCCESS => command,
+        _ => Command {
+            room: command.room.min(40),
+            ..command
+        },
+    }
+}
+
+/// Hides the whole again and again, until it is about as deep as it may be.
+pub fn hide_again(random: &mut Random, shape: &Shape, model: &mut Model) {
+    let deep = random.pick(&[NESTING - 1, NESTING, NESTING, NESTING + 1, NESTING + 2]);
+    while depth(model) < deep && model.nodes.len() < NODES {
+        let part = model.whole() as u8;
+        let filtered = random.subset(&shape.signals, 10);
+        let hidden = random.subset(&shape.signals, 10);
+        model.nodes.push(Node::Hidden {
+            part,
+            filtered,
+            hidden,
+        });
+    }
 }

@@ -21,14 +21,16 @@
 //! - [`agreement`]: the places of a step of the rewritten file (RULES 9.8).
 //! - [`day`]: the day program, refusals 30 and 31 (RULES 10).
 //! - [`posting`]: a day's posting for a book, refusals 60 to 63 (RULES 11).
-//! - [`notation`]: charts from typed text, refusals 50 to 52 (RULES 14, docs/NOTATION.md).
+//! - [`notation`]: charts from typed text, refusals 50 to 52, and text out of files, refusals 46, 51
+//!   and 45 (RULES 14 and 15, docs/NOTATION.md).
 //! - [`chart`]: the command line tool's answers.
 //!
 //! What the comparison needs: [`command`] (one call as bytes, its answer as a line), [`cases`]
 //! (calls with a name and an answer written by hand), [`generate`] (random calls from fixed seeds),
 //! [`record`] (what is recorded of each kind), [`draw`] (random calls of every kind), [`book`] (the
 //! same of postings), [`texts`] (random typed texts) and [`walk`] (random files with slaves, and all their configurations). [`laws`] tries two laws of composed
-//! nodes on random files (RULES 5.13, 5.14), and [`cleared`] compares them with their cleared ones. With the feature `engine` also `fuzz`, which compares
+//! nodes on random files (RULES 5.13, 5.14), [`cleared`] compares them with their cleared ones, and
+//! [`written`] with what is read back of their texts. With the feature `engine` also `fuzz`, which compares
 //! the proved engine with this one. [`words`] is what a program does with its command line.
 
 pub mod agreement;
@@ -63,6 +65,7 @@ pub mod step;
 pub mod texts;
 pub mod walk;
 pub mod words;
+pub mod written;
 
 pub use check::check;
 pub use clearing::{clear, Cleared};
@@ -70,6 +73,7 @@ pub use day::day;
 pub use first::first;
 pub use interface::{interface, Interface};
 pub use lacking::{lacking, Shown};
+pub use notation::write::{write, Written};
 pub use notation::{read, ReadText};
 pub use plain::{plain, Plain};
 pub use posting::{post, CaseRecord, Entry};

@@ -32,14 +32,18 @@ pub const SIGNALS: u32 = 64;
 pub const NO_PLACE: u8 = 255;
 /// RULES 5.11: the place of a chart that stayed.
 pub const STAYED: u8 = 254;
-/// RULES 14.3: typed charts are c0 to c7.
-pub const NAMED_CHARTS: usize = 8;
+/// RULES 14.3: typed charts are c0 to c15.
+pub const NAMED_CHARTS: usize = 16;
 /// RULES 14.3: typed states are q0 to q15.
 pub const NAMED_STATES: usize = 16;
 /// RULES 14.3: typed signals are s0 to s63.
 pub const NAMED_SIGNALS: usize = SIGNALS as usize;
 /// RULES 14.2: how deep a typed chart may be.
 pub const NESTING: usize = 16;
+/// RULES 14.5: a buffer of this length is enough for the file of any text.
+pub const FILE_ROOM: usize = 30_408;
+/// RULES 15.4: a buffer of this length is enough for the text of any file.
+pub const TEXT_ROOM: usize = 874_514;
 /// RULES 3.4: the most bytes of the day program's input.
 pub const DAY_INPUT: usize = 65_536;
 

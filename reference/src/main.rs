@@ -1,8 +1,8 @@
 //! The command line:
 //!
 //! - `reference record KIND COMMANDS LINES` writes the recorded calls of a kind (`file`, `step`,
-//!   `run`, `rewrite`, `plain`, `clear`, `lacking` or `read`) to the file COMMANDS and the lines they answer to the file LINES;
-//!   of the kind `post` the recorded postings.
+//!   `run`, `rewrite`, `plain`, `clear`, `lacking`, `read` or `write`) to the file COMMANDS and the lines
+//!   they answer to the file LINES; of the kind `post` the recorded postings.
 //! - `reference file NAME` prints the file of a named case.
 //! - `reference show` reads recorded calls on standard input and prints the lines they answer.
 //! - `reference day` reads the day program's input on standard input and prints what it prints.
@@ -20,12 +20,14 @@
 //!   editions, from every configuration; with the feature `engine`, also in the proved engine.
 //! - `reference cleared SEED COUNT` clears so many random files and compares old and new file, from
 //!   every configuration; with the feature `engine`, also in the proved engine.
+//! - `reference written SEED COUNT` writes so many random files as text, reads them back and compares old
+//!   and new file, from every configuration; with the feature `engine`, also in the proved engine.
 
 use reference::command::decode_all;
 use reference::laws::{self, Engine, REFERENCE};
 use reference::record::{commands, encode, lines, named, Kind, KINDS};
 use reference::words;
-use reference::{book, chart, cleared};
+use reference::{book, chart, cleared, written as read_back};
 use std::fmt::Display;
 use std::io::{Read, Write};
 use std::process::ExitCode;
@@ -33,7 +35,7 @@ use std::process::ExitCode;
 /// What can be said on the command line.
 const USE: &str =
     "use: reference record KIND COMMANDS LINES | file NAME | show | day | chart WORDS.. \
-    | replay | laws SEED COUNT | cleared SEED COUNT | fuzz SEED COUNT | same SEED COUNT";
+    | replay | laws SEED COUNT | cleared SEED COUNT | written SEED COUNT | fuzz SEED COUNT | same SEED COUNT";
 
 fn main() -> ExitCode {
     words::done(|words| match *words {
@@ -49,6 +51,7 @@ fn main() -> ExitCode {
         ["replay"] => replay(),
         ["laws", seed, count] => told("laws", seed, count, laws::hold),
         ["cleared", seed, count] => told("cleared", seed, count, cleared::hold),
+        ["written", seed, count] => told("written", seed, count, read_back::hold),
         [command @ ("fuzz" | "same"), seed, count] => hold_engine(command, seed, count),
         _ => Err(USE.to_string()),
     })
@@ -56,8 +59,9 @@ fn main() -> ExitCode {
 
 /// Writes the calls of a kind and their lines.
 fn record(kind: &str, calls: &str, answers: &str) -> Result<(), String> {
-    let kind = Kind::of(kind)
-        .ok_or("the kinds are file, step, run, rewrite, plain, clear, lacking, read, post")?;
+    let kind = Kind::of(kind).ok_or(
+        "the kinds are file, step, run, rewrite, plain, clear, lacking, read, write, post",
+    )?;
     let commands = commands(kind);
     write(calls, &encode(&commands))?;
     write(answers, lines(&commands).as_bytes())?;

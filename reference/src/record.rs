@@ -16,10 +16,11 @@ pub enum Kind {
     Clear,
     Lacking,
     Read,
+    Write,
 }
 
 /// All kinds.
-pub const KINDS: [Kind; 8] = [
+pub const KINDS: [Kind; 9] = [
     Kind::File,
     Kind::Step,
     Kind::Run,
@@ -28,6 +29,7 @@ pub const KINDS: [Kind; 8] = [
     Kind::Clear,
     Kind::Lacking,
     Kind::Read,
+    Kind::Write,
 ];
 
 /// The random calls of a recording of each kind: with files of edition 1, then of edition 2.
@@ -40,8 +42,10 @@ const RANDOM_CLEARINGS: [Drawing; 2] = both((0x636c_6561, 200), (0x636c_6562, 30
 
 const RANDOM_QUESTIONS: [Drawing; 2] = both((0x6c61_636b, 400), (0x6c61_636c, 100));
 
-/// Texts have no edition of their own: the file that is read is edition 1.
-const RANDOM_TEXTS: [Drawing; 2] = both((0x7265_6164, 200), (0x7265_6165, 0));
+/// Texts have no edition of their own: the file that is read is edition 1. The seed is one whose texts
+/// meet each refusal that a text can meet.
+const RANDOM_TEXTS: [Drawing; 2] = both((0x7265_616e, 200), (0x7265_616f, 0));
+const RANDOM_WRITINGS: [Drawing; 2] = both((0x7772_6974, 110), (0x7772_6975, 10));
 
 /// Steps whose lines show all that they answer, and after them the calls with files of nine charts
 /// and more.
@@ -53,6 +57,7 @@ const LARGE_REWRITINGS: [Drawing; 2] = large((0x1665_7772, 40), (0x1665_7773, 5)
 const LARGE_PLAINS: [Drawing; 2] = large((0x166c_6169, 40), (0x166c_616a, 10));
 const LARGE_CLEARINGS: [Drawing; 2] = large((0x166c_6561, 40), (0x166c_6562, 5));
 const LARGE_QUESTIONS: [Drawing; 2] = large((0x1661_636b, 60), (0x1661_636c, 20));
+const LARGE_WRITINGS: [Drawing; 2] = large((0x1672_6974, 25), (0x1672_6975, 5));
 
 /// What makes the calls of a drawing.
 type Make = fn(Drawing) -> Vec<Command>;
@@ -105,6 +110,7 @@ impl Kind {
             "clear" => Some(Kind::Clear),
             "lacking" => Some(Kind::Lacking),
             "read" => Some(Kind::Read),
+            "write" => Some(Kind::Write),
             _ => None,
         }
     }
@@ -148,6 +154,7 @@ pub fn named(kind: Kind) -> Vec<Case> {
         ],
         Kind::Lacking => vec![cases::lacking::cases()],
         Kind::Read => vec![cases::read::cases()],
+        Kind::Write => vec![cases::write::cases()],
     };
     lists.into_iter().flatten().collect()
 }
@@ -163,6 +170,7 @@ pub fn random(kind: Kind) -> Vec<Command> {
         Kind::Clear => (RANDOM_CLEARINGS, generate::clear_commands),
         Kind::Lacking => (RANDOM_QUESTIONS, generate::lacking_commands),
         Kind::Read => (RANDOM_TEXTS, generate::read_commands),
+        Kind::Write => (RANDOM_WRITINGS, generate::write_commands),
     };
     let later: Vec<Drawing> = match kind {
         Kind::File => LARGE_FILES.to_vec(),
@@ -173,6 +181,7 @@ pub fn random(kind: Kind) -> Vec<Command> {
         Kind::Clear => LARGE_CLEARINGS.to_vec(),
         Kind::Lacking => LARGE_QUESTIONS.to_vec(),
         Kind::Read => vec![],
+        Kind::Write => LARGE_WRITINGS.to_vec(),
     };
     let earlier = drawings.into_iter().flat_map(make);
     let later = later.into_iter().flat_map(make).map(Command::whole_line);

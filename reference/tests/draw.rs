@@ -32,6 +32,7 @@ fn own_refusals(op: Op) -> &'static [u8] {
         Op::Clear => &[45, 46],
         Op::Lacking => &[25, 26],
         Op::Read => &[45, 50, 51, 52],
+        Op::Write => &[45, 46, 51],
     }
 }
 
@@ -78,7 +79,7 @@ fn many_files_are_large() {
 /// About a third of the accepted files, in every call.
 #[test]
 fn a_third_of_the_files_are_edition_2() {
-    let commands = drawn(6, 9_000);
+    let commands = drawn(6, 12_000);
     for op in of_files() {
         let calls = commands.iter().filter(|command| command.op == op);
         let accepted: Vec<Model> = calls.filter_map(|c| accept(&c.file).ok()).collect();

@@ -69,6 +69,7 @@ fn every_refusal_of_every_call_is_reached() {
     reach_exactly(Kind::Plain, &|_| true, &[]);
     reach_exactly(Kind::Clear, &|_| true, &[45, 46]);
     reach(Kind::Read, &|_| true, &[0, 3, 6, 7, 8, 11, 45, 50, 51, 52]);
+    reach_exactly(Kind::Write, &|_| true, &[45, 46, 51]);
 }
 
 #[test]
@@ -80,6 +81,7 @@ fn random_calls_alone_reach_most_refusals() {
         (Kind::Rewrite, vec![40, 41, 45, 46]),
         (Kind::Clear, vec![45, 46]),
         (Kind::Read, vec![0, 7, 8, 45, 50, 51, 52]),
+        (Kind::Write, vec![0, 4, 5, 45, 46, 51]),
     ] {
         reach(kind, &|r| r.is_random, &numbers);
     }
@@ -154,6 +156,7 @@ fn a_refusal_leaves_all_lent_bytes_and_gives_empty_answers() {
                 Op::Rewrite => format!("{name} rewrite {number} 0 {untouched}\n"),
                 Op::Plain => format!("{name} plain {number} 0\n"),
                 Op::Clear => format!("{name} clear {number} 0 {untouched}\n"),
+                Op::Write => format!("{name} write {number} 0 {untouched}\n"),
                 Op::Lacking => format!("{name} lacking {number} 0 0\n"),
                 Op::Read => {
                     let place = reference::read(&command.file, &mut []).place;
@@ -188,6 +191,7 @@ fn there_are_enough_of_each_kind() {
     assert!(count(Kind::Clear, false) > 70 && count(Kind::Clear, true) >= 200);
     assert!(count(Kind::Lacking, false) > 80 && count(Kind::Lacking, true) >= 400);
     assert!(count(Kind::Read, false) > 400 && count(Kind::Read, true) >= 200);
+    assert!(count(Kind::Write, false) > 100 && count(Kind::Write, true) >= 150);
 }
 
 /// The random steps that are given, with their models and marks.
@@ -318,6 +322,15 @@ fn lines_by_hand() {
     );
     let cut = text[..9].to_vec();
     assert_eq!(line(Command::read("t", cut, 1)), "t read 50 0 9 a5\n");
+    let smallest = reference::notation::file_of(&text).unwrap();
+    assert_eq!(
+        line(Command::write("x", smallest.clone(), 20)),
+        "x write 0 18 2863302c7b71307d2c71302c7b7d2c7b7d29a5a5\n"
+    );
+    assert_eq!(
+        line(Command::write("x", smallest, 2)),
+        "x write 45 0 a5a5\n"
+    );
 }
 
 #[test]

@@ -30,14 +30,16 @@ mod reading;
 mod refusal;
 mod row;
 mod set;
+mod writing;
 
 pub use lacking::{lacking, Tested};
 pub use place::{Place, Places, CHARTS};
 pub use posting::{post, posted_bytes, posted_rows, Case, Entry, PostedRow, CASES, CONFIGURATION};
-pub use reading::{read, RefusedText};
+pub use reading::{read, RefusedText, FILE_BYTES};
 pub use refusal::{Refusal, RefusedStep};
 pub use row::{rows, rows_bytes, Given, Row};
 pub use set::{Set, Signals};
+pub use writing::{text, write, TEXT_BYTES};
 
 /// The signals that a file looks at, and those that it can output (RULES 4).
 #[derive(Clone, Copy, PartialEq, Eq, Debug)]

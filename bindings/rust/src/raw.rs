@@ -104,4 +104,13 @@ extern "C" {
         length: *mut usize,
         place: *mut usize,
     ) -> u8;
+
+    /// Writes a file as typed text.
+    pub fn mestecur_write(
+        file: *const u8,
+        file_len: usize,
+        out: *mut u8,
+        out_len: usize,
+        length: *mut usize,
+    ) -> u8;
 }

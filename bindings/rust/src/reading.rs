@@ -41,8 +41,11 @@ impl From<RefusedText> for Refusal {
     }
 }
 
+/// A buffer of this length is enough for the file of any text (RULES 14.5).
+pub const FILE_BYTES: usize = 30_408;
+
 /// Reads a chart that is typed as text, and writes the file that it means to the front of the buffer;
-/// gives its length. Refusals 50, 51, 52, 1 to 11, 45.
+/// gives its length. A buffer of [`FILE_BYTES`] is always enough. Refusals 50, 51, 52, 1 to 11, 45.
 pub fn read(text: &[u8], buffer: &mut [u8]) -> Result<usize, RefusedText> {
     let (mut length, mut place) = (0, 0);
     // SAFETY: the pointers are those of slices with these lengths and of two numbers of our own, and

@@ -69,10 +69,10 @@ const WORDS: [(u8, &str); 32] = [
     (45, "the buffer is shorter than the result"),
     (
         46,
-        "edition 2, in which charts may stay; only edition 1 can be rewritten or cleared",
+        "edition 2, in which charts may stay; only edition 1 can be rewritten, cleared or written as text",
     ),
     (50, "the text is not of the notation"),
-    (51, "the typed chart is nested more than 16 deep"),
+    (51, "the chart is nested more than 16 deep"),
     (
         52,
         "a name is out of range, or the charts or the states of a chart are not typed as they have to be: \

@@ -49,7 +49,7 @@ fn other_refusals_have_none() {
     assert_eq!(refused(&nested(16)), (51, 0));
     // 24 + 16 · 20 + 12 bytes do not fit
     assert_eq!(refused(&nested(15)), (45, 0));
-    assert_eq!(refused("(c8,{q0},q0,{},{})"), (52, 0));
+    assert_eq!(refused("(c16,{q0},q0,{},{})"), (52, 0));
     assert_eq!(refused("(c0,{q0},q0,{s64},{})"), (52, 0));
     assert_eq!(
         refused("Dec (c1,{q0},q0,{},{}) by {(q0,(c0,{q0},q0,{},{}))}"),

@@ -126,7 +126,7 @@ fn a_refusal_prints_its_number_and_why() {
     assert_eq!(words(2), "the edition is neither 1 nor 2");
     assert_eq!(
         words(46),
-        "edition 2, in which charts may stay; only edition 1 can be rewritten or cleared"
+        "edition 2, in which charts may stay; only edition 1 can be rewritten, cleared or written as text"
     );
     assert_eq!(Refusal::of(0), None);
     let unknown = Refusal::of(99).unwrap().words();

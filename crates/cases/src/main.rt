@@ -211,6 +211,15 @@ fn print_reading(text: &[u8], out: &mut [u8]) {
     end_line();
 }
 
+fn print_writing(file: &[u8], out: &mut [u8]) {
+    let w = writer::write(file, out);
+    print_refusal(b" write ", w.refusal);
+    space();
+    io::print_decimal(STDOUT_FILENO, w.length as u64);
+    print_buffer(out);
+    end_line();
+}
+
 // The call that a command asks for, on its file, its configuration, what is carried, its inputs and a buffer.
 fn print_call(op: u8, file: &[u8], config: &[u8], carried: u64, inputs: &[u64], lent: &mut [u8]) {
     match op {
@@ -224,6 +233,7 @@ fn print_call(op: u8, file: &[u8], config: &[u8], carried: u64, inputs: &[u64], 
         8 => print_open(file, config, input_at(inputs, 0), lent),
         9 => print_lacking(file, inputs),
         10 => print_reading(file, lent),
+        11 => print_writing(file, lent),
         _ => print_plain(file),
     }
 }

@@ -19,6 +19,8 @@ pub enum Command {
     Lacking,
     Why,
     Read,
+    Write,
+    Show,
     Other,
 }
 
@@ -79,6 +81,12 @@ fn command_of(word: &[u8]) -> Command {
     }
     if typed::is(word, b"read") {
         return Command::Read;
+    }
+    if typed::is(word, b"write") {
+        return Command::Write;
+    }
+    if typed::is(word, b"show") {
+        return Command::Show;
     }
     Command::Other
 }

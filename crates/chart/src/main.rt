@@ -20,6 +20,15 @@ fn file_room() -> [u8; 65537]
     [0; 65537]
 }
 
+// The longest text that is read: it has room for the longest that `write` and `show` print.
+const MOST_TEXT: usize = 1048576;
+
+fn text_room() -> [u8; 1048577]
+    ensures { λ r. ⌜ 1048577 ≡ length r ⌝ }
+{
+    [0; 1048577]
+}
+
 // The answer to a command on its file.
 fn answer(c: Command, file: &[u8]) {
     match c {
@@ -33,20 +42,15 @@ fn answer(c: Command, file: &[u8]) {
         Command::Clear => tell::clear(file),
         Command::Lacking => why::lacking(file),
         Command::Why => why::why(file),
-        Command::Read => typing::read(file),
+        Command::Write => tell::write(file, false),
+        Command::Show => tell::write(file, true),
+        Command::Read => {}
         Command::Other => {}
     }
 }
 
-fn main() {
-    if os::arg_count() < 2 {
-        words::help(libc::STDOUT_FILENO);
-        return;
-    }
-    let c = ask::which();
-    if let Command::Other = c {
-        return;
-    }
+// A command on a file.
+fn on_file(c: Command) {
     let mut file = file_room();
     let l = ask::load(&mut file);
     if !l.is_read {
@@ -58,4 +62,32 @@ fn main() {
         return;
     }
     answer(c, &file[..n]);
+}
+
+// The command on a text.
+fn on_text() {
+    let mut text = text_room();
+    let l = ask::load(&mut text);
+    if !l.is_read {
+        return;
+    }
+    let n = l.count;
+    if n > MOST_TEXT {
+        words::complain(b"chart: the text is longer than 1,048,576 bytes.\n");
+        return;
+    }
+    typing::read(&text[..n]);
+}
+
+fn main() {
+    if os::arg_count() < 2 {
+        words::help(libc::STDOUT_FILENO);
+        return;
+    }
+    let c = ask::which();
+    match c {
+        Command::Other => {}
+        Command::Read => on_text(),
+        _ => on_file(c),
+    }
 }

@@ -374,3 +374,11 @@ pub fn clear(file: &[u8]) {
         lost_in_charts(file, &out[..n]);
     }
 }
+
+// The file as text, in one line or laid out.
+pub fn write(file: &[u8], laid_out: bool) {
+    let r = display::show(file, laid_out);
+    if r != limits::ACCEPTED {
+        words::writing_refusal(r);
+    }
+}

@@ -117,7 +117,9 @@ fn say_rewriting(refusal: u8) {
         say(b"the buffer is shorter than the result");
     }
     if refusal == limits::MAY_STAY {
-        say(b"edition 2, in which charts may stay; only edition 1 can be rewritten or cleared");
+        say(
+            b"edition 2, in which charts may stay; only edition 1 can be rewritten, cleared or written as text",
+        );
     }
 }
 
@@ -131,7 +133,7 @@ fn say_text(refusal: u8) {
     }
     if refusal == texts::BAD_NAME {
         say(
-            b"a name is out of range (c0 to c7, q0 to q15, s0 to s63), a chart or a state of a \
+            b"a name is out of range (c0 to c15, q0 to q15, s0 to s63), a chart or a state of a \
               list is given twice, a number below the highest is left out, an initial state is \
               not the first of its list, or a state is used that its chart lacks",
         );
@@ -181,6 +183,15 @@ pub fn text_refusal(r: u8) {
     refused(b"text", r);
 }
 
+// The same where a file was to be written as text.
+pub fn writing_refusal(r: u8) {
+    if r < limits::WRONG_LENGTH {
+        refused(b"file", r);
+    } else {
+        refused(b"writing", r);
+    }
+}
+
 // The same of a question about a transition.
 pub fn question_refusal(r: u8) {
     if r < limits::WRONG_LENGTH {
@@ -218,7 +229,9 @@ pub fn help(fd: i32) {
           chart clear FILE OUT           writes the same chart without dead transitions to the file OUT\n  \
           chart lacking FILE CHART PLACE SET  whether a transition's guard is met when its chart is offered the set, or what it lacks\n  \
           chart why FILE CONFIG SET      the same of each transition from the present states, under the input alone\n  \
-          chart read TEXT OUT            writes the file that a typed text means (docs/NOTATION.md) to the file OUT\n\
+          chart read TEXT OUT            writes the file that a typed text means (docs/NOTATION.md) to the file OUT\n  \
+          chart write FILE               the chart as such a text, without blanks\n  \
+          chart show FILE                the same text laid out, a transition a line\n\
           \n\
           CONFIG is the state of each chart, such as 0.1. SET is a list of signals, such as s0,s3; a number in hex, such as 0x9; or - for none.\n\
           A step is shown as its number, its output in hex, the configuration after it, y if all permitted choices agree or else n, and its\n\

@@ -14,6 +14,7 @@ use Rattle.meaning.specs.Plain.{plainOf}
 use Rattle.clearing.specs.Clearing.{clearRefusal, clearLength, clearOut}
 use Rattle.lacks.specs.Lacking.{lackingOf, caseIn, signalIn}
 use Rattle.reading.specs.Read.{readRefusal, readLength, readPlace, readOut}
+use Rattle.writing.specs.Write.{writeRefusal, writeLength, writeOut}
 use Rattle.lacks.specs.Lacking.{refusalIn as refusedIn}
 pub mod Laws
 
@@ -57,3 +58,7 @@ LackingReturns f chart place o r answer signal =
 abbrev pub ReadReturns : List ℕ → List ℕ → ℕ → List ℕ → ℕ → ℕ → Type 0
 ReadReturns text b r c size place =
     (r ≡ readRefusal text (length b)) × (c ≡ readOut text b) × (size ≡ readLength text (length b)) × (place ≡ readPlace text)
+
+-- length of the text (RULES 15)
+abbrev pub WriteReturns : List ℕ → List ℕ → ℕ → List ℕ → ℕ → Type 0
+WriteReturns f b r c size = (r ≡ writeRefusal f (length b)) × (c ≡ writeOut f b) × (size ≡ writeLength f (length b))

@@ -5,6 +5,7 @@ ghost use mathlib.Core.Path.{_≡_};
 ghost use Rattle.meaning.specs.Count.{one};
 ghost use Rattle.exports.specs.Contracts.{CheckReturns, FirstReturns, InterfaceReturns, PlainReturns, StepReturns};
 ghost use Rattle.exports.specs.Contracts.{RunReturns, RewriteReturns, ClearReturns, LackingReturns, ReadReturns};
+ghost use Rattle.exports.specs.Contracts.{WriteReturns};
 ghost use Rattle.posting.specs.Posting.{PostSays};
 use posting::Case;
 use posting::Entry;
@@ -151,4 +152,13 @@ pub extern "C" fn mestecur_read(
     *size = f.length;
     *place = f.place;
     f.refusal
+}
+
+#[no_mangle]
+pub extern "C" fn mestecur_write(file: &[u8], out: &mut [u8], size: &mut usize) -> u8
+    ensures { λ r. ⌜ WriteReturns (now (file .entry)) (now (out .entry)) r (now (out .exit)) (now (size .exit)) ⌝ }
+{
+    let w = writer::write(file, out);
+    *size = w.length;
+    w.refusal
 }

@@ -5,9 +5,9 @@ use Prim.Native.Nat.{ℕ}
 abbrev pub mostDepth : ℕ
 mostDepth = 16
 
--- names are c0 to c7, q0 to q15, s0 to s63
+-- names are c0 to c15, q0 to q15, s0 to s63
 abbrev pub namedCharts : ℕ
-namedCharts = 8
+namedCharts = 16
 
 abbrev pub namedStates : ℕ
 namedStates = 16

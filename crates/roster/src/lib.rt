@@ -12,8 +12,8 @@ use checks::limits;
 
 pub mod records;
 
-// Charts are c0 to c7.
-const CHARTS: u64 = 8;
+// Charts are c0 to c15.
+const CHARTS: u64 = 16;
 
 // As many places as a file may have charts.
 pub const PLACES: usize = 16;

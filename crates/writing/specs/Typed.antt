@@ -22,7 +22,7 @@ unfoldable pub fromAll : {A : Type 0} → ℕ → (ℕ → List A) → List A
 fromAll zero f = []
 fromAll (suc n) f = fromAll n f ++ f n
 
--- n if the test holds
+-- a, if the test holds
 abbrev pub ifSo : {A : Type 0} → Bool → A → List A
 ifSo b a = cond b (a ∷ []) []
 

@@ -15,6 +15,7 @@ pub mod rows;
 pub mod run;
 pub mod second;
 pub mod step;
+pub mod write;
 
 use crate::command::Command;
 use crate::limits::refusal;

@@ -86,6 +86,10 @@ pub fn raw(command: &Command, lent: &mut [u8]) -> (u8, Numbers) {
                 let refusal = mestecur_read(file, long, out, room, &mut length, &mut place);
                 (refusal, Numbers::two(length as u64, place as u64))
             }
+            Op::Write => {
+                let refusal = mestecur_write(file, long, out, room, &mut length);
+                (refusal, Numbers::two(length as u64, 0))
+            }
         }
     }
 }
@@ -107,6 +111,7 @@ pub fn binding(command: &Command, lent: &mut [u8]) -> (u8, Numbers) {
         Op::Rewrite => mestecur::rewrite(file, lent).map(|length| Numbers::two(length as u64, 0)),
         Op::Plain => mestecur::plain(file).map(|plain| Numbers::two(u64::from(plain), 0)),
         Op::Clear => mestecur::clear(file, lent).map(|length| Numbers::two(length as u64, 0)),
+        Op::Write => mestecur::write(file, lent).map(|length| Numbers::two(length as u64, 0)),
         Op::Lacking => {
             let (chart, place) = (inputs[0].0 as usize, inputs[1].0 as usize);
             mestecur::lacking(file, chart, place, inputs[2]).map(|tested| match tested {

@@ -1,14 +1,17 @@
-//! Charts from typed text (RULES 14, docs/NOTATION.md).
+//! Charts from typed text, and text out of files (RULES 14 and 15, docs/NOTATION.md).
 //!
 //! The grammar is that page's, word for word, and the table by which texts are read is worked out
 //! from it ([`grammar`], [`table`]). A text gives a tree or the place of refusal 50 ([`tree`]). From
-//! the tree are read its depth and names ([`typed`]), and the file that it means ([`meant`]).
+//! the tree are read its depth and names ([`typed`]), and the file that it means ([`meant`]). The text of
+//! a file is put together from its records ([`write`]), and can be laid out ([`laid_out`]).
 
 pub mod grammar;
+pub mod laid_out;
 pub mod meant;
 pub mod table;
 pub mod tree;
 pub mod typed;
+pub mod write;
 
 use crate::check::{accept, refuse_if};
 use crate::limits::*;

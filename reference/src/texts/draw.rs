@@ -259,11 +259,11 @@ fn busy(random: &mut Random) -> Vec<u8> {
     }
 }
 
-/// Eight charts, hidden and composed: about as many nodes as there may be.
+/// All charts, hidden and composed: about as many nodes as there may be.
 fn many_nodes(random: &mut Random) -> Vec<u8> {
     let mut parts: Vec<String> = (0..NAMED_CHARTS)
         .map(|number| {
-            let times = random.between(5, 7);
+            let times = random.between(1, 3);
             format!(
                 "{}{}{}",
                 "[".repeat(times),

@@ -5,7 +5,12 @@ use Prim.Native.Nat.{ℕ}
 use Rattle.meaning.specs.Meaning.{Set}
 use Rattle.engine.specs.Contracts.Laws.{one, both}
 use Rattle.exports.specs.Contracts.{CheckReturns, FirstReturns, InterfaceReturns, PlainReturns, StepReturns}
-use Rattle.exports.specs.Contracts.{RunReturns, RewriteReturns, ClearReturns, LackingReturns, ReadReturns}
+use Rattle.exports.specs.Contracts.{RunReturns, RewriteReturns, ClearReturns, LackingReturns, ReadReturns, WriteReturns}
+
+-- three answers of a call
+three : {A B C : Type 0} {a : A} {b : B} {d : C} (r r′ : A) (c c′ : B) (n n′ : C) → (r ≡ a) × (c ≡ b) × (n ≡ d)
+    → (r′ ≡ a) × (c′ ≡ b) × (n′ ≡ d) → (r ≡ r′) × (c ≡ c′) × (n ≡ n′)
+three r r′ c c′ n n′ p q = (one r r′ (p .0) (q .0), one c c′ (p .1) (q .1), one n n′ (p .2) (q .2))
 
 module _ (f : List ℕ) where
   pub check-determined : (r r′ : ℕ) → CheckReturns f r → CheckReturns f r′ → r ≡ r′
@@ -17,7 +22,7 @@ module _ (f : List ℕ) where
 
   pub interface-determined : (r r′ : ℕ) (i i′ o o′ : Set) → InterfaceReturns f r i o → InterfaceReturns f r′ i′ o′
       → (r ≡ r′) × (i ≡ i′) × (o ≡ o′)
-  interface-determined r r′ i i′ o o′ p q = (one r r′ (p .0) (q .0), one i i′ (p .1) (q .1), one o o′ (p .2) (q .2))
+  interface-determined = three
 
   pub plain-determined : (r r′ y y′ : ℕ) → PlainReturns f r y → PlainReturns f r′ y′ → (r ≡ r′) × (y ≡ y′)
   plain-determined = both
@@ -30,22 +35,23 @@ module _ (f : List ℕ) where
 
   pub run-determined : (config : List ℕ) (x : Set) (inputs : List Set) (b : List ℕ) (r r′ : ℕ) (c c′ : List ℕ) (l l′ : Set)
       → RunReturns f config x inputs b r c l → RunReturns f config x inputs b r′ c′ l′ → (r ≡ r′) × (c ≡ c′) × (l ≡ l′)
-  run-determined config x inputs b r r′ c c′ l l′ p q =
-      (one r r′ (p .0) (q .0), one c c′ (p .1) (q .1), one l l′ (p .2) (q .2))
+  run-determined config x inputs b = three
 
   pub rewrite-determined : (b : List ℕ) (r r′ : ℕ) (c c′ : List ℕ) (n n′ : ℕ) → RewriteReturns f b r c n
       → RewriteReturns f b r′ c′ n′ → (r ≡ r′) × (c ≡ c′) × (n ≡ n′)
-  rewrite-determined b r r′ c c′ n n′ p q =
-      (one r r′ (p .0) (q .0), one c c′ (p .1) (q .1), one n n′ (p .2) (q .2))
+  rewrite-determined b = three
 
   pub clear-determined : (b : List ℕ) (r r′ : ℕ) (c c′ : List ℕ) (n n′ : ℕ) → ClearReturns f b r c n → ClearReturns f b r′ c′ n′
       → (r ≡ r′) × (c ≡ c′) × (n ≡ n′)
-  clear-determined b r r′ c c′ n n′ p q = (one r r′ (p .0) (q .0), one c c′ (p .1) (q .1), one n n′ (p .2) (q .2))
+  clear-determined b = three
+
+  pub write-determined : (b : List ℕ) (r r′ : ℕ) (c c′ : List ℕ) (n n′ : ℕ) → WriteReturns f b r c n → WriteReturns f b r′ c′ n′
+      → (r ≡ r′) × (c ≡ c′) × (n ≡ n′)
+  write-determined b = three
 
   pub lacking-determined : (chart place : ℕ) (o : Set) (r r′ a a′ s s′ : ℕ) → LackingReturns f chart place o r a s
       → LackingReturns f chart place o r′ a′ s′ → (r ≡ r′) × (a ≡ a′) × (s ≡ s′)
-  lacking-determined chart place o r r′ a a′ s s′ p q =
-      (one r r′ (p .0) (q .0), one a a′ (p .1) (q .1), one s s′ (p .2) (q .2))
+  lacking-determined chart place o = three
 
 pub read-determined : (text b : List ℕ) (r r′ : ℕ) (c c′ : List ℕ) (n n′ k k′ : ℕ) → ReadReturns text b r c n k
     → ReadReturns text b r′ c′ n′ k′ → (r ≡ r′) × (c ≡ c′) × (n ≡ n′) × (k ≡ k′)

@@ -100,10 +100,11 @@ fn depths() -> Vec<Known> {
             refusal::NESTING,
             hidden(9, &slaves(7)),
         ),
-        answers("depth-16-compositions", refusal::NAMES, left(15)),
+        accepted("depth-16-compositions", left(15)),
+        accepted("depth-16-compositions-right", right(15)),
         answers("depth-17-compositions", refusal::NESTING, left(16)),
         answers("depth-17-compositions-right", refusal::NESTING, right(16)),
-        answers("depth-16-masters", refusal::NAMES, slaves(15)),
+        accepted("depth-16-masters", slaves(15)),
         answers("depth-17-masters", refusal::NESTING, slaves(16)),
         accepted("depth-16-in-the-second-slave", second_slave(14)),
         answers(
@@ -129,23 +130,40 @@ fn second_slave(times: usize) -> String {
     )
 }
 
+/// So many charts from a number on, a power of two, composed in pairs.
+fn balanced(first: usize, count: usize) -> String {
+    match count {
+        1 => small(first),
+        _ => bracketed(
+            &balanced(first, count / 2),
+            &balanced(first + count / 2, count / 2),
+        ),
+    }
+}
+
 /// 52: a name out of range, wherever one can stand; charts given twice or left out.
 fn names() -> Vec<Known> {
     let refused =
         |name: &str, text: String| answers(&format!("names-{name}"), refusal::NAMES, text);
     let (a, b, c) = (small(0), small(1), small(2));
     let mut all = vec![
-        refused(
-            "chart-8",
+        accepted(
+            "charts-sixteen",
             composed(
-                &(0..7)
-                    .skip(1)
-                    .fold(small(0), |s, n| bracketed(&s, &small(n))),
-                &small(8),
+                &(1..15).fold(small(0), |s, n| bracketed(&s, &small(n))),
+                &small(15),
+            ),
+        ),
+        refused(
+            "chart-16",
+            composed(
+                &(1..15).fold(small(0), |s, n| bracketed(&s, &small(n))),
+                &small(16),
             ),
         ),
         refused("chart-8-alone", small(8)),
-        refused("chart-15", small(15)),
+        refused("chart-15-alone", small(15)),
+        refused("chart-16-alone", small(16)),
         refused("chart-256", small(256)),
         refused(
             "chart-huge",
@@ -173,12 +191,10 @@ fn names() -> Vec<Known> {
         refused("chart-left-out-0", b.clone()),
         refused("chart-left-out-1", composed(&a, &c)),
         refused("chart-left-out-in-a-slave", decomposed(0, &c)),
+        // seventeen charts: two rows of eight and one more, so that they are not deep
         refused(
-            "charts-nine",
-            composed(
-                &(1..8).fold(small(0), |s, n| bracketed(&s, &small(n))),
-                &small(0),
-            ),
+            "charts-seventeen",
+            composed(&bracketed(&balanced(0, 8), &balanced(8, 8)), &small(0)),
         ),
     ];
     for signal in ["s64", "s65", "s99999999999"] {

@@ -1,0 +1,669 @@
+//! Named cases of writing (RULES 15). The text of each file is written by hand beside it.
+
+use super::charts::*;
+use super::damage::behind;
+use super::file::{one_fault, one_fault_under};
+use super::Case;
+use crate::command::Command;
+use crate::limits::*;
+use crate::model::{Chart, Edition, Model, Node, Slave, Transition};
+use crate::notation::write::written;
+use crate::set::Set;
+
+/// All named cases of writing.
+pub fn cases() -> Vec<Case> {
+    let given = known().into_iter().map(|known| known.case());
+    let others = [depths(), rooms(), files(), second_edition()];
+    given.chain(others.into_iter().flatten()).collect()
+}
+
+/// A file, and its text by hand.
+pub struct Known {
+    pub name: String,
+    pub model: Model,
+    pub text: String,
+}
+
+impl Known {
+    /// The writing, in a buffer that is three bytes longer than needed.
+    fn case(self) -> Case {
+        let room = self.text.len() + 3;
+        let command = Command::write(&self.name, self.model.file(), room);
+        Case::new(command, refusal::SUCCESS)
+    }
+}
+
+/// A file that has this text; blanks are only here.
+fn has(name: &str, model: Model, text: &str) -> Known {
+    Known {
+        name: format!("write-{name}"),
+        model,
+        text: text.split_whitespace().collect(),
+    }
+}
+
+/// A file that is written.
+fn accepted(name: &str, model: Model, room: usize) -> Case {
+    let command = Command::write(&format!("write-{name}"), model.file(), room);
+    Case::new(command, refusal::SUCCESS)
+}
+
+/// A file that is refused.
+fn refused(name: &str, number: u8, file: Vec<u8>, room: usize) -> Case {
+    Case::new(Command::write(&format!("write-{name}"), file, room), number)
+}
+
+/// All files that are written, with their texts.
+pub fn known() -> Vec<Known> {
+    let lists = [
+        samples(),
+        charts(),
+        guards(),
+        sets(),
+        slaves(),
+        parts(),
+        hidings(),
+        orders(),
+        sixteen(),
+    ];
+    lists.into_iter().flatten().collect()
+}
+
+/// The charts of samples/: their texts, without the blanks, are the written ones.
+fn samples() -> Vec<Known> {
+    let sample = |name: &str, model: Model, text: &str| has(&format!("sample-{name}"), model, text);
+    vec![
+        sample("L1", l1(), include_str!("../../../samples/L1.text")),
+        sample("L2", l2(), include_str!("../../../samples/L2.text")),
+        sample("L3", l3(), include_str!("../../../samples/L3.text")),
+        sample("N1", n1(), include_str!("../../../samples/N1.text")),
+        sample("N2", n2(), include_str!("../../../samples/N2.text")),
+        sample("P1", p1(), include_str!("../../../samples/P1.text")),
+        sample("P2", p2(), include_str!("../../../samples/P2.text")),
+        sample("P3", p3(), include_str!("../../../samples/P3.text")),
+        sample("P4", p4(), include_str!("../../../samples/P4.text")),
+        sample("D", d(), include_str!("../../../samples/decomposed.text")),
+        sample(
+            "whole-case",
+            whole_case(),
+            include_str!("../../../samples/whole-case.text"),
+        ),
+    ]
+}
+
+/// A chart of one state.
+fn small() -> Chart {
+    chart(1, &[], vec![])
+}
+
+/// Its text under a number.
+fn small_text(number: usize) -> String {
+    format!("(c{number},{{q0}},q0,{{}},{{}})")
+}
+
+/// A chart that begins in a state.
+fn beginning(states: u8, initial: u8) -> Model {
+    let chart = spread(states, 0);
+    alone(Chart { initial, ..chart })
+}
+
+/// One chart: its states, its initial state, its extra set.
+fn charts() -> Vec<Known> {
+    let extra = |extra: &[u32]| {
+        alone(Chart {
+            extra: Set::of(extra),
+            ..small()
+        })
+    };
+    vec![
+        has("smallest", alone(small()), "(c0,{q0},q0,{},{})"),
+        has("initial-0", beginning(3, 0), "(c0,{q0,q1,q2},q0,{},{})"),
+        has("initial-1", beginning(3, 1), "(c0,{q1,q0,q2},q1,{},{})"),
+        has("initial-last", beginning(3, 2), "(c0,{q2,q0,q1},q2,{},{})"),
+        has(
+            "sixteen-states",
+            beginning(16, 0),
+            "(c0,{q0,q1,q2,q3,q4,q5,q6,q7,q8,q9,q10,q11,q12,q13,q14,q15},q0,{},{})",
+        ),
+        has(
+            "sixteen-states-from-9",
+            beginning(16, 9),
+            "(c0,{q9,q0,q1,q2,q3,q4,q5,q6,q7,q8,q10,q11,q12,q13,q14,q15},q9,{},{})",
+        ),
+        has(
+            "sixteen-states-from-15",
+            beginning(16, 15),
+            "(c0,{q15,q0,q1,q2,q3,q4,q5,q6,q7,q8,q9,q10,q11,q12,q13,q14},q15,{},{})",
+        ),
+        has("extra-empty", extra(&[]), "(c0,{q0},q0,{},{})"),
+        has("extra", extra(&[9]), "(c0,{q0},q0,{},{},{s9})"),
+        has(
+            "extra-several",
+            extra(&[63, 0, 10]),
+            "(c0,{q0},q0,{},{},{s0,s10,s63})",
+        ),
+        has(
+            "extra-behind-transitions",
+            alone(Chart {
+                extra: Set::of(&[1]),
+                ..ticking(2)
+            }),
+            "(c0,{q0},q0,{},{(q0,q0,/{s2})},{s1})",
+        ),
+        has(
+            "feedback",
+            alone(chart(1, &[62, 7, 63], vec![])),
+            "(c0,{q0},q0,{s7,s62,s63},{})",
+        ),
+    ]
+}
+
+/// A chart of one transition with this guard.
+fn guarded(needed: &[u32], barred: &[u32]) -> Model {
+    alone(chart(2, &[], vec![go(0, 1, needed, barred, &[])]))
+}
+
+/// Guards, by signal, a needed one before the same one barred.
+fn guards() -> Vec<Known> {
+    let guard = |name: &str, needed: &[u32], barred: &[u32], text: &str| {
+        has(
+            &format!("guard-{name}"),
+            guarded(needed, barred),
+            &format!("(c0,{{q0,q1}},q0,{{}},{{(q0,q1,{text}/{{}})}})"),
+        )
+    };
+    let all: Vec<u32> = (0..SIGNALS).collect();
+    let every: Vec<String> = all.iter().map(|s| format!("s{s}&-s{s}")).collect();
+    let needed: Vec<String> = all.iter().map(|s| format!("s{s}")).collect();
+    let barred: Vec<String> = all.iter().map(|s| format!("-s{s}")).collect();
+    vec![
+        guard("empty", &[], &[], ""),
+        guard("needed", &[3], &[], "s3"),
+        guard("barred", &[], &[3], "-s3"),
+        guard("merged", &[2, 10], &[1, 2], "-s1&s2&-s2&s10"),
+        guard("same", &[5], &[5], "s5&-s5"),
+        guard("same-0", &[0], &[0], "s0&-s0"),
+        guard("same-63", &[63], &[63], "s63&-s63"),
+        guard("barred-first", &[9], &[8], "-s8&s9"),
+        guard("needed-first", &[8], &[9], "s8&-s9"),
+        // by number, and not by the letters of the name
+        guard("9-before-10", &[10, 9], &[], "s9&s10"),
+        guard("ends", &[0, 63], &[], "s0&s63"),
+        guard("all-needed", &all, &[], &needed.join("&")),
+        guard("all-barred", &[], &all, &barred.join("&")),
+        guard("all-both", &all, &all, &every.join("&")),
+    ]
+}
+
+/// Sets rise, and transitions have the order of the file.
+fn sets() -> Vec<Known> {
+    let all: Vec<u32> = (0..SIGNALS).collect();
+    let names: Vec<String> = all.iter().map(|s| format!("s{s}")).collect();
+    vec![
+        has(
+            "action-rising",
+            alone(chart(1, &[], vec![go(0, 0, &[], &[], &[20, 3, 0, 63])])),
+            "(c0,{q0},q0,{},{(q0,q0,/{s0,s3,s20,s63})})",
+        ),
+        has(
+            "action-all",
+            alone(chart(1, &[], vec![go(0, 0, &[], &[], &all)])),
+            &format!("(c0,{{q0}},q0,{{}},{{(q0,q0,/{{{}}})}})", names.join(",")),
+        ),
+        has(
+            "transitions-in-file-order",
+            alone(chart(
+                2,
+                &[],
+                vec![
+                    go(1, 0, &[], &[], &[]),
+                    go(0, 1, &[1], &[], &[2]),
+                    go(1, 1, &[], &[], &[]),
+                    go(0, 1, &[0], &[], &[]),
+                    go(0, 1, &[1], &[], &[2]),
+                ],
+            )),
+            "(c0,{q0,q1},q0,{},{(q1,q0,/{}),(q0,q1,s1/{s2}),(q1,q1,/{}),(q0,q1,s0/{}),(q0,q1,s1/{s2})})",
+        ),
+    ]
+}
+
+/// Masters: slaves by state, and each form as a slave.
+fn slaves() -> Vec<Known> {
+    let master = |slaves: Vec<Slave>, nodes: Vec<Node>, charts: usize| Model {
+        edition: Edition::First,
+        charts: [vec![spread(3, 0)], vec![small(); charts - 1]].concat(),
+        slaves,
+        nodes,
+    };
+    vec![
+        has(
+            "slave",
+            decomposed(spread(2, 0), 1, small()),
+            "Dec(c0,{q0,q1},q0,{},{})by{(q1,(c1,{q0},q0,{},{}))}",
+        ),
+        has(
+            "slaves-by-state",
+            master(
+                vec![slave(0, 0, 2), slave(0, 1, 0), slave(0, 2, 1)],
+                vec![leaf(3), leaf(1), leaf(2), leaf(0)],
+                4,
+            ),
+            "Dec(c0,{q0,q1,q2},q0,{},{})by{(q0,(c2,{q0},q0,{},{})),(q1,(c3,{q0},q0,{},{})),
+             (q2,(c1,{q0},q0,{},{}))}",
+        ),
+        has(
+            "slave-of-the-initial-state-not-0",
+            Model {
+                charts: vec![
+                    Chart {
+                        initial: 1,
+                        ..spread(2, 0)
+                    },
+                    small(),
+                    small(),
+                ],
+                slaves: vec![slave(0, 0, 0), slave(0, 1, 1)],
+                nodes: vec![leaf(1), leaf(2), leaf(0)],
+                ..alone(small())
+            },
+            "Dec(c0,{q1,q0},q1,{},{})by{(q0,(c1,{q0},q0,{},{})),(q1,(c2,{q0},q0,{},{}))}",
+        ),
+        has(
+            "slave-composed",
+            master(
+                vec![slave(0, 2, 2)],
+                vec![leaf(1), leaf(2), composed(0, 1, &[4]), leaf(0)],
+                3,
+            ),
+            "Dec(c0,{q0,q1,q2},q0,{},{})by{(q2,(c1,{q0},q0,{},{})|{s4}|(c2,{q0},q0,{},{}))}",
+        ),
+        has(
+            "slave-hidden",
+            master(
+                vec![slave(0, 0, 1)],
+                vec![leaf(1), hidden(0, &[1], &[2]), leaf(0)],
+                2,
+            ),
+            "Dec(c0,{q0,q1,q2},q0,{},{})by{(q0,{s1}[(c1,{q0},q0,{},{})]{s2})}",
+        ),
+        has(
+            "slave-in-a-slave",
+            nested(),
+            "Dec(c0,{q0,q1},q0,{},{(q0,q1,s0/{s8}),(q0,q0,-s0/{}),(q1,q0,s0/{}),(q1,q1,-s0/{s16})})
+             by{(q1,
+             Dec(c1,{q0,q1},q0,{},{(q0,q1,s1/{s9}),(q0,q0,-s1/{}),(q1,q0,s1/{}),(q1,q1,-s1/{s17})})
+             by{(q1,
+             (c2,{q0,q1},q0,{},{(q0,q1,s2/{s10}),(q0,q0,-s2/{}),(q1,q0,s2/{}),(q1,q1,-s2/{s18})})
+             )})}",
+        ),
+        has(
+            "master-hidden",
+            d_hidden(),
+            "{}[Dec(c0,{q0,q1},q0,{s1},{(q0,q1,s0/{s1}),(q0,q0,-s0/{}),(q1,q0,s3/{})})
+             by{(q1,(c1,{q0,q1},q0,{},{(q0,q1,s1/{s2}),(q1,q1,s3/{s4})}))}]{s2}",
+        ),
+    ]
+}
+
+/// So many charts of one state under these nodes.
+fn under(charts: usize, nodes: Vec<Node>) -> Model {
+    Model {
+        edition: Edition::First,
+        charts: vec![small(); charts],
+        slaves: vec![],
+        nodes,
+    }
+}
+
+/// The text of charts of one state, composed in this shape: each digit is one of them.
+fn shaped(shape: &str) -> String {
+    let one = |c: char| match c.to_digit(10) {
+        Some(number) => small_text(number as usize),
+        None if c == '|' => "|{}|".to_string(),
+        None => c.to_string(),
+    };
+    shape.chars().map(one).collect()
+}
+
+/// Round brackets, only around a composition that is a part of one.
+fn parts() -> Vec<Known> {
+    let three = |nodes: Vec<Node>| under(3, [vec![leaf(0), leaf(1), leaf(2)], nodes].concat());
+    vec![
+        has(
+            "composed",
+            under(2, vec![leaf(0), leaf(1), composed(0, 1, &[])]),
+            &shaped("0|1"),
+        ),
+        has(
+            "composed-higher-first",
+            under(2, vec![leaf(0), leaf(1), composed(1, 0, &[])]),
+            &shaped("1|0"),
+        ),
+        has(
+            "composed-feedback",
+            under(2, vec![leaf(0), leaf(1), composed(0, 1, &[62, 1])]),
+            "(c0,{q0},q0,{},{})|{s1,s62}|(c1,{q0},q0,{},{})",
+        ),
+        has(
+            "brackets-left",
+            three(vec![composed(0, 1, &[]), composed(3, 2, &[])]),
+            &shaped("(0|1)|2"),
+        ),
+        has(
+            "brackets-right",
+            three(vec![composed(1, 2, &[]), composed(0, 3, &[])]),
+            &shaped("0|(1|2)"),
+        ),
+        has(
+            "brackets-both",
+            under(
+                4,
+                vec![
+                    leaf(0),
+                    leaf(1),
+                    leaf(2),
+                    leaf(3),
+                    composed(3, 0, &[]),
+                    composed(2, 1, &[]),
+                    composed(4, 5, &[]),
+                ],
+            ),
+            &shaped("(3|0)|(2|1)"),
+        ),
+        has(
+            "brackets-in-brackets",
+            under(
+                4,
+                vec![
+                    leaf(0),
+                    leaf(1),
+                    leaf(2),
+                    leaf(3),
+                    composed(0, 1, &[]),
+                    composed(4, 2, &[]),
+                    composed(5, 3, &[]),
+                ],
+            ),
+            &shaped("((0|1)|2)|3"),
+        ),
+        has(
+            "no-brackets-around-hidden",
+            three(vec![
+                composed(0, 1, &[]),
+                hidden(3, &[], &[]),
+                composed(4, 2, &[]),
+            ]),
+            &shaped("{}[0|1]{}|2"),
+        ),
+        has(
+            "no-brackets-in-hidden",
+            three(vec![
+                composed(0, 1, &[]),
+                composed(3, 2, &[]),
+                hidden(4, &[], &[]),
+            ]),
+            &shaped("{}[(0|1)|2]{}"),
+        ),
+        has(
+            "no-brackets-around-a-master",
+            Model {
+                slaves: vec![slave(0, 0, 0)],
+                ..under(3, vec![leaf(1), leaf(0), leaf(2), composed(1, 2, &[])])
+            },
+            "Dec(c0,{q0},q0,{},{})by{(q0,(c1,{q0},q0,{},{}))}|{}|(c2,{q0},q0,{},{})",
+        ),
+    ]
+}
+
+/// Both sets are written, also where they are empty.
+fn hidings() -> Vec<Known> {
+    let around = |name: &str, filtered: &[u32], hides: &[u32], text: &str| {
+        has(
+            &format!("hidden-{name}"),
+            wrapped(alone(small()), filtered, hides),
+            text,
+        )
+    };
+    vec![
+        around("by-nothing", &[], &[], "{}[(c0,{q0},q0,{},{})]{}"),
+        around("input", &[1], &[], "{s1}[(c0,{q0},q0,{},{})]{}"),
+        around("output", &[], &[2], "{}[(c0,{q0},q0,{},{})]{s2}"),
+        around(
+            "both",
+            &[9, 1],
+            &[63, 2],
+            "{s1,s9}[(c0,{q0},q0,{},{})]{s2,s63}",
+        ),
+        has(
+            "hidden-twice",
+            wrapped(wrapped(alone(small()), &[1], &[]), &[], &[2]),
+            "{}[{s1}[(c0,{q0},q0,{},{})]{}]{s2}",
+        ),
+    ]
+}
+
+/// The order of the nodes in the file plays no part.
+fn orders() -> Vec<Known> {
+    let text = &shaped("(0|1)|(2|3)");
+    let tree = |nodes: Vec<Node>| under(4, nodes);
+    vec![
+        has(
+            "nodes-as-read",
+            tree(vec![
+                leaf(0),
+                leaf(1),
+                composed(0, 1, &[]),
+                leaf(2),
+                leaf(3),
+                composed(3, 4, &[]),
+                composed(2, 5, &[]),
+            ]),
+            text,
+        ),
+        has(
+            "nodes-right-first",
+            tree(vec![
+                leaf(3),
+                leaf(2),
+                composed(1, 0, &[]),
+                leaf(1),
+                leaf(0),
+                composed(4, 3, &[]),
+                composed(5, 2, &[]),
+            ]),
+            text,
+        ),
+    ]
+}
+
+/// As many charts as there may be, under their names.
+fn sixteen() -> Vec<Known> {
+    let row: Vec<Node> = (0..16).map(leaf).collect();
+    let mut nodes = row.clone();
+    // in pairs, so that it is not deep
+    for first in (0..16).step_by(2) {
+        nodes.push(composed(first, first + 1, &[]));
+    }
+    for first in (16..30).step_by(2) {
+        nodes.push(composed(first, first + 1, &[]));
+    }
+    let text = |number: usize| small_text(number);
+    let two = |n: usize| format!("({}|{{}}|{})", text(n), text(n + 1));
+    let four = |n: usize| format!("({}|{{}}|{})", two(n), two(n + 2));
+    let eight = |n: usize| format!("({}|{{}}|{})", four(n), four(n + 4));
+    let whole = format!("{}|{{}}|{}", eight(0), eight(8));
+    let nest = (0..15).rev().fold(small_text(15), |inner, master| {
+        format!("Dec{}by{{(q0,{inner})}}", small_text(master))
+    });
+    vec![
+        has("sixteen-charts", under(16, nodes), &whole),
+        has(
+            "sixteen-masters",
+            Model {
+                slaves: (0..15).map(|chart| slave(chart, 0, 14 - chart)).collect(),
+                nodes: row.into_iter().rev().collect(),
+                ..under(16, vec![])
+            },
+            &nest,
+        ),
+    ]
+}
+
+/// 51: fifteen operators around a chart are written, sixteen are not.
+fn depths() -> Vec<Case> {
+    let deep = |name: &str, model: Model| {
+        refused(
+            &format!("depth-{name}"),
+            refusal::NESTING,
+            model.file(),
+            500,
+        )
+    };
+    let hides =
+        |model: Model, times: usize| (0..times).fold(model, |model, _| wrapped(model, &[], &[]));
+    // a part that is hidden so many times, beside or inside a chart
+    let beside_hidden = |times: usize, left: bool| {
+        let mut nodes = vec![leaf(0)];
+        nodes.extend((0..times as u8).map(|below| hidden(below, &[], &[])));
+        nodes.push(leaf(1));
+        let (part, other) = (times as u8, times as u8 + 1);
+        nodes.push(match left {
+            true => composed(part, other, &[]),
+            false => composed(other, part, &[]),
+        });
+        under(2, nodes)
+    };
+    let inside_hidden = |times: usize| {
+        let mut nodes = vec![leaf(1)];
+        nodes.extend((0..times as u8).map(|below| hidden(below, &[], &[])));
+        nodes.push(leaf(0));
+        Model {
+            slaves: vec![slave(0, 0, times as u8)],
+            ..under(2, nodes)
+        }
+    };
+    let row = |charts: usize| row_of_charts(vec![small(); charts]);
+    vec![
+        accepted("depth-15", hidden_deep(15), 150),
+        accepted("depth-16", hidden_deep(16), 150),
+        deep("17", hidden_deep(17)),
+        deep("18", hidden_deep(18)),
+        deep("64", hidden_deep(64)),
+        accepted("depth-16-compositions", row(16), 500),
+        deep("17-compositions", hides(row(16), 1)),
+        accepted("depth-16-masters", nest_of_small(16), 600),
+        deep("17-masters", hides(nest_of_small(16), 1)),
+        accepted("depth-16-left-part", beside_hidden(14, true), 150),
+        deep("17-left-part", beside_hidden(15, true)),
+        accepted("depth-16-right-part", beside_hidden(14, false), 150),
+        deep("17-right-part", beside_hidden(15, false)),
+        accepted("depth-16-slave", inside_hidden(14), 150),
+        deep("17-slave", inside_hidden(15)),
+        deep("64-composed-last", hides(beside_hidden(12, true), 40)),
+        // a buffer that is too short as well: 51 comes before 45
+        refused(
+            "depth-17-before-45",
+            refusal::NESTING,
+            hidden_deep(17).file(),
+            5,
+        ),
+    ]
+}
+
+/// Charts of one state, each the slave of the one before.
+fn nest_of_small(charts: u8) -> Model {
+    Model {
+        slaves: (0..charts - 1)
+            .map(|master| slave(master, 0, charts - 2 - master))
+            .collect(),
+        nodes: (0..charts).rev().map(leaf).collect(),
+        ..under(usize::from(charts), vec![])
+    }
+}
+
+/// 45: a buffer that is too short for the text.
+fn rooms() -> Vec<Case> {
+    let models = [("smallest", alone(small())), ("D", d()), ("P4", p4())];
+    let mut cases = vec![];
+    for (word, model) in models {
+        let needed = written(&model).len();
+        let short = refusal::REWRITING_ROOM;
+        for (room, length, number) in [
+            ("empty", 0, short),
+            ("one-byte", 1, short),
+            ("one-short", needed - 1, short),
+            ("exact", needed, refusal::SUCCESS),
+            ("one-longer", needed + 1, refusal::SUCCESS),
+        ] {
+            let name = format!("write-room-{word}-{room}");
+            cases.push(Case::new(
+                Command::write(&name, model.file(), length),
+                number,
+            ));
+        }
+    }
+    cases
+}
+
+/// Refused files; a front, which is not written; large files.
+fn files() -> Vec<Case> {
+    let sample = include_bytes!("../../../samples/29-february");
+    let fronted = behind(&[0x77; 29], d().file());
+    let many = || {
+        let moves: Vec<Transition> = (0..64)
+            .map(|place| go(place / 8, place % 8, &[u32::from(place)], &[9], &[63]))
+            .collect();
+        alone(chart(8, &[1, 2], moves))
+    };
+    let mut cases = vec![
+        Case::new(
+            Command::write("write-sample-29-february", sample.to_vec(), 500),
+            refusal::SUCCESS,
+        ),
+        Case::new(
+            Command::write("write-behind-front", fronted.clone(), 200),
+            refusal::SUCCESS,
+        ),
+        refused("behind-front-short", refusal::REWRITING_ROOM, fronted, 100),
+        accepted("64-transitions", many(), 1_500),
+        accepted("nest-of-16", nest(16), 2_000),
+        accepted("master-of-15", master_of(15), 1_500),
+        accepted("fullest-chart", alone(spread(16, 64)), 1_500),
+        accepted("eight-full-charts", full_charts(8), 8_000),
+    ];
+    for (number, file) in one_fault() {
+        cases.push(refused(&format!("file-refused-{number}"), number, file, 6));
+    }
+    cases
+}
+
+/// 46 comes behind 1 to 11 and before 51 and 45.
+fn second_edition() -> Vec<Case> {
+    let second = |model: Model| model.under(Edition::Second).file();
+    let bad = refusal::REWRITING_EDITION;
+    let sample = include_bytes!("../../../samples/29-february-edition-2");
+    let mut cases = vec![
+        refused("edition-2-D", bad, second(d()), 300),
+        refused("edition-2-smallest", bad, second(alone(small())), 40),
+        refused("edition-2-sample", bad, sample.to_vec(), 40),
+        refused("edition-2-before-51", bad, second(hidden_deep(17)), 40),
+        refused("edition-2-before-45", bad, second(d()), 5),
+        refused(
+            "edition-2-before-51-and-45",
+            bad,
+            second(hidden_deep(64)),
+            0,
+        ),
+    ];
+    let faults = one_fault_under(Edition::Second).into_iter();
+    for (number, file) in faults.filter(|&(number, _)| number > refusal::EDITION) {
+        cases.push(refused(
+            &format!("edition-2-behind-{number}"),
+            number,
+            file,
+            6,
+        ));
+    }
+    cases
+}
