@@ -2,7 +2,8 @@
 -- promises are in Calls; what leads to them, in this order: a dead transition is in no permitted choice (Dead); lists
 -- without them (Alive); over a tree, interfaces and outcomes (Outcomes); over records (Cleared); any file whose records
 -- are in order passes, once it is written (Encodes); the records of the cleared file are (New). Then the list as code
--- goes through it (Left), what else clearing keeps (Kept), and a file cleared by computation (Examples).
+-- goes through it (Left), what else clearing keeps (Kept), the rewriting of a cleared file (Limits over records,
+-- Rewrites over bytes), and files cleared by computation (Examples).
 pub mod Clearing
 pub mod Dead
 pub mod Alive
@@ -13,4 +14,6 @@ pub mod New
 pub mod Calls
 pub mod Left
 pub mod Kept
+pub mod Limits
+pub mod Rewrites
 pub mod Examples
