@@ -69,10 +69,6 @@ module _ (f : ℕ → List ℕ) where
         → p + w ≤ length m
     room-record {n} {k} {p} {m} w e r i h = rw e at (room-turn r i h)
 
-    pub put-record : {k p : ℕ} {m o : List ℕ} (w : ℕ) {xs : List ℕ} → length xs ≡ w → xs ≡ f k → Put l at (inTurn k f) m p → o ≡ sets m p xs
-        → Put l at (inTurn (k + 1) f) o (p + w)
-    put-record {k} {p} {m} {o} w {xs} e q h g = put-next h (put-is q (put-one xs w p m o e g))
-
     pub put-done : {n k p : ℕ} {m : List ℕ} → k ≡ n → Put l at (inTurn k f) m p → Put l at (inTurn n f) m p
     put-done {n} {k} {p} {m} e h = rw e at h
 

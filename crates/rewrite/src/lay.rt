@@ -11,7 +11,6 @@ ghost use Rattle.meaning.specs.Rewriting.{callsBy, callsOf, count, madeFor, rew
 ghost use Rattle.rewrite.specs.Known.{Checked, CallsIn, InnerIn, NamesIn, Fits, Takes, Stands, Master, Holder, Begins};
 ghost use Rattle.layout.specs.Put.{Room, Put};
 ghost use Rattle.rewrite.specs.Records.{calledWith, idleWith, partBytes, masterBytes, heldBytes, nodesBytes};
-use checks::limits;
 use layout::body::Shape;
 use layout::limits::CHARTS;
 use layout::limits::NODES;
@@ -38,8 +37,7 @@ fn heads(n: Shape, body: &[u8], inner: &[u64; CHARTS], out: &mut [u8], at: usize
             feedback: h.feedback,
             extra: h.extra,
         };
-        layout::record::write_head(out, p, new);
-        p += limits::HEAD_BYTES;
+        p = laying::put_head(out, p, new);
         c += 1;
     }
     p
@@ -119,8 +117,7 @@ fn own(
     while k < count {
         let t = layout::body::transition_at(n, body, start + k);
         let new = called(t, inner, calls_by(n, body, calls, c, t));
-        layout::record::write_transition(out, p, new);
-        p += limits::TRANSITION_BYTES;
+        p = laying::put_transition(out, p, new);
         k += 1;
     }
     p
@@ -141,8 +138,7 @@ fn idles(inner: u64, count: u8, out: &mut [u8], at: usize) -> usize
             barred: inner,
             action: 0,
         };
-        layout::record::write_transition(out, p, new);
-        p += limits::TRANSITION_BYTES;
+        p = laying::put_transition(out, p, new);
         s += 1;
     }
     p

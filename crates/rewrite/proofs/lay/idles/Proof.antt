@@ -1,5 +1,5 @@
--- `lay::idles` meets its contract. The loop's invariant: the idle transitions of the states passed are written. Assumes nothing.
-use mathlib.Core.Path.{refl}
+-- `lay::idles` meets its contract. The loop's invariant: the idle transitions of the states passed are written. Assumes
+-- nothing.
 use mathlib.Core.List.{List}
 use Prim.Native.Nat.{ℕ, _+_, _-_, _≤_}
 use native.Mathlib.Omega.{arith}
@@ -10,7 +10,7 @@ use Rattle.layout.specs.Record.Laws.{length-transition}
 use Rattle.meaning.specs.Rewriting.{inTurn}
 use Rattle.layout.specs.Put.{Put}
 use Rattle.layout.specs.Put.Laws.{put-length}
-use Rattle.laying.specs.Turn.{put-start, put-record, put-done, room-record}
+use Rattle.laying.specs.Turn.{put-start, put-next, put-done, room-record}
 use Rattle.rewrite.specs.Records.{idleWith}
 use Rattle.rewrite.proofs.lay.idles.Statement.{statement}
 use Rattle.rewrite.proofs.lay.idles.Tie as tie
@@ -24,24 +24,16 @@ Inv-loop inner count out₀ at p₀ s₀ out p s = (s ≤ count) × Put out₀ a
 abbrev μ-loop : tie.MeasureT-loop
 μ-loop inner count out₀ at p₀ s₀ out p s = count - s
 
-loop-holds : tie.Need-loop-holds Inv-loop μ-loop
-loop-holds c = (omega arith, put-start _)
-
 room : (c : tie.In-loop Inv-loop μ-loop) → c .before .loop .p + 28 ≤ length (c .before .loop .out)
-room c = room-record (written (c .before .before .before .args .inner)) 28 (length-transition _) (c .before .before .before .pre)
-    (c .loop-test .taken) (c .before .loop .inv .1)
+room c =
+    let s = c .before .before .before in
+    room-record (written (s .args .inner)) 28 (length-transition _) (s .pre) (c .loop-test .taken) (c .before .loop .inv .1)
 
 loop-again : tie.Need-loop-again Inv-loop μ-loop
 unfolding idleWith
 loop-again c =
-    let i = c .before .before .before .before .before .loop in (
-      omega arith,
-      put-record (written (c .before .before .before .before .before .before .before .args .inner)) 28 (length-transition _) refl
-          (i .inv .1) (c .before .before .write-transition .ensures),
-    )
-
-returns : tie.Need-returns Inv-loop μ-loop
-returns c = put-done _ (omega arith) (c .before .loop .inv .1)
+    let w = c .before .before in
+    (omega arith, put-next (written _) (w .before .before .before .loop .inv .1) (w .put-transition .ensures))
 
 pub idles-spec : {M : Type 1} → statement M
 idles-spec =
@@ -49,12 +41,10 @@ idles-spec =
     (tie.spec
     Inv-loop
     μ-loop
-    loop-holds
+    (λ c. (omega arith, put-start _))
     (λ c κs. room (c .before))
-    (λ c. let r = room (c .before .before .before .before) in let e = put-length (c .before .before .before .before .before .loop .inv .1) in
-    omega arith)
     (λ c. search needs)
     (λ c. omega arith)
     loop-again
     (λ c. put-length (c .before .loop .inv .1))
-    returns)
+    (λ c. put-done _ (omega arith) (c .before .loop .inv .1)))

@@ -1,5 +1,6 @@
--- `lay::own` meets its contract. The loop's invariant: the own transitions passed are written, with their call signals. Assumes nothing.
-use mathlib.Core.Path.{_≡_, ap, ap₂, _∙_}
+-- `lay::own` meets its contract. The loop's invariant: the own transitions passed are written, with their call signals.
+-- Assumes nothing.
+use mathlib.Core.Path.{ap, ap₂, _∙_}
 use mathlib.Core.List.{List}
 use Prim.Native.Nat.{ℕ, _+_, _-_, _≤_}
 use native.Mathlib.Omega.{arith}
@@ -15,7 +16,7 @@ use Rattle.meaning.specs.File.{fileAt}
 use Rattle.meaning.specs.Rewriting.{callsBy, inTurn}
 use Rattle.layout.specs.Put.{Put}
 use Rattle.layout.specs.Put.Laws.{put-length}
-use Rattle.laying.specs.Turn.{put-start, put-record, put-done, room-record}
+use Rattle.laying.specs.Turn.{put-is, put-start, put-next, put-done, room-record}
 use Rattle.rewrite.specs.Records.{calledWith}
 use Rattle.rewrite.proofs.lay.own.Statement.{statement}
 use Rattle.rewrite.proofs.lay.own.Tie as tie
@@ -27,36 +28,32 @@ abbrev written : Shape → List ℕ → Set → ℕ → ℕ → ℕ → List ℕ
 written n b inner c start k = transitionBytes (new n b inner c (start + k))
 
 abbrev Inv-loop : tie.InvT-loop
-Inv-loop n body calls inner c start count out₀ at p₀ k₀ out p k = (k ≤ count) × Put out₀ at (inTurn k (written n body inner c start)) out p
+Inv-loop n body calls inner c start count out₀ at p₀ k₀ out p k =
+    (k ≤ count) × Put out₀ at (inTurn k (written n body inner c start)) out p
 
 abbrev μ-loop : tie.MeasureT-loop
 μ-loop n body calls inner c start count out₀ at p₀ k₀ out p k = count - k
 
-loop-holds : tie.Need-loop-holds Inv-loop μ-loop
-loop-holds c = (omega arith, put-start _)
-
 room : (c : tie.In-loop Inv-loop μ-loop) → c .before .loop .p + 28 ≤ length (c .before .loop .out)
 room c =
-    let a = c .before .before .before .before .args in
-    room-record (written (a .n) (a .body .now) (a .inner) (a .c) (a .start)) 28 (length-transition _) (c .before .before .before .before .pre .3)
+    let s = c .before .before .before .before in
+    let a = s .args in
+    room-record (written (a .n) (a .body .now) (a .inner) (a .c) (a .start)) 28 (length-transition _) (s .pre .3)
     (c .loop-test .taken) (c .before .loop .inv .1)
 
 loop-again : tie.Need-loop-again Inv-loop μ-loop
 loop-again c =
-    let i = c .before .before .before .before .before .before .before .before .loop in
-    let a = c .before .before .before .before .before .before .before .before .before .before .before .args in
-    let t = c .before .before .before .before .before .before .transition-at .ensures in
-    let e : c .before .before .before .before .called .result ≡ new (a .n) (a .body .now) (a .inner) (a .c) (a .start + i .k) =
-    c .before .before .before .before .called .ensures
-    ∙ ap₂ (calledWith (a .inner)) (c .before .before .before .before .before .calls-by .ensures
-    ∙ ap (callsBy (fileAt (a .n) (a .body .now)) (a .c)) t) t in (
+    let w = c .before .before in
+    let g = w .before .before in
+    let t = g .before .before in
+    let l = t .before .before in
+    let a = l .before .before .before .args in
+    let e = g .called .ensures
+    ∙ ap₂ (calledWith (a .inner)) (g .before .calls-by .ensures
+    ∙ ap (callsBy (fileAt (a .n) (a .body .now)) (a .c)) (t .transition-at .ensures)) (t .transition-at .ensures) in (
       omega arith,
-      put-record (written (a .n) (a .body .now) (a .inner) (a .c) (a .start)) 28 (length-transition _) (ap transitionBytes e) (i .inv .1)
-          (c .before .before .write-transition .ensures),
+      put-next _ (l .loop .inv .1) (put-is (ap transitionBytes e) (w .put-transition .ensures)),
     )
-
-returns : tie.Need-returns Inv-loop μ-loop
-returns c = put-done _ (omega arith) (c .before .loop .inv .1)
 
 pub own-spec : {M : Type 1} → statement M
 own-spec =
@@ -64,17 +61,14 @@ own-spec =
     (tie.spec
     Inv-loop
     μ-loop
-    loop-holds
-    (λ c. let h = c .before .before .before .before .pre .0 .sized .transitions in let s = c .before .before .before .before .pre .2 in omega arith)
-    (λ c κs. (c .before .before .before .before .pre .0 .sized .holds, (let s = c .before .before .before .before .pre .2 in omega arith)))
+    (λ c. (omega arith, put-start _))
+    (λ c. let s = c .before .before .before .before .pre in let h = s .0 .sized .transitions in let l = s .2 in omega arith)
+    (λ c κs. let s = c .before .before .before .before .pre in (s .0 .sized .holds, (let l = s .2 in omega arith)))
     (λ c κs. (c .before .before .before .before .before .pre .0, c .before .before .before .before .before .pre .1))
     (λ c κs. search needs)
     (λ c κs. room (c .before .before .before .before))
-    (λ c. let r = room (c .before .before .before .before .before .before .before) in
-    let e = put-length (c .before .before .before .before .before .before .before .before .loop .inv .1) in
-    omega (arith, c .before .before .before .before .before .before .before .before .before .before .before .good .1 .1 .1 .1 .1 .1 .1 .0 .0))
     (λ c. omega arith)
     (λ c. omega arith)
     loop-again
     (λ c. put-length (c .before .loop .inv .1))
-    returns)
+    (λ c. put-done _ (omega arith) (c .before .loop .inv .1)))
