@@ -4,7 +4,7 @@ ghost use lib.ListN.{length};
 ghost use Rattle.meaning.specs.File.{fileAt};
 ghost use Rattle.meaning.specs.Check.{firstOf};
 ghost use Rattle.meaning.specs.Rewriting.{rewrite, shapeIn};
-ghost use Rattle.rewrite.specs.Known.{Checked, InnerIn, Upward};
+ghost use Rattle.allocation.specs.Known.{Checked, InnerIn, Upward};
 ghost use Rattle.engine.specs.Contracts.{RewritingSays};
 ghost use Rattle.engine.specs.Rewriting.{limitTests, BodyRewrites};
 use checks::limits;
@@ -31,10 +31,10 @@ fn limit_refusal(n: Shape, body: &[u8], inner: &[u64; CHARTS], m: Shape) -> u8
     requires { ⌜ Checked n (now body) × InnerIn (fileAt n (now body)) (now inner) × (m ≡ shapeIn (rewrite (fileAt n (now body)))) ⌝ }
     ensures { λ r. ⌜ r ≡ firstOf (limitTests (fileAt n (now (body .entry)))) ⌝ }
 {
-    if rewrite::room::over_from(n, body, inner, limits::MOST_FROM_STATE as usize) {
+    if growth::over_from(n, body, inner, limits::MOST_FROM_STATE as usize) {
         return limits::MANY_FROM_STATE;
     }
-    if rewrite::room::over_in_chart(n, body, inner, limits::MOST_IN_CHART as usize) {
+    if growth::over_in_chart(n, body, inner, limits::MOST_IN_CHART as usize) {
         return limits::MANY_IN_CHART;
     }
     if m.nodes > limits::MOST_NODES as usize {
@@ -48,13 +48,13 @@ fn of_body(n: Shape, body: &[u8], out: &mut [u8]) -> Rewritten
     requires { ⌜ Checked n (now body) × Upward (fileAt n (now body)) ⌝ }
     ensures { λ r. ⌜ BodyRewrites (fileAt n (now (body .entry))) (now (out .entry)) r (now (out .exit)) ⌝ }
 {
-    let calls = rewrite::calls::given(n.slaves, rewrite::calls::used(n, body));
+    let calls = allocation::given(n.slaves, allocation::used(n, body));
     if !calls.enough {
         return refused(limits::NO_FREE_SIGNAL);
     }
     let sets = calls.sets;
-    let inner = rewrite::calls::inner(n, body, &sets);
-    let m = rewrite::room::shape(n, body, &inner);
+    let inner = allocation::inner(n, body, &sets);
+    let m = growth::shape(n, body, &inner);
     let r = limit_refusal(n, body, &inner, m);
     if r != limits::ACCEPTED {
         return refused(r);
@@ -63,7 +63,7 @@ fn of_body(n: Shape, body: &[u8], out: &mut [u8]) -> Rewritten
     if out.len() < size {
         return refused(limits::SHORT_OUT);
     }
-    rewrite::lay::lay(n, body, &sets, &inner, m, limits::FIRST_EDITION, out);
+    assembly::lay(n, body, &sets, &inner, m, limits::FIRST_EDITION, out);
     Rewritten {
         refusal: limits::ACCEPTED,
         length: size,

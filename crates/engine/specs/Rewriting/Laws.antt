@@ -24,7 +24,7 @@ use Rattle.meaning.specs.Calls.{laidOver}
 use Rattle.meaning.specs.Rewriting.{free, start, rewrite, noFree?, transitionsIn, rewriteTests, shapeIn, bodyBytes, encode, rewriteBytes, stayTest, rewriteRefusal, rewriteLength, rewriteOut}
 use Rattle.meaning.specs.Rewriting.Laws.{list-most}
 use Rattle.agreement.specs.Encoded.{length-body}
-use Rattle.rewrite.specs.Known.{Fits}
+use Rattle.assembly.specs.Known.{Fits}
 use Rattle.engine.specs.declared.rewriting.Rewritten.{Rewritten}
 use Rattle.engine.specs.Rewriting.{limitTests, rewriteAfter, lengthAfter, outAfter}
 

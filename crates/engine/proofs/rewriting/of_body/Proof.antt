@@ -10,10 +10,11 @@ use lib.ListN.{length}
 use Rattle.meaning.specs.File.{File, fileAt}
 use Rattle.meaning.specs.Check.{firstOf}
 use Rattle.meaning.specs.Rewriting.{used, free, call, rewrite, encode}
-use Rattle.rewrite.specs.Known.{Calling, CallsIn, Fits}
 use Rattle.laying.specs.Trailer.{Small}
-use Rattle.rewrite.specs.Records.Laws.{shape-small}
-use Rattle.rewrite.specs.declared.calls.Calls.{Calls}
+use Rattle.allocation.specs.Known.{Calling, CallsIn}
+use Rattle.allocation.specs.declared.Calls.{Calls}
+use Rattle.assembly.specs.Known.{Fits}
+use Rattle.assembly.specs.Records.Laws.{shape-small}
 use Rattle.engine.specs.Rewriting.{limitTests}
 use Rattle.engine.specs.Rewriting.Laws.{after-calls, after-limits, after-room, after-all, fits, size-is, refuses, gives}
 use Rattle.engine.proofs.rewriting.of_body.Statement.{statement}

@@ -21,7 +21,7 @@ use Rattle.agreement.specs.Passed.{ready}
 use Rattle.agreement.specs.Step.{nearest-is}
 use Rattle.opening.specs.Open.{Stands}
 use Rattle.checks.specs.Known.{Sized, Summed}
-use Rattle.rewrite.specs.Known.{Checked, Upward}
+use Rattle.allocation.specs.Known.{Checked, Upward}
 use Rattle.stepping.specs.Step.Laws.{checked, file-is}
 use Rattle.engine.specs.Contracts.{RewritingSays}
 use Rattle.engine.specs.Rewriting.{BodyRewrites}

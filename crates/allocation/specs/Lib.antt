@@ -1,0 +1,2 @@
+-- What the contracts of allocation cite beyond the crate meaning.
+pub mod Known

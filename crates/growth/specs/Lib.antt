@@ -1,0 +1,2 @@
+-- What the contracts of growth cite beyond the crates below: how many idle transitions there are (Counts).
+pub mod Counts
