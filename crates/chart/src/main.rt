@@ -1,4 +1,4 @@
-// The command line tool. crates/typed reads what is typed, crates/engine answers, and the answer is printed here, in lines of the day program's form.
+// The command line tool. crates/typed reads what is typed, the public calls answer, and the answer is printed here, in lines of the day program's form.
 // Answers and refusals go to standard output; what is wrong with a command or a file's name goes to standard error.
 mod ask;
 mod tell;

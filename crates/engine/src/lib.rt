@@ -1,9 +1,11 @@
-// The public calls of the chart engine over files in bytes. None has a `requires`: what is wrong is refused by number.
-pub mod clear;
-pub mod file;
-pub mod interface;
-pub mod lacking;
-pub mod plainness;
-pub mod rewriting;
+// The public calls on a file in bytes. Step and run are here; the others are passed on from the crates that prove them, so that a caller names one crate.
+// None has a `requires`: what is wrong is refused by number.
 pub mod run;
 pub mod step;
+
+pub use queries::file;
+pub use queries::interface;
+pub use queries::lacking;
+pub use queries::plainness;
+pub use transforms::clear;
+pub use transforms::rewriting;

@@ -13,7 +13,7 @@ use Rattle.meaning.specs.Count.{one, anyUpTo}
 use Rattle.meaning.specs.Meaning.{Set, ∅, same}
 use Rattle.meaning.specs.Check.{differ, notBelow}
 use Rattle.meaning.specs.Calls.{made, stepOf, refusalIn, outputIn, markIn, nextIn}
-use Rattle.engine.specs.States.{statesOf}
+use Rattle.queries.specs.States.{statesOf}
 use Rattle.posting.specs.declared.Case.{Case}
 use Rattle.posting.specs.declared.Entry.{Entry}
 use Rattle.posting.specs.declared.Day.{Day}

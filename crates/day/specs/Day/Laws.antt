@@ -24,7 +24,7 @@ use Rattle.meaning.specs.Calls.Laws.{length-made, getD-made}
 use Rattle.meaning.specs.Laws.Runs.{Leads, Valid, rows-all}
 use Rattle.opening.specs.Open.{Stands}
 use Rattle.opening.specs.declared.Opening.{Opening}
-use Rattle.engine.specs.Contracts.Laws.{both}
+use Rattle.queries.specs.Contracts.Laws.{both}
 use Rattle.stepping.specs.Step.{configTestsIn}
 use Rattle.stepping.specs.Step.Laws.{checked}
 use Rattle.running.specs.Run.Laws.{leads, bytes-passed, after-rows}

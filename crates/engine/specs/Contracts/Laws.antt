@@ -1,61 +1,17 @@
--- Any two results that a public contract allows are equal, and so are the bytes that it leaves in buffers.
+-- Any two results that one of these contracts allows are equal, and so are the bytes that it leaves in buffers.
 use mathlib.Core.Path.{_≡_, sym, _∙_}
 use mathlib.Core.List.{List}
 use Prim.Native.Nat.{ℕ}
 use Rattle.meaning.specs.Meaning.{Set}
-use Rattle.engine.specs.Contracts.{CheckSays, FirstSays, StatesSays, InterfaceSays, PlainSays, StepSays, RunSays, RewritingSays}
-use Rattle.engine.specs.Contracts.{ClearSays, LackingSays}
-use Rattle.lacks.specs.declared.Lacking.{Lacking}
-use Rattle.engine.specs.declared.clear.Cleared.{Cleared}
-use Rattle.engine.specs.declared.file.StateCounts.{StateCounts}
-use Rattle.engine.specs.declared.interface.Faces.{Faces}
-use Rattle.engine.specs.declared.plainness.Plainness.{Plainness}
-use Rattle.engine.specs.declared.rewriting.Rewritten.{Rewritten}
-use Rattle.running.specs.declared.Ran.{Ran}
 use Rattle.stepping.specs.declared.step.Stepped.{Stepped}
+use Rattle.running.specs.declared.Ran.{Ran}
+use Rattle.engine.specs.Contracts.{StepSays, RunSays}
 
--- what is equal to the same is equal; so are both of a pair
-module _ {A : Type 0} where
-  pub one : {d : A} (x y : A) → x ≡ d → y ≡ d → x ≡ y
-  one x y p q = p ∙ sym q
+module _ (f config : List ℕ) where
+  pub step-determined : (i : Set) (b : List ℕ) (r r′ : Stepped) (c c′ : List ℕ) → StepSays f config i b r c
+      → StepSays f config i b r′ c′ → (r ≡ r′) × (c ≡ c′)
+  step-determined i b r r′ c c′ p q = (p .0 ∙ sym (q .0), p .1 ∙ sym (q .1))
 
-module _ {A B : Type 0} where
-  pub both : {d : A} {e : B} (x y : A) (u v : B) → (x ≡ d) × (u ≡ e) → (y ≡ d) × (v ≡ e) → (x ≡ y) × (u ≡ v)
-  both x y u v p q = (one x y (p .0) (q .0), one u v (p .1) (q .1))
-
-module _ (f : List ℕ) where
-  pub check-determined : (r r′ : ℕ) → CheckSays f r → CheckSays f r′ → r ≡ r′
-  check-determined = one
-
-  pub states-determined : (r r′ : StateCounts) → StatesSays f r → StatesSays f r′ → r ≡ r′
-  states-determined = one
-
-  pub interface-determined : (r r′ : Faces) → InterfaceSays f r → InterfaceSays f r′ → r ≡ r′
-  interface-determined = one
-
-  pub plain-determined : (r r′ : Plainness) → PlainSays f r → PlainSays f r′ → r ≡ r′
-  plain-determined = one
-
-  pub first-determined : (b : List ℕ) (r r′ : ℕ) (c c′ : List ℕ) → FirstSays f b r c → FirstSays f b r′ c′
-      → (r ≡ r′) × (c ≡ c′)
-  first-determined b = both
-
-  pub step-determined : (config : List ℕ) (i : Set) (b : List ℕ) (r r′ : Stepped) (c c′ : List ℕ)
-      → StepSays f config i b r c → StepSays f config i b r′ c′ → (r ≡ r′) × (c ≡ c′)
-  step-determined config i b = both
-
-  pub run-determined : (config : List ℕ) (x : Set) (inputs : List Set) (b : List ℕ) (r r′ : Ran) (c c′ : List ℕ)
+  pub run-determined : (x : Set) (inputs : List Set) (b : List ℕ) (r r′ : Ran) (c c′ : List ℕ)
       → RunSays f config x inputs b r c → RunSays f config x inputs b r′ c′ → (r ≡ r′) × (c ≡ c′)
-  run-determined config x inputs b = both
-
-  pub rewriting-determined : (b : List ℕ) (r r′ : Rewritten) (c c′ : List ℕ) → RewritingSays f b r c
-      → RewritingSays f b r′ c′ → (r ≡ r′) × (c ≡ c′)
-  rewriting-determined b = both
-
-  pub clear-determined : (b : List ℕ) (r r′ : Cleared) (c c′ : List ℕ) → ClearSays f b r c → ClearSays f b r′ c′
-      → (r ≡ r′) × (c ≡ c′)
-  clear-determined b = both
-
-  pub lacking-determined : (chart place : ℕ) (o : Set) (r r′ : Lacking) → LackingSays f chart place o r
-      → LackingSays f chart place o r′ → r ≡ r′
-  lacking-determined chart place o = one
+  run-determined x inputs b r r′ c c′ p q = (p .0 ∙ sym (q .0), p .1 ∙ sym (q .1))

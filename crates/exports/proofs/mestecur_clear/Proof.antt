@@ -1,7 +1,7 @@
 -- `exports::mestecur_clear` hands on what `clear` answers.
 use mathlib.Core.Path.{ap}
 use borrow.Author.Needs.{needs}
-use Rattle.engine.specs.declared.clear.Cleared.{Cleared}
+use Rattle.transforms.specs.declared.clear.Cleared.{Cleared}
 use Rattle.exports.proofs.mestecur_clear.Statement.{statement}
 use Rattle.exports.proofs.mestecur_clear.Tie as tie
 

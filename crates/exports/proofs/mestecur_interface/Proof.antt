@@ -1,7 +1,7 @@
 -- `exports::mestecur_interface` hands on what `interface` answers. Assumes nothing.
 use mathlib.Core.Path.{ap}
 use borrow.Author.Needs.{needs}
-use Rattle.engine.specs.declared.interface.Faces.{Faces}
+use Rattle.queries.specs.declared.interface.Faces.{Faces}
 use Rattle.exports.proofs.mestecur_interface.Statement.{statement}
 use Rattle.exports.proofs.mestecur_interface.Tie as tie
 

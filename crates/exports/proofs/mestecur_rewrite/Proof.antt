@@ -1,7 +1,7 @@
 -- `exports::mestecur_rewrite` hands on what `rewriting` answers. Assumes nothing.
 use mathlib.Core.Path.{ap}
 use borrow.Author.Needs.{needs}
-use Rattle.engine.specs.declared.rewriting.Rewritten.{Rewritten}
+use Rattle.transforms.specs.declared.rewriting.Rewritten.{Rewritten}
 use Rattle.exports.proofs.mestecur_rewrite.Statement.{statement}
 use Rattle.exports.proofs.mestecur_rewrite.Tie as tie
 

@@ -3,7 +3,7 @@ use mathlib.Core.Path.{_≡_}
 use mathlib.Core.List.{List}
 use Prim.Native.Nat.{ℕ}
 use Rattle.meaning.specs.Meaning.{Set}
-use Rattle.engine.specs.Contracts.Laws.{one, both}
+use Rattle.queries.specs.Contracts.Laws.{one, both}
 use Rattle.exports.specs.Contracts.{CheckReturns, FirstReturns, InterfaceReturns, PlainReturns, StepReturns}
 use Rattle.exports.specs.Contracts.{RunReturns, RewriteReturns, ClearReturns, LackingReturns, ReadReturns, WriteReturns}
 

@@ -15,8 +15,8 @@ use Rattle.layout.specs.Le.{bytes}
 use Rattle.layout.specs.Le.Laws.{length-bytes}
 use Rattle.meaning.specs.Count.{one, anyUpTo}
 use Rattle.stepping.specs.declared.step.Stepped.{Stepped}
-use Rattle.engine.specs.declared.file.StateCounts.{StateCounts}
-use Rattle.engine.specs.States.{statesOf}
+use Rattle.queries.specs.declared.file.StateCounts.{StateCounts}
+use Rattle.queries.specs.States.{statesOf}
 use Rattle.stepping.specs.Answer.{steppedOf}
 use Rattle.meaning.specs.Numbers.{mostCharts, wrongLength, badState}
 use Rattle.meaning.specs.Meaning.{Set, same}

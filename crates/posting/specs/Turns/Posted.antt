@@ -24,7 +24,7 @@ use Rattle.meaning.specs.Calls.{stepIn, stepOf, nextIn}
 use Rattle.meaning.specs.Calls.{rowOf, afterStep, carriedAfter, refusalIn}
 use Rattle.meaning.specs.Calls.Laws.{length-made, getD-made, call-allowed, step-open, behind-is}
 use Rattle.meaning.specs.Laws.Runs.{file-leads, valid-after}
-use Rattle.engine.specs.States.{noStates, chartStates, statesOf}
+use Rattle.queries.specs.States.{noStates, chartStates, statesOf}
 use Rattle.posting.specs.declared.Case.{Case}
 use Rattle.posting.specs.declared.Entry.{Entry}
 use Rattle.posting.specs.declared.Day.{Day}

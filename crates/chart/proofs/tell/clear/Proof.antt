@@ -10,8 +10,8 @@ use lib.Seq.{length-take-le}
 use Rattle.meaning.specs.Meaning.{same}
 use Rattle.meaning.specs.Calls.{laidOver}
 use Rattle.clearing.specs.Clearing.{clearBytes, clearRefusal, clearLength, clearOut}
-use Rattle.engine.specs.declared.clear.Cleared.{Cleared}
-use Rattle.engine.specs.Contracts.{ClearSays}
+use Rattle.transforms.specs.declared.clear.Cleared.{Cleared}
+use Rattle.transforms.specs.Contracts.{ClearSays}
 use Rattle.chart.proofs.tell.clear.Statement.{statement}
 use Rattle.chart.proofs.tell.clear.Tie as tie
 

@@ -10,7 +10,7 @@ use lib.Seq.{length-take-le}
 use Rattle.meaning.specs.Meaning.{same}
 use Rattle.meaning.specs.Calls.{laidOver}
 use Rattle.meaning.specs.Rewriting.{rewriteBytes, rewriteRefusal, rewriteLength, rewriteOut}
-use Rattle.engine.specs.declared.rewriting.Rewritten.{Rewritten}
+use Rattle.transforms.specs.declared.rewriting.Rewritten.{Rewritten}
 use Rattle.chart.proofs.tell.rewrite.Statement.{statement}
 use Rattle.chart.proofs.tell.rewrite.Tie as tie
 
