@@ -6,9 +6,9 @@ ghost use Rattle.meaning.specs.Count.{one};
 ghost use Rattle.exports.specs.Contracts.{CheckReturns, FirstReturns, InterfaceReturns, PlainReturns, StepReturns};
 ghost use Rattle.exports.specs.Contracts.{RunReturns, RewriteReturns, ClearReturns, LackingReturns, ReadReturns};
 ghost use Rattle.exports.specs.Contracts.{WriteReturns};
-ghost use Rattle.posting.specs.Posting.{PostSays};
-use posting::Case;
-use posting::Entry;
+ghost use Rattle.desk.specs.Posting.{PostSays};
+use desk::Case;
+use desk::Entry;
 
 #[no_mangle]
 pub extern "C" fn mestecur_check(file: &[u8]) -> u8

@@ -3,9 +3,9 @@
 ghost use mathlib.Core.Path.{_≡_};
 ghost use Prim.Native.Nat.{_+_, _*_, _≤_, _<_};
 ghost use lib.ListN.{length};
-use posting::Case;
-use posting::Day;
-use posting::Seen;
+use desk::Case;
+use desk::Day;
+use desk::Seen;
 
 // The longest book, and a record more, which tells that a file is longer.
 pub const MOST: usize = 2112;
@@ -86,12 +86,12 @@ fn head(n: usize) -> [u8; HEAD]
 }
 
 // The sixteen bytes from a place on.
-fn config_at(book: &[u8], at: usize) -> [u8; posting::WIDTH]
+fn config_at(book: &[u8], at: usize) -> [u8; desk::WIDTH]
     requires { ⌜ at + 16 ≤ length (now book) ⌝ }
 {
-    let mut config = [0u8; posting::WIDTH];
+    let mut config = [0u8; desk::WIDTH];
     let mut j: usize = 0;
-    while j < posting::WIDTH {
+    while j < desk::WIDTH {
         config[j] = book[at + j];
         j += 1;
     }
@@ -120,7 +120,7 @@ fn record_of(c: Case) -> [u8; RECORD] {
     r[LONG] = c.length;
     let config = c.config;
     let mut j: usize = 0;
-    while j < posting::WIDTH {
+    while j < desk::WIDTH {
         r[CONFIG + j] = config[j];
         j += 1;
     }
@@ -155,10 +155,10 @@ pub fn fill(book: &mut [u8], c: Case, n: usize)
 pub fn looked(file: &[u8], book: &[u8], n: usize) -> Seen
     requires { ⌜ (n ≤ 64) × (length (now book) ≡ 2112) ⌝ }
 {
-    let mut s = posting::unseen(file);
+    let mut s = consult::unseen(file);
     let mut k: usize = 0;
     while k < n {
-        s = posting::look_at(s, case_at(book, k));
+        s = deciding::look_at(s, case_at(book, k));
         k += 1;
     }
     s
@@ -168,13 +168,13 @@ pub fn looked(file: &[u8], book: &[u8], n: usize) -> Seen
 fn moved(file: &[u8], c: Case, d: Day, k: usize, charts: usize, rows: &mut [u8]) -> Case
     requires { ⌜ (k < 64) × (charts ≤ 16) × (length (now rows) ≡ 1920) ⌝ }
 {
-    if c.length as usize > posting::WIDTH {
+    if c.length as usize > desk::WIDTH {
         return c;
     }
-    if c.last >= posting::LAST_ROW {
+    if c.last >= desk::LAST_ROW {
         return c;
     }
-    posting::post_one(file, c, d, k, charts, rows)
+    advancing::post_one(file, c, d, k, charts, rows)
 }
 
 // The first n records posted, with their rows.

@@ -2,8 +2,8 @@
 ghost use mathlib.Core.Path.{_≡_};
 ghost use Prim.Native.Nat.{_+_, _*_, _≤_, _<_};
 ghost use lib.ListN.{length};
-use posting::Day;
-use posting::Entry;
+use desk::Day;
+use desk::Entry;
 use typed::Read;
 
 // The entries joined; the day's number, 0 if it has none; or that they are wrong, and which line is.
@@ -99,7 +99,7 @@ fn entries_of(is_right: bool, line: u64, number: u64, day: Day) -> Entered {
 
 // All entries, for a book of n cases. Each line ends in byte 10.
 pub fn entries(text: &[u8], n: usize) -> Entered {
-    let mut d = posting::no_day();
+    let mut d = deciding::no_day();
     let mut number: u64 = 0;
     let mut line: u64 = 0;
     let mut at: usize = 0;
@@ -118,7 +118,7 @@ pub fn entries(text: &[u8], n: usize) -> Entered {
             }
             number = r.number;
         } else {
-            d = posting::take_one(
+            d = deciding::take_one(
                 d,
                 Entry {
                     number: r.number,

@@ -8,7 +8,7 @@ mod tell;
 ghost use mathlib.Core.Path.{_≡_};
 ghost use Prim.Native.Nat.{_≤_};
 ghost use lib.ListN.{length};
-use posting::Day;
+use desk::Day;
 use typed::Read;
 
 // Where the words of a command stand.
@@ -39,10 +39,10 @@ fn row_room() -> [u8; 1920]
 }
 
 // The new record of a case at its first configuration.
-fn first_case(file: &[u8], charts: u8) -> posting::Case {
-    let mut config = [0u8; posting::WIDTH];
+fn first_case(file: &[u8], charts: u8) -> desk::Case {
+    let mut config = [0u8; desk::WIDTH];
     engine::file::first(file, &mut config);
-    posting::Case {
+    desk::Case {
         carried: 0,
         last: 0,
         length: charts,
@@ -107,13 +107,13 @@ fn post_day(file: &[u8], book: &mut [u8], n: usize, d: Day, number: u64)
 {
     let s = book::looked(file, book, n);
     let mut rows = row_room();
-    let p = posting::decide(s, d.outside, n, rows.len());
+    let p = deciding::decide(s, d.outside, n, rows.len());
     if p.refusal != 0 {
         tell::refused(b"day", p.refusal);
         return;
     }
     let charts = p.charts;
-    if charts > posting::WIDTH {
+    if charts > desk::WIDTH {
         return;
     }
     book::post_cases(file, book, d, n, charts, &mut rows);

@@ -88,14 +88,14 @@ fn wide(x: u8) -> u64 {
 }
 
 // A case: its number, the number of its last row, its configuration, what it carries.
-fn show_case(k: usize, c: posting::Case) {
+fn show_case(k: usize, c: desk::Case) {
     io::print_decimal(STDOUT_FILENO, k as u64);
     say(b" ");
     io::print_decimal(STDOUT_FILENO, c.last as u64);
     let config = c.config;
     let n = c.length as usize;
     let mut j: usize = 0;
-    while j < posting::WIDTH {
+    while j < desk::WIDTH {
         if j < n {
             if j > 0 {
                 say(b".");

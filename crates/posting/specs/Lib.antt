@@ -1,3 +1,2 @@
--- What a day's posting is (Posting), and what its functions compute one after another (Turns). Read the first; no public contract uses the second.
-pub mod Posting
-pub mod Turns
+-- Where the posting stands while the cases are posted, one after another.
+pub mod Underway

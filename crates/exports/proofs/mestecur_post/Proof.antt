@@ -46,11 +46,11 @@ use denote.Triple.Entry.{Vals, onEntry}
 use denote.Triple.Spec.{Meets, tripleOf}
 use denote.Triple.Table.{entered, cited}
 use denote.Triple.Walked.{says, Stays, stay-none-slice, gave-slice, walkOf, goes-none-slice, goes-gave-slice, Walks, ends-at, walked, walk-meets}
-use Rattle.posting.specs.declared.Case.{Case}
-use Rattle.posting.specs.declared.Entry.{Entry}
-use Rattle.posting.specs.Posting.{PostSays}
-use Rattle.posting.proofs.Case as K
-use Rattle.posting.proofs.Entry as E
+use Rattle.desk.specs.declared.Case.{Case}
+use Rattle.desk.specs.declared.Entry.{Entry}
+use Rattle.desk.specs.Posting.{PostSays}
+use Rattle.desk.proofs.Case as K
+use Rattle.desk.proofs.Entry as E
 use Rattle.posting.proofs.post as post
 use Rattle.posting.proofs.post.Symbol as post-def
 use Rattle.posting.proofs.post.Symbol.{name as #posting·post}

@@ -4,6 +4,7 @@
 --
 use mathlib.Core.Path.{_≡_, refl, sym, _∙_, ap, subst}
 use Prim.Native.Nat.{ℕ, zero, suc, _+_, _*_, _-_, _<_, _≤_, _^_}
+use native.Mathlib.Numerals.{add-one}
 use native.Mathlib.Omega.{arith}
 use mathlib.Core.Bool.{Bool, true, false}
 use mathlib.Core.List.{List, [], _∷_}
@@ -49,28 +50,36 @@ use denote.Triple.Entry.{Vals, onEntry}
 use denote.Triple.Spec.{Meets, tripleOf}
 use denote.Triple.Table.{entered, cited}
 use denote.Triple.Walked.{says, Stays, stay-none-slice, stay-none, walkOf, goes-none-slice, goes-none, Walks, ends-at, walked, walk-meets}
-use Rattle.posting.specs.declared.Entry.{Entry}
-use Rattle.posting.specs.declared.Day.{Day}
-use Rattle.posting.specs.Turns.{noDay, takenOf, allTaken}
-use Rattle.posting.specs.Turns.Laws.{taken-next, taken-last}
-use Rattle.posting.proofs.Entry as E
-use Rattle.posting.proofs.Entry.Laws as E′
-use Rattle.posting.proofs.Day as D
-use Rattle.posting.proofs.Day.Laws as D′
+use Rattle.desk.specs.declared.Entry.{Entry}
+use Rattle.desk.specs.declared.Day.{Day}
+use Rattle.desk.specs.Turns.{noDay, takenOf, allTaken}
+use Rattle.desk.proofs.Entry as E
+use Rattle.desk.proofs.Entry.Laws as E′
+use Rattle.desk.proofs.Day as D
+use Rattle.desk.proofs.Day.Laws as D′
 use Rattle.posting.proofs.Loop.{loops, Turns, le-cases}
-use Rattle.posting.proofs.no_day as no-day
-use Rattle.posting.proofs.no_day.Symbol as no-day-def
-use Rattle.posting.proofs.no_day.Symbol.{name as #posting·no-day}
-use Rattle.posting.proofs.no_day.Met as no-day-thm
-use Rattle.posting.proofs.take_one as take-one
-use Rattle.posting.proofs.take_one.Symbol as take-one-def
-use Rattle.posting.proofs.take_one.Symbol.{name as #posting·take-one}
-use Rattle.posting.proofs.take_one.Met as take-one-thm
+use Rattle.deciding.proofs.no_day as no-day
+use Rattle.deciding.proofs.no_day.Symbol as no-day-def
+use Rattle.deciding.proofs.no_day.Symbol.{name as #deciding·no-day}
+use Rattle.deciding.proofs.no_day.Met as no-day-thm
+use Rattle.deciding.proofs.take_one as take-one
+use Rattle.deciding.proofs.take_one.Symbol as take-one-def
+use Rattle.deciding.proofs.take_one.Symbol.{name as #deciding·take-one}
+use Rattle.deciding.proofs.take_one.Met as take-one-thm
 use Rattle.posting.proofs.all_entries.Key.{name as #posting·all-entries}
 use Rattle.posting.proofs.all_entries as f
 use Rattle.posting.proofs.all_entries.Statement as stated
 use Rattle.posting.proofs.all_entries.Code as code
 use Rattle.posting.proofs.all_entries.Code.Mir as mc
+
+taken-next : (n : ℕ) (d : Day) (es : List Entry) (i : ℕ) (e : Entry) → i < length es
+    → allTaken n d (drop i es) ≡ allTaken n (takenOf n d (getD es i e)) (drop (i + 1) es)
+unfolding allTaken
+taken-next n d es i e l = rw (drop-cons es i e l, add-one)
+
+taken-last : (n : ℕ) (d : Day) (es : List Entry) (i : ℕ) → i ≡ length es → allTaken n d (drop i es) ≡ d
+unfolding allTaken
+taken-last n d es i e = rw (e, drop-length es)
 
 abbrev word : Ty
 word = tyInt w64
@@ -146,7 +155,7 @@ module _ {M : Type 1} (𝓤 : URA M) (H : Heap 𝓤) (A : Atoms 𝓤) (W : Given
   goes-none-day : ent 𝓤 (emp 𝓤) (NoDay 𝓤 H A mm run .pre to-none)
   goes-none-day = qed W [] ∵ nothing ! $ nothing ! $ join ! $ frame ! $ done !
 
-  module _ (𝓣 : Tables 𝓤 H) (known : Triple 𝓤 (𝓣 .C #posting·take-one) (TakeOne 𝓤 H A mm run)) (l₀ l₁ l₂ l₃ l₄ l₅ l₆ l₇ l₈ : ℕ) where
+  module _ (𝓣 : Tables 𝓤 H) (known : Triple 𝓤 (𝓣 .C #deciding·take-one) (TakeOne 𝓤 H A mm run)) (l₀ l₁ l₂ l₃ l₄ l₅ l₆ l₇ l₈ : ℕ) where
     abbrev C : Calls 𝓤 H
     C = 𝓣 .C
 
@@ -246,7 +255,7 @@ module _ {M : Type 1} (𝓤 : URA M) (H : Heap 𝓤) (A : Atoms 𝓤) (W : Given
     abbrev Begun : List (Item 𝓤)
     Begun = ‵ (froom D′.mir l₃ 0) ∷ ‵ (froom word l₄ 0) ∷ ‵ (froom word l₅ 0) ∷ ‵ (froom tyBool l₆ 0) ∷ ‵ (froom tyPtr l₇ 0) ∷ ‵ (froom E′.mir l₈ 0) ∷ Frame
 
-    begins : Triple 𝓤 (𝓣 .C #posting·no-day) (NoDay 𝓤 H A mm run) → Seq (Go {0}) W Begun (runs C Λ En (code.function .body) (atRet En Post))
+    begins : Triple 𝓤 (𝓣 .C #deciding·no-day) (NoDay 𝓤 H A mm run) → Seq (Go {0}) W Begun (runs C Λ En (code.function .body) (atRet En Post))
     begins known-none =
         use0 W (raw (NoDay 𝓤 H A mm run .pre to-none)) goes-none-day $
         calls-at ! (fmOf 𝓤 H (W .laws) 𝓣) (NoDay 𝓤 H A mm run) known-none to-none (no-more !) (λ v.
@@ -258,7 +267,7 @@ module _ {M : Type 1} (𝓤 : URA M) (H : Heap 𝓤) (A : Atoms 𝓤) (W : Given
         assigns ! (of-opd ! (lit ! tt)) (from ! (stop !)) (init ! 1 refl (tt, record { fits = lit< tt })) $ move ! (1 ∷ 0 ∷ []) $
         by ! (looping r (subst (Is D.the-row r) (LL.tells D.the-type D′.the-laws r (v ∷ []) is) is) e)))))
 
-  walk : (𝓣 : Tables 𝓤 H) → Triple 𝓤 (𝓣 .C #posting·no-day) (NoDay 𝓤 H A mm run) → Triple 𝓤 (𝓣 .C #posting·take-one) (TakeOne 𝓤 H A mm run)
+  walk : (𝓣 : Tables 𝓤 H) → Triple 𝓤 (𝓣 .C #deciding·no-day) (NoDay 𝓤 H A mm run) → Triple 𝓤 (𝓣 .C #deciding·take-one) (TakeOne 𝓤 H A mm run)
       → ent 𝓤 (onEntry 𝓤 H A f.signature (κ, tt) (q, tt) x at) (WpFn 𝓤 H (𝓣 .C) (𝓣 .Λ) code.function (sliceVal (b, o) (length es) ∷ vint w64 n ∷ []) Post)
   walk 𝓣 known-none known =
       qed W ((‵ (flft κ q) ⊛ ‵ ftrue) ∷ ‵ (owns (ShrSlice (named 0) κ E.the-row ∷ usize ∷ []) x at) ∷ []) ∵ enter ! (𝓣 .C) (𝓣 .Λ) code.function (sliceVal (b, o) (length es) ∷ vint w64 n ∷ []) _ $
@@ -271,7 +280,7 @@ module _ {M : Type 1} (𝓤 : URA M) (H : Heap 𝓤) (A : Atoms 𝓤) (W : Given
       begins 𝓣 known l₀ l₁ l₂ l₃ l₄ l₅ l₆ l₇ l₈ known-none)))))))))
 
 module _ {M : Type 1} (𝓤 : URA M) (H : Heap 𝓤) (A : Atoms 𝓤) (W : Given 𝓤 H A) (mm : Memory → SProp 𝓤) (run : Routine → Fun 𝓤) (𝓣 : Tables 𝓤 H)
-    (known-none : Triple 𝓤 (𝓣 .C #posting·no-day) (NoDay 𝓤 H A mm run)) (known : Triple 𝓤 (𝓣 .C #posting·take-one) (TakeOne 𝓤 H A mm run)) where
+    (known-none : Triple 𝓤 (𝓣 .C #deciding·no-day) (NoDay 𝓤 H A mm run)) (known : Triple 𝓤 (𝓣 .C #deciding·take-one) (TakeOne 𝓤 H A mm run)) where
   walks : Walks 𝓤 H A f.ended stayed (WpFn 𝓤 H (𝓣 .C) (𝓣 .Λ) code.function) (f.clauses 𝓤 H A mm run)
   walks = walked 𝓤 H A f.ended stayed (f.clauses 𝓤 H A mm run) (WpFn 𝓤 H (𝓣 .C) (𝓣 .Λ) code.function) (λ κs. (slice-vals, (uint-vals w64, tt))) (λ κs. (shr-slice-tells (named 0) (κs .0) E.the-row, (uint-tells w64, tt)))
       (λ κs qs bounds a g are. via 𝓤 _ (fst∗ 𝓤 _ (emp 𝓤))
@@ -287,5 +296,5 @@ all-entries-spec 𝓤 H 𝓜 𝓖 𝓡 =
     entered 𝓤 H (tripleOf 𝓤 H (𝓖 .A) f.signature (f.spec 𝓤 H (𝓖 .A) (𝓜 .mem) (𝓡 .run)))
     (tables 𝓤 H 𝓜 𝓡 code.env .C) (tables 𝓤 H 𝓜 𝓡 code.env .Λ) #posting·all-entries code.function (code.unfolded 𝓤 H 𝓜 𝓡)
     (meets 𝓤 H (𝓖 .A) (givenOf 𝓤 H 𝓜 𝓖) (𝓜 .mem) (𝓡 .run) (tablesOf 𝓤 H 𝓜 (tables 𝓤 H 𝓜 𝓡 code.env))
-    (cited 𝓤 H (NoDay 𝓤 H (𝓖 .A) (𝓜 .mem) (𝓡 .run)) 𝓜 𝓡 code.env #posting·no-day no-day-def.routine code.calls-posting·no-day (no-day-thm.met 𝓤 H 𝓜 𝓖 𝓡))
-    (cited 𝓤 H (TakeOne 𝓤 H (𝓖 .A) (𝓜 .mem) (𝓡 .run)) 𝓜 𝓡 code.env #posting·take-one take-one-def.routine code.calls-posting·take-one (take-one-thm.met 𝓤 H 𝓜 𝓖 𝓡)))
+    (cited 𝓤 H (NoDay 𝓤 H (𝓖 .A) (𝓜 .mem) (𝓡 .run)) 𝓜 𝓡 code.env #deciding·no-day no-day-def.routine code.calls-deciding·no-day (no-day-thm.met 𝓤 H 𝓜 𝓖 𝓡))
+    (cited 𝓤 H (TakeOne 𝓤 H (𝓖 .A) (𝓜 .mem) (𝓡 .run)) 𝓜 𝓡 code.env #deciding·take-one take-one-def.routine code.calls-deciding·take-one (take-one-thm.met 𝓤 H 𝓜 𝓖 𝓡)))

@@ -4,6 +4,7 @@
 --
 use mathlib.Core.Path.{_≡_, refl, sym, _∙_, ap, subst}
 use Prim.Native.Nat.{ℕ, zero, suc, _+_, _*_, _-_, _<_, _≤_, _^_}
+use native.Mathlib.Numerals.{add-one}
 use native.Mathlib.Omega.{arith}
 use mathlib.Core.Bool.{Bool, true, false}
 use mathlib.Core.List.{List, [], _∷_}
@@ -48,28 +49,36 @@ use denote.Triple.Entry.{Vals, onEntry}
 use denote.Triple.Spec.{Meets, tripleOf}
 use denote.Triple.Table.{entered, cited}
 use denote.Triple.Walked.{says, Stays, stay-none-slice, walkOf, goes-none-slice, Walks, ends-at, walked, walk-meets}
-use Rattle.posting.specs.declared.Case.{Case}
-use Rattle.posting.specs.declared.Seen.{Seen}
-use Rattle.posting.specs.Turns.{unseenOf, seenOf, allSeen}
-use Rattle.posting.specs.Turns.Laws.{seen-next, seen-last}
-use Rattle.posting.proofs.Case as K
-use Rattle.posting.proofs.Case.Laws as K′
-use Rattle.posting.proofs.Seen as Z
-use Rattle.posting.proofs.Seen.Laws as Z′
+use Rattle.desk.specs.declared.Case.{Case}
+use Rattle.desk.specs.declared.Seen.{Seen}
+use Rattle.desk.specs.Turns.{unseenOf, seenOf, allSeen}
+use Rattle.desk.proofs.Case as K
+use Rattle.desk.proofs.Case.Laws as K′
+use Rattle.desk.proofs.Seen as Z
+use Rattle.desk.proofs.Seen.Laws as Z′
 use Rattle.posting.proofs.Loop.{loops, Turns, le-cases}
-use Rattle.posting.proofs.unseen as unseen
-use Rattle.posting.proofs.unseen.Symbol as unseen-def
-use Rattle.posting.proofs.unseen.Symbol.{name as #posting·unseen}
-use Rattle.posting.proofs.unseen.Met as unseen-thm
-use Rattle.posting.proofs.look_at as look-at
-use Rattle.posting.proofs.look_at.Symbol as look-at-def
-use Rattle.posting.proofs.look_at.Symbol.{name as #posting·look-at}
-use Rattle.posting.proofs.look_at.Met as look-at-thm
+use Rattle.consult.proofs.unseen as unseen
+use Rattle.consult.proofs.unseen.Symbol as unseen-def
+use Rattle.consult.proofs.unseen.Symbol.{name as #consult·unseen}
+use Rattle.consult.proofs.unseen.Met as unseen-thm
+use Rattle.deciding.proofs.look_at as look-at
+use Rattle.deciding.proofs.look_at.Symbol as look-at-def
+use Rattle.deciding.proofs.look_at.Symbol.{name as #deciding·look-at}
+use Rattle.deciding.proofs.look_at.Met as look-at-thm
 use Rattle.posting.proofs.look_through.Key.{name as #posting·look-through}
 use Rattle.posting.proofs.look_through as f
 use Rattle.posting.proofs.look_through.Statement as stated
 use Rattle.posting.proofs.look_through.Code as code
 use Rattle.posting.proofs.look_through.Code.Mir as mc
+
+seen-next : (s : Seen) (cs : List Case) (i : ℕ) (c : Case) → i < length cs
+    → allSeen s (drop i cs) ≡ allSeen (seenOf s (getD cs i c)) (drop (i + 1) cs)
+unfolding allSeen
+seen-next s cs i c l = rw (drop-cons cs i c l, add-one)
+
+seen-last : (s : Seen) (cs : List Case) (i : ℕ) → i ≡ length cs → allSeen s (drop i cs) ≡ s
+unfolding allSeen
+seen-last s cs i e = rw (e, drop-length cs)
 
 abbrev word : Ty
 word = tyInt w64
@@ -154,7 +163,7 @@ module _ {M : Type 1} (𝓤 : URA M) (H : Heap 𝓤) (A : Atoms 𝓤) (W : Given
   goes-unseen : ent 𝓤 (sep 𝓤 (A .lft κ₀ q₀) (sem 𝓤 H A FileOwn)) (Unseen 𝓤 H A mm run .pre to-unseen)
   goes-unseen = qed W (‵ (flft κ₀ q₀) ∷ ‵ FileOwn ∷ []) ∵ nothing ! $ move ! (2 ∷ 0 ∷ []) $ fjoin ! $ nothing ! $ move ! (2 ∷ 0 ∷ []) $ join ! $ join ! $ frame ! $ done !
 
-  module _ (𝓣 : Tables 𝓤 H) (known : Triple 𝓤 (𝓣 .C #posting·look-at) (LookAt 𝓤 H A mm run)) (l₀ l₁ l₂ l₃ l₄ l₅ l₆ l₇ l₈ : ℕ) where
+  module _ (𝓣 : Tables 𝓤 H) (known : Triple 𝓤 (𝓣 .C #deciding·look-at) (LookAt 𝓤 H A mm run)) (l₀ l₁ l₂ l₃ l₄ l₅ l₆ l₇ l₈ : ℕ) where
     abbrev C : Calls 𝓤 H
     C = 𝓣 .C
 
@@ -254,7 +263,7 @@ module _ {M : Type 1} (𝓤 : URA M) (H : Heap 𝓤) (A : Atoms 𝓤) (W : Given
     abbrev Begun : List (Item 𝓤)
     Begun = ‵ (froom Z′.mir l₃ 0) ∷ ‵ (froom word l₄ 0) ∷ ‵ (froom word l₅ 0) ∷ ‵ (froom tyBool l₆ 0) ∷ ‵ (froom tyPtr l₇ 0) ∷ ‵ (froom K′.mir l₈ 0) ∷ Frame
 
-    begins : Triple 𝓤 (𝓣 .C #posting·unseen) (Unseen 𝓤 H A mm run) → Seq (Go {0}) W Begun (runs C Λ En (code.function .body) (atRet En Post))
+    begins : Triple 𝓤 (𝓣 .C #consult·unseen) (Unseen 𝓤 H A mm run) → Seq (Go {0}) W Begun (runs C Λ En (code.function .body) (atRet En Post))
     begins known-unseen =
         move ! (12 ∷ []) $ use1 W (‵ FileOwn ⊛ ‵ FileOwn) (shr-slice-copy 𝓤 H A W (named 0) κ₀ u8 .twice fx (fileVal ∷ [])) $ split ! $ move ! (14 ∷ 0 ∷ []) $
         use2 W (raw (Unseen 𝓤 H A mm run .pre to-unseen)) goes-unseen $
@@ -270,7 +279,7 @@ module _ {M : Type 1} (𝓤 : URA M) (H : Heap 𝓤) (A : Atoms 𝓤) (W : Given
         keep ! (4 ∷ 3 ∷ 5 ∷ 6 ∷ 7 ∷ 8 ∷ 9 ∷ 10 ∷ 11 ∷ 12 ∷ 13 ∷ 14 ∷ 2 ∷ 0 ∷ 15 ∷ 16 ∷ 17 ∷ 18 ∷ 19 ∷ 20 ∷ 21 ∷ 22 ∷ 23 ∷ []) $
         by ! (looping r (subst (Is Z.the-row r) (LL.tells Z.the-type Z′.the-laws r (v ∷ []) is) is) e)))))
 
-  walk : (𝓣 : Tables 𝓤 H) → Triple 𝓤 (𝓣 .C #posting·unseen) (Unseen 𝓤 H A mm run) → Triple 𝓤 (𝓣 .C #posting·look-at) (LookAt 𝓤 H A mm run)
+  walk : (𝓣 : Tables 𝓤 H) → Triple 𝓤 (𝓣 .C #consult·unseen) (Unseen 𝓤 H A mm run) → Triple 𝓤 (𝓣 .C #deciding·look-at) (LookAt 𝓤 H A mm run)
       → ent 𝓤 (onEntry 𝓤 H A f.signature (κ₀, (κ, tt)) (q₀, (q, tt)) x at) (WpFn 𝓤 H (𝓣 .C) (𝓣 .Λ) code.function (fileVal ∷ sliceVal (b, o) (length cs) ∷ []) Post)
   walk 𝓣 known-unseen known =
       qed W ((‵ (flft κ₀ q₀) ⊛ ‵ (flft κ q) ⊛ ‵ ftrue) ∷ ‵ (owns (ShrSlice (named 0) κ₀ u8 ∷ ShrSlice (named 1) κ K.the-row ∷ []) x at) ∷ []) ∵ enter ! (𝓣 .C) (𝓣 .Λ) code.function (fileVal ∷ sliceVal (b, o) (length cs) ∷ []) _ $
@@ -283,7 +292,7 @@ module _ {M : Type 1} (𝓤 : URA M) (H : Heap 𝓤) (A : Atoms 𝓤) (W : Given
       begins 𝓣 known l₀ l₁ l₂ l₃ l₄ l₅ l₆ l₇ l₈ known-unseen)))))))))
 
 module _ {M : Type 1} (𝓤 : URA M) (H : Heap 𝓤) (A : Atoms 𝓤) (W : Given 𝓤 H A) (mm : Memory → SProp 𝓤) (run : Routine → Fun 𝓤) (𝓣 : Tables 𝓤 H)
-    (known-unseen : Triple 𝓤 (𝓣 .C #posting·unseen) (Unseen 𝓤 H A mm run)) (known : Triple 𝓤 (𝓣 .C #posting·look-at) (LookAt 𝓤 H A mm run)) where
+    (known-unseen : Triple 𝓤 (𝓣 .C #consult·unseen) (Unseen 𝓤 H A mm run)) (known : Triple 𝓤 (𝓣 .C #deciding·look-at) (LookAt 𝓤 H A mm run)) where
   walks : Walks 𝓤 H A f.ended stayed (WpFn 𝓤 H (𝓣 .C) (𝓣 .Λ) code.function) (f.clauses 𝓤 H A mm run)
   walks = walked 𝓤 H A f.ended stayed (f.clauses 𝓤 H A mm run) (WpFn 𝓤 H (𝓣 .C) (𝓣 .Λ) code.function) (λ κs. (slice-vals, (slice-vals, tt)))
       (λ κs. (shr-slice-tells (named 0) (κs .0) u8, (shr-slice-tells (named 1) (κs .1 .0) K.the-row, tt)))
@@ -300,5 +309,5 @@ look-through-spec 𝓤 H 𝓜 𝓖 𝓡 =
     entered 𝓤 H (tripleOf 𝓤 H (𝓖 .A) f.signature (f.spec 𝓤 H (𝓖 .A) (𝓜 .mem) (𝓡 .run)))
     (tables 𝓤 H 𝓜 𝓡 code.env .C) (tables 𝓤 H 𝓜 𝓡 code.env .Λ) #posting·look-through code.function (code.unfolded 𝓤 H 𝓜 𝓡)
     (meets 𝓤 H (𝓖 .A) (givenOf 𝓤 H 𝓜 𝓖) (𝓜 .mem) (𝓡 .run) (tablesOf 𝓤 H 𝓜 (tables 𝓤 H 𝓜 𝓡 code.env))
-    (cited 𝓤 H (Unseen 𝓤 H (𝓖 .A) (𝓜 .mem) (𝓡 .run)) 𝓜 𝓡 code.env #posting·unseen unseen-def.routine code.calls-posting·unseen (unseen-thm.met 𝓤 H 𝓜 𝓖 𝓡))
-    (cited 𝓤 H (LookAt 𝓤 H (𝓖 .A) (𝓜 .mem) (𝓡 .run)) 𝓜 𝓡 code.env #posting·look-at look-at-def.routine code.calls-posting·look-at (look-at-thm.met 𝓤 H 𝓜 𝓖 𝓡)))
+    (cited 𝓤 H (Unseen 𝓤 H (𝓖 .A) (𝓜 .mem) (𝓡 .run)) 𝓜 𝓡 code.env #consult·unseen unseen-def.routine code.calls-consult·unseen (unseen-thm.met 𝓤 H 𝓜 𝓖 𝓡))
+    (cited 𝓤 H (LookAt 𝓤 H (𝓖 .A) (𝓜 .mem) (𝓡 .run)) 𝓜 𝓡 code.env #deciding·look-at look-at-def.routine code.calls-deciding·look-at (look-at-thm.met 𝓤 H 𝓜 𝓖 𝓡)))

@@ -1,6 +1,6 @@
 -- `posting::post` meets its contract: a walk of its MIR, by hand, since a slice of structs is not covered. The cases are lent as `&` to `look_through` and come
 -- back; they and the rows are given to `post_all` for good. Of each callee the proof knows only that it meets its contract; that together they say what the
--- posting says is `Turns/Posted.antt`.
+-- posting says is `Turns/Posted.antt` of desk.
 --
 use mathlib.Core.Path.{_≡_, refl, sym, _∙_, ap, subst}
 use Prim.Native.Nat.{ℕ, zero, suc, _+_, _*_, _-_, _<_, _≤_, _^_}
@@ -49,23 +49,23 @@ use denote.Triple.Spec.{Meets, tripleOf}
 use denote.Triple.Table.{entered, cited}
 use denote.Triple.Walked.{says, Stays, stay-none-slice, gave-slice, walkOf, goes-none-slice, goes-gave-slice, Walks, ends-at, walked, walk-meets}
 use Rattle.meaning.specs.Calls.{laidOver}
-use Rattle.posting.specs.declared.Case.{Case}
-use Rattle.posting.specs.declared.Entry.{Entry}
-use Rattle.posting.specs.declared.Day.{Day}
-use Rattle.posting.specs.declared.Seen.{Seen}
-use Rattle.posting.specs.declared.Plan.{Plan}
-use Rattle.posting.specs.Posting.{PostSays}
-use Rattle.posting.specs.Turns.{noDay, allTaken, unseenOf, allSeen, verdictOf, planOf, turnCases, turnRows, Postable}
-use Rattle.posting.specs.Turns.Posted.{postable, cases-are, rows-are, refusal-is}
-use Rattle.posting.proofs.Case as K
-use Rattle.posting.proofs.Case.Laws as K′
-use Rattle.posting.proofs.Entry as E
-use Rattle.posting.proofs.Day as D
-use Rattle.posting.proofs.Day.Laws as D′
-use Rattle.posting.proofs.Seen as Z
-use Rattle.posting.proofs.Seen.Laws as Z′
-use Rattle.posting.proofs.Plan as P
-use Rattle.posting.proofs.Plan.Laws as P′
+use Rattle.desk.specs.declared.Case.{Case}
+use Rattle.desk.specs.declared.Entry.{Entry}
+use Rattle.desk.specs.declared.Day.{Day}
+use Rattle.desk.specs.declared.Seen.{Seen}
+use Rattle.desk.specs.declared.Plan.{Plan}
+use Rattle.desk.specs.Posting.{PostSays}
+use Rattle.desk.specs.Turns.{noDay, allTaken, unseenOf, allSeen, verdictOf, planOf, turnCases, turnRows, Postable}
+use Rattle.desk.specs.Turns.Posted.{postable, cases-are, rows-are, refusal-is}
+use Rattle.desk.proofs.Case as K
+use Rattle.desk.proofs.Case.Laws as K′
+use Rattle.desk.proofs.Entry as E
+use Rattle.desk.proofs.Day as D
+use Rattle.desk.proofs.Day.Laws as D′
+use Rattle.desk.proofs.Seen as Z
+use Rattle.desk.proofs.Seen.Laws as Z′
+use Rattle.desk.proofs.Plan as P
+use Rattle.desk.proofs.Plan.Laws as P′
 use Rattle.posting.proofs.look_through as look
 use Rattle.posting.proofs.look_through.Symbol as look-def
 use Rattle.posting.proofs.look_through.Symbol.{name as #posting·look-through}
@@ -74,10 +74,10 @@ use Rattle.posting.proofs.all_entries as all
 use Rattle.posting.proofs.all_entries.Symbol as all-def
 use Rattle.posting.proofs.all_entries.Symbol.{name as #posting·all-entries}
 use Rattle.posting.proofs.all_entries.Met as all-thm
-use Rattle.posting.proofs.decide as decide
-use Rattle.posting.proofs.decide.Symbol as decide-def
-use Rattle.posting.proofs.decide.Symbol.{name as #posting·decide}
-use Rattle.posting.proofs.decide.Met as decide-thm
+use Rattle.deciding.proofs.decide as decide
+use Rattle.deciding.proofs.decide.Symbol as decide-def
+use Rattle.deciding.proofs.decide.Symbol.{name as #deciding·decide}
+use Rattle.deciding.proofs.decide.Met as decide-thm
 use Rattle.posting.proofs.post_all as book
 use Rattle.posting.proofs.post_all.Symbol as book-def
 use Rattle.posting.proofs.post_all.Symbol.{name as #posting·post-all}
@@ -143,7 +143,7 @@ module _ {M : Type 1} (𝓤 : URA M) (H : Heap 𝓤) (A : Atoms 𝓤) (mm : Memo
   Book = tripleOf 𝓤 H A book.signature (book.spec 𝓤 H A mm run)
 
   abbrev Known : Calls 𝓤 H → Type 1
-  Known C = Triple 𝓤 (C #posting·look-through) Look × (Triple 𝓤 (C #posting·all-entries) All × (Triple 𝓤 (C #posting·decide) Decide × Triple 𝓤 (C #posting·post-all) Book))
+  Known C = Triple 𝓤 (C #posting·look-through) Look × (Triple 𝓤 (C #posting·all-entries) All × (Triple 𝓤 (C #deciding·decide) Decide × Triple 𝓤 (C #posting·post-all) Book))
 
 module _ {M : Type 1} (𝓤 : URA M) (H : Heap 𝓤) (A : Atoms 𝓤) (W : Given 𝓤 H A) (mm : Memory → SProp 𝓤) (run : Routine → Fun 𝓤) (κ₀ κ₁ κ₂ κ₃ : Lft) (q₀ q₁ q₂ q₃ : Share) (fx : RefT (List ℕ)) (b o : ℕ) (γ : GName) (cs : List Case) (ex : RefT (List Entry)) (rx : RefT (List ℕ))
     (file-room : Room u8 (length (fx .now))) (room : Room K.the-row (length cs)) (entries-room : Room E.the-row (length (ex .now))) (rows-room : Room u8 (length (rx .now))) where
@@ -422,7 +422,7 @@ post-spec 𝓤 H 𝓜 𝓖 𝓡 =
       (
         cited 𝓤 H (All 𝓤 H (𝓖 .A) (𝓜 .mem) (𝓡 .run)) 𝓜 𝓡 code.env #posting·all-entries all-def.routine code.calls-posting·all-entries (all-thm.met 𝓤 H 𝓜 𝓖 𝓡),
         (
-          cited 𝓤 H (Decide 𝓤 H (𝓖 .A) (𝓜 .mem) (𝓡 .run)) 𝓜 𝓡 code.env #posting·decide decide-def.routine code.calls-posting·decide (decide-thm.met 𝓤 H 𝓜 𝓖 𝓡),
+          cited 𝓤 H (Decide 𝓤 H (𝓖 .A) (𝓜 .mem) (𝓡 .run)) 𝓜 𝓡 code.env #deciding·decide decide-def.routine code.calls-deciding·decide (decide-thm.met 𝓤 H 𝓜 𝓖 𝓡),
           cited 𝓤 H (Book 𝓤 H (𝓖 .A) (𝓜 .mem) (𝓡 .run)) 𝓜 𝓡 code.env #posting·post-all book-def.routine code.calls-posting·post-all (book-thm.met 𝓤 H 𝓜 𝓖 𝓡),
         ),
       ),

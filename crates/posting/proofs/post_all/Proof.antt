@@ -50,21 +50,22 @@ use denote.Triple.Spec.{Meets, tripleOf}
 use denote.Triple.Table.{entered, cited}
 use denote.Triple.Walked.{says, needs, Stays, stay-none-slice, stay-slice, stay-none, walkOf, goes-none-slice, goes-slice, goes-none, Walks, ends-at, walked, walk-meets}
 use Rattle.meaning.specs.Calls.{laidOver}
-use Rattle.posting.specs.declared.Case.{Case}
-use Rattle.posting.specs.declared.Day.{Day}
-use Rattle.posting.specs.Posting.{mostCases, lastRow, width}
-use Rattle.posting.specs.Turns.{turnCase, turnRow, turnCases, turnRows, Postable, Underway}
-use Rattle.posting.specs.Turns.Laws.{started, same-case, room-for, stepped, finished}
-use Rattle.posting.proofs.Case as K
-use Rattle.posting.proofs.Case.Laws as K′
-use Rattle.posting.proofs.Day as D
-use Rattle.posting.proofs.Day.Laws as D′
+use Rattle.desk.specs.declared.Case.{Case}
+use Rattle.desk.specs.declared.Day.{Day}
+use Rattle.desk.specs.Posting.{mostCases, lastRow, width}
+use Rattle.desk.specs.Turns.{turnCase, turnRow, turnCases, turnRows, Postable}
+use Rattle.posting.specs.Underway.{Underway}
+use Rattle.posting.specs.Underway.Laws.{started, same-case, room-for, stepped, finished}
+use Rattle.desk.proofs.Case as K
+use Rattle.desk.proofs.Case.Laws as K′
+use Rattle.desk.proofs.Day as D
+use Rattle.desk.proofs.Day.Laws as D′
 use Rattle.posting.proofs.Loop.{loops, Turns, le-cases}
 use Rattle.posting.proofs.Again.{LentAgain, lends-again, comes-back}
-use Rattle.posting.proofs.post_one as post-one
-use Rattle.posting.proofs.post_one.Symbol as post-one-def
-use Rattle.posting.proofs.post_one.Symbol.{name as #posting·post-one}
-use Rattle.posting.proofs.post_one.Met as post-one-thm
+use Rattle.advancing.proofs.post_one as post-one
+use Rattle.advancing.proofs.post_one.Symbol as post-one-def
+use Rattle.advancing.proofs.post_one.Symbol.{name as #advancing·post-one}
+use Rattle.advancing.proofs.post_one.Met as post-one-thm
 use Rattle.posting.proofs.post_all.Key.{name as #posting·post-all}
 use Rattle.posting.proofs.post_all as f
 use Rattle.posting.proofs.post_all.Statement as stated
@@ -176,7 +177,7 @@ module _ {M : Type 1} (𝓤 : URA M) (H : Heap 𝓤) (A : Atoms 𝓤) (W : Given
       owned ! D.the-row (Is D.the-row) (LL.makes D.the-type D′.the-plain 𝓤 H A) d _ id $ fjoin ! $ owned ! K.the-row (Is K.the-row) (LL.makes K.the-type K′.the-plain 𝓤 H A) c _ ic $ fjoin ! $
       move ! (1 ∷ 0 ∷ []) $ fjoin ! $ done !
 
-  module _ (𝓣 : Tables 𝓤 H) (known : Triple 𝓤 (𝓣 .C #posting·post-one) (PostOne 𝓤 H A mm run)) (l₀ l₁ l₂ l₃ l₄ l₅ l₆ l₇ l₈ l₉ l₁₀ l₁₁ l₁₂ l₁₃ l₁₄ l₁₅ l₁₆ : ℕ) where
+  module _ (𝓣 : Tables 𝓤 H) (known : Triple 𝓤 (𝓣 .C #advancing·post-one) (PostOne 𝓤 H A mm run)) (l₀ l₁ l₂ l₃ l₄ l₅ l₆ l₇ l₈ l₉ l₁₀ l₁₁ l₁₂ l₁₃ l₁₄ l₁₅ l₁₆ : ℕ) where
     abbrev C : Calls 𝓤 H
     C = 𝓣 .C
 
@@ -323,7 +324,7 @@ module _ {M : Type 1} (𝓤 : URA M) (H : Heap 𝓤) (A : Atoms 𝓤) (W : Given
         move ! (10 ∷ 11 ∷ 12 ∷ []) $ opens-slice ! tt K.the-row cs b o $
         keep ! (4 ∷ 5 ∷ 6 ∷ 7 ∷ 8 ∷ 9 ∷ 10 ∷ 11 ∷ 12 ∷ 13 ∷ 0 ∷ 14 ∷ 15 ∷ 16 ∷ 17 ∷ 18 ∷ 19 ∷ 20 ∷ 21 ∷ 1 ∷ 2 ∷ 3 ∷ 22 ∷ 23 ∷ 24 ∷ 25 ∷ 26 ∷ 27 ∷ 28 ∷ 29 ∷ 30 ∷ 31 ∷ 32 ∷ 33 ∷ 34 ∷ 35 ∷ 36 ∷ 37 ∷ 38 ∷ 39 ∷ 40 ∷ 41 ∷ []) $ by ! looping
 
-  walk : (𝓣 : Tables 𝓤 H) → Triple 𝓤 (𝓣 .C #posting·post-one) (PostOne 𝓤 H A mm run)
+  walk : (𝓣 : Tables 𝓤 H) → Triple 𝓤 (𝓣 .C #advancing·post-one) (PostOne 𝓤 H A mm run)
       → ent 𝓤 (onEntry 𝓤 H A f.signature (κ₀, (κ₁, (κ₂, tt))) (q₀, (q₁, (q₂, tt))) x at)
       (WpFn 𝓤 H (𝓣 .C) (𝓣 .Λ) code.function (fileVal ∷ sliceVal (b, o) (length cs) ∷ only (dayVals d) ∷ vint w64 n ∷ vint w64 charts ∷ rowsVal ∷ []) Post)
   walk 𝓣 known =
@@ -337,7 +338,7 @@ module _ {M : Type 1} (𝓤 : URA M) (H : Heap 𝓤) (A : Atoms 𝓤) (W : Given
       keep ! (27 ∷ 25 ∷ 23 ∷ 21 ∷ 19 ∷ 17 ∷ 15 ∷ 13 ∷ 11 ∷ 9 ∷ 4 ∷ 5 ∷ 2 ∷ 6 ∷ 39 ∷ 37 ∷ 35 ∷ 33 ∷ 31 ∷ 29 ∷ 41 ∷ 0 ∷ 8 ∷ 3 ∷ 42 ∷ 40 ∷ 38 ∷ 36 ∷ 34 ∷ 32 ∷ 30 ∷ 28 ∷ 26 ∷ 24 ∷ 22 ∷ 20 ∷ 18 ∷ 16 ∷ 14 ∷ 12 ∷ 10 ∷ []) $
       begins 𝓣 known l₀ l₁ l₂ l₃ l₄ l₅ l₆ l₇ l₈ l₉ l₁₀ l₁₁ l₁₂ l₁₃ l₁₄ l₁₅ l₁₆)))))))))))))))))
 
-module _ {M : Type 1} (𝓤 : URA M) (H : Heap 𝓤) (A : Atoms 𝓤) (W : Given 𝓤 H A) (mm : Memory → SProp 𝓤) (run : Routine → Fun 𝓤) (𝓣 : Tables 𝓤 H) (known : Triple 𝓤 (𝓣 .C #posting·post-one) (PostOne 𝓤 H A mm run)) where
+module _ {M : Type 1} (𝓤 : URA M) (H : Heap 𝓤) (A : Atoms 𝓤) (W : Given 𝓤 H A) (mm : Memory → SProp 𝓤) (run : Routine → Fun 𝓤) (𝓣 : Tables 𝓤 H) (known : Triple 𝓤 (𝓣 .C #advancing·post-one) (PostOne 𝓤 H A mm run)) where
   walks : Walks 𝓤 H A f.ended stayed (WpFn 𝓤 H (𝓣 .C) (𝓣 .Λ) code.function) (f.clauses 𝓤 H A mm run)
   walks = walked 𝓤 H A f.ended stayed (f.clauses 𝓤 H A mm run) (WpFn 𝓤 H (𝓣 .C) (𝓣 .Λ) code.function) (λ κs. (slice-vals, (slice-vals, (dayVals, (uint-vals w64, (uint-vals w64, (slice-vals, tt)))))))
       (λ κs. (shr-slice-tells (named 0) (κs .0) u8, (mut-slice-tells (named 1) (κs .1 .0) K.the-row, (LL.tells D.the-type D′.the-laws, (uint-tells w64, (uint-tells w64, (mut-slice-tells (named 2) (κs .1 .1 .0) u8, tt)))))))
@@ -357,4 +358,4 @@ post-all-spec 𝓤 H 𝓜 𝓖 𝓡 =
     entered 𝓤 H (tripleOf 𝓤 H (𝓖 .A) f.signature (f.spec 𝓤 H (𝓖 .A) (𝓜 .mem) (𝓡 .run)))
     (tables 𝓤 H 𝓜 𝓡 code.env .C) (tables 𝓤 H 𝓜 𝓡 code.env .Λ) #posting·post-all code.function (code.unfolded 𝓤 H 𝓜 𝓡)
     (meets 𝓤 H (𝓖 .A) (givenOf 𝓤 H 𝓜 𝓖) (𝓜 .mem) (𝓡 .run) (tablesOf 𝓤 H 𝓜 (tables 𝓤 H 𝓜 𝓡 code.env))
-    (cited 𝓤 H (PostOne 𝓤 H (𝓖 .A) (𝓜 .mem) (𝓡 .run)) 𝓜 𝓡 code.env #posting·post-one post-one-def.routine code.calls-posting·post-one (post-one-thm.met 𝓤 H 𝓜 𝓖 𝓡)))
+    (cited 𝓤 H (PostOne 𝓤 H (𝓖 .A) (𝓜 .mem) (𝓡 .run)) 𝓜 𝓡 code.env #advancing·post-one post-one-def.routine code.calls-advancing·post-one (post-one-thm.met 𝓤 H 𝓜 𝓖 𝓡)))
