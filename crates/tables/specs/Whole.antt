@@ -34,6 +34,7 @@ use Rattle.settling.specs.Hunt.{each, wakes, taken, rested, fineAt, over, nothi
 use Rattle.settling.specs.Stays.{staysAt, stayed, quietAt, huntsBoth}
 use Rattle.settling.specs.Hunt.Laws.{among-each}
 use Rattle.tables.specs.Filled.{Is, Listed, start, other, fails, again, fresh, mayAt, Rows, Candidates, Stayers, Lows, answerOf}
+use Rattle.tables.specs.Read.Laws.{join-at}
 use Rattle.tables.specs.Fill.{opensBy, opening}
 use Rattle.tables.specs.Padded.{Padded, padded-fewer, padded-none, padded-one, padded-append, padded-nothing, padded-again, Sizes, found, found-places}
 use Rattle.tables.specs.Follow.{Follows, Placed, taken-placed, rested-placed, stayed-placed, moves-on, wakes-is, taken-follows, rested-follows, stayed-follows, fine-is, output-is, next-is}
@@ -74,16 +75,6 @@ taking q K p l = go (K .stays) l
     go : (b : Bool) → p < cond b (suc (length (K .transitions))) (length (K .transitions)) → open? b false q (nth (cond b stay noMove) (K .transitions) p) ≡ false
     go true l = staying (decLt p (length (K .transitions)))
     go false l = taking-nth false q noMove (K .transitions) p l
-
-join-at : (n : ℕ) (f : ℕ → Set) (v : ℕ) → v < n → Within (f v) (join n f)
-unfolding join
-join-at zero f v l = absurd (omega arith)
-join-at (suc n) f v l = go (same v n) refl (λ h. join-at n f v h)
-  where
-    go : (b : Bool) → same v n ≡ b → (v < n → Within (f v) (join n f)) → Within (f v) (join n f ∪ f n)
-    go true e r = rw (same→≡ v n e) (sets (f n ∷ join n f ∷ []) [] (A ⊑ B ∪ₑ A) tt)
-    go false e r = let z : v ≢ n = λ w. false≢true (sym e ∙ rw w (same-refl n)) in
-        sets (f v ∷ join n f ∷ f n ∷ []) (A ⊑ B ∷ []) (A ⊑ B ∪ₑ C) tt (r (omega arith))
 
 -- a transition that is open and kept puts out no more than the candidates
 module _ (m s : List ℕ) (c : ℕ) (ts : List Transition) (q : ℕ) (keep : ℕ → Bool) (b₀ a : Bool) (u : ℕ) (o : open? b₀ a q (nth noMove ts u) ≡ true) (kp : keep (suc u) ≡ true) where
