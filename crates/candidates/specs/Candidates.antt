@@ -9,11 +9,12 @@ use Rattle.layout.specs.Body.{headAt, transitionAt, transitionsOf}
 use Rattle.layout.specs.declared.body.Shape.{Shape}
 use Rattle.layout.specs.declared.record.Transition.{Transition}
 use Rattle.meaning.specs.Numbers.{mostFromState}
-use Rattle.meaning.specs.Meaning.{Set}
+use Rattle.meaning.specs.Meaning.{Set, Chart}
 use Rattle.meaning.specs.File.{chartOf}
 use Rattle.meaning.specs.Check.{leaving}
 use Rattle.wiring.specs.Hunt.{mayOf}
 use Rattle.cells.specs.Table.{SameWiring, masksFor, masterFrom, stateFrom, smallSize, stateAt}
+use Rattle.tables.specs.Read.{asked, readAt, narrow, narrowAll, narrowed}
 use Rattle.tables.specs.Fill.{Filling, considered, listing, Raised, Until, Chosen}
 use Rattle.checks.specs.Known.{Sized, Summed}
 use Rattle.candidates.specs.declared.Around.{Around}
@@ -48,9 +49,26 @@ module _ (a : Around) where
   abbrev pub listingBy : (ℕ → Transition) → ℕ → Filling → Filling
   listingBy g p f = listing (a .chart) (a .state) (a .low) (a .own) (a .others) (a .shut) g p f
 
--- transition u from `start` on
-abbrev pub fromStart : Shape → List ℕ → ℕ → ℕ → Transition
-fromStart n b start u = transitionAt n b (start + u)
+-- transition t, with only what is read of its action
+abbrev pub readAs : Shape → List ℕ → Set → ℕ → Transition
+readAs n b read t = narrow read (transitionAt n b t)
+
+-- the same of transition u from `start` on
+abbrev pub fromStart : Shape → List ℕ → Set → ℕ → ℕ → Transition
+fromStart n b read start u = readAs n b read (start + u)
+
+-- the charts, with only what is read of their actions
+abbrev pub readCharts : Shape → List ℕ → List ℕ → ℕ → Chart
+readCharts n b reads = narrowed (λ c. getD reads c 0) (chartOf n b)
+
+-- asks has what each of the first k charts looks for
+abbrev pub Asks : Shape → List ℕ → List ℕ → ℕ → List ℕ → Type 0
+Asks n b config k asks = (c : ℕ) → c < k → getD asks c 0 ≡ asked (transitionsOf n b c) (getD config c 0)
+
+-- reads has what of the action of each of the first k charts is read
+abbrev pub ReadRow : Shape → List ℕ → List ℕ → List ℕ → ℕ → List ℕ → Type 0
+ReadRow n b config m k reads =
+    (c : ℕ) → c < k → getD reads c 0 ≡ readAt m (n .charts) (λ d. asked (transitionsOf n b d) (getD config d 0)) c
 
 -- one transition with the action a more
 abbrev pub withOne : Bool → Set → Puts → Puts
@@ -58,23 +76,27 @@ withOne true a p = record { may = p .may ∪ a; sure = p .sure ∩ a }
 withOne false a p = p
 
 -- may has what each of the first k charts might put out
-abbrev pub Mays : Shape → List ℕ → List ℕ → ℕ → List ℕ → Type 0
-Mays n b config k may = (c : ℕ) → c < k → getD may c 0 ≡ mayOf (transitionsOf n b c) (getD config c 0)
+abbrev pub Mays : Shape → List ℕ → List ℕ → List ℕ → ℕ → List ℕ → Type 0
+Mays n b config reads k may =
+    (c : ℕ) → c < k → getD may c 0 ≡ mayOf (narrowAll (getD reads c 0) (transitionsOf n b c)) (getD config c 0)
 
 -- of the first k charts, and what each chart is surely offered by them, lows
-pub record Sided (n : Shape) (b config base m s : List ℕ) (k : ℕ) (may lows : List ℕ) : Type 0 where
-  pub mays : Mays n b config k may
-  pub raised : Raised (chartOf n b) (λ c. getD config c 0) k m s base lows
+pub record Sided (n : Shape) (b config reads base m s : List ℕ) (k : ℕ) (may lows : List ℕ) : Type 0 where
+  pub mays : Mays n b config reads k may
+  pub raised : Raised (readCharts n b reads) (λ c. getD config c 0) k m s base lows
 
 -- the first k charts have their candidates
-abbrev pub UntilChart : Shape → List ℕ → List ℕ → List ℕ → List ℕ → List ℕ → List ℕ → ℕ → List ℕ → List ℕ → Type 0
-UntilChart n b config lows shuts m₀ s₀ k m s =
-    Until (chartOf n b) (λ c. getD config c 0) (n .charts) lows shuts m₀ s₀ k m s
+abbrev pub UntilChart : Shape → List ℕ → List ℕ → List ℕ → List ℕ → List ℕ → List ℕ → List ℕ → ℕ → List ℕ → List ℕ
+    → Type 0
+UntilChart n b config reads lows shuts m₀ s₀ k m s =
+    Until (readCharts n b reads) (λ c. getD config c 0) (n .charts) lows shuts m₀ s₀ k m s
 
 -- chart c gets its candidates
-abbrev pub NextChart : Shape → List ℕ → List ℕ → List ℕ → List ℕ → ℕ → List ℕ → List ℕ → List ℕ → List ℕ → Type 0
-NextChart n b config lows shuts c m s m′ s′ =
-    (m₀ s₀ : List ℕ) → UntilChart n b config lows shuts m₀ s₀ c m s → UntilChart n b config lows shuts m₀ s₀ (c + 1) m′ s′
+abbrev pub NextChart : Shape → List ℕ → List ℕ → List ℕ → List ℕ → List ℕ → ℕ → List ℕ → List ℕ → List ℕ → List ℕ
+    → Type 0
+NextChart n b config reads lows shuts c m s m′ s′ =
+    (m₀ s₀ : List ℕ) → UntilChart n b config reads lows shuts m₀ s₀ c m s
+    → UntilChart n b config reads lows shuts m₀ s₀ (c + 1) m′ s′
 
 -- the states of the first k charts are in the table, the rest as it was
 pub record Stated (config : List ℕ) (k : ℕ) (s₀ s : List ℕ) : Type 0 where
@@ -83,9 +105,9 @@ pub record Stated (config : List ℕ) (k : ℕ) (s₀ s : List ℕ) : Type 0 whe
   pub small : length s ≡ length s₀
 
 -- all charts have theirs, and the rest of the tables m₀ and s₀ is as it was: the wiring, the masters and their states
-pub record Chooses (n : Shape) (b config base shuts lows m₀ s₀ m s : List ℕ) : Type 0 where
-  pub chosen : Chosen (chartOf n b) (λ c. getD config c 0) (n .charts) lows shuts m s
-  pub raised : Raised (chartOf n b) (λ c. getD config c 0) (n .charts) m s base lows
+pub record Chooses (n : Shape) (b config reads base shuts lows m₀ s₀ m s : List ℕ) : Type 0 where
+  pub chosen : Chosen (readCharts n b reads) (λ c. getD config c 0) (n .charts) lows shuts m s
+  pub raised : Raised (readCharts n b reads) (λ c. getD config c 0) (n .charts) m s base lows
   pub wires : SameWiring m₀ m
   pub masters : (i : ℕ) → masterFrom ≤ i → i < stateFrom → getD s i 0 ≡ getD s₀ i 0
   pub tabled : Tabled (n .charts) m s

@@ -16,8 +16,9 @@ ghost use Rattle.meaning.specs.Numbers.{mostCharts, mostFromState, stayEdition}
 ghost use Rattle.wiring.specs.Hunt.{mayOf};
 ghost use Rattle.cells.specs.Table.{masksFor, backAt, putMasks, Row, smallSize, countAt, putSmall};
 ghost use Rattle.tables.specs.Filled.{mayAt};
+ghost use Rattle.tables.specs.Read.{narrow};
 ghost use Rattle.tables.specs.Fill.{lastsBy, othersAt, sureAt, isAt, isAgain, AheadRow, aheadBy, AheadFrom, stuck};
-ghost use Rattle.candidates.specs.Candidates.{Ready, Tabled, Left, filling, consideredBy, listingBy, fromStart, withOne, Mays, Sided, NextChart, UntilChart, Stated, Chooses};
+ghost use Rattle.candidates.specs.Candidates.{Ready, Tabled, Left, filling, consideredBy, listingBy, readAs, fromStart, withOne, Mays, Sided, NextChart, UntilChart, Stated, Chooses};
 use cells::CHARTS;
 use cells::masks;
 use cells::small;
@@ -27,11 +28,14 @@ use layout::limits::HEAD_BYTES;
 use layout::limits::TRANSITION_BYTES;
 use layout::record::Transition;
 
-// The chart whose candidates are chosen, its present state, what it may be offered: surely, of its own action, and of
-// all others'; and the states that it must not go to, as a mask.
+pub mod read;
+
+// The chart whose candidates are chosen, its present state, what is read of its actions, what it may be offered:
+// surely, of its own action, and of all others'; and the states that it must not go to, as a mask.
 pub struct Around {
     pub chart: usize,
     pub state: u8,
+    pub read: u64,
     pub low: u64,
     pub own: u64,
     pub others: u64,
@@ -61,13 +65,29 @@ pub fn from_at(n: Shape, body: &[u8], t: usize) -> u8
     body[HEAD_BYTES * n.charts + TRANSITION_BYTES * t]
 }
 
-// One transition more, if it is from the state.
-fn with_one(n: Shape, body: &[u8], t: usize, state: u8, p: Puts) -> Puts
+// Transition t, with only what is read of its action.
+fn read_at(n: Shape, body: &[u8], t: usize, read: u64) -> Transition
     requires { ⌜ Holds n (now body) × (t < n .transitions) ⌝ }
-    ensures { λ r. ⌜ r ≡ withOne (same (transitionAt n (now (body .entry)) t .from) state) (transitionAt n (now (body .entry)) t .action) p ⌝ }
+    ensures { λ r. ⌜ r ≡ narrow read (transitionAt n (now (body .entry)) t) ⌝ }
+{
+    let r = layout::body::transition_at(n, body, t);
+    Transition {
+        from: r.from,
+        to: r.to,
+        needed: r.needed,
+        barred: r.barred,
+        action: r.action & read,
+    }
+}
+
+// One transition more, if it is from the state.
+fn with_one(n: Shape, body: &[u8], t: usize, state: u8, read: u64, p: Puts) -> Puts
+    requires { ⌜ Holds n (now body) × (t < n .transitions) ⌝ }
+    ensures { λ r. ⌜ r ≡ withOne (same (transitionAt n (now (body .entry)) t .from) state)
+        (narrow read (transitionAt n (now (body .entry)) t) .action) p ⌝ }
 {
     if from_at(n, body, t) == state {
-        let r = layout::body::transition_at(n, body, t);
+        let r = read_at(n, body, t, read);
         return Puts {
             may: p.may | r.action,
             sure: p.sure & r.action,
@@ -76,10 +96,11 @@ fn with_one(n: Shape, body: &[u8], t: usize, state: u8, p: Puts) -> Puts
     p
 }
 
-// What the transitions from a state put out, of `count` from `start` on.
-fn puts_of(n: Shape, body: &[u8], start: usize, count: usize, state: u8) -> Puts
+// What the transitions from a state put out that is read, of `count` from `start` on.
+fn puts_of(n: Shape, body: &[u8], start: usize, count: usize, state: u8, read: u64) -> Puts
     requires { ⌜ Holds n (now body) × (start + count ≤ n .transitions) ⌝ }
-    ensures { λ r. ⌜ (r .may ≡ mayOf (fromOn (transitionAt n (now (body .entry))) start count) state) × (r .sure ≡ sureOf (fromOn (transitionAt n (now (body .entry))) start count) state) ⌝ }
+    ensures { λ r. ⌜ (r .may ≡ mayOf (fromOn (readAs n (now (body .entry)) read) start count) state)
+        × (r .sure ≡ sureOf (fromOn (readAs n (now (body .entry)) read) start count) state) ⌝ }
 {
     let mut puts = Puts {
         may: 0,
@@ -87,7 +108,7 @@ fn puts_of(n: Shape, body: &[u8], start: usize, count: usize, state: u8) -> Puts
     };
     let mut p: usize = 0;
     while p < count {
-        puts = with_one(n, body, start + p, state, puts);
+        puts = with_one(n, body, start + p, state, read, puts);
         p += 1;
     }
     puts
@@ -128,17 +149,19 @@ fn surely(n: Shape, u: u64) -> u64
     u
 }
 
-// What each chart might put out from its present state, and what each is surely offered; `base` has what it is of the input.
+// What each chart might put out from its present state that is read, and what each is surely offered; `base` has what
+// it is of the input.
 fn sides_of(
     n: Shape,
     body: &[u8],
     config: &[u8],
+    reads: &[u64; CHARTS],
     base: [u64; CHARTS],
     masks: &[u64],
     small: &[u8],
 ) -> Sides
     requires { ⌜ Ready n (now body) (now config) × Tabled (n .charts) (now masks) (now small) ⌝ }
-    ensures { λ r. ⌜ Sided n (now (body .entry)) (now (config .entry)) base (now (masks .entry)) (now (small .entry)) (n .charts) (r .may) (r .low) ⌝ }
+    ensures { λ r. ⌜ Sided n (now (body .entry)) (now (config .entry)) (now (reads .entry)) base (now (masks .entry)) (now (small .entry)) (n .charts) (r .may) (r .low) ⌝ }
 {
     let mut may = [0u64; CHARTS];
     let mut low = base;
@@ -147,7 +170,7 @@ fn sides_of(
     while c < n.charts {
         let head = layout::body::head_at(n, body, c);
         let count = head.transitions as usize;
-        let puts = puts_of(n, body, start, count, config[c]);
+        let puts = puts_of(n, body, start, count, config[c], reads[c]);
         may[c] = puts.may;
         let sure = surely(n, puts.sure);
         raise(masks, small, &mut low, c, sure);
@@ -248,12 +271,12 @@ fn consider(
     have: usize,
 ) -> usize
     requires { ⌜ Holds n (now body) × (t < n .transitions) × Tabled (a .chart + 1) (now masks) (now small) × (a .chart < mostCharts) × (have ≤ mostFromState) × (transitionAt n (now body) t .from ≡ a .state → have < mostFromState) ⌝ }
-    ensures { λ r. ⌜ Left (consideredBy a place (transitionAt n (now (body .entry)) t) (filling (now (masks .entry)) (now (small .entry)) have)) (now (masks .exit)) (now (small .exit)) r ⌝ }
+    ensures { λ r. ⌜ Left (consideredBy a place (narrow (a .read) (transitionAt n (now (body .entry)) t)) (filling (now (masks .entry)) (now (small .entry)) have)) (now (masks .exit)) (now (small .exit)) r ⌝ }
 {
     if from_at(n, body, t) != a.state {
         return have;
     }
-    let r = layout::body::transition_at(n, body, t);
+    let r = read_at(n, body, t, a.read);
     if !lasts(r, a.low, a.own, a.others, a.shut) {
         return have;
     }
@@ -274,8 +297,8 @@ fn list(
     small: &mut [u8],
     a: Around,
 ) -> usize
-    requires { ⌜ Holds n (now body) × (start + count ≤ n .transitions) × (count < 256) × Tabled (a .chart + 1) (now masks) (now small) × (a .chart < mostCharts) × (tally count (λ u. one (same (fromStart n (now body) start u .from) (a .state))) ≤ mostFromState) ⌝ }
-    ensures { λ r. ⌜ Left (listingBy a (fromStart n (now (body .entry)) start) count (filling (now (masks .entry)) (now (small .entry)) 0)) (now (masks .exit)) (now (small .exit)) r × (r ≤ mostFromState) ⌝ }
+    requires { ⌜ Holds n (now body) × (start + count ≤ n .transitions) × (count < 256) × Tabled (a .chart + 1) (now masks) (now small) × (a .chart < mostCharts) × (tally count (λ u. one (same (transitionAt n (now body) (start + u) .from) (a .state))) ≤ mostFromState) ⌝ }
+    ensures { λ r. ⌜ Left (listingBy a (fromStart n (now (body .entry)) (a .read) start) count (filling (now (masks .entry)) (now (small .entry)) 0)) (now (masks .exit)) (now (small .exit)) r × (r ≤ mostFromState) ⌝ }
 {
     let mut have: usize = 0;
     let mut p: usize = 0;
@@ -291,6 +314,7 @@ fn list_chart(
     n: Shape,
     body: &[u8],
     config: &[u8],
+    reads: &[u64; CHARTS],
     lows: &[u64; CHARTS],
     may: &[u64; CHARTS],
     shuts: &[u64; CHARTS],
@@ -299,8 +323,8 @@ fn list_chart(
     c: usize,
     start: usize,
 ) -> usize
-    requires { ⌜ Ready n (now body) (now config) × Mays n (now body) (now config) (n .charts) (now may) × Tabled (n .charts) (now masks) (now small) × (c < n .charts) × (start ≡ startOf n (now body) c) ⌝ }
-    ensures { λ r. ⌜ (r ≡ startOf n (now (body .entry)) (c + 1)) × Tabled (n .charts) (now (masks .exit)) (now (small .exit)) × NextChart n (now (body .entry)) (now (config .entry)) (now (lows .entry)) (now (shuts .entry)) c (now (masks .entry)) (now (small .entry)) (now (masks .exit)) (now (small .exit)) ⌝ }
+    requires { ⌜ Ready n (now body) (now config) × Mays n (now body) (now config) (now reads) (n .charts) (now may) × Tabled (n .charts) (now masks) (now small) × (c < n .charts) × (start ≡ startOf n (now body) c) ⌝ }
+    ensures { λ r. ⌜ (r ≡ startOf n (now (body .entry)) (c + 1)) × Tabled (n .charts) (now (masks .exit)) (now (small .exit)) × NextChart n (now (body .entry)) (now (config .entry)) (now (reads .entry)) (now (lows .entry)) (now (shuts .entry)) c (now (masks .entry)) (now (small .entry)) (now (masks .exit)) (now (small .exit)) ⌝ }
 {
     let head = layout::body::head_at(n, body, c);
     let count = head.transitions as usize;
@@ -309,6 +333,7 @@ fn list_chart(
     let a = Around {
         chart: c,
         state: config[c],
+        read: reads[c],
         low: lows[c],
         own: own,
         others: rest,
@@ -323,19 +348,32 @@ fn list_all(
     n: Shape,
     body: &[u8],
     config: &[u8],
+    reads: &[u64; CHARTS],
     lows: &[u64; CHARTS],
     may: &[u64; CHARTS],
     shuts: &[u64; CHARTS],
     masks: &mut [u64],
     small: &mut [u8],
 )
-    requires { ⌜ Ready n (now body) (now config) × Mays n (now body) (now config) (n .charts) (now may) × Tabled (n .charts) (now masks) (now small) ⌝ }
-    ensures { λ _. ⌜ UntilChart n (now (body .entry)) (now (config .entry)) (now (lows .entry)) (now (shuts .entry)) (now (masks .entry)) (now (small .entry)) (n .charts) (now (masks .exit)) (now (small .exit)) ⌝ }
+    requires { ⌜ Ready n (now body) (now config) × Mays n (now body) (now config) (now reads) (n .charts) (now may) × Tabled (n .charts) (now masks) (now small) ⌝ }
+    ensures { λ _. ⌜ UntilChart n (now (body .entry)) (now (config .entry)) (now (reads .entry)) (now (lows .entry)) (now (shuts .entry)) (now (masks .entry)) (now (small .entry)) (n .charts) (now (masks .exit)) (now (small .exit)) ⌝ }
 {
     let mut start: usize = 0;
     let mut c: usize = 0;
     while c < n.charts {
-        start = list_chart(n, body, config, lows, may, shuts, masks, small, c, start);
+        start = list_chart(
+            n,
+            body,
+            config,
+            reads,
+            lows,
+            may,
+            shuts,
+            masks,
+            small,
+            c,
+            start,
+        );
         c += 1;
     }
 }
@@ -406,27 +444,29 @@ fn put_states(small: &mut [u8], config: &[u8], charts: usize)
     }
 }
 
-// Fills in all that a search needs of a configuration and of what each chart is offered of the input, `base`. `shuts`
+// Fills in all that a search needs of a configuration and of what each chart is offered of the input, `base`. `reads`
+// has what is read of each chart's actions: the rest is left out, so candidates that differ in it alone are one. `shuts`
 // has the states that each chart must not go to, since no open choice begins so. The wiring and the masters are there.
 // The result has what each chart might put out, and what each is surely offered: of the input, and of what other charts put out whatever they do.
 pub fn choose(
     n: Shape,
     body: &[u8],
     config: &[u8],
+    reads: &[u64; CHARTS],
     base: [u64; CHARTS],
     shuts: [u64; CHARTS],
     masks: &mut [u64],
     small: &mut [u8],
 ) -> Sides
     requires { ⌜ Ready n (now body) (now config) × Tabled (n .charts) (now masks) (now small) ⌝ }
-    ensures { λ r. ⌜ Mays n (now (body .entry)) (now (config .entry)) (n .charts) (r .may)
-        × Chooses n (now (body .entry)) (now (config .entry)) base shuts (r .low) (now (masks .entry)) (now (small .entry)) (now (masks .exit)) (now (small .exit)) ⌝ }
+    ensures { λ r. ⌜ Mays n (now (body .entry)) (now (config .entry)) (now (reads .entry)) (n .charts) (r .may)
+        × Chooses n (now (body .entry)) (now (config .entry)) (now (reads .entry)) base shuts (r .low) (now (masks .entry)) (now (small .entry)) (now (masks .exit)) (now (small .exit)) ⌝ }
 {
     put_states(small, config, n.charts);
-    let known = sides_of(n, body, config, base, masks, small);
+    let known = sides_of(n, body, config, reads, base, masks, small);
     let low = known.low;
     let may = known.may;
-    list_all(n, body, config, &low, &may, &shuts, masks, small);
+    list_all(n, body, config, reads, &low, &may, &shuts, masks, small);
     ahead_all(masks, small, n.charts);
     known
 }

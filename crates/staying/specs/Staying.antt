@@ -13,11 +13,11 @@ use Rattle.layout.specs.declared.record.Transition.{Transition}
 use Rattle.meaning.specs.Numbers.{mostCharts, mostFromState}
 use Rattle.meaning.specs.Count.{tally, one}
 use Rattle.meaning.specs.Meaning.{Set, same, untriggered}
-use Rattle.meaning.specs.File.{chartOf}
 use Rattle.cells.specs.Triggers.{triggersFor, putTrigger, staysSize, someStay, Guards}
 use Rattle.tables.specs.Filled.{Stayers}
 use Rattle.tables.specs.Fill.{othersAt, keepAt}
 use Rattle.tables.specs.Triggers.{Noted, SameTriggers, Told}
+use Rattle.candidates.specs.Candidates.{Mays, readCharts}
 pub mod Laws
 
 -- one transition more, of chart c at q, which had k triggers and has k′
@@ -60,7 +60,10 @@ module _ (n : Shape) (b config lows may shuts m : List ℕ) where
     pub small : length y ≡ staysSize
     pub some-may : someStay y ≡ 1
 
--- what it is told of all: g and y are as the search asks for
-pub record Stays (n : Shape) (b config lows shuts m g y : List ℕ) : Type 0 where
-  pub stayers : Stayers (chartOf n b) (λ c. getD config c 0) (n .charts) (keepAt (chartOf n b) (λ c. getD config c 0) (n .charts) lows shuts m) g y
+-- what it is told of all: g and y are as the search asks for, whatever is read of the actions, if `may` has what each
+-- chart might put out of that
+pub record Stays (n : Shape) (b config may lows shuts m g y : List ℕ) : Type 0 where
+  pub stayers : (reads : List ℕ) → Mays n b config reads (n .charts) may
+      → Stayers (readCharts n b reads) (λ c. getD config c 0) (n .charts)
+      (keepAt (readCharts n b reads) (λ c. getD config c 0) (n .charts) lows shuts m) g y
   pub guards : Guards g y

@@ -11,7 +11,7 @@ ghost use Rattle.meaning.specs.Meaning.{same};
 ghost use Rattle.meaning.specs.Numbers.{mostCharts, mostFromState, stayEdition};
 ghost use Rattle.cells.specs.Triggers.{triggers, triggersFor};
 ghost use Rattle.cells.specs.Table.{masksFor};
-ghost use Rattle.candidates.specs.Candidates.{Ready, Mays};
+ghost use Rattle.candidates.specs.Candidates.{Ready};
 ghost use Rattle.staying.specs.Staying.{Notes, Noting, Tells, Telling, Stays};
 use cells::CHARTS;
 use cells::triggers;
@@ -143,9 +143,9 @@ pub fn stays(
     masks: &[u64],
     guards: &mut [u64],
 ) -> [u8; triggers::STAYS]
-    requires { ⌜ Ready n (now body) (now config) × (masksFor (n .charts) ≤ length (now masks)) × Mays n (now body) (now config) (n .charts) may
+    requires { ⌜ Ready n (now body) (now config) × (masksFor (n .charts) ≤ length (now masks))
         × (n .edition ≡ stayEdition → triggersFor (n .charts) ≤ length (now guards)) ⌝ }
-    ensures { λ r. ⌜ Stays n (now (body .entry)) (now (config .entry)) low shuts (now (masks .entry)) (now (guards .exit)) r ⌝ }
+    ensures { λ r. ⌜ Stays n (now (body .entry)) (now (config .entry)) may low shuts (now (masks .entry)) (now (guards .exit)) r ⌝ }
 {
     if n.edition != checks::limits::STAY_EDITION as usize {
         return [0u8; triggers::STAYS];

@@ -10,7 +10,7 @@ use Rattle.layout.specs.declared.body.Shape.{Shape}
 use Rattle.meaning.specs.Numbers.{mostOpen, wrongLength, badState, shortBuffer, noStep, manyOpen}
 use Rattle.meaning.specs.Count.{anyUpTo}
 use Rattle.meaning.specs.Meaning.{Set, same, Answer, refused}
-use Rattle.meaning.specs.File.{File, fileAt}
+use Rattle.meaning.specs.File.{File, fileAt, wholeOf}
 use Rattle.meaning.specs.Check.{Test, firstOf, differ, notBelow, charts?, transitions?}
 use Rattle.meaning.specs.Check.Nodes.{Sound}
 use Rattle.meaning.specs.Open.{openIn}
@@ -20,6 +20,7 @@ use Rattle.settling.specs.Hunt.{over, nothing}
 use Rattle.settling.specs.Stays.{huntsBoth}
 use Rattle.settling.specs.declared.Found.{Found}
 use Rattle.tables.specs.Filled.{answerOf}
+use Rattle.tables.specs.Read.{Reads}
 use Rattle.tables.specs.Whole.{Opens}
 use Rattle.checks.specs.Known.{Sized, Summed}
 use Rattle.plan.specs.Wired.{Wired}
@@ -71,17 +72,22 @@ pub record Prepared (n : Shape) (b a m s : List ℕ) : Type 0 where
 
 -- no permitted choice goes to a state that is shut, whatever the input is
 abbrev pub Shut : Shape → List ℕ → List ℕ → List ℕ → Type 0
-Shut n b config shuts = (i : Set) → Opens (fileAt n b) (λ c. getD config c 0) i shuts
+Shut n b config shuts = (i : Set) → Opens (fileAt n b) (fileAt n b .chart) (λ c. getD config c 0) i shuts
+
+-- reads has all that is read of each chart's action
+abbrev pub AllRead : Shape → List ℕ → List ℕ → List ℕ → Type 0
+AllRead n b config reads =
+    Reads (fileAt n b .chart) (λ c. getD config c 0) (n .charts) (wholeOf (fileAt n b)) (λ c. getD reads c 0)
 
 -- what a search over tables finds, low being what each chart is surely offered before any is settled
 abbrev pub searchedOf : ℕ → List ℕ → List ℕ → List ℕ → List ℕ → List ℕ → Found
 searchedOf N low m s g y = over (huntsBoth m s g y N 0 (beginning low)) nothing
 
 -- what was found is what a search finds that was told which charts may stay
-pub record Searched (n : Shape) (b config low shuts m s : List ℕ) (f : Found) : Type 0 where
+pub record Searched (n : Shape) (b config may low shuts m s : List ℕ) (f : Found) : Type 0 where
   pub guards : List ℕ
   pub stays : List ℕ
-  pub told : Stays n b config low shuts m guards stays
+  pub told : Stays n b config may low shuts m guards stays
   pub found : f ≡ searchedOf (n .charts) low m s guards stays
 
 -- what was found is what the meaning finds, and has its places

@@ -1,6 +1,7 @@
 // A step of a body that passed 1 to 11 (RULES 5): wire, count the open choices, choose candidates, search.
 ghost use mathlib.Core.Path.{_≡_};
-ghost use Prim.Native.Nat.{_≤_, _<_};
+ghost use mathlib.Core.List.{List};
+ghost use Prim.Native.Nat.{ℕ, _≤_, _<_};
 ghost use lib.ListN.{length, take, getD};
 ghost use Rattle.signals.specs.Mask.{_∩_};
 ghost use Rattle.layout.specs.Body.{Holds, headAt};
@@ -15,9 +16,9 @@ ghost use Rattle.cells.specs.Triggers.{triggers, Guards};
 ghost use Rattle.settling.specs.Hunt.{nothing};
 ghost use Rattle.plan.specs.Noted.{NearestIn};
 ghost use Rattle.plan.specs.Wire.{Blank};
-ghost use Rattle.candidates.specs.Candidates.{Ready, Mays};
+ghost use Rattle.candidates.specs.Candidates.{Ready};
 ghost use Rattle.stepping.specs.Answer.{refusedOf};
-ghost use Rattle.stepping.specs.Step.{configTestsIn, BodySteps, Checked, Prepared, Shut, searchedOf, Searched, Finds, triedRefusal, Tries};
+ghost use Rattle.stepping.specs.Step.{configTestsIn, BodySteps, Checked, Prepared, Shut, AllRead, searchedOf, Searched, Finds, triedRefusal, Tries};
 use candidates::Sides;
 use cells::CHARTS;
 use cells::masks;
@@ -121,8 +122,8 @@ fn found_staying(
     masks: &[u64],
     small: &[u8],
 ) -> Found
-    requires { ⌜ Ready n (now body) (now config) × Tables (n .charts) (now masks) (now small) × Mays n (now body) (now config) (n .charts) (sides .may) ⌝ }
-    ensures { λ r. ⌜ Searched n (now (body .entry)) (now (config .entry)) (sides .low) shuts (now (masks .entry)) (now (small .entry)) r ⌝ }
+    requires { ⌜ Ready n (now body) (now config) × Tables (n .charts) (now masks) (now small) ⌝ }
+    ensures { λ r. ⌜ Searched n (now (body .entry)) (now (config .entry)) (sides .may) (sides .low) shuts (now (masks .entry)) (now (small .entry)) r ⌝ }
 {
     let low = sides.low;
     let may = sides.may;
@@ -131,12 +132,29 @@ fn found_staying(
     searched(masks, small, &guards, &stays, n.charts, low)
 }
 
-// What is found for a wired body from a configuration, where each chart must not go to the states that are shut. The
-// tables are ready for another. Where no chart may stay there is no trigger to make room for.
+// Up to so many open choices every search is short, and what is read is not looked for.
+const FEW_OPEN: u64 = 4096;
+
+// What is read of each chart's actions; where few choices are open, all signals stand for it.
+fn read_by(n: Shape, body: &[u8], config: &[u8], masks: &[u64], open_choices: u64) -> [u64; CHARTS]
+    requires { ⌜ Ready n (now body) (now config) × (masksFor (n .charts) ≤ length (now masks)) ⌝ }
+    ensures { λ r. ⌜ ((a s : List ℕ) → Prepared n (now (body .entry)) a (now (masks .entry)) s
+        → AllRead n (now (body .entry)) (now (config .entry)) r) ⌝ }
+{
+    if open_choices <= FEW_OPEN {
+        return [signals::ALL; CHARTS];
+    }
+    candidates::read::rows(n, body, config, masks)
+}
+
+// What is found for a wired body from a configuration, where each chart must not go to the states that are shut, and
+// `reads` has what is read of its actions. The tables are ready for another. Where no chart may stay there is no trigger
+// to make room for.
 fn found(
     n: Shape,
     body: &[u8],
     config: &[u8],
+    reads: &[u64; CHARTS],
     input: u64,
     down: [u64; CHARTS],
     shuts: [u64; CHARTS],
@@ -144,11 +162,11 @@ fn found(
     small: &mut [u8],
 ) -> Found
     requires { ⌜ Checked n (now body) × Ready n (now body) (now config) × Prepared n (now body) down (now masks) (now small)
-        × Shut n (now body) (now config) shuts ⌝ }
+        × Shut n (now body) (now config) shuts × AllRead n (now body) (now config) (now reads) ⌝ }
     ensures { λ r. ⌜ Finds n (now (body .entry)) (now (config .entry)) input r × Prepared n (now (body .entry)) down (now (masks .exit)) (now (small .exit)) ⌝ }
 {
     let base = lows(down, input);
-    let sides = candidates::choose(n, body, config, base, shuts, masks, small);
+    let sides = candidates::choose(n, body, config, reads, base, shuts, masks, small);
     if n.edition == limits::STAY_EDITION as usize {
         return found_staying(n, body, config, sides, shuts, masks, small);
     }
@@ -233,7 +251,8 @@ pub fn try_wired(
         return untried(open_choices);
     }
     let shuts = count.shuts;
-    let found = found(n, body, config, input, down, shuts, masks, small);
+    let reads = read_by(n, body, config, masks, open_choices);
+    let found = found(n, body, config, &reads, input, down, shuts, masks, small);
     Tried {
         open_choices,
         found,

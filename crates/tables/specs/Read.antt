@@ -7,6 +7,7 @@ use Rattle.signals.specs.Mask.{_∪_, _∩_, Within}
 use Rattle.layout.specs.declared.record.Transition.{Transition}
 use Rattle.meaning.specs.Meaning.{Set, ∅, same, Chart, Tree}
 use Rattle.wiring.specs.Wire.{full, join, up, back}
+use Rattle.cells.specs.Table.{backAt, upAt}
 pub mod Laws
 
 -- ── what is read ──
@@ -24,6 +25,10 @@ module _ (E : ℕ → Chart) (cfg : ℕ → ℕ) (N : ℕ) (t : Tree) where
   -- r has all of it, for each chart
   abbrev pub Reads : (ℕ → Set) → Type 0
   Reads r = (k : ℕ) → k < N → Within (readOf k ∩ full) (r k)
+
+-- the same by the tables, where ask has what each chart looks for
+unfoldable pub readAt : List ℕ → ℕ → (ℕ → Set) → ℕ → Set
+readAt m N ask k = upAt m k ∪ join N (λ c. backAt m c k ∩ ask c)
 
 -- ── with nothing else in the actions ──
 

@@ -1,7 +1,8 @@
 -- The triggers of a chart that may stay, as they get into a list: all transitions from its present state, in order (Noted). Where the list stands
 -- elsewhere it is noted there too (`noted-kept`); one of it holds exactly if the chart is triggered (`noted-trips`), so the chart is calm by it
--- exactly if nothing triggers it (`noted-calm`). What a search is told of a chart (Told, `told-kept`), and that this is what it asks for (`stayers`).
-use mathlib.Core.Path.{_≡_, refl, sym, _∙_, ap, ap₂}
+-- exactly if nothing triggers it (`noted-calm`). What a search is told of a chart (Told, `told-kept`), also with less
+-- in its actions (`told-narrowed`), and that this is what it asks for (`stayers`).
+use mathlib.Core.Path.{_≡_, refl, sym, _∙_, ap, ap₂, subst}
 use mathlib.Core.Bool.{Bool, true, false, _&&_, _||_, not, cond, true≢false, or-false}
 use mathlib.Core.List.{List, [], _∷_}
 use mathlib.Core.Logic.{_≢_}
@@ -17,6 +18,8 @@ use Rattle.meaning.specs.Laws.Bools.{same-refl, same-≢}
 use Rattle.cells.specs.Triggers.{triggerNeeded, triggerBarred}
 use Rattle.settling.specs.Stays.{trips, staysAt, calm}
 use Rattle.tables.specs.Filled.{Stayers}
+use Rattle.tables.specs.Read.{narrow, narrowAll}
+use Rattle.tables.specs.Read.Laws.{narrowMove, length-narrowed, nth-narrowed}
 
 -- of the first p of chart c's transitions ts those from state q are triggers: n of them
 module _ (g : List ℕ) (c : ℕ) (ts : List Transition) (q : ℕ) where
@@ -94,6 +97,23 @@ module _ (g : List ℕ) (c : ℕ) (ts : List Transition) (q : ℕ) (may : Bool) 
 pub told-kept : (g g′ : List ℕ) (c : ℕ) (ts : List Transition) (q : ℕ) (may : Bool) (k : ℕ) → k ≤ mostFromState + 1 → SameTriggers g g′ c mostFromState → Told g c ts q may k → Told g′ c ts q may k
 told-kept g g′ c ts q may k few h (shut e z) = shut e z
 told-kept g g′ c ts q may k few h (listed e n z r) = listed e n z (noted-kept g g′ c ts q (λ v l. h v (omega arith)) r)
+
+-- guards are the same where actions are narrowed
+module _ (g : List ℕ) (c : ℕ) (r : Set) (ts : List Transition) (q : ℕ) where
+  at-narrowed : (p : ℕ) (t : Transition) → nth noMove ts p ≡ takes t
+      → nth noMove (narrowAll r ts) p ≡ takes (narrow r t)
+  unfolding narrowMove
+  at-narrowed p t e = nth-narrowed r noMove ts p ∙ ap (narrowMove r) e
+
+  noted-narrowed : {p n : ℕ} → Noted g c ts q p n → Noted g c (narrowAll r ts) q p n
+  noted-narrowed begun = begun
+  noted-narrowed (passed {p = p} h t e f) = passed (noted-narrowed h) (narrow r t) (at-narrowed p t e) f
+  noted-narrowed (noted {p = p} h t e f a b) = noted (noted-narrowed h) (narrow r t) (at-narrowed p t e) f a b
+
+  pub told-narrowed : (may : Bool) (k : ℕ) → Told g c ts q may k → Told g c (narrowAll r ts) q may k
+  told-narrowed may k (shut e z) = shut e z
+  told-narrowed may k (listed e n z h) =
+      listed e n z (subst (λ j. Noted g c (narrowAll r ts) q j n) (sym (length-narrowed r ts)) (noted-narrowed h))
 
 -- ── a table of such lists ──
 

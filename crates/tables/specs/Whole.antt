@@ -17,8 +17,7 @@ use Rattle.meaning.specs.Numbers.{mostCharts, noPlace, stayPlace}
 use Rattle.meaning.specs.Laws.Editions.{places-one, places-two, stay-last}
 use Rattle.meaning.specs.Calls.{allPlaces}
 use Rattle.meaning.specs.File.{File, wholeOf}
-use Rattle.meaning.specs.Laws.Trees.{Ordered, Rule11}
-use Rattle.meaning.specs.Laws.Names.{Rule10, kap}
+use Rattle.meaning.specs.Laws.Names.{kap}
 use Rattle.meaning.specs.Laws.Choices.{upto-first, length-nexts, length-places}
 use Rattle.wiring.specs.Wire.{join, down, back, offered, Small}
 use Rattle.wiring.specs.Wired.{awake, Stands, offer}
@@ -27,7 +26,6 @@ use Rattle.wiring.specs.Opened.{nth-near, nth-behind}
 use Rattle.wiring.specs.Dropped.{test, may-bounds, permitted-open, Bounds, sures, low, passes}
 use Rattle.wiring.specs.Hunt.{opens, fine, hunt, hunted-all, mayOf, may-of, behind-empty}
 use Rattle.wiring.specs.Filter.{lasts, kept}
-use Rattle.wiring.specs.Stand.{stands}
 use Rattle.cells.specs.Table.{actionAt, countAt, placeAt}
 use Rattle.settling.specs.Trail.{Trail, beginning}
 use Rattle.settling.specs.Hunt.{each, wakes, taken, rested, fineAt, over, nothing}
@@ -343,54 +341,52 @@ module _ (E : ℕ → Chart) (state : ℕ → ℕ) (cfg : ℕ → ℕ) (N : ℕ)
     unfolding outcomes beginning placesFrom
     places-all lows h = found-places N refl _ _ (finds lows h) (sizes N zero (λ c. zero))
 
--- ── for a file that tests 9 to 11 allow ──
+-- ── for a file that tests 9 to 11 allow, with charts E in its tree ──
 
 -- a move is kept: it may be met between what its chart is surely offered and what all the others might put in, and it
 -- goes to none of the states that its chart must not go to
-abbrev pub keeps : File → (ℕ → ℕ) → Set → List ℕ → ℕ → ℕ → Bool
-keeps F cfg inp shuts =
-    opening (F .chart) cfg shuts
-    (lasts (F .chart) (F .state) cfg (F .charts) (kap F) (wholeOf F) inp (λ c. mayOf (F .chart c .transitions) (cfg c)))
+abbrev pub keeps : File → (ℕ → Chart) → (ℕ → ℕ) → Set → List ℕ → ℕ → ℕ → Bool
+keeps F E cfg inp shuts =
+    opening E cfg shuts
+    (lasts E (F .state) cfg (F .charts) (kap F) (wholeOf F) inp (λ c. mayOf (E c .transitions) (cfg c)))
 
 -- no permitted choice goes there
-abbrev pub Opens : File → (ℕ → ℕ) → Set → List ℕ → Type 0
-Opens F cfg inp shuts =
-    (ch : ℕ → ℕ) → permitted (F .chart) (F .state) cfg (moves (F .chart) ch) (wholeOf F) inp ≡ true
-    → (c : ℕ) → c < F .charts → opensBy (getD shuts c 0) (cfg c) (pick (F .chart c) (ch c)) ≡ true
+abbrev pub Opens : File → (ℕ → Chart) → (ℕ → ℕ) → Set → List ℕ → Type 0
+Opens F E cfg inp shuts =
+    (ch : ℕ → ℕ) → permitted E (F .state) cfg (moves E ch) (wholeOf F) inp ≡ true
+    → (c : ℕ) → c < F .charts → opensBy (getD shuts c 0) (cfg c) (pick (E c) (ch c)) ≡ true
 
-module _ (F : File) (some-node : 0 < F .nodes) (w : Ordered F) (r : Rule10 F) (r11 : Rule11 F)
-    (chart-there : (j : ℕ) → j < F .nodes → F .kind j ≡ 0 → F .a j < F .charts) (node-there : (i : ℕ) → i < F .slaves → (F .node i < F .nodes) × (F .master i < F .charts))
-    (cfg : ℕ → ℕ) (inp : Set) (si : Small inp) (sa : (ch : ℕ → ℕ) (e : ℕ) → Small (actionOf (moves (F .chart) ch e))) (m s g y lows shuts : List ℕ)
-    (few : (c : ℕ) → c < F .charts → length (F .chart c .transitions) ≤ stayPlace) (op : Opens F cfg inp shuts) where
+module _ (F : File) (E : ℕ → Chart) (st : Stands (F .charts) (kap F) (F .master) (wholeOf F)) (cfg : ℕ → ℕ) (inp : Set)
+    (si : Small inp) (sa : (ch : ℕ → ℕ) (e : ℕ) → Small (actionOf (moves E ch e))) (m s g y lows shuts : List ℕ)
+    (few : (c : ℕ) → c < F .charts → length (E c .transitions) ≤ stayPlace) (op : Opens F E cfg inp shuts)
+    (ro : Rows E (F .state) cfg (F .charts) (kap F) (F .master) (wholeOf F) m s)
+    (ca : Candidates E cfg (F .charts) (wholeOf F) (keeps F E cfg inp shuts) m s)
+    (sy : Stayers E cfg (F .charts) (keeps F E cfg inp shuts) g y)
+    (lw : Lows E cfg (F .charts) (kap F) (wholeOf F) inp lows) where
   abbrev may₀ : ℕ → Set
-  may₀ c = mayOf (F .chart c .transitions) (cfg c)
+  may₀ c = mayOf (E c .transitions) (cfg c)
 
-  st : Stands (F .charts) (kap F) (F .master) (wholeOf F)
-  st = stands F w r r11 chart-there node-there (F .nodes - 1) (omega arith)
+  bound : Bounds E (F .state) cfg (F .charts) (wholeOf F) inp may₀
+  bound = may-bounds E (F .state) cfg (F .charts) (kap F) (F .master) (wholeOf F) inp may₀ st (may-of E cfg) si sa
 
-  bound : Bounds (F .chart) (F .state) cfg (F .charts) (wholeOf F) inp may₀
-  bound = may-bounds (F .chart) (F .state) cfg (F .charts) (kap F) (F .master) (wholeOf F) inp may₀ st (may-of (F .chart) cfg) si sa
-
-  kept-open : (ch : ℕ → ℕ) → permitted (F .chart) (F .state) cfg (moves (F .chart) ch) (wholeOf F) inp ≡ true
-      → (c : ℕ) → c < F .charts → keeps F cfg inp shuts c (ch c) ≡ true
+  kept-open : (ch : ℕ → ℕ) → permitted E (F .state) cfg (moves E ch) (wholeOf F) inp ≡ true
+      → (c : ℕ) → c < F .charts → keeps F E cfg inp shuts c (ch c) ≡ true
   kept-open ch p c l =
-      and-i (kept (F .chart) (F .state) cfg (F .charts) (kap F) (wholeOf F) inp may₀ (F .master) st bound si sa ch p c l)
+      and-i (kept E (F .state) cfg (F .charts) (kap F) (wholeOf F) inp may₀ (F .master) st bound si sa ch p c l)
       (op ch p c l)
 
   -- what the search over the tables finds is what the step answers
-  pub found-is : Rows (F .chart) (F .state) cfg (F .charts) (kap F) (F .master) (wholeOf F) m s → Candidates (F .chart) cfg (F .charts) (wholeOf F) (keeps F cfg inp shuts) m s
-      → Stayers (F .chart) cfg (F .charts) (keeps F cfg inp shuts) g y
-      → Lows (F .chart) cfg (F .charts) (kap F) (wholeOf F) inp lows
-      → answerOf (F .charts) (over (huntsBoth m s g y (F .charts) zero (beginning lows)) nothing) ≡ answer (outcomes (F .chart) (F .state) cfg (wholeOf F) inp (F .charts))
+  pub found-is : answerOf (F .charts) (over (huntsBoth m s g y (F .charts) zero (beginning lows)) nothing)
+      ≡ answer (outcomes E (F .state) cfg (wholeOf F) inp (F .charts))
   unfolding lasts test pick opensBy
-  found-is ro ca sy h = found-all (F .chart) (F .state) cfg (F .charts) (kap F) (F .master) (wholeOf F) inp m s g y (keeps F cfg inp shuts) st ro ca sy few sa (λ c. refl) si
-      kept-open lows h
+  found-is =
+      found-all E (F .state) cfg (F .charts) (kap F) (F .master) (wholeOf F) inp m s g y (keeps F E cfg inp shuts)
+      st ro ca sy few sa (λ c. refl) si kept-open lows lw
 
   -- and its places are those of the first permitted choice
-  pub places-is : Rows (F .chart) (F .state) cfg (F .charts) (kap F) (F .master) (wholeOf F) m s → Candidates (F .chart) cfg (F .charts) (wholeOf F) (keeps F cfg inp shuts) m s
-      → Stayers (F .chart) cfg (F .charts) (keeps F cfg inp shuts) g y
-      → Lows (F .chart) cfg (F .charts) (kap F) (wholeOf F) inp lows
-      → over (huntsBoth m s g y (F .charts) zero (beginning lows)) nothing .places ≡ allPlaces (firstPlaces (outcomes (F .chart) (F .state) cfg (wholeOf F) inp (F .charts)))
+  pub places-is : over (huntsBoth m s g y (F .charts) zero (beginning lows)) nothing .places
+      ≡ allPlaces (firstPlaces (outcomes E (F .state) cfg (wholeOf F) inp (F .charts)))
   unfolding lasts test pick opensBy
-  places-is ro ca sy h = places-all (F .chart) (F .state) cfg (F .charts) (kap F) (F .master) (wholeOf F) inp m s g y (keeps F cfg inp shuts) st ro ca sy few sa (λ c. refl) si
-      kept-open lows h
+  places-is =
+      places-all E (F .state) cfg (F .charts) (kap F) (F .master) (wholeOf F) inp m s g y (keeps F E cfg inp shuts)
+      st ro ca sy few sa (λ c. refl) si kept-open lows lw

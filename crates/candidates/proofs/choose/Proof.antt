@@ -10,7 +10,7 @@ returns c =
     let k = l .before .before .before .before .before .before .before .before in
     let p = k .before .before .before .before .before in
     let s = p .before .before .before .before .before .before in
-    (k .sides-of .ensures .mays, chooses (s .args .n) (s .args .body .now) (s .args .config .now) (s .args .base) (s .args .t5) _ (s .args .masks .now) (s .args .small .now) _ _ _ _ (s .pre .0) (s .pre .1) (p .put-states .ensures) (k .sides-of .ensures .raised) (l .list-all .ensures) (c .before .before .ahead-all .ensures))
+    (k .sides-of .ensures .mays, chooses (s .args .n) (s .args .body .now) (s .args .config .now) (s .args .reads .now) (s .args .base) (s .args .t6) _ (s .args .masks .now) (s .args .small .now) _ _ _ _ (s .pre .0) (s .pre .1) (p .put-states .ensures) (k .sides-of .ensures .raised) (l .list-all .ensures) (c .before .before .ahead-all .ensures))
 
 list-all-requires : tie.Need-list-all-requires
 list-all-requires c κs = (c .before .before .before .before .before .before .before .before .before .before .before .before .before .before .before .before .before .before .pre .0, c .before .before .before .before .before .before .before .sides-of .ensures .mays, search needs)

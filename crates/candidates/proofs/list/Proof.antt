@@ -10,13 +10,13 @@ use Rattle.candidates.proofs.list.Tie as tie
 
 abbrev Inv-loop : tie.InvT-loop
 Inv-loop n body start count masks₀ small₀ a have₀ p₀ masks small have p =
-    (p ≤ count) × Left (listingBy a (fromStart n body start) p (filling masks₀ small₀ 0)) masks small have
+    (p ≤ count) × Left (listingBy a (fromStart n body (a .read) start) p (filling masks₀ small₀ 0)) masks small have
 
 abbrev μ-loop : tie.MeasureT-loop
 μ-loop n body start count masks₀ small₀ a have₀ p₀ masks small have p = count - p
 
 loop-holds : tie.Need-loop-holds Inv-loop μ-loop
-loop-holds c = (search needs, left-none _ _ _)
+loop-holds c = (search needs, left-none (c .before .before .before .args .a) _ _)
 
 consider-requires : tie.Need-consider-requires Inv-loop μ-loop
 consider-requires c κs =
@@ -25,17 +25,17 @@ consider-requires c κs =
     let l = c .before .before .before .loop in (
       r .0,
       omega arith,
-      left-tabled (a .a) (fromStart (a .n) (a .body .now) (a .start)) (filling (a .masks .now) (a .small .now) 0) (a .a .chart + 1) (l .p) (l .masks) (l .small) (l .have) (l .inv .1) (r .3),
+      left-tabled (a .a) (fromStart (a .n) (a .body .now) (a .a .read) (a .start)) (filling (a .masks .now) (a .small .now) 0) (a .a .chart + 1) (l .p) (l .masks) (l .small) (l .have) (l .inv .1) (r .3),
       r .4,
-      left-few (a .a) (fromStart (a .n) (a .body .now) (a .start)) (filling (a .masks .now) (a .small .now) 0) refl (a .count) (r .5) (l .p) (l .masks) (l .small) (l .have) (l .inv .1) (l .inv .0),
-      left-room (a .a) (fromStart (a .n) (a .body .now) (a .start)) (filling (a .masks .now) (a .small .now) 0) refl (a .count) (r .5) (l .p) (l .masks) (l .small) (l .have) (l .inv .1) (c .before .before .loop-test .taken),
+      left-few (a .a) (fromStart (a .n) (a .body .now) (a .a .read) (a .start)) (filling (a .masks .now) (a .small .now) 0) refl (a .count) (r .5) (l .p) (l .masks) (l .small) (l .have) (l .inv .1) (l .inv .0),
+      left-room (a .a) (fromStart (a .n) (a .body .now) (a .a .read) (a .start)) (filling (a .masks .now) (a .small .now) 0) refl (a .count) (r .5) (l .p) (l .masks) (l .small) (l .have) (l .inv .1) (c .before .before .loop-test .taken),
     )
 
 loop-again : tie.Need-loop-again Inv-loop μ-loop
 loop-again c =
     let a = c .before .before .before .before .before .before .before .before .before .before .before .before .args in
     let l = c .before .before .before .before .before .before .before .before .loop in
-    (omega arith, left-next (a .a) (fromStart (a .n) (a .body .now) (a .start)) (filling (a .masks .now) (a .small .now) 0) (l .p) (l .masks) (l .small) (l .have) _ _ _ (l .inv .1) (c .before .before .before .before .consider .ensures))
+    (omega arith, left-next (a .a) (fromStart (a .n) (a .body .now) (a .a .read) (a .start)) (filling (a .masks .now) (a .small .now) 0) (l .p) (l .masks) (l .small) (l .have) _ _ _ (l .inv .1) (c .before .before .before .before .consider .ensures))
 
 returns : tie.Need-returns Inv-loop μ-loop
 returns c =
@@ -43,7 +43,7 @@ returns c =
     let r = c .before .before .before .before .before .pre in
     let l = c .before .loop in
     let e : l .p ≡ a .count = omega arith in
-    (subst (λ p. Left (listingBy (a .a) (fromStart (a .n) (a .body .now) (a .start)) p (filling (a .masks .now) (a .small .now) 0)) (l .masks) (l .small) (l .have)) e (l .inv .1), left-few (a .a) (fromStart (a .n) (a .body .now) (a .start)) (filling (a .masks .now) (a .small .now) 0) refl (a .count) (r .5) (l .p) (l .masks) (l .small) (l .have) (l .inv .1) (l .inv .0))
+    (subst (λ p. Left (listingBy (a .a) (fromStart (a .n) (a .body .now) (a .a .read) (a .start)) p (filling (a .masks .now) (a .small .now) 0)) (l .masks) (l .small) (l .have)) e (l .inv .1), left-few (a .a) (fromStart (a .n) (a .body .now) (a .a .read) (a .start)) (filling (a .masks .now) (a .small .now) 0) refl (a .count) (r .5) (l .p) (l .masks) (l .small) (l .have) (l .inv .1) (l .inv .0))
 
 pub list-spec : {M : Type 1} → statement M
 list-spec =
@@ -58,6 +58,6 @@ list-spec =
     (λ c. omega arith)
     (λ c. omega arith)
     loop-again
-    (λ c. left-masks _ _ _ _ _ _ _ (c .before .loop .inv .1))
-    (λ c. left-small _ _ _ _ _ _ _ (c .before .loop .inv .1))
+    (λ c. left-masks (c .before .before .before .before .before .args .a) _ _ _ _ _ _ (c .before .loop .inv .1))
+    (λ c. left-small (c .before .before .before .before .before .args .a) _ _ _ _ _ _ (c .before .loop .inv .1))
     returns)

@@ -10,11 +10,11 @@ use Rattle.candidates.proofs.list_all.Statement.{statement}
 use Rattle.candidates.proofs.list_all.Tie as tie
 
 abbrev Inv-loop : tie.InvT-loop
-Inv-loop n body config lows may shuts masks₀ small₀ start₀ c₀ masks small start c =
-    (c ≤ n .charts) × (start ≡ startOf n body c) × UntilChart n body config lows shuts masks₀ small₀ c masks small
+Inv-loop n body config reads lows may shuts masks₀ small₀ start₀ c₀ masks small start c =
+    (c ≤ n .charts) × (start ≡ startOf n body c) × UntilChart n body config reads lows shuts masks₀ small₀ c masks small
 
 abbrev μ-loop : tie.MeasureT-loop
-μ-loop n body config lows may shuts masks₀ small₀ start₀ c₀ masks small start c = n .charts - c
+μ-loop n body config reads lows may shuts masks₀ small₀ start₀ c₀ masks small start c = n .charts - c
 
 loop-holds : tie.Need-loop-holds Inv-loop μ-loop
 unfolding startOf
@@ -34,7 +34,7 @@ returns c =
     let a = c .before .before .before .before .before .before .before .args in
     let l = c .before .before .loop in
     let e : l .c ≡ a .n .charts = omega arith in
-    subst (λ z. UntilChart (a .n) (a .body .now) (a .config .now) (a .lows .now) (a .shuts .now) (a .masks .now) (a .small .now) z (l .masks) (l .small)) e (l .inv .2)
+    subst (λ z. UntilChart (a .n) (a .body .now) (a .config .now) (a .reads .now) (a .lows .now) (a .shuts .now) (a .masks .now) (a .small .now) z (l .masks) (l .small)) e (l .inv .2)
 
 pub list-all-spec : {M : Type 1} → statement M
 list-all-spec =

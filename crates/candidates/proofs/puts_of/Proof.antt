@@ -2,17 +2,18 @@
 use Prim.Native.Nat.{_-_, _≤_}
 use native.Mathlib.Omega.{arith}
 use borrow.Author.Needs.{needs}
-use Rattle.layout.specs.Body.{transitionAt}
 use Rattle.wiring.specs.Wire.{full}
+use Rattle.candidates.specs.Candidates.{readAs}
 use Rattle.candidates.specs.Candidates.Laws.{PutsLeft, puts-none, puts-more, puts-done}
 use Rattle.candidates.proofs.puts_of.Statement.{statement}
 use Rattle.candidates.proofs.puts_of.Tie as tie
 
 abbrev Inv-loop : tie.InvT-loop
-Inv-loop n body start count state puts₀ p₀ puts p = (p ≤ count) × PutsLeft (transitionAt n body) start count state p puts
+Inv-loop n body start count state read puts₀ p₀ puts p =
+    (p ≤ count) × PutsLeft (readAs n body read) start count state p puts
 
 abbrev μ-loop : tie.MeasureT-loop
-μ-loop n body start count state puts₀ p₀ puts p = count - p
+μ-loop n body start count state read puts₀ p₀ puts p = count - p
 
 loop-holds : tie.Need-loop-holds Inv-loop μ-loop
 unfolding full

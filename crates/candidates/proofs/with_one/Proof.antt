@@ -8,25 +8,27 @@ use Rattle.layout.specs.Body.{transitionAt}
 use Rattle.layout.specs.declared.record.Transition.{Transition}
 use Rattle.meaning.specs.Meaning.{same}
 use Rattle.meaning.specs.Laws.Bools.{same-refl, same-≢}
+use Rattle.tables.specs.Read.{narrow}
 use Rattle.candidates.specs.declared.Puts.{Puts}
 use Rattle.candidates.specs.Candidates.{withOne}
 use Rattle.candidates.proofs.with_one.Statement.{statement}
 use Rattle.candidates.proofs.with_one.Tie as tie
 
-module _ (t : Transition) (q x : ℕ) (e : x ≡ t .from) (p : Puts) where
-  from-here : x ≡ q → (r : Transition) → r ≡ t → record { may = p .may ∪ r .action; sure = p .sure ∩ r .action } ≡ withOne (same (t .from) q) (t .action) p
+module _ (t : Transition) (q x u : ℕ) (e : x ≡ t .from) (p : Puts) where
+  from-here : x ≡ q → (r : Transition) → r ≡ narrow u t → record { may = p .may ∪ r .action; sure = p .sure ∩ r .action } ≡ withOne (same (t .from) q) (t .action ∩ u) p
   from-here h r i = rw (← e, h, same-refl q, i)
 
-  from-elsewhere : (x ≡ q → ⊥) → p ≡ withOne (same (t .from) q) (t .action) p
+  from-elsewhere : (x ≡ q → ⊥) → p ≡ withOne (same (t .from) q) (t .action ∩ u) p
   from-elsewhere h = rw (← e, same-≢ x q h)
 
 returns : tie.Need-returns
 returns c =
     let r = c .before .before .before .before in
-    from-here _ _ _ (r .before .before .from-at .ensures) _ (r .before .if1 .taken) _ (r .transition-at .ensures)
+    let a = r .before .before .before .before .args in
+    from-here (transitionAt (a .n) (now (a .body)) (a .t)) (a .state) _ (a .read) (r .before .before .from-at .ensures) (a .p) (r .before .if1 .taken) _ (r .read-at .ensures)
 
 returns-2 : tie.Need-returns-2
-returns-2 c = let a = c .before .before .before .args in from-elsewhere (transitionAt (a .n) (now (a .body)) (a .t)) (a .state) _ (c .before .from-at .ensures) _ (c .if1 .left)
+returns-2 c = let a = c .before .before .before .args in from-elsewhere (transitionAt (a .n) (now (a .body)) (a .t)) (a .state) _ (a .read) (c .before .from-at .ensures) _ (c .if1 .left)
 
 pub with-one-spec : {M : Type 1} → statement M
 with-one-spec = tie.close (tie.spec (λ c κs. search needs) (λ c κs. search needs) returns returns-2)

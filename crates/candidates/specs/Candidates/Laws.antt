@@ -1,6 +1,7 @@
--- Laws for choosing candidates. In order: where a transition stands (from-byte), what a chart's transitions put out (puts-none, puts-more, puts-done),
+-- Laws for choosing candidates. In order: where a transition stands (from-byte), what a chart's transitions put out (puts-none, puts-more, puts-done)
+-- and ask (asks-none to asks-done), a row of charts (row-more),
 -- what the other charts might (join-more), one transition (left-other to left-put), a filling by one transition more (left-none to
--- left-room), a chart's list (length-from), one chart more (mays-next to chart-tabled), the present states (stated-none, stated-next), all of it (chooses), and that actions have no signal
+-- left-room), a chart's list (length-from), one chart more (asks-next to chart-tabled), the present states (stated-none, stated-next), all of it (chooses), and that actions have no signal
 -- from 64 on (actions-small).
 use mathlib.Core.Path.{_≡_, refl, sym, _∙_, ap, ap₂, subst}
 use mathlib.Core.Bool.{Bool, true, false, cond, false≢true}
@@ -34,12 +35,14 @@ use Rattle.wiring.specs.Wire.{join, Small, full}
 use Rattle.wiring.specs.Dropped.{join-cong}
 use Rattle.wiring.specs.Sure.{sureOf, sureIn, sure-small}
 use Rattle.wiring.specs.Hunt.{mayOf, behind-empty}
-use Rattle.cells.specs.Table.{backAt, putMasks, Row, countCell, stateCell, putSmall}
+use Rattle.cells.specs.Table.{backAt, upAt, putMasks, Row, countCell, stateCell, putSmall}
+use Rattle.tables.specs.Read.{asked, readAt, narrowAll}
+use Rattle.tables.specs.Read.Laws.{length-narrowed, narrow-from}
 use Rattle.tables.specs.Fill.{Filling, considered, listing, lastsBy, isAgain, put, pickFilling, othersAt, sureAt, Raised, Until, AheadFrom}
 use Rattle.tables.specs.Fill.Laws.{wiring-trans, length-masks, length-small, leave-room, count-few, until-next, chosen, raised-none, raised-next, raised-same}
 use Rattle.candidates.specs.declared.Around.{Around}
 use Rattle.candidates.specs.declared.Puts.{Puts}
-use Rattle.candidates.specs.Candidates.{Ready, Tabled, Left, filling, consideredBy, listingBy, fromStart, withOne, Mays, Sided, UntilChart, NextChart, Stated, Chooses}
+use Rattle.candidates.specs.Candidates.{Ready, Tabled, Left, filling, consideredBy, listingBy, readAs, fromStart, readCharts, Asks, ReadRow, withOne, Mays, Sided, UntilChart, NextChart, Stated, Chooses}
 
 -- ── where transitions stand ──
 
@@ -106,6 +109,54 @@ module _ (f : ℕ → Transition) (start count q : ℕ) where
     where
       none : 0 ≡ count - p
       none = omega arith
+
+-- ── what transitions ask ──
+
+module _ (f : ℕ → Transition) (start count q : ℕ) where
+  -- u is what the first p ask
+  abbrev pub AsksLeft : ℕ → Set → Type 0
+  AsksLeft p u = u ∪ asked (fromOn f (start + p) (count - p)) q ≡ asked (fromOn f start count) q
+
+  pub asks-none : AsksLeft 0 0
+  asks-none =
+      let s : start + 0 ≡ start = omega arith in
+      let k : count - 0 ≡ count = omega arith in
+      sets (asked (fromOn f (start + 0) (count - 0)) q ∷ asked (fromOn f start count) q ∷ []) (A ≐ B ∷ []) (∅ₑ ∪ₑ A ≐ B) tt
+      (ap₂ (λ x y. asked (fromOn f x y) q) s k)
+
+  pub asks-more : (p : ℕ) (u v : Set) → AsksLeft p u → p < count
+      → v ≡ u ∪ cond (same (f (start + p) .from) q) (f (start + p) .needed ∪ f (start + p) .barred) 0
+      → AsksLeft (p + 1) v
+  unfolding asked fromOn
+  asks-more p u v h l e =
+      sets (u ∷ v ∷ mine ∷ asked rest q ∷ asked (fromOn f start count) q ∷ []) (B ≐ A ∪ₑ C ∷ A ∪ₑ (D ∪ₑ C) ≐ Eₑ ∷ [])
+      (B ∪ₑ D ≐ Eₑ) tt e (ap (λ ts. u ∪ asked ts q) (sym one-more) ∙ h)
+    where
+      mine : Set
+      mine = cond (same (f (start + p) .from) q) (f (start + p) .needed ∪ f (start + p) .barred) 0
+
+      rest : List Transition
+      rest = fromOn f (start + (p + 1)) (count - (p + 1))
+
+      one-more : fromOn f (start + p) (count - p) ≡ f (start + p) ∷ rest
+      one-more = ap (fromOn f (start + p)) (let x : count - p ≡ suc (count - (p + 1)) = omega arith in x)
+          ∙ ap (λ k. f (start + p) ∷ fromOn f k (count - (p + 1))) (let x : suc (start + p) ≡ start + (p + 1) = omega arith in x)
+
+  pub asks-done : (p : ℕ) (u : Set) → AsksLeft p u → count ≤ p → u ≡ asked (fromOn f start count) q
+  unfolding asked fromOn
+  asks-done p u h l = sets (u ∷ asked (fromOn f start count) q ∷ []) (A ∪ₑ ∅ₑ ≐ B ∷ []) (A ≐ B) tt
+      (ap (λ k. u ∪ asked (fromOn f (start + p) k) q) (let z : 0 ≡ count - p = omega arith in z) ∙ h)
+
+-- a row of charts, one chart more
+pub row-more : (g : ℕ → Set) (k : ℕ) (l : List ℕ) (v : ℕ) → ((c : ℕ) → c < k → getD l c 0 ≡ g c) → k < length l
+    → v ≡ g k → (c : ℕ) → c < k + 1 → getD (set l k v) c 0 ≡ g c
+row-more g k l v h m e c r = go (same c k) refl
+  where
+    go : (x : Bool) → same c k ≡ x → getD (set l k v) c 0 ≡ g c
+    go true q = rw (same→≡ c k q) (getD-set-same l k v 0 m ∙ e)
+    go false q =
+        let z : c ≢ k = λ w. false≢true (sym q ∙ rw w (same-refl k)) in
+        getD-set-other l k c v 0 z ∙ h c (omega arith)
 
 -- ── what the other charts might put in ──
 
@@ -184,53 +235,92 @@ length-from f k zero = refl
 length-from f k (suc n) = ap suc (length-from f (suc k) n)
 
 module _ (n : Shape) (b config : List ℕ) where
-  pub mays-next : (c : ℕ) (may : List ℕ) (v start : ℕ) (head : Head) → Mays n b config c may → c < length may → start ≡ startOf n b c → head ≡ headAt n b c
-      → v ≡ mayOf (fromOn (transitionAt n b) start (head .transitions)) (getD config c 0) → Mays n b config (c + 1) (set may c v)
+  -- what chart c asks
+  pub asks-next : (c : ℕ) (asks : List ℕ) (v start : ℕ) (head : Head) → Asks n b config c asks → c < length asks
+      → start ≡ startOf n b c → head ≡ headAt n b c
+      → v ≡ asked (fromOn (transitionAt n b) start (head .transitions)) (getD config c 0)
+      → Asks n b config (c + 1) (set asks c v)
   unfolding transitionsOf
-  mays-next c may v start head h l es eh ev d r = go (same d c) refl
-    where
-      go : (x : Bool) → same d c ≡ x → getD (set may c v) d 0 ≡ mayOf (fromOn (transitionAt n b) (startOf n b d) (headAt n b d .transitions)) (getD config d 0)
-      go true e = rw (same→≡ d c e) (getD-set-same may c v 0 l ∙ ev ∙ ap₂ (λ x y. mayOf (fromOn (transitionAt n b) x (y .transitions)) (getD config c 0)) es eh)
-      go false e = let z : d ≢ c = λ w. false≢true (sym e ∙ rw w (same-refl c)) in getD-set-other may c d v 0 z ∙ h d (omega arith)
+  asks-next c asks v start head h l es eh ev =
+      row-more (λ d. asked (transitionsOf n b d) (getD config d 0)) c asks v h l
+      (ev ∙ ap₂ (λ x y. asked (fromOn (transitionAt n b) x (y .transitions)) (getD config c 0)) es eh)
 
-  module _ (base m s : List ℕ) where
-    pub sided-none : (may : List ℕ) → Sided n b config base m s 0 may base
-    sided-none may = record { mays = λ c l. absurd (omega arith); raised = raised-none (chartOf n b) (λ c. getD config c 0) base m s }
-
-    -- chart c puts in what its transitions do
-    pub sided-next : (c : ℕ) (may lows lows′ : List ℕ) (start : ℕ) (head : Head) (v : Puts) (u : Set) → Sided n b config base m s c may lows → c < length may → start ≡ startOf n b c → head ≡ headAt n b c
-        → (v .may ≡ mayOf (fromOn (transitionAt n b) start (head .transitions)) (getD config c 0)) × (v .sure ≡ sureOf (fromOn (transitionAt n b) start (head .transitions)) (getD config c 0))
-        → u ≡ sureIn (same (n .edition) stayEdition) (v .sure)
-        → Row lows′ (λ d. getD lows d 0 ∪ sureAt s c u ∩ backAt m d c) → Sided n b config base m s (c + 1) (set may c (v .may)) lows′
-    unfolding transitionsOf chartOf
-    sided-next c may lows lows′ start head v u h l es eh ev eu f = rw (add-one c) (
-        record {
-          mays = rw (add-one c) at (mays-next c may (v .may) start head (h .mays) l es eh (ev .0));
-          raised = raised-next (chartOf n b) (λ d. getD config d 0) base c m s lows lows′ (h .raised)
-              (λ d r. f d r ∙ ap (λ z. getD lows d 0 ∪ sureAt s c z ∩ backAt m d c) (eu ∙ ap (sureIn (same (n .edition) stayEdition)) (ev .1 ∙ ap₂ (λ x y. sureOf (fromOn (transitionAt n b) x (y .transitions)) (getD config c 0)) es eh)));
-        })
+  -- what of chart k's action is read
+  pub read-next : (m asks : List ℕ) → Asks n b config (n .charts) asks → (k : ℕ) (reads : List ℕ) (v : ℕ)
+      → ReadRow n b config m k reads → k < length reads → v ≡ readAt m (n .charts) (λ c. getD asks c 0) k
+      → ReadRow n b config m (k + 1) (set reads k v)
+  unfolding readAt
+  read-next m asks h k reads v w l e =
+      row-more (readAt m (n .charts) (λ d. asked (transitionsOf n b d) (getD config d 0))) k reads v w l
+      (e ∙ ap (λ z. upAt m k ∪ z) (join-cong (n .charts) _ _ (λ c q. ap (λ z. backAt m c k ∩ z) (h c q))))
 
   module _ (r : Ready n b config) (c start : ℕ) (head : Head) (l : c < n .charts) (es : start ≡ startOf n b c) (eh : head ≡ headAt n b c) where
-    pub chart-room : tally (head .transitions) (λ u. one (same (fromStart n b start u .from) (getD config c 0))) ≤ mostFromState
+    pub chart-room : tally (head .transitions) (λ u. one (same (transitionAt n b (start + u) .from) (getD config c 0))) ≤ mostFromState
     unfolding leaving
     chart-room = rw (es, eh) (r .room c l)
 
+module _ (n : Shape) (b config reads : List ℕ) where
+  -- a chart's list, from where its transitions start
+  read-list : (c start : ℕ) (head : Head) → start ≡ startOf n b c → head ≡ headAt n b c
+      → fromOn (readAs n b (getD reads c 0)) start (head .transitions) ≡ narrowAll (getD reads c 0) (transitionsOf n b c)
+  unfolding transitionsOf
+  read-list c start head es eh =
+      ap₂ (λ x y. fromOn (readAs n b (getD reads c 0)) x (y .transitions)) es eh
+      ∙ sym (narrow-from (getD reads c 0) (transitionAt n b) (startOf n b c) (headAt n b c .transitions))
+
+  pub mays-next : (c : ℕ) (may : List ℕ) (v start : ℕ) (head : Head) → Mays n b config reads c may → c < length may
+      → start ≡ startOf n b c → head ≡ headAt n b c
+      → v ≡ mayOf (fromOn (readAs n b (getD reads c 0)) start (head .transitions)) (getD config c 0)
+      → Mays n b config reads (c + 1) (set may c v)
+  mays-next c may v start head h l es eh ev =
+      row-more (λ d. mayOf (narrowAll (getD reads d 0) (transitionsOf n b d)) (getD config d 0)) c may v h l
+      (ev ∙ ap (λ ts. mayOf ts (getD config c 0)) (read-list c start head es eh))
+
+  module _ (base m s : List ℕ) where
+    pub sided-none : (may : List ℕ) → Sided n b config reads base m s 0 may base
+    sided-none may = record { mays = λ c l. absurd (omega arith); raised = raised-none (readCharts n b reads) (λ c. getD config c 0) base m s }
+
+    -- chart c puts in what its transitions do
+    pub sided-next : (c : ℕ) (may lows lows′ : List ℕ) (start : ℕ) (head : Head) (v : Puts) (u : Set)
+        → Sided n b config reads base m s c may lows → c < length may → start ≡ startOf n b c → head ≡ headAt n b c
+        → (v .may ≡ mayOf (fromOn (readAs n b (getD reads c 0)) start (head .transitions)) (getD config c 0))
+        × (v .sure ≡ sureOf (fromOn (readAs n b (getD reads c 0)) start (head .transitions)) (getD config c 0))
+        → u ≡ sureIn (same (n .edition) stayEdition) (v .sure)
+        → Row lows′ (λ d. getD lows d 0 ∪ sureAt s c u ∩ backAt m d c)
+        → Sided n b config reads base m s (c + 1) (set may c (v .may)) lows′
+    unfolding chartOf
+    sided-next c may lows lows′ start head v u h l es eh ev eu f = rw (add-one c) (
+        record {
+          mays = rw (add-one c) at (mays-next c may (v .may) start head (h .mays) l es eh (ev .0));
+          raised = raised-next (readCharts n b reads) (λ d. getD config d 0) base c m s lows lows′ (h .raised)
+              (λ d r. f d r ∙ ap (λ z. getD lows d 0 ∪ sureAt s c z ∩ backAt m d c)
+              (eu ∙ ap (sureIn (same (n .edition) stayEdition)) (ev .1 ∙ ap (λ ts. sureOf ts (getD config c 0)) (read-list c start head es eh))));
+        })
+
   -- the table of chart c's candidates is made by its transitions
-  pub chart-next : Ready n b config → (lows may shuts : List ℕ) → Mays n b config (n .charts) may → (m s : List ℕ) (c start : ℕ) (head : Head) (own others : Set) (m′ s′ : List ℕ) (k : ℕ)
-      → Tabled (n .charts) m s → c < n .charts → start ≡ startOf n b c → head ≡ headAt n b c → own ≡ backAt m c c → others ≡ othersAt m (n .charts) (λ e. getD may e 0) c
-      → Left (listing c (getD config c 0) (getD lows c 0) own others (getD shuts c 0) (fromStart n b start) (head .transitions) (filling m s 0)) m′ s′ k → NextChart n b config lows shuts c m s m′ (set s′ (countCell c) k)
+  pub chart-next : Ready n b config → (lows may shuts : List ℕ) → Mays n b config reads (n .charts) may
+      → (m s : List ℕ) (c start : ℕ) (head : Head) (own others : Set) (m′ s′ : List ℕ) (k : ℕ)
+      → Tabled (n .charts) m s → c < n .charts → start ≡ startOf n b c → head ≡ headAt n b c → own ≡ backAt m c c
+      → others ≡ othersAt m (n .charts) (λ e. getD may e 0) c
+      → Left (listing c (getD config c 0) (getD lows c 0) own others (getD shuts c 0) (fromStart n b (getD reads c 0) start) (head .transitions) (filling m s 0)) m′ s′ k
+      → NextChart n b config reads lows shuts c m s m′ (set s′ (countCell c) k)
   unfolding transitionsOf chartOf leaving othersAt
   chart-next r lows may shuts my m s c start head own others m′ s′ k tb l es eh eo et h m₀ s₀ un =
-      subst (λ z. UntilChart n b config lows shuts m₀ s₀ z m′ (set s′ (countCell c) k)) (sym (add-one c))
-      (rw (h .masks, h .small, h .count, es, eh) (subst (λ z. Until (chartOf n b) (λ d. getD config d 0) (n .charts) lows shuts m₀ s₀ (suc c) (made z .masks) (set (made z .small) (countCell c) (made z .count)))
-      (length-from (transitionAt n b) (startOf n b c) (headAt n b c .transitions))
-      (until-next (chartOf n b) (λ d. getD config d 0) (n .charts) lows shuts m₀ s₀ (r .sized .charts) c l m s (getD lows c 0) own others (getD shuts c 0) (fromStart n b (startOf n b c)) (tb .masks) un
-      (λ u q. nth-from noMove (transitionAt n b) (startOf n b c) (headAt n b c .transitions) u (subst (λ z. u < z) (length-from (transitionAt n b) (startOf n b c) (headAt n b c .transitions)) q))
-      (subst (λ z. tally z (λ u. one (same (fromStart n b (startOf n b c) u .from) (getD config c 0))) ≤ mostFromState) (sym (length-from (transitionAt n b) (startOf n b c) (headAt n b c .transitions))) (r .room c l))
+      subst (λ z. UntilChart n b config reads lows shuts m₀ s₀ z m′ (set s′ (countCell c) k)) (sym (add-one c))
+      (rw (h .masks, h .small, h .count, es, eh) (subst (λ z. Until (readCharts n b reads) (λ d. getD config d 0) (n .charts) lows shuts m₀ s₀ (suc c) (made z .masks) (set (made z .small) (countCell c) (made z .count)))
+      long
+      (until-next (readCharts n b reads) (λ d. getD config d 0) (n .charts) lows shuts m₀ s₀ (r .sized .charts) c l m s (getD lows c 0) own others (getD shuts c 0) (fromStart n b (getD reads c 0) (startOf n b c)) (tb .masks) un
+      (λ u q. ap (λ ts. nth noMove ts u) (narrow-from (getD reads c 0) (transitionAt n b) (startOf n b c) (headAt n b c .transitions))
+      ∙ nth-from noMove (readAs n b (getD reads c 0)) (startOf n b c) (headAt n b c .transitions) u (subst (λ z. u < z) long q))
+      (subst (λ z. tally z (λ u. one (same (transitionAt n b (startOf n b c + u) .from) (getD config c 0))) ≤ mostFromState) (sym long) (r .room c l))
       refl eo (et ∙ join-cong (n .charts) _ _ (λ e q. ap (λ z. cond (same e c) 0 z ∩ backAt m c e) (my e q))) refl)))
     where
       made : ℕ → Filling
-      made p = listing c (getD config c 0) (getD lows c 0) own others (getD shuts c 0) (fromStart n b (startOf n b c)) p (filling m s 0)
+      made p = listing c (getD config c 0) (getD lows c 0) own others (getD shuts c 0) (fromStart n b (getD reads c 0) (startOf n b c)) p (filling m s 0)
+
+      long : length (narrowAll (getD reads c 0) (fromOn (transitionAt n b) (startOf n b c) (headAt n b c .transitions))) ≡ headAt n b c .transitions
+      long = length-narrowed (getD reads c 0) (fromOn (transitionAt n b) (startOf n b c) (headAt n b c .transitions))
+          ∙ length-from (transitionAt n b) (startOf n b c) (headAt n b c .transitions)
 
 -- tables that have room for N charts have room for fewer
 pub tabled-fewer : {N : ℕ} {m s : List ℕ} (M : ℕ) → Tabled N m s → M ≤ N → Tabled M m s
@@ -262,13 +352,14 @@ stated-next config c s₀ s h l =
 
 -- ── all of it ──
 
-pub chooses : (n : Shape) (b config base shuts lows m₀ s₀ s₁ m s m′ : List ℕ) → Ready n b config → Tabled (n .charts) m₀ s₀ → Stated config (n .charts) s₀ s₁
-    → Raised (chartOf n b) (λ c. getD config c 0) (n .charts) m₀ s₁ base lows → UntilChart n b config lows shuts m₀ s₁ (n .charts) m s → AheadFrom (n .charts) s 0 m m′
-    → Chooses n b config base shuts lows m₀ s₀ m′ s
-chooses n b config base shuts lows m₀ s₀ s₁ m s m′ r tb st ra un ah = let few = r .sized .charts in
+pub chooses : (n : Shape) (b config reads base shuts lows m₀ s₀ s₁ m s m′ : List ℕ) → Ready n b config → Tabled (n .charts) m₀ s₀
+    → Stated config (n .charts) s₀ s₁ → Raised (readCharts n b reads) (λ c. getD config c 0) (n .charts) m₀ s₁ base lows
+    → UntilChart n b config reads lows shuts m₀ s₁ (n .charts) m s → AheadFrom (n .charts) s 0 m m′
+    → Chooses n b config reads base shuts lows m₀ s₀ m′ s
+chooses n b config reads base shuts lows m₀ s₀ s₁ m s m′ r tb st ra un ah = let few = r .sized .charts in
     record {
-      chosen = chosen (chartOf n b) (λ c. getD config c 0) (n .charts) lows shuts m₀ s₁ few m m′ s un ah (st .states);
-      raised = raised-same (chartOf n b) (λ c. getD config c 0) base (n .charts) m₀ s₁ m′ s lows few (λ c d p q. ah .wires .backs c d p q ∙ un .wires .backs c d p q) (λ i p q. un .rest i (omega arith) (omega arith)) ra;
+      chosen = chosen (readCharts n b reads) (λ c. getD config c 0) (n .charts) lows shuts m₀ s₁ few m m′ s un ah (st .states);
+      raised = raised-same (readCharts n b reads) (λ c. getD config c 0) base (n .charts) m₀ s₁ m′ s lows few (λ c d p q. ah .wires .backs c d p q ∙ un .wires .backs c d p q) (λ i p q. un .rest i (omega arith) (omega arith)) ra;
       wires = wiring-trans (un .wires) (ah .wires);
       masters = λ i p q. un .rest i (omega arith) (omega arith) ∙ st .below i q;
       tabled = record { masks = rw (ah .masks, un .masks) (tb .masks); small = un .small };

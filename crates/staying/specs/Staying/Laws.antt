@@ -24,14 +24,14 @@ use Rattle.meaning.specs.Meaning.{Set, same, Chart, noMove, lastPlace, untrigge
 use Rattle.meaning.specs.File.{chartOf}
 use Rattle.meaning.specs.Laws.Bools.{same-refl, same→≡, same-≢}
 use Rattle.wiring.specs.Dropped.{join-cong}
-use Rattle.wiring.specs.Hunt.{mayOf}
 use Rattle.cells.specs.Table.{backAt}
 use Rattle.cells.specs.Triggers.{triggerNeededCell, triggerBarredCell, triggersFor, triggerNeeded, triggerBarred, putTrigger, staysSize}
 use Rattle.settling.specs.Stays.{trips}
+use Rattle.tables.specs.Read.Laws.{quiet-narrowed}
 use Rattle.tables.specs.Fill.{othersAt, keepAt}
 use Rattle.tables.specs.Fill.Laws.{keep-stay}
-use Rattle.tables.specs.Triggers.{Noted, begun, passed, noted, SameTriggers, noted-kept, noted-trips, Told, shut, listed, told-kept, stayers}
-use Rattle.candidates.specs.Candidates.{Mays}
+use Rattle.tables.specs.Triggers.{Noted, begun, passed, noted, SameTriggers, noted-kept, noted-trips, Told, shut, listed, told-kept, told-narrowed, stayers}
+use Rattle.candidates.specs.Candidates.{Mays, readCharts}
 use Rattle.meaning.specs.Laws.Choices.{nth-from}
 use Rattle.candidates.specs.Candidates.Laws.{length-from}
 use Rattle.staying.specs.Staying.{Notes, Beside, Noting, Tells, quiet, Telling, Stays}
@@ -179,17 +179,24 @@ module _ (n : Shape) (b config lows may shuts m : List ℕ) where
 
   -- ── as the search asks for ──
 
-  abbrev E : ℕ → Chart
-  E = chartOf n b
+  abbrev E : List ℕ → ℕ → Chart
+  E reads = readCharts n b reads
 
   abbrev cfg : ℕ → ℕ
   cfg c = getD config c 0
 
-  pub stays-told : (g y : List ℕ) → n .edition ≡ stayEdition → Mays n b config (n .charts) may → Telling n b config lows may shuts m (n .charts) g y → Stays n b config lows shuts m g y
+  abbrev keep : List ℕ → ℕ → ℕ → Bool
+  keep reads = keepAt (E reads) cfg (n .charts) lows shuts m
+
+  pub stays-told : (g y : List ℕ) → n .edition ≡ stayEdition → Telling n b config lows may shuts m (n .charts) g y
+      → Stays n b config may lows shuts m g y
   unfolding chartOf othersAt
-  stays-told g y two my h =
+  stays-told g y two h =
       record {
-        stayers = stayers E cfg (n .charts) (keepAt E cfg (n .charts) lows shuts m) g y (λ c l. subst (λ x. Told g c (E c .transitions) (cfg c) x (getD y c 0)) (sym (kept c)) (h .told c l));
+        stayers = λ reads my. stayers (E reads) cfg (n .charts) (keep reads) g y
+            (λ c l. subst (λ x. Told g c (E reads c .transitions) (cfg c) x (getD y c 0)) (sym (kept reads my c))
+            (told-narrowed g c (getD reads c 0) (transitionsOf n b c) (cfg c) (quiet n b config lows may shuts m c)
+            (getD y c 0) (h .told c l)));
         guards = record { masks = room; small = h .small; counts = h .few; none-may = λ e. absurd (let z = h .some-may in omega arith) };
       }
     where
@@ -200,21 +207,27 @@ module _ (n : Shape) (b config lows may shuts m : List ℕ) where
           go (yes p) = let z = h .size in omega arith
           go (no p) = absurd (w (h .rest c (omega arith) l))
 
-      stays : (c : ℕ) → E c .stays ≡ true
-      stays c = rw two (same-refl stayEdition)
+      stays : (reads : List ℕ) (c : ℕ) → E reads c .stays ≡ true
+      stays reads c = rw two (same-refl stayEdition)
 
-      kept : (c : ℕ) → (E c .stays && keepAt E cfg (n .charts) lows shuts m c (lastPlace (E c))) ≡ quiet n b config lows may shuts m c
-      kept c = ap (λ x. x && keepAt E cfg (n .charts) lows shuts m c (lastPlace (E c))) (stays c) ∙ keep-stay E cfg (n .charts) lows shuts m c (stays c)
-          ∙ ap (λ z. untriggered (E c .transitions) (cfg c) (getD lows c 0) (getD lows c 0 ∪ z) && not (bit (getD shuts c 0) (cfg c)))
-          (join-cong (n .charts) _ _ (λ e l. ap (λ z. cond (same e c) 0 z ∩ backAt m c e) (sym (my e l))))
+      kept : (reads : List ℕ) → Mays n b config reads (n .charts) may → (c : ℕ)
+          → (E reads c .stays && keep reads c (lastPlace (E reads c))) ≡ quiet n b config lows may shuts m c
+      kept reads my c = ap (λ x. x && keep reads c (lastPlace (E reads c))) (stays reads c)
+          ∙ keep-stay (E reads) cfg (n .charts) lows shuts m c (stays reads c)
+          ∙ ap (λ x. x && not (bit (getD shuts c 0) (cfg c)))
+          (quiet-narrowed (getD reads c 0) (transitionsOf n b c) (cfg c) _ _
+          ∙ ap (λ z. untriggered (transitionsOf n b c) (cfg c) (getD lows c 0) (getD lows c 0 ∪ z))
+          (join-cong (n .charts) _ _ (λ e l. ap (λ z. cond (same e c) 0 z ∩ backAt m c e) (sym (my e l)))))
 
   -- no chart may stay
-  pub stays-none : (g : List ℕ) → n .charts ≤ mostCharts → n .edition ≢ stayEdition → Stays n b config lows shuts m g (replicate staysSize 0)
+  pub stays-none : (g : List ℕ) → n .charts ≤ mostCharts → n .edition ≢ stayEdition
+      → Stays n b config may lows shuts m g (replicate staysSize 0)
   unfolding chartOf
   stays-none g few one =
       record {
-        stayers = stayers E cfg (n .charts) (keepAt E cfg (n .charts) lows shuts m) g (replicate staysSize 0)
-            (λ c l. shut (ap (λ x. x && keepAt E cfg (n .charts) lows shuts m c (lastPlace (E c))) (same-≢ (n .edition) stayEdition one)) (none c (omega arith)));
+        stayers = λ reads my. stayers (E reads) cfg (n .charts) (keep reads) g (replicate staysSize 0)
+            (λ c l. shut (ap (λ x. x && keep reads c (lastPlace (E reads c))) (same-≢ (n .edition) stayEdition one))
+            (none c (omega arith)));
         guards = record { masks = λ c l w. absurd (w (none c l)); small = length-replicate {A = ℕ} staysSize 0; counts = λ c l. let z = none c l in omega arith; none-may = λ e. none };
       }
     where

@@ -1,5 +1,5 @@
 -- Laws of the step, in this order: a call's list behind 1 to 11; what a checked body and a valid configuration give the choosing of candidates; the
--- tables after it; what the search over them answers; what was found, as an answer; how many choices are open; what was tried.
+-- tables after it, and what is read by their wiring; what the search over them answers; what was found, as an answer; how many choices are open; what was tried.
 use mathlib.Core.Path.{_≡_, refl, sym, ap, subst, _∙_}
 use mathlib.Core.Bool.{Bool, true, false, not, cond}
 use mathlib.Core.List.{List, [], _∷_, _++_, append-assoc}
@@ -7,13 +7,13 @@ use Prim.Native.Nat.{ℕ, _+_, _*_, _^_, _≤_, _<_}
 use native.Mathlib.Omega.{arith}
 use borrow.Author.Tests.{ne-eqb, lt-ltb, le-ltb, ltb-false}
 use lib.Dec.{ltb, lit<}
-use lib.ListN.{length, getD, take}
+use lib.ListN.{length, getD, take, replicate, getD-replicate}
 use Rattle.signals.specs.Mask.{_∩_, bit}
 use Rattle.signals.specs.All.{cut-all}
 use Rattle.layout.specs.Le.{AllBytes}
 use Rattle.layout.specs.Body.{headAt, startOf, transitionAt, transitionsOf}
 use Rattle.layout.specs.declared.body.Shape.{Shape}
-use Rattle.meaning.specs.Numbers.{mostOpen, mostFromState, stayPlace, shortBuffer, noStep, manyOpen}
+use Rattle.meaning.specs.Numbers.{mostCharts, mostOpen, mostFromState, stayPlace, shortBuffer, noStep, manyOpen}
 use Rattle.meaning.specs.Count.{anyUpTo}
 use Rattle.meaning.specs.Count.Laws.{or-right, any-never}
 use Rattle.meaning.specs.Meaning.{Set, same, Move, noMove, takes, stay, pick, after, Answer, refused, given, answer, firstPlaces}
@@ -34,6 +34,7 @@ use Rattle.cells.specs.Table.{Row, InRow, masterCell, slaveStateCell, masterAt,
 use Rattle.settling.specs.Hunt.{nothing}
 use Rattle.settling.specs.declared.Found.{Found}
 use Rattle.tables.specs.Filled.{Rows, answerOf, trimmed}
+use Rattle.tables.specs.Read.Laws.{reads-all, reads-at}
 use Rattle.tables.specs.Fill.{opensBy}
 use Rattle.tables.specs.Step.{step-found, step-places}
 use Rattle.checks.specs.Known.{Sized}
@@ -43,13 +44,13 @@ use Rattle.counting.specs.Counting.{Countable, CountsOn, begins, Shuts}
 use Rattle.counting.specs.Counting.Laws.{begins-open}
 use Rattle.plan.specs.Noted.{NearestIn}
 use Rattle.plan.specs.Wired.{Wired}
-use Rattle.candidates.specs.Candidates.{Ready, Chooses}
+use Rattle.candidates.specs.Candidates.{Ready, ReadRow, Mays, Chooses}
 use Rattle.candidates.specs.Candidates.Laws.{length-from, actions-small}
 use Rattle.staying.specs.Staying.{Stays}
 use Rattle.stepping.specs.declared.step.Stepped.{Stepped}
 use Rattle.stepping.specs.declared.step.Tried.{Tried}
 use Rattle.stepping.specs.Answer.{steppedOf, refusedOf}
-use Rattle.stepping.specs.Step.{configTestsIn, refusalAfter, stepAfter, placesAfter, openAfter, Checked, Prepared, Shut, searchedOf, Finds, triedAnswer, triedRefusal, Tries}
+use Rattle.stepping.specs.Step.{configTestsIn, refusalAfter, stepAfter, placesAfter, openAfter, Checked, Prepared, Shut, AllRead, searchedOf, Finds, triedAnswer, triedRefusal, Tries}
 
 -- ── behind 1 to 11 ──
 
@@ -174,8 +175,21 @@ valid-config n b config h c l = below _ _ (any-never (n .charts) _ h c l)
 
 -- ── the tables after candidates are chosen ──
 
-module _ (n : Shape) (b a m s m′ s′ config base shuts lows : List ℕ) (sz : Sized n b) (p : Prepared n b a m s)
-    (ch : Chooses n b config base shuts lows m s m′ s′) where
+-- what is read: all signals have it, and so has what the wiring says
+pub read-all : (n : Shape) (b config : List ℕ) → n .charts ≤ mostCharts → AllRead n b config (replicate mostCharts full)
+read-all n b config few =
+    reads-all (fileAt n b .chart) (λ c. getD config c 0) (n .charts) (wholeOf (fileAt n b))
+    (λ c. getD (replicate mostCharts full) c 0) (λ k l. getD-replicate mostCharts k full 0 (omega arith))
+
+module _ (n : Shape) (b a m s config : List ℕ) (p : Prepared n b a m s) where
+  pub read-rows : (reads : List ℕ) → ReadRow n b config m (n .charts) reads → AllRead n b config reads
+  unfolding fileAt chartOf
+  read-rows reads h =
+      reads-at (fileAt n b .chart) (λ c. getD config c 0) (n .charts) (wholeOf (fileAt n b)) m (λ c. getD reads c 0)
+      (p .wired .back-is) (p .wired .up-is) h
+
+module _ (n : Shape) (b a m s m′ s′ config reads base shuts lows : List ℕ) (sz : Sized n b) (p : Prepared n b a m s)
+    (ch : Chooses n b config reads base shuts lows m s m′ s′) where
   wired-again : Wired (fileAt n b) a m′ s′
   unfolding fileAt
   wired-again =
@@ -210,8 +224,9 @@ module _ (n : Shape) (b a m s m′ s′ config base shuts lows : List ℕ) (sz :
 
   -- ── what the search answers ──
 
-  module _ (all : AllBytes b) (k : Checked n b) (inp : Set) (fits : inp < 2 ^ 64) (lw : Row base (λ c. inp ∩ getD a c 0)) (g y : List ℕ) (sy : Stays n b config lows shuts m′ g y)
-      (sh : Shut n b config shuts) where
+  module _ (all : AllBytes b) (k : Checked n b) (inp : Set) (fits : inp < 2 ^ 64) (lw : Row base (λ c. inp ∩ getD a c 0)) (g y may : List ℕ)
+      (sy : Stays n b config may lows shuts m′ g y) (my : Mays n b config reads (n .charts) may)
+      (sh : Shut n b config shuts) (ar : AllRead n b config reads) where
     base-is : (c : ℕ) → c < F .charts → getD base c 0 ≡ inp ∩ down (wholeOf F) c
     unfolding fileAt
     base-is c l = lw c (omega (arith, sz .charts)) ∙ ap (λ z. inp ∩ z) (p .wired .down-is c l)
@@ -230,8 +245,8 @@ module _ (n : Shape) (b a m s m′ s′ config base shuts lows : List ℕ) (sz :
     found-here =
         let t = k .sound in
         record {
-          answers = step-found F (sz .some-node) (t .ordered) (t .rule10) (t .rule11) (t .chart-there) (t .node-there) config inp small-input (actions-small n b all) m′ s′ g y base lows shuts few (sh inp) rows (ch .chosen) (ch .raised) base-is (sy .stayers);
-          places = step-places F (sz .some-node) (t .ordered) (t .rule10) (t .rule11) (t .chart-there) (t .node-there) config inp small-input (actions-small n b all) m′ s′ g y base lows shuts few (sh inp) rows (ch .chosen) (ch .raised) base-is (sy .stayers);
+          answers = step-found F (sz .some-node) (t .ordered) (t .rule10) (t .rule11) (t .chart-there) (t .node-there) config inp small-input (actions-small n b all) m′ s′ g y base lows shuts few (sh inp) rows (λ c. getD reads c 0) ar (ch .chosen) (ch .raised) base-is (sy .stayers reads my);
+          places = step-places F (sz .some-node) (t .ordered) (t .rule10) (t .rule11) (t .chart-there) (t .node-there) config inp small-input (actions-small n b all) m′ s′ g y base lows shuts few (sh inp) rows (λ c. getD reads c 0) ar (ch .chosen) (ch .raised) base-is (sy .stayers reads my);
         }
 
 -- ── what was found ──

@@ -1,7 +1,7 @@
 -- Laws of what is read. In order: a narrowed list (length-narrowed to narrow-from), a narrowed move (narrowMove to
 -- place-narrowed), the wiring (back-narrowed), what a chart asks of what it is offered (join-at to awake-narrowed), and a
 -- choice: it is permitted of narrowed charts exactly if it is of the charts (permitted-narrowed), and all outcomes are
--- the same, with their places (outcomes-narrowed).
+-- the same, with their places (outcomes-narrowed). Last, what has all that is read (reads-all, reads-at).
 use mathlib.Core.Path.{_≡_, refl, sym, _∙_, ap, ap₂}
 use mathlib.Core.Bool.{Bool, true, false, _&&_, _||_, not, cond, false≢true}
 use mathlib.Core.Option.{Option, none, some}
@@ -23,7 +23,8 @@ use Rattle.wiring.specs.Wire.{full, join, down, up, back, backs, offered, fits,
 use Rattle.wiring.specs.Wired.{awakeIn, awake, Stands, offer, ruled, permitted-wired}
 use Rattle.wiring.specs.Dropped.{join-cong}
 use Rattle.wiring.specs.Hunt.{every-cong}
-use Rattle.tables.specs.Read.{asked, readOf, Reads, narrow, narrowAll, narrowChart, narrowed}
+use Rattle.cells.specs.Table.{backAt, upAt}
+use Rattle.tables.specs.Read.{asked, readOf, Reads, readAt, narrow, narrowAll, narrowChart, narrowed}
 
 -- ── a narrowed list ──
 
@@ -52,7 +53,7 @@ narrowMove r noMove = noMove
 narrowMove r (takes t) = takes (narrow r t)
 narrowMove r stay = stay
 
-nth-narrowed : (r : Set) (d : Move) (ts : List Transition) (k : ℕ)
+pub nth-narrowed : (r : Set) (d : Move) (ts : List Transition) (k : ℕ)
     → nth (narrowMove r d) (narrowAll r ts) k ≡ narrowMove r (nth d ts k)
 unfolding nth narrowAll narrowMove
 nth-narrowed r d [] k = refl
@@ -316,3 +317,20 @@ module _ (E : ℕ → Chart) (state : ℕ → ℕ) (cfg : ℕ → ℕ) (N : ℕ)
   pub outcomes-narrowed : outcomes E′ state cfg t inp N ≡ outcomes E state cfg t inp N
   unfolding outcomes
   outcomes-narrowed = search-narrowed N zero (λ c. zero)
+
+-- ── what has all that is read ──
+
+module _ (E : ℕ → Chart) (cfg : ℕ → ℕ) (N : ℕ) (t : Tree) where
+  -- all signals
+  pub reads-all : (r : ℕ → Set) → ((k : ℕ) → k < N → r k ≡ full) → Reads E cfg N t r
+  reads-all r h k l = sets (readOf E cfg N t k ∷ full ∷ r k ∷ []) (C ≐ B ∷ []) (A ∩ₑ B ⊑ C) tt (h k l)
+
+  -- by tables that have the wiring
+  pub reads-at : (m : List ℕ) (r : ℕ → Set) → ((c d : ℕ) → c < N → d < N → backAt m c d ≡ back E t c d)
+      → ((d : ℕ) → d < N → upAt m d ≡ up t d)
+      → ((k : ℕ) → k < N → r k ≡ readAt m N (λ c. asked (E c .transitions) (cfg c)) k) → Reads E cfg N t r
+  unfolding readOf readAt
+  reads-at m r b u h k l =
+      let asks = join-cong N _ _ (λ c q. ap (λ z. z ∩ asked (E c .transitions) (cfg c)) (b c k q l)) in
+      sets ((up t k ∪ join N (λ c. back E t c k ∩ asked (E c .transitions) (cfg c))) ∷ full ∷ r k ∷ []) (C ≐ A ∷ [])
+      (A ∩ₑ B ⊑ C) tt (h k l ∙ ap₂ _∪_ (u k l) asks)

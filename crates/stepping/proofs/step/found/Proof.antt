@@ -17,7 +17,7 @@ found-staying-requires c κs =
     let d = c .before .before .before .before .before .before .before .before in
     let s = d .before .before .before .before .before .before .before .before in
     let k = d .choose .ensures .1 in
-    (s .pre .1, record { masks = k .tabled .masks; small = k .tabled .small; counts = k .chosen .counts }, d .choose .ensures .0)
+    (s .pre .1, record { masks = k .tabled .masks; small = k .tabled .small; counts = k .chosen .counts })
 
 returns : tie.Need-returns
 returns c =
@@ -26,15 +26,15 @@ returns c =
     let s = l .before .before .before .before .before in
     let q = c .found-staying .ensures in (
       rw (q .found)
-          (found-here _ _ _ _ _ _ _ _ _ _ _ (s .pre .0 .sized) (s .pre .2) (k .choose .ensures .1) (λ i. l .before .before .before .before .shared-slice-known .given i .fits) (s .pre .0)
-          _ (s .fits .input .fits) (l .lows .ensures) (q .guards) (q .stays) (q .told) (s .pre .3)),
-      prepared-again _ _ _ _ _ _ _ _ _ _ _ (s .pre .0 .sized) (s .pre .2) (k .choose .ensures .1),
+          (found-here _ _ _ _ _ _ _ _ _ _ _ _ (s .pre .0 .sized) (s .pre .2) (k .choose .ensures .1) (λ i. l .before .before .before .before .shared-slice-known .given i .fits) (s .pre .0)
+          _ (s .fits .input .fits) (l .lows .ensures) (q .guards) (q .stays) _ (q .told) (k .choose .ensures .0) (s .pre .3) (s .pre .4)),
+      prepared-again _ _ _ _ _ _ _ _ _ _ _ _ (s .pre .0 .sized) (s .pre .2) (k .choose .ensures .1),
     )
 
 -- no chart may stay
 none : (c : tie.Else1) → let d = c .before .before .before .before .before .before in
     let s = d .before .before .before .before .before .before .before .before in
-    (m : List ℕ) → Stays (s .args .n) (s .args .body .now) (s .args .config .now) (d .choose .result .low) (s .args .shuts) m [] (replicate staysSize 0)
+    (m : List ℕ) → Stays (s .args .n) (s .args .body .now) (s .args .config .now) (d .choose .result .may) (d .choose .result .low) (s .args .shuts) m [] (replicate staysSize 0)
 none c = let d = c .before .before .before .before .before .before in
     let s = d .before .before .before .before .before .before .before .before in
     λ m. stays-none _ _ _ _ (d .choose .result .may) _ m [] (s .pre .0 .sized .charts) (c .if1 .left)
@@ -54,9 +54,9 @@ returns-2 c =
     let l = k .before .before .before in
     let s = l .before .before .before .before .before in (
       rw (c .searched .ensures)
-          (found-here _ _ _ _ _ _ _ _ _ _ _ (s .pre .0 .sized) (s .pre .2) (k .choose .ensures .1) (λ i. l .before .before .before .before .shared-slice-known .given i .fits) (s .pre .0)
-          _ (s .fits .input .fits) (l .lows .ensures) [] (replicate staysSize 0) (none e _) (s .pre .3)),
-      prepared-again _ _ _ _ _ _ _ _ _ _ _ (s .pre .0 .sized) (s .pre .2) (k .choose .ensures .1),
+          (found-here _ _ _ _ _ _ _ _ _ _ _ _ (s .pre .0 .sized) (s .pre .2) (k .choose .ensures .1) (λ i. l .before .before .before .before .shared-slice-known .given i .fits) (s .pre .0)
+          _ (s .fits .input .fits) (l .lows .ensures) [] (replicate staysSize 0) _ (none e _) (k .choose .ensures .0) (s .pre .3) (s .pre .4)),
+      prepared-again _ _ _ _ _ _ _ _ _ _ _ _ (s .pre .0 .sized) (s .pre .2) (k .choose .ensures .1),
     )
 
 pub found-spec : {M : Type 1} → statement M

@@ -7,7 +7,7 @@ use Rattle.stepping.proofs.step.found_staying.Tie as tie
 stays-requires : tie.Need-stays-requires
 stays-requires c κs =
     let s = c .before .before .before .before .before .before .before in
-    (s .pre .0, omega (arith, s .pre .1 .masks), s .pre .2, λ e. omega (arith, s .pre .0 .sized .charts))
+    (s .pre .0, omega (arith, s .pre .1 .masks), λ e. omega (arith, s .pre .0 .sized .charts))
 
 searched-requires : tie.Need-searched-requires
 searched-requires c κs =

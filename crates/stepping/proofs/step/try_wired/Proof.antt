@@ -25,17 +25,20 @@ returns-2 c =
     let u = c .untried2 .ensures in
     (tries-many _ _ _ _ _ (u .0 ∙ k .ensures .0) (u .1) (rw (u .0) (c .before .if2 .taken)), s .pre .2)
 
+read-by-requires : tie.Need-read-by-requires
+read-by-requires c κs = let s = c .before .before .before .before .before .before .before .before .before .before in (ready-valid _ _ _ (s .pre .0) (s .pre .1), s .pre .2 .tabled .masks)
+
 found-requires : tie.Need-found-requires
 found-requires c κs =
-    let k = c .before .before .before .before .before .counted in
-    let s = c .before .before .before .before .before .before .before .before .before .before .before in
-    (s .pre .0, ready-valid _ _ _ (s .pre .0) (s .pre .1), s .pre .2, k .ensures .1)
+    let k = c .before .before .before .before .before .before .before .before .counted in
+    let s = c .before .before .before .before .before .before .before .before .before .before .before .before .before .before in
+    (s .pre .0, ready-valid _ _ _ (s .pre .0) (s .pre .1), s .pre .2, k .ensures .1, c .before .before .before .read-by .ensures _ _ (s .pre .2))
 
 returns-3 : tie.Need-returns-3
 returns-3 c =
     let f = c .before .before .before .before .found in
-    let k = c .before .before .before .before .before .before .before .before .before .before .counted in
-    (tries-found _ _ _ _ _ (k .ensures .0) (c .before .before .before .before .before .before .before .before .if2 .left) (f .ensures .0), f .ensures .1)
+    let k = c .before .before .before .before .before .before .before .before .before .before .before .before .before .counted in
+    (tries-found _ _ _ _ _ (k .ensures .0) (c .before .before .before .before .before .before .before .before .before .before .before .if2 .left) (f .ensures .0), f .ensures .1)
 
 pub try-wired-spec : {M : Type 1} → statement M
 try-wired-spec =
@@ -48,6 +51,7 @@ try-wired-spec =
     (λ c κs. search needs)
     (λ c. search needs)
     returns-2
+    read-by-requires
     found-requires
     (λ c. search needs)
     (λ c. search needs)

@@ -1,0 +1,90 @@
+// What is read of each chart's action: what comes out of the whole, and what gets to a chart that looks for it.
+ghost use mathlib.Core.Path.{_≡_};
+ghost use mathlib.Core.Bool.{cond};
+ghost use Prim.Native.Nat.{_+_, _≤_, _<_};
+ghost use lib.ListN.{length, getD};
+ghost use Rattle.layout.specs.Body.{Holds, transitionAt};
+ghost use Rattle.layout.specs.Body.{from as fromOn};
+ghost use Rattle.meaning.specs.Meaning.{same};
+ghost use Rattle.meaning.specs.Numbers.{mostCharts};
+ghost use Rattle.signals.specs.Mask.{_∪_};
+ghost use Rattle.cells.specs.Table.{masksFor};
+ghost use Rattle.tables.specs.Read.{asked, readAt};
+ghost use Rattle.candidates.specs.Candidates.{Ready, Asks, ReadRow};
+use cells::CHARTS;
+use cells::masks;
+use layout::body::Shape;
+
+// The signals u, and those of transition t's guard, if it is from the state.
+fn asked_with(n: Shape, body: &[u8], t: usize, state: u8, u: u64) -> u64
+    requires { ⌜ Holds n (now body) × (t < n .transitions) ⌝ }
+    ensures { λ r. ⌜ r ≡ u ∪ cond (same (transitionAt n (now (body .entry)) t .from) state)
+        (transitionAt n (now (body .entry)) t .needed ∪ transitionAt n (now (body .entry)) t .barred) 0 ⌝ }
+{
+    if crate::from_at(n, body, t) == state {
+        let r = layout::body::transition_at(n, body, t);
+        return u | (r.needed | r.barred);
+    }
+    u
+}
+
+// What a chart in a state looks for, by its `count` transitions from `start` on.
+fn asked_of(n: Shape, body: &[u8], start: usize, count: usize, state: u8) -> u64
+    requires { ⌜ Holds n (now body) × (start + count ≤ n .transitions) ⌝ }
+    ensures { λ r. ⌜ r ≡ asked (fromOn (transitionAt n (now (body .entry))) start count) state ⌝ }
+{
+    let mut u: u64 = 0;
+    let mut p: usize = 0;
+    while p < count {
+        u = asked_with(n, body, start + p, state, u);
+        p += 1;
+    }
+    u
+}
+
+// What each chart looks for in its present state.
+fn asked_all(n: Shape, body: &[u8], config: &[u8]) -> [u64; CHARTS]
+    requires { ⌜ Ready n (now body) (now config) ⌝ }
+    ensures { λ r. ⌜ Asks n (now (body .entry)) (now (config .entry)) (n .charts) r ⌝ }
+{
+    let mut asks = [0u64; CHARTS];
+    let mut start: usize = 0;
+    let mut c: usize = 0;
+    while c < n.charts {
+        let head = layout::body::head_at(n, body, c);
+        let count = head.transitions as usize;
+        asks[c] = asked_of(n, body, start, count, config[c]);
+        start += count;
+        c += 1;
+    }
+    asks
+}
+
+// What of chart k's action comes out of the whole, or gets to a chart that looks for it.
+fn read_of(masks: &[u64], charts: usize, asks: &[u64; CHARTS], k: usize) -> u64
+    requires { ⌜ (masksFor charts ≤ length (now masks)) × (charts ≤ mostCharts) × (k < charts) ⌝ }
+    ensures { λ r. ⌜ r ≡ readAt (now (masks .entry)) charts (λ c. getD (now (asks .entry)) c 0) k ⌝ }
+{
+    let mut u: u64 = 0;
+    let mut c: usize = 0;
+    while c < charts {
+        u = u | masks::back(masks, c, k) & asks[c];
+        c += 1;
+    }
+    masks::up(masks, k) | u
+}
+
+// The same of each chart from a configuration, by tables that have the wiring.
+pub fn rows(n: Shape, body: &[u8], config: &[u8], masks: &[u64]) -> [u64; CHARTS]
+    requires { ⌜ Ready n (now body) (now config) × (masksFor (n .charts) ≤ length (now masks)) ⌝ }
+    ensures { λ r. ⌜ ReadRow n (now (body .entry)) (now (config .entry)) (now (masks .entry)) (n .charts) r ⌝ }
+{
+    let asks = asked_all(n, body, config);
+    let mut reads = [0u64; CHARTS];
+    let mut k: usize = 0;
+    while k < n.charts {
+        reads[k] = read_of(masks, n.charts, &asks, k);
+        k += 1;
+    }
+    reads
+}
