@@ -14,7 +14,7 @@ use Rattle.meaning.specs.File.{chartOf}
 use Rattle.meaning.specs.Check.{leaving}
 use Rattle.wiring.specs.Hunt.{mayOf}
 use Rattle.cells.specs.Table.{SameWiring, masksFor, masterFrom, stateFrom, smallSize, stateAt}
-use Rattle.tables.specs.Read.{asked, readAt, narrow, narrowAll, narrowed}
+use Rattle.tables.specs.Read.{narrow, narrowAll, narrowed}
 use Rattle.tables.specs.Fill.{Filling, considered, listing, Raised, Until, Chosen}
 use Rattle.checks.specs.Known.{Sized, Summed}
 use Rattle.candidates.specs.declared.Around.{Around}
@@ -60,15 +60,6 @@ fromStart n b read start u = readAs n b read (start + u)
 -- the charts, with only what is read of their actions
 abbrev pub readCharts : Shape → List ℕ → List ℕ → ℕ → Chart
 readCharts n b reads = narrowed (λ c. getD reads c 0) (chartOf n b)
-
--- asks has what each of the first k charts looks for
-abbrev pub Asks : Shape → List ℕ → List ℕ → ℕ → List ℕ → Type 0
-Asks n b config k asks = (c : ℕ) → c < k → getD asks c 0 ≡ asked (transitionsOf n b c) (getD config c 0)
-
--- reads has what of the action of each of the first k charts is read
-abbrev pub ReadRow : Shape → List ℕ → List ℕ → List ℕ → ℕ → List ℕ → Type 0
-ReadRow n b config m k reads =
-    (c : ℕ) → c < k → getD reads c 0 ≡ readAt m (n .charts) (λ d. asked (transitionsOf n b d) (getD config d 0)) c
 
 -- one transition with the action a more
 abbrev pub withOne : Bool → Set → Puts → Puts

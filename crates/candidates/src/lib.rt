@@ -28,8 +28,6 @@ use layout::limits::HEAD_BYTES;
 use layout::limits::TRANSITION_BYTES;
 use layout::record::Transition;
 
-pub mod read;
-
 // The chart whose candidates are chosen, its present state, what is read of its actions, what it may be offered:
 // surely, of its own action, and of all others'; and the states that it must not go to, as a mask.
 pub struct Around {

@@ -144,7 +144,7 @@ fn read_by(n: Shape, body: &[u8], config: &[u8], masks: &[u64], open_choices: u6
     if open_choices <= FEW_OPEN {
         return [signals::ALL; CHARTS];
     }
-    candidates::read::rows(n, body, config, masks)
+    relevance::rows(n, body, config, masks)
 }
 
 // What is found for a wired body from a configuration, where each chart must not go to the states that are shut, and

@@ -1,7 +1,7 @@
--- Laws for choosing candidates. In order: where a transition stands (from-byte), what a chart's transitions put out (puts-none, puts-more, puts-done)
--- and ask (asks-none to asks-done), a row of charts (row-more),
+-- Laws for choosing candidates. In order: where a transition stands (from-byte), what a chart's transitions put out (puts-none, puts-more, puts-done),
+-- a row of charts (row-more),
 -- what the other charts might (join-more), one transition (left-other to left-put), a filling by one transition more (left-none to
--- left-room), a chart's list (length-from), one chart more (asks-next to chart-tabled), the present states (stated-none, stated-next), all of it (chooses), and that actions have no signal
+-- left-room), a chart's list (length-from), one chart more (mays-next to chart-tabled), the present states (stated-none, stated-next), all of it (chooses), and that actions have no signal
 -- from 64 on (actions-small).
 use mathlib.Core.Path.{_≡_, refl, sym, _∙_, ap, ap₂, subst}
 use mathlib.Core.Bool.{Bool, true, false, cond, false≢true}
@@ -35,14 +35,14 @@ use Rattle.wiring.specs.Wire.{join, Small, full}
 use Rattle.wiring.specs.Dropped.{join-cong}
 use Rattle.wiring.specs.Sure.{sureOf, sureIn, sure-small}
 use Rattle.wiring.specs.Hunt.{mayOf, behind-empty}
-use Rattle.cells.specs.Table.{backAt, upAt, putMasks, Row, countCell, stateCell, putSmall}
-use Rattle.tables.specs.Read.{asked, readAt, narrowAll}
+use Rattle.cells.specs.Table.{backAt, putMasks, Row, countCell, stateCell, putSmall}
+use Rattle.tables.specs.Read.{narrowAll}
 use Rattle.tables.specs.Read.Laws.{length-narrowed, narrow-from}
 use Rattle.tables.specs.Fill.{Filling, considered, listing, lastsBy, isAgain, put, pickFilling, othersAt, sureAt, Raised, Until, AheadFrom}
 use Rattle.tables.specs.Fill.Laws.{wiring-trans, length-masks, length-small, leave-room, count-few, until-next, chosen, raised-none, raised-next, raised-same}
 use Rattle.candidates.specs.declared.Around.{Around}
 use Rattle.candidates.specs.declared.Puts.{Puts}
-use Rattle.candidates.specs.Candidates.{Ready, Tabled, Left, filling, consideredBy, listingBy, readAs, fromStart, readCharts, Asks, ReadRow, withOne, Mays, Sided, UntilChart, NextChart, Stated, Chooses}
+use Rattle.candidates.specs.Candidates.{Ready, Tabled, Left, filling, consideredBy, listingBy, readAs, fromStart, readCharts, withOne, Mays, Sided, UntilChart, NextChart, Stated, Chooses}
 
 -- ── where transitions stand ──
 
@@ -110,44 +110,9 @@ module _ (f : ℕ → Transition) (start count q : ℕ) where
       none : 0 ≡ count - p
       none = omega arith
 
--- ── what transitions ask ──
+-- ── a row of charts ──
 
-module _ (f : ℕ → Transition) (start count q : ℕ) where
-  -- u is what the first p ask
-  abbrev pub AsksLeft : ℕ → Set → Type 0
-  AsksLeft p u = u ∪ asked (fromOn f (start + p) (count - p)) q ≡ asked (fromOn f start count) q
-
-  pub asks-none : AsksLeft 0 0
-  asks-none =
-      let s : start + 0 ≡ start = omega arith in
-      let k : count - 0 ≡ count = omega arith in
-      sets (asked (fromOn f (start + 0) (count - 0)) q ∷ asked (fromOn f start count) q ∷ []) (A ≐ B ∷ []) (∅ₑ ∪ₑ A ≐ B) tt
-      (ap₂ (λ x y. asked (fromOn f x y) q) s k)
-
-  pub asks-more : (p : ℕ) (u v : Set) → AsksLeft p u → p < count
-      → v ≡ u ∪ cond (same (f (start + p) .from) q) (f (start + p) .needed ∪ f (start + p) .barred) 0
-      → AsksLeft (p + 1) v
-  unfolding asked fromOn
-  asks-more p u v h l e =
-      sets (u ∷ v ∷ mine ∷ asked rest q ∷ asked (fromOn f start count) q ∷ []) (B ≐ A ∪ₑ C ∷ A ∪ₑ (D ∪ₑ C) ≐ Eₑ ∷ [])
-      (B ∪ₑ D ≐ Eₑ) tt e (ap (λ ts. u ∪ asked ts q) (sym one-more) ∙ h)
-    where
-      mine : Set
-      mine = cond (same (f (start + p) .from) q) (f (start + p) .needed ∪ f (start + p) .barred) 0
-
-      rest : List Transition
-      rest = fromOn f (start + (p + 1)) (count - (p + 1))
-
-      one-more : fromOn f (start + p) (count - p) ≡ f (start + p) ∷ rest
-      one-more = ap (fromOn f (start + p)) (let x : count - p ≡ suc (count - (p + 1)) = omega arith in x)
-          ∙ ap (λ k. f (start + p) ∷ fromOn f k (count - (p + 1))) (let x : suc (start + p) ≡ start + (p + 1) = omega arith in x)
-
-  pub asks-done : (p : ℕ) (u : Set) → AsksLeft p u → count ≤ p → u ≡ asked (fromOn f start count) q
-  unfolding asked fromOn
-  asks-done p u h l = sets (u ∷ asked (fromOn f start count) q ∷ []) (A ∪ₑ ∅ₑ ≐ B ∷ []) (A ≐ B) tt
-      (ap (λ k. u ∪ asked (fromOn f (start + p) k) q) (let z : 0 ≡ count - p = omega arith in z) ∙ h)
-
--- a row of charts, one chart more
+-- one chart more
 pub row-more : (g : ℕ → Set) (k : ℕ) (l : List ℕ) (v : ℕ) → ((c : ℕ) → c < k → getD l c 0 ≡ g c) → k < length l
     → v ≡ g k → (c : ℕ) → c < k + 1 → getD (set l k v) c 0 ≡ g c
 row-more g k l v h m e c r = go (same c k) refl
@@ -235,25 +200,6 @@ length-from f k zero = refl
 length-from f k (suc n) = ap suc (length-from f (suc k) n)
 
 module _ (n : Shape) (b config : List ℕ) where
-  -- what chart c asks
-  pub asks-next : (c : ℕ) (asks : List ℕ) (v start : ℕ) (head : Head) → Asks n b config c asks → c < length asks
-      → start ≡ startOf n b c → head ≡ headAt n b c
-      → v ≡ asked (fromOn (transitionAt n b) start (head .transitions)) (getD config c 0)
-      → Asks n b config (c + 1) (set asks c v)
-  unfolding transitionsOf
-  asks-next c asks v start head h l es eh ev =
-      row-more (λ d. asked (transitionsOf n b d) (getD config d 0)) c asks v h l
-      (ev ∙ ap₂ (λ x y. asked (fromOn (transitionAt n b) x (y .transitions)) (getD config c 0)) es eh)
-
-  -- what of chart k's action is read
-  pub read-next : (m asks : List ℕ) → Asks n b config (n .charts) asks → (k : ℕ) (reads : List ℕ) (v : ℕ)
-      → ReadRow n b config m k reads → k < length reads → v ≡ readAt m (n .charts) (λ c. getD asks c 0) k
-      → ReadRow n b config m (k + 1) (set reads k v)
-  unfolding readAt
-  read-next m asks h k reads v w l e =
-      row-more (readAt m (n .charts) (λ d. asked (transitionsOf n b d) (getD config d 0))) k reads v w l
-      (e ∙ ap (λ z. upAt m k ∪ z) (join-cong (n .charts) _ _ (λ c q. ap (λ z. backAt m c k ∩ z) (h c q))))
-
   module _ (r : Ready n b config) (c start : ℕ) (head : Head) (l : c < n .charts) (es : start ≡ startOf n b c) (eh : head ≡ headAt n b c) where
     pub chart-room : tally (head .transitions) (λ u. one (same (transitionAt n b (start + u) .from) (getD config c 0))) ≤ mostFromState
     unfolding leaving

@@ -44,8 +44,9 @@ use Rattle.counting.specs.Counting.{Countable, CountsOn, begins, Shuts}
 use Rattle.counting.specs.Counting.Laws.{begins-open}
 use Rattle.plan.specs.Noted.{NearestIn}
 use Rattle.plan.specs.Wired.{Wired}
-use Rattle.candidates.specs.Candidates.{Ready, ReadRow, Mays, Chooses}
+use Rattle.candidates.specs.Candidates.{Ready, Mays, Chooses}
 use Rattle.candidates.specs.Candidates.Laws.{length-from, actions-small}
+use Rattle.relevance.specs.Rows.{ReadRow}
 use Rattle.staying.specs.Staying.{Stays}
 use Rattle.stepping.specs.declared.step.Stepped.{Stepped}
 use Rattle.stepping.specs.declared.step.Tried.{Tried}

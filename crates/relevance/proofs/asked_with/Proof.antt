@@ -1,4 +1,4 @@
--- `read::asked_with` meets its contract, by whether the transition is from the state. Assumes nothing.
+-- `asked_with` meets its contract, by whether the transition is from the state. Assumes nothing.
 use mathlib.Core.Path.{_≡_}
 use mathlib.Core.Bool.{cond}
 use mathlib.Core.List.{[], _∷_}
@@ -11,8 +11,8 @@ use Rattle.layout.specs.Body.{transitionAt}
 use Rattle.layout.specs.declared.record.Transition.{Transition}
 use Rattle.meaning.specs.Meaning.{same}
 use Rattle.meaning.specs.Laws.Bools.{same-refl, same-≢}
-use Rattle.candidates.proofs.read.asked_with.Statement.{statement}
-use Rattle.candidates.proofs.read.asked_with.Tie as tie
+use Rattle.relevance.proofs.asked_with.Statement.{statement}
+use Rattle.relevance.proofs.asked_with.Tie as tie
 
 module _ (t : Transition) (q x u : ℕ) (e : x ≡ t .from) where
   from-here : x ≡ q → (r : Transition) → r ≡ t → u ∪ (r .needed ∪ r .barred) ≡ u ∪ cond (same (t .from) q) (t .needed ∪ t .barred) 0

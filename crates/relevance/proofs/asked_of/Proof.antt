@@ -1,11 +1,11 @@
--- `read::asked_of` meets its contract. The loop has what the first p transitions ask. Assumes nothing.
+-- `asked_of` meets its contract. The loop has what the first p transitions ask. Assumes nothing.
 use Prim.Native.Nat.{_-_, _≤_}
 use native.Mathlib.Omega.{arith}
 use borrow.Author.Needs.{needs}
 use Rattle.layout.specs.Body.{transitionAt}
-use Rattle.candidates.specs.Candidates.Laws.{AsksLeft, asks-none, asks-more, asks-done}
-use Rattle.candidates.proofs.read.asked_of.Statement.{statement}
-use Rattle.candidates.proofs.read.asked_of.Tie as tie
+use Rattle.relevance.specs.Rows.Laws.{AsksLeft, asks-none, asks-more, asks-done}
+use Rattle.relevance.proofs.asked_of.Statement.{statement}
+use Rattle.relevance.proofs.asked_of.Tie as tie
 
 abbrev Inv-loop : tie.InvT-loop
 Inv-loop n body start count state u₀ p₀ u p = (p ≤ count) × AsksLeft (transitionAt n body) start count state p u

@@ -1,4 +1,4 @@
--- `read::asked_all` meets its contract. The loop: what the charts below c look for stands in the row, and chart c's
+-- `asked_all` meets its contract. The loop: what the charts below c look for stands in the row, and chart c's
 -- transitions begin at `start`. Assumes nothing.
 use mathlib.Core.Path.{_≡_, refl, _∙_, subst}
 use Prim.Native.Nat.{_-_, _≤_}
@@ -8,10 +8,10 @@ use lib.ListN.{length, length-set}
 use Rattle.layout.specs.Body.{startOf}
 use Rattle.meaning.specs.Numbers.{mostCharts}
 use Rattle.checks.specs.Known.Laws.{in-all, start-next}
-use Rattle.candidates.specs.Candidates.{Asks}
-use Rattle.candidates.specs.Candidates.Laws.{asks-next}
-use Rattle.candidates.proofs.read.asked_all.Statement.{statement}
-use Rattle.candidates.proofs.read.asked_all.Tie as tie
+use Rattle.relevance.specs.Rows.{Asks}
+use Rattle.relevance.specs.Rows.Laws.{asks-next}
+use Rattle.relevance.proofs.asked_all.Statement.{statement}
+use Rattle.relevance.proofs.asked_all.Tie as tie
 
 abbrev Inv-loop : tie.InvT-loop
 Inv-loop n body config asks₀ start₀ c₀ asks start c =

@@ -1,4 +1,4 @@
--- `read::read_of` meets its contract. The loop joins what the charts below c look for and get. Assumes nothing.
+-- `read_of` meets its contract. The loop joins what the charts below c look for and get. Assumes nothing.
 use mathlib.Core.Path.{_≡_, refl, ap, ap₂, _∙_}
 use Prim.Native.Nat.{ℕ, _-_, _≤_}
 use native.Mathlib.Omega.{arith}
@@ -8,9 +8,9 @@ use Rattle.signals.specs.Mask.{_∪_, _∩_}
 use Rattle.wiring.specs.Wire.{join}
 use Rattle.cells.specs.Table.{backAt}
 use Rattle.tables.specs.Read.{readAt}
 use Rattle.candidates.specs.Candidates.Laws.{join-more}
-use Rattle.candidates.proofs.read.read_of.Statement.{statement}
-use Rattle.candidates.proofs.read.read_of.Tie as tie
+use Rattle.relevance.proofs.read_of.Statement.{statement}
+use Rattle.relevance.proofs.read_of.Tie as tie
 
 abbrev Inv-loop : tie.InvT-loop
 Inv-loop masks charts asks k u₀ c₀ u c = (c ≤ charts) × (u ≡ join c (λ d. backAt masks d k ∩ getD asks d 0))

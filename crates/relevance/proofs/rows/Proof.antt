@@ -1,14 +1,14 @@
--- `read::rows` meets its contract. The loop: what is read of the charts below k stands in the row. Assumes nothing.
+-- `rows` meets its contract. The loop: what is read of the charts below k stands in the row. Assumes nothing.
 use mathlib.Core.Path.{_≡_, refl, _∙_, subst}
 use Prim.Native.Nat.{_-_, _≤_}
 use native.Mathlib.Omega.{arith}
 use borrow.Author.Needs.{needs}
 use lib.ListN.{length, length-set}
 use Rattle.meaning.specs.Numbers.{mostCharts}
-use Rattle.candidates.specs.Candidates.{ReadRow}
-use Rattle.candidates.specs.Candidates.Laws.{read-next}
-use Rattle.candidates.proofs.read.rows.Statement.{statement}
-use Rattle.candidates.proofs.read.rows.Tie as tie
+use Rattle.relevance.specs.Rows.{ReadRow}
+use Rattle.relevance.specs.Rows.Laws.{read-next}
+use Rattle.relevance.proofs.rows.Statement.{statement}
+use Rattle.relevance.proofs.rows.Tie as tie
 
 abbrev Inv-loop : tie.InvT-loop
 Inv-loop n body config masks asks reads₀ k₀ reads k =

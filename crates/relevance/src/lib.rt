@@ -10,7 +10,8 @@ ghost use Rattle.meaning.specs.Numbers.{mostCharts};
 ghost use Rattle.signals.specs.Mask.{_∪_};
 ghost use Rattle.cells.specs.Table.{masksFor};
 ghost use Rattle.tables.specs.Read.{asked, readAt};
-ghost use Rattle.candidates.specs.Candidates.{Ready, Asks, ReadRow};
+ghost use Rattle.candidates.specs.Candidates.{Ready};
+ghost use Rattle.relevance.specs.Rows.{Asks, ReadRow};
 use cells::CHARTS;
 use cells::masks;
 use layout::body::Shape;
@@ -21,7 +22,7 @@ fn asked_with(n: Shape, body: &[u8], t: usize, state: u8, u: u64) -> u64
     ensures { λ r. ⌜ r ≡ u ∪ cond (same (transitionAt n (now (body .entry)) t .from) state)
         (transitionAt n (now (body .entry)) t .needed ∪ transitionAt n (now (body .entry)) t .barred) 0 ⌝ }
 {
-    if crate::from_at(n, body, t) == state {
+    if candidates::from_at(n, body, t) == state {
         let r = layout::body::transition_at(n, body, t);
         return u | (r.needed | r.barred);
     }
