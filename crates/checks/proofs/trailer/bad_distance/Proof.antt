@@ -1,4 +1,5 @@
 -- `trailer::bad_distance` meets its contract: the size is that of the trailer's shape. Assumes nothing.
+use mathlib.Core.Path.{refl}
 use native.Mathlib.Omega.{arith}
 use borrow.Author.Needs.{needs}
 use Rattle.meaning.specs.Meaning.{same}
@@ -12,7 +13,7 @@ size-requires c κs = rw (c .shape .ensures) (omega arith)
 
 returns : tie.Need-returns
 unfolding same
-returns c = rw (c .size .ensures, c .before .shape .ensures)
+returns c = rw (c .size .ensures, c .before .shape .ensures) refl
 
 pub bad-distance-spec : {M : Type 1} → statement M
 bad-distance-spec = tie.close (tie.spec (λ c. search needs) (λ c κs. search needs) size-requires returns)

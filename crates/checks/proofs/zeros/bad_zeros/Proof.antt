@@ -1,4 +1,5 @@
 -- `zeros::bad_zeros` meets its contract: the four kinds of records one after another. Assumes nothing.
+use mathlib.Core.Path.{refl}
 use native.Mathlib.Nat.{zero-add}
 use borrow.Author.Needs.{needs}
 use Rattle.meaning.specs.Check.{zeros?}
@@ -12,7 +13,7 @@ returns c = rw (
   c .before .before .any-nonzero2 .ensures,
   c .before .any-nonzero3 .ensures,
   c .any-nonzero4 .ensures,
-) (simp zero-add)
+) (simp zero-add refl)
 
 pub bad-zeros-spec : {M : Type 1} → statement M
 bad-zeros-spec =
