@@ -1,6 +1,7 @@
 //! Measures the engine against the reference, which enumerates all choices and evaluates each in full,
 //! and against the engine's own algorithm written by hand in Rust.
 
+pub mod calls;
 pub mod family;
 pub mod hand;
 pub mod measure;

@@ -1,11 +1,12 @@
-//! `bench [PART] [--picture FILE]`: measures and prints a table of each part, `check`, `step`, `many`
-//! (steps of nine charts and more), `staying` (steps of edition 2), `run`, `rewriting`, `posting`, `reading`,
-//! `writing` or `growth`, ratios first; all of them if none is named. The picture has the ratios of the parts
+//! `bench [PART] [--picture FILE]`: measures and prints a table of each part, `calls` (every call on a file),
+//! `check`, `step`, `many` (steps of nine charts and more), `staying` (steps of edition 2), `run`, `rewriting`,
+//! `posting`, `reading`, `writing` or `growth`, ratios first; all of them if none is named. The picture has the ratios of the parts
 //! measured as bars on a log scale.
 //!
 //! `bench worst COUNT`: draws so many files of edition 2 of each of three shapes, and prints which of them
 //! has the hardest step.
 
+use bench::calls::calls;
 use bench::family::WORST;
 use bench::parts::{self, Part};
 use bench::picture::{picture, Bar};
@@ -18,11 +19,12 @@ use std::process::ExitCode;
 
 /// What can be said on the command line.
 const USE: &str =
-    "use: bench [check | step | many | staying | run | rewriting | posting | reading | writing | growth] \
+    "use: bench [calls | check | step | many | staying | run | rewriting | posting | reading | writing | growth] \
     [--picture FILE] | worst COUNT";
 
 /// All parts, in the order of the table.
-const NAMES: [&str; 10] = [
+const NAMES: [&str; 11] = [
+    "calls",
     "check",
     "step",
     "many",
@@ -76,6 +78,7 @@ fn look_for_worst(count: &str) -> Result<(), String> {
 /// A part by its name.
 fn measured(name: &str) -> Vec<Part> {
     match name {
+        "calls" => vec![calls()],
         "check" => vec![parts::check()],
         "step" => vec![parts::step()],
         "many" => vec![parts::many()],
