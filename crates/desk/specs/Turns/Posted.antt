@@ -305,7 +305,7 @@ module _ (f : List ℕ) (h : refusalOf f ≡ 0) (c : Case) (z : refusalAt f (con
   module _ (d : Day) (k : ℕ) (i : Set) (e : getD (d .sets) k 0 ≡ i) where
     pub case-posted : turnCase f c d k ≡ postedCase (fileOf f) c i
     unfolding turnCase postedCase replyOf
-    case-posted = rw (e, step-is (c .carried ∪ i), carried-kept (c .carried ∪ i))
+    case-posted = rw (e, step-is (c .carried ∪ i), carried-kept (c .carried ∪ i)) refl
 
     pub row-posted : turnRow (fileOf f .charts) f c d k ≡ postedRow (fileOf f) c i
     unfolding turnRow rowBytes postedRow replyOf rowOf
@@ -360,7 +360,7 @@ module _ (f : List ℕ) (cs : List Case) (es : List Entry) (room : ℕ) where
         outside-of-day (length cs) es,
         book-ended f cs,
         book-charts f h cs,
-      )
+      ) refl
 
   -- ── what posting asks: that of a day that is accepted, and nothing of one that is refused ──
 

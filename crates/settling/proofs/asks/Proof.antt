@@ -40,8 +40,8 @@ loop-again c =
     let m = a .masks .now in
     let w = a .trail .now in (
       omega arith,
-      join-more (l .d) (wantsIn m w (a .k)) _ _ (l .inv .1) (rw (less, needs, ahead, bars, low)),
-      join-more (l .d) (bansIn m w (a .k)) _ _ (l .inv .2) (rw (c .less2 .ensures, less, needs, ahead, bars, back, low)),
+      join-more (l .d) (wantsIn m w (a .k)) _ _ (l .inv .1) (rw (less, needs, ahead, bars, low) refl),
+      join-more (l .d) (bansIn m w (a .k)) _ _ (l .inv .2) (rw (c .less2 .ensures, less, needs, ahead, bars, back, low) refl),
     )
 
 returns : tie.Need-returns Inv-loop μ-loop

@@ -1,5 +1,5 @@
 -- `search::fits` meets its contract: what is asked of the action, then the candidate's own guard.
-use mathlib.Core.Path.{_≡_, sym, ap, _∙_}
+use mathlib.Core.Path.{_≡_, refl, sym, ap, _∙_}
 use mathlib.Core.Bool.{Bool, true, false, _&&_, and-true, and-false}
 use mathlib.Core.List.{List}
 use Prim.Native.Nat.{ℕ, _<_}
@@ -46,7 +46,7 @@ returns-2 c s b o =
     let m = a .args .masks .now in
     let w = a .args .trail .now in
     let h = sym (d .before .holds .ensures) ∙ not-false _ (d .if1 .left) in
-    let own : c .holds2 .result ≡ ownAt m w (a .args .k) (a .args .v) = rw (c .holds2 .ensures, needed, barred, low, t .action .ensures, back, ahead) in
+    let own : c .holds2 .result ≡ ownAt m w (a .args .k) (a .args .v) = rw (c .holds2 .ensures, needed, barred, low, t .action .ensures, back, ahead) refl in
     own
     ∙ sym (by m s w b (a .args .k) o (a .args .v) (a .pre .1) (a .args .asked) (a .pre .3) (t .action .result) (t .action .ensures) true h
     ∙ and-true (ownAt m w (a .args .k) (a .args .v)))

@@ -1,5 +1,5 @@
 -- `search::trips` meets its contract: none of the triggers below v holds.
-use mathlib.Core.Path.{_≡_, sym, _∙_}
+use mathlib.Core.Path.{_≡_, refl, sym, _∙_}
 use mathlib.Core.Bool.{Bool, false, _&&_}
 use mathlib.Core.List.{List}
 use Prim.Native.Nat.{ℕ, _-_, _≤_}
@@ -33,7 +33,10 @@ tested : (c : tie.After-holds Inv-loop μ-loop) →
     let l = c .before .before .before .before in
     let a = l .before .before .args in
     (within (triggerNeeded (a .guards .now) (a .d) (l .loop .v)) (a .low) && apart (triggerBarred (a .guards .now) (a .d) (l .loop .v)) (a .high)) ≡ c .holds .result
-tested c = let e = c .before .barred .ensures in let n = c .before .before .needed .ensures in cc (c .holds .ensures)
+tested c =
+    let barred = c .before .barred .ensures in
+    let needed = c .before .before .needed .ensures in
+    sym (rw (c .holds .ensures, needed, barred) refl)
 
 returns : tie.Need-returns Inv-loop μ-loop
 unfolding trips

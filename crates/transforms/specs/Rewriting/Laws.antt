@@ -50,11 +50,11 @@ module _ (f : List ℕ) where
 
     pub length-is : (room : ℕ) → rewriteLength f room ≡ lengthAfter (fileOf f) room
     unfolding rewriteLength lengthAfter rewriteBytes
-    length-is room = rw (refusal-is room)
+    length-is room = rw (refusal-is room) refl
 
     pub out-is : (buffer : List ℕ) → rewriteOut f buffer ≡ outAfter (fileOf f) buffer
     unfolding rewriteOut outAfter rewriteBytes
-    out-is buffer = rw (refusal-is (length buffer))
+    out-is buffer = rw (refusal-is (length buffer)) refl
 
 -- ── a refusal of 40 to 45 ──
 
