@@ -55,6 +55,7 @@ pub mod limits;
 pub mod model;
 pub mod notation;
 pub mod open;
+pub mod pair;
 pub mod plain;
 pub mod posting;
 pub mod record;

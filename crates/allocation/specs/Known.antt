@@ -17,7 +17,7 @@ use Rattle.checks.specs.Known.{Sized, Summed}
 use Rattle.allocation.specs.declared.Calls.{Calls}
 pub mod Laws
 
--- a body that passed 1 to 11
+-- a body that passed 1 to 11, as far as the rewriting needs that
 pub record Checked (n : Shape) (b : List ℕ) : Type 0 where
   pub sized : Sized n b
   pub summed : Summed n b

@@ -1,5 +1,5 @@
 // The candidates of a step: for each chart the transitions that it may take now, and what later charts may put out. How the tables are laid out
-// is in the crate search (Table); that a search over them answers the step is in the crate tables.
+// is in the crate cells (Table); that a search over them answers the step is in the crate tables.
 ghost use mathlib.Core.Path.{_≡_};
 ghost use mathlib.Core.Bool.{cond};
 ghost use mathlib.Core.List.{List};

@@ -1,4 +1,4 @@
--- `file::opened` meets its contract: 1, then 2 to 4 of the trailer, then 5 to 11 of the body that the trailer tells. Assumes nothing.
+-- `opened` meets its contract: 1, then 2 to 4 of the trailer, then 5 to 11 of the body that the trailer tells. Assumes nothing.
 use mathlib.Core.Path.{_≡_, sym, _∙_}
 use native.Mathlib.Omega.{arith}
 use borrow.Author.Needs.{needs}

@@ -1,4 +1,4 @@
--- `search::all_calm` meets its contract: where none may stay all charts are calm; the loop: those below d are.
+-- `settling::all_calm` meets its contract: where none may stay all charts are calm; the loop: those below d are.
 use mathlib.Core.Path.{_≡_, sym, _∙_}
 use mathlib.Core.Bool.{Bool, true, false}
 use mathlib.Core.List.{List}

@@ -1,4 +1,4 @@
--- `search::asks` meets its contract: what the charts below d ask is joined.
+-- `settling::asks` meets its contract: what the charts below d ask is joined.
 use mathlib.Core.Path.{_≡_, refl, ap₂}
 use Prim.Native.Nat.{ℕ, _+_, _-_, _≤_}
 use native.Mathlib.Numerals.{add-one}

@@ -1,4 +1,4 @@
--- `search::calm` meets its contract: a chart that moves, or has no triggers, is calm; for another the triggers decide.
+-- `settling::calm` meets its contract: a chart that moves, or has no triggers, is calm; for another the triggers decide.
 use mathlib.Core.Path.{_≡_, sym, _∙_}
 use mathlib.Core.List.{List}
 use Prim.Native.Nat.{ℕ, _-_}

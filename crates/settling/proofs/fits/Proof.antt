@@ -1,4 +1,4 @@
--- `search::fits` meets its contract: what is asked of the action, then the candidate's own guard.
+-- `settling::fits` meets its contract: what is asked of the action, then the candidate's own guard.
 use mathlib.Core.Path.{_≡_, refl, sym, ap, _∙_}
 use mathlib.Core.Bool.{Bool, true, false, _&&_, and-true, and-false}
 use mathlib.Core.List.{List}

@@ -1,4 +1,4 @@
--- `search::holds` meets its contract: nothing is lacking, or something is.
+-- `settling::holds` meets its contract: nothing is lacking, or something is.
 use mathlib.Core.Path.{_≡_, refl, sym, ap, _∙_}
 use mathlib.Core.Bool.{false}
 use mathlib.Core.List.{[], _∷_}

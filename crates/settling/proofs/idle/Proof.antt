@@ -1,4 +1,4 @@
--- `search::idle` meets its contract: what it writes is one chart more, which takes no transition.
+-- `settling::idle` meets its contract: what it writes is one chart more, which takes no transition.
 use mathlib.Core.Path.{_≡_, ap, _∙_}
 use mathlib.Core.List.{List}
 use Prim.Native.Nat.{ℕ, _+_, _<_}

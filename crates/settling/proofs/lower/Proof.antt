@@ -1,4 +1,4 @@
--- `search::lower` meets its contract: the row that is put behind chart k's masks is what each chart is offered then.
+-- `settling::lower` meets its contract: the row that is put behind chart k's masks is what each chart is offered then.
 use mathlib.Core.Path.{ap, _∙_}
 use mathlib.Core.List.{List}
 use Prim.Native.Nat.{ℕ, _+_}

@@ -1,4 +1,4 @@
--- `search::lowered` meets its contract: what the charts below c are offered, and 0 behind it.
+-- `settling::lowered` meets its contract: what the charts below c are offered, and 0 behind it.
 use mathlib.Core.Path.{_≡_, refl, ap, ap₂, _∙_}
 use mathlib.Core.List.{_++_, append-nil}
 use Prim.Native.Nat.{ℕ, _-_, _≤_}

@@ -1,4 +1,4 @@
--- `search::put_row` meets its contract: the masks below c stand in the row, and all before it stays.
+-- `settling::put_row` meets its contract: the masks below c stand in the row, and all before it stays.
 use mathlib.Core.Path.{_≡_, _∙_}
 use mathlib.Core.List.{List}
 use mathlib.Core.Logic.{⊎-elim}

@@ -1,4 +1,4 @@
--- `search::rest` meets its contract: what `idle` leaves is what it promises.
+-- `settling::rest` meets its contract: what `idle` leaves is what it promises.
 use borrow.Author.Needs.{needs}
 use Rattle.settling.proofs.rest.Statement.{statement}
 use Rattle.settling.proofs.rest.Tie as tie

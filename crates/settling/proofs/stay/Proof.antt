@@ -1,4 +1,4 @@
--- `search::stay` meets its contract: what `idle` leaves is what it promises.
+-- `settling::stay` meets its contract: what `idle` leaves is what it promises.
 use borrow.Author.Needs.{needs}
 use Rattle.settling.proofs.stay.Statement.{statement}
 use Rattle.settling.proofs.stay.Tie as tie

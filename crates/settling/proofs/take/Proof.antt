@@ -1,4 +1,4 @@
--- `search::take` meets its contract: what it writes is one chart more.
+-- `settling::take` meets its contract: what it writes is one chart more.
 use mathlib.Core.Path.{_≡_, ap, _∙_}
 use mathlib.Core.List.{List}
 use Prim.Native.Nat.{ℕ, _+_, _<_}

@@ -1,4 +1,4 @@
--- `search::trips` meets its contract: none of the triggers below v holds.
+-- `settling::trips` meets its contract: none of the triggers below v holds.
 use mathlib.Core.Path.{_≡_, refl, sym, _∙_}
 use mathlib.Core.Bool.{Bool, false, _&&_}
 use mathlib.Core.List.{List}

@@ -1,4 +1,4 @@
--- `search::wakes` meets its contract: each way out is decided by the tests that led there.
+-- `settling::wakes` meets its contract: each way out is decided by the tests that led there.
 use mathlib.Core.Path.{_≡_, sym, ap, ap₂, _∙_}
 use mathlib.Core.Bool.{true, false, _&&_, _||_}
 use mathlib.Core.List.{List}
