@@ -5,6 +5,7 @@ use crate::measure::{least, Call};
 use crate::parts::Part;
 use crate::reading::largest;
 use crate::table::{ratio, time, Row, Table};
+use reference::command::FILL;
 use reference::limits::{CHARTS, TEXT_ROOM};
 use reference::notation::file_of;
 use std::hint::black_box;
@@ -128,10 +129,11 @@ fn filled<'a, One, Other>(
     engine: impl Fn(&mut [u8]) -> One + 'a,
     reference: impl Fn(&mut [u8]) -> Other + 'a,
 ) -> Compared<'a> {
-    let (mut one, mut other) = (vec![0; TEXT_ROOM], vec![0; TEXT_ROOM]);
+    let (mut one, mut other) = (vec![FILL; TEXT_ROOM], vec![FILL; TEXT_ROOM]);
     engine(&mut one);
     reference(&mut other);
     assert_eq!(one, other, "{name}");
+    assert_ne!(one[0], FILL, "{name}");
     Compared {
         name,
         calls: [

@@ -42,7 +42,7 @@ pub const NAMED_SIGNALS: usize = SIGNALS as usize;
 pub const NESTING: usize = 16;
 /// RULES 14.5: a buffer of this length is enough for the file of any text.
 pub const FILE_ROOM: usize = 30_408;
-/// RULES 15.4: a buffer of this length is enough for the text of any file.
+/// RULES 15.3: a buffer of this length is enough for the text of any file.
 pub const TEXT_ROOM: usize = 874_514;
 /// RULES 3.4: the most bytes of the day program's input.
 pub const DAY_INPUT: usize = 65_536;

@@ -2,7 +2,7 @@
 
 use crate::{raw, Refusal};
 
-/// A buffer of this length is enough for the text of any file (RULES 15.4).
+/// A buffer of this length is enough for the text of any file (RULES 15.3).
 pub const TEXT_BYTES: usize = 874_514;
 
 /// Writes the file as typed text to the front of the buffer, and returns its length (RULES 15). [`read`]
