@@ -1,4 +1,5 @@
--- A chart file in bytes: numbers (Le), records (Record), and the body by its counts (Body); bytes written at a place of a buffer (Put).
+-- A chart file in bytes: numbers (Le), records (Record), and the body by its counts (Body); bytes written at a place of
+-- a buffer (Put).
 pub mod Le
 pub mod Record
 pub mod Body

@@ -1,4 +1,5 @@
--- Bytes written at a place of a buffer: what each function that writes a part of something asks and promises. Laws are in Put/Laws.antt.
+-- Bytes written at a place of a buffer: what each function that writes a part of something asks and promises. Laws are
+-- in Put/Laws.antt.
 use mathlib.Core.Path.{_≡_}
 use mathlib.Core.List.{List}
 use Prim.Native.Nat.{ℕ, _+_, _≤_}

@@ -1,5 +1,6 @@
--- The records of a chart file in bytes (RULES 2.2 to 2.6): of each, the record that bytes begin with, and the bytes of a record. Zero bytes are not a
--- part of it: they are not read here, and written as 0. That what is written reads back is in Record/Laws.antt.
+-- The records of a chart file in bytes (RULES 2.2 to 2.6): of each, the record that bytes begin with, and the bytes of
+-- a record. Zero bytes are not a part of it: they are not read here, and written as 0. That what is written reads back
+-- is in Record/Laws.antt.
 use mathlib.Core.List.{List, [], _∷_, _++_}
 use Prim.Native.Nat.{ℕ}
 use lib.ListN.{getD, drop}

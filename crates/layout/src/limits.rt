@@ -1,4 +1,5 @@
-// Limits of a file (RULES 2.8) and bytes of its records (RULES 2), in the lowest crate that has files. Each is written here once.
+// Limits of a file (RULES 2.8) and bytes of its records (RULES 2), in the lowest crate that has files. Each is written
+// here once.
 
 pub const MOST_CHARTS: u8 = 16;
 

@@ -1,4 +1,5 @@
-// The five records of a chart file, read from bytes and written to them. A reader takes the place of the record's first byte.
+// The five records of a chart file, read from bytes and written to them. A reader takes the place of the record's first
+// byte.
 ghost use mathlib.Core.Path.{_≡_};
 ghost use Prim.Native.Nat.{_+_, _≤_};
 ghost use lib.ListN.{length, drop};
@@ -40,7 +41,8 @@ pub struct Slave {
     pub node: u8,
 }
 
-// By kind (RULES 2.6): 0 holds chart a; 1 composes nodes a and b, with the feedback x; 2 hides node a, without x in its input and y in its output.
+// By kind (RULES 2.6): 0 holds chart a; 1 composes nodes a and b, with the feedback x; 2 hides node a, without x in its
+// input and y in its output.
 pub struct Node {
     pub kind: u8,
     pub a: u8,

@@ -1,5 +1,5 @@
--- Which charts are active in a step (RULES 5.3), told by the states before and after it, and what a part puts out in it (RULES 5.4), told by its
--- places. Laws over a tree are in Active/Laws.antt, those over files in Laws/Activity.antt.
+-- Which charts are active in a step (RULES 5.3), told by the states before and after it, and what a part puts out in it
+-- (RULES 5.4), told by its places. Laws over a tree are in Active/Laws.antt, those over files in Laws/Activity.antt.
 use mathlib.Core.Bool.{Bool, true, false, _&&_, _||_, cond}
 use mathlib.Core.List.{List}
 use Prim.Native.Nat.{ℕ}
@@ -39,7 +39,7 @@ module _ (F : File) (config next : List ℕ) where
       activeIn (F .master i)
       && (same (getD config (F .master i) 0) (F .state i) || same (getD next (F .master i) 0) (F .state i))
 
--- what a part puts out in a step with these places (RULES 5.4, 5.11): a place below 254 is a transition of the chart's list, and 254 and 255 are past
--- its end
+-- what a part puts out in a step with these places (RULES 5.4, 5.11): a place below 254 is a transition of the chart's
+-- list, and 254 and 255 are past its end
 unfoldable pub putOut : File → List ℕ → Tree → Set
 putOut F places t = out (λ c. nth noMove (F .chart c .transitions) (getD places c noPlace)) t

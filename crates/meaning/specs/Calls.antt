@@ -1,5 +1,6 @@
--- What the public calls answer (RULES 1.3), the rewriting aside: the first configuration, the interface, the step, the run. Each has one list of
--- tests, in the order of RULES 3.6. A call that is refused changes no byte of a buffer (RULES 1.4).
+-- What the public calls answer (RULES 1.3), the rewriting aside: the first configuration, the interface, the step, the
+-- run. Each has one list of tests, in the order of RULES 3.6. A call that is refused changes no byte of a buffer (RULES
+-- 1.4).
 use mathlib.Core.Path.{_≡_}
 use mathlib.Core.Bool.{Bool, false, cond}
 use mathlib.Core.List.{List, [], _∷_, _++_}
@@ -8,9 +9,11 @@ use lib.Dec.{ltb}
 use lib.ListN.{length, getD, take, drop, replicate}
 use Rattle.signals.specs.Mask.{_∪_}
 use Rattle.layout.specs.Le.{bytes}
-use Rattle.meaning.specs.Numbers.{mostCharts, mostOpen, noPlace, wrongLength, badState, shortBuffer, manyOpen, shortRows}
+use Rattle.meaning.specs.Numbers.{mostCharts, mostOpen, noPlace, wrongLength, badState, shortBuffer, manyOpen}
+use Rattle.meaning.specs.Numbers.{shortRows}
 use Rattle.meaning.specs.Count.{anyUpTo, one}
-use Rattle.meaning.specs.Meaning.{Set, ∅, same, Outcome, Answer, refused, given, inFace, outFace, outcomes, answer, firstPlaces}
+use Rattle.meaning.specs.Meaning.{Set, ∅, same, Outcome, Answer, refused, given, inFace, outFace, outcomes}
+use Rattle.meaning.specs.Meaning.{answer, firstPlaces}
 use Rattle.meaning.specs.File.{File, wholeOf, fileOf}
 use Rattle.meaning.specs.Check.{Test, firstOf, fileTests, refusalOf, differ, notBelow}
 use Rattle.meaning.specs.Open.{openIn}
@@ -29,7 +32,8 @@ laidOver xs buffer = xs ++ drop (length xs) buffer
 
 -- 22: the buffer has fewer bytes than there are charts (RULES 3.3)
 unfoldable pub firstRefusal : List ℕ → ℕ → ℕ
-firstRefusal f room = firstOf (fileTests f ++ (record { number = shortBuffer; applies = ltb room (fileOf f .charts) } ∷ []))
+firstRefusal f room =
+    firstOf (fileTests f ++ (record { number = shortBuffer; applies = ltb room (fileOf f .charts) } ∷ []))
 
 -- the initial states of all charts, inside a slave or not (RULES 6.1)
 unfoldable pub initials : List ℕ → List ℕ
@@ -55,7 +59,10 @@ outputOf f = cond (same (refusalOf f) 0) (outFace (fileOf f .chart) (wholeOf (fi
 unfoldable pub configTests : List ℕ → List ℕ → List Test
 configTests f config =
     record { number = wrongLength; applies = differ (length config) (fileOf f .charts) }
-    ∷ record { number = badState; applies = anyUpTo (fileOf f .charts) (λ c. notBelow (getD config c 0) (fileOf f .chart c .states)) }
+    ∷ record {
+      number = badState;
+      applies = anyUpTo (fileOf f .charts) (λ c. notBelow (getD config c 0) (fileOf f .chart c .states));
+    }
     ∷ []
 
 -- a configuration of a file that neither applies to: a state of each chart (RULES 5.1)
@@ -66,7 +73,8 @@ pub record Valid (F : File) (config : List ℕ) : Type 0 where
 -- all tests but 24 and 23, which `stepIn` makes; 22: the buffer has fewer bytes than there are charts (RULES 3.3)
 unfoldable pub stepRefusal : List ℕ → List ℕ → ℕ → ℕ
 stepRefusal f config room =
-    firstOf (fileTests f ++ configTests f config ++ (record { number = shortBuffer; applies = ltb room (fileOf f .charts) } ∷ []))
+    firstOf (fileTests f ++ configTests f config
+    ++ (record { number = shortBuffer; applies = ltb room (fileOf f .charts) } ∷ []))
 
 -- what a step of a file that is in order may give, from a configuration that is (RULES 5.7, 5.8)
 abbrev pub outcomesIn : File → List ℕ → Set → List Outcome
@@ -98,7 +106,8 @@ openFor (given o next m) n = n
 unfoldable pub openOf : List ℕ → List ℕ → Set → ℕ → ℕ
 openOf f config i room = openFor (stepOf f config i room) (openIn (fileOf f) config)
 
--- the places of an answer (RULES 5.11): those of the file's charts, and 255 for each that is left; a refused step has 255 only
+-- the places of an answer (RULES 5.11): those of the file's charts, and 255 for each that is left; a refused step has
+-- 255 only
 abbrev pub allPlaces : List ℕ → List ℕ
 allPlaces ps = ps ++ replicate (mostCharts - length ps) noPlace
 
@@ -114,7 +123,8 @@ placesIn F config i = cond (manyOpen? F config) (allPlaces []) (placesFound F co
 unfoldable pub placesOf : List ℕ → List ℕ → Set → ℕ → List ℕ
 placesOf f config i room = cond (same (stepRefusal f config room) 0) (placesIn (fileOf f) config i) (allPlaces [])
 
--- what an answer says (RULES 1.4): its refusal, output and mark, and what the caller's buffer for the next configuration holds then
+-- what an answer says (RULES 1.4): its refusal, output and mark, and what the caller's buffer for the next
+-- configuration holds then
 abbrev pub refusalIn : Answer → ℕ
 refusalIn (refused r) = r
 refusalIn (given o n m) = 0
@@ -136,7 +146,8 @@ nextIn (given o n m) buffer = laidOver n buffer
 -- 27: the buffer has no room for a row for each input (RULES 3.3)
 unfoldable pub runRefusal : List ℕ → List ℕ → ℕ → ℕ → ℕ
 runRefusal f config inputs room =
-    firstOf (fileTests f ++ configTests f config ++ (record { number = shortRows; applies = ltb room (inputs * (10 + fileOf f .charts)) } ∷ []))
+    firstOf (fileTests f ++ configTests f config
+    ++ (record { number = shortRows; applies = ltb room (inputs * (10 + fileOf f .charts)) } ∷ []))
 
 -- the configuration after a step of a run; a refused step does not change it (RULES 6.2)
 abbrev pub afterStep : Answer → List ℕ → List ℕ
@@ -152,7 +163,8 @@ abbrev pub carriedAfter : Answer → Set → Set
 carriedAfter (refused r) i = i
 carriedAfter (given o n m) i = ∅
 
--- the rows of a run (RULES 6.2, 6.3): for each input, in order, a step from the present configuration, under the input joined with what is carried
+-- the rows of a run (RULES 6.2, 6.3): for each input, in order, a step from the present configuration, under the input
+-- joined with what is carried
 unfoldable pub rowsOf : File → List ℕ → Set → List Set → List ℕ
 rowsOf F config carried [] = []
 rowsOf F config carried (i ∷ is) =
@@ -169,11 +181,13 @@ carriedOf F config carried (i ∷ is) =
 -- what the buffer holds after the call (RULES 1.4)
 unfoldable pub runBytes : List ℕ → List ℕ → Set → List Set → List ℕ → List ℕ
 runBytes f config carried inputs rows =
-    cond (same (runRefusal f config (length inputs) (length rows)) 0) (laidOver (rowsOf (fileOf f) config carried inputs) rows) rows
+    cond (same (runRefusal f config (length inputs) (length rows)) 0)
+    (laidOver (rowsOf (fileOf f) config carried inputs) rows) rows
 
 -- the carried set that `run` returns (RULES 6.4); ∅ if the run is refused (RULES 1.4)
 unfoldable pub runCarried : List ℕ → List ℕ → Set → List Set → ℕ → Set
-runCarried f config carried inputs room = cond (same (runRefusal f config (length inputs) room) 0) (carriedOf (fileOf f) config carried inputs) ∅
+runCarried f config carried inputs room =
+    cond (same (runRefusal f config (length inputs) room) 0) (carriedOf (fileOf f) config carried inputs) ∅
 
 -- ── a run read row by row ──
 

@@ -8,7 +8,10 @@ use Rattle.layout.specs.Body.{sizeOf, transitionsFrom, slavesFrom, nodesFrom, h
 use Rattle.layout.specs.declared.body.Shape.{Shape}
 use Rattle.layout.specs.declared.record.Trailer.{Trailer}
 use Rattle.layout.specs.declared.record.Transition.{Transition}
-use Rattle.meaning.specs.Numbers.{firstEdition, stayEdition, mostCharts, mostSlaves, mostNodes, mostTransitions, mostStates, mostInChart, mostFromState, tooShort, otherEdition, badCounts, badDistance, notZero, badChart, badTransition, badSlave, badNode, badNaming, badInside}
+use Rattle.meaning.specs.Numbers.{firstEdition, stayEdition, mostCharts, mostSlaves, mostNodes, mostTransitions}
+use Rattle.meaning.specs.Numbers.{mostStates, mostInChart, mostFromState, tooShort, otherEdition, badCounts}
+use Rattle.meaning.specs.Numbers.{badDistance, notZero, badChart, badTransition, badSlave, badNode, badNaming}
+use Rattle.meaning.specs.Numbers.{badInside}
 use Rattle.meaning.specs.Count.{anyUpTo, tally, one}
 use Rattle.meaning.specs.Meaning.{same}
 use Rattle.meaning.specs.File.{File, treeOf, Has, endOf, trailer, bodyOf, shapeOf, fileAt}
@@ -70,7 +73,8 @@ module _ (n : Shape) (b : List ℕ) where
 
   -- ── 6 and 7: charts and their transitions ──
 
-  -- 6: a chart has no state or more than 16, its initial state is not one of its states, or it has more than 64 transitions (RULES 3.2)
+  -- 6: a chart has no state or more than 16, its initial state is not one of its states, or it has more than 64
+  -- transitions (RULES 3.2)
   unfoldable pub chart? : ℕ → Bool
   chart? c =
       (same (headAt n b c .states) 0 || ltb mostStates (headAt n b c .states))
@@ -125,8 +129,8 @@ module _ (F : File) where
   unfoldable pub slaves? : Bool
   slaves? = anyUpTo (F .slaves) slave?
 
-  -- 9: the kind is above 2, the node holds a chart that does not exist, it names a node that is not lower than itself, or a field that its kind does
-  -- not use is not 0 (RULES 2.6, 3.2)
+  -- 9: the kind is above 2, the node holds a chart that does not exist, it names a node that is not lower than itself,
+  -- or a field that its kind does not use is not 0 (RULES 2.6, 3.2)
   unfoldable pub nodeOfKind? : ℕ → ℕ → Bool
   nodeOfKind? zero j = notBelow (F .a j) (F .charts) || differ (F .b j) 0 || differ (F .x j) 0 || differ (F .y j) 0
   nodeOfKind? (suc zero) j = notBelow (F .a j) j || notBelow (F .b j) j || differ (F .y j) 0
@@ -156,8 +160,8 @@ module _ (F : File) where
   unfoldable pub held : ℕ → ℕ
   held c = tally (F .nodes) (λ k. one (holds k c))
 
-  -- 10: the nodes do not make one tree (RULES 3.2). For each chart one node has to hold it, and only one; each node has one name, but the last has
-  -- none; a slave's node is lower than its master's.
+  -- 10: the nodes do not make one tree (RULES 3.2). For each chart one node has to hold it, and only one; each node has
+  -- one name, but the last has none; a slave's node is lower than its master's.
   unfoldable pub naming? : Bool
   naming? =
       anyUpTo (F .charts) (λ c. differ (held c) 1)
@@ -166,7 +170,8 @@ module _ (F : File) where
 
   -- 11: the number of a chart inside a slave is not above that of the master (RULES 2.7, 3.2)
   unfoldable pub inside? : Bool
-  inside? = anyUpTo (F .slaves) (λ i. anyUpTo (F .charts) (λ c. Has (treeOf F (F .node i)) c && notBelow (F .master i) c))
+  inside? =
+      anyUpTo (F .slaves) (λ i. anyUpTo (F .charts) (λ c. Has (treeOf F (F .node i)) c && notBelow (F .master i) c))
 
 -- ── the table ──
 

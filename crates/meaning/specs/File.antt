@@ -49,7 +49,8 @@ module _ (F : File) where
   -- the tree of node j (RULES 2.7), down to a depth; each node names lower ones, so a depth of j + 1 is all of it
   unfoldable pub build : ℕ → ℕ → Tree
   build zero j = leaf zero
-  build (suc f) j = byKind (F .kind j) (whole (F .a j) (gather (F .master) (λ i. build f (F .node i)) (F .a j) (F .slaves)))
+  build (suc f) j =
+      byKind (F .kind j) (whole (F .a j) (gather (F .master) (λ i. build f (F .node i)) (F .a j) (F .slaves)))
       (comp (build f (F .a j)) (build f (F .b j)) (F .x j)) (hide (build f (F .a j)) (F .x j) (F .y j))
 
   -- all of the tree of node j
@@ -88,9 +89,16 @@ bodyOf f = take (trailer f .distance) (drop (endOf f - trailer f .distance) f)
 
 -- a body's counts and edition, from the trailer (RULES 2.2)
 unfoldable pub shapeOf : Trailer → Shape
-shapeOf t = record { charts = t .charts; transitions = t .transitions; slaves = t .slaves; nodes = t .nodes; edition = t .edition }
+shapeOf t = record {
+  charts = t .charts;
+  transitions = t .transitions;
+  slaves = t .slaves;
+  nodes = t .nodes;
+  edition = t .edition;
+}
 
--- chart c of a body: its record (RULES 2.3), its transitions (RULES 2.4), and whether its edition lets it stay (RULES 7.1)
+-- chart c of a body: its record (RULES 2.3), its transitions (RULES 2.4), and whether its edition lets it stay (RULES
+-- 7.1)
 unfoldable pub chartOf : Shape → List ℕ → ℕ → Chart
 chartOf n b c =
     record {

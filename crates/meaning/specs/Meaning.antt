@@ -1,6 +1,7 @@
--- Interfaces and steps (RULES 4 and 5; RULES 1.1 says where they come from), over a tree of parts. Here: charts and the tree; moves; the test of a
--- guard; interfaces; what a part puts out; when a choice is permitted; all choices in order; the step's answer.
--- Laws are elsewhere: that interfaces cut nothing off and how the tree folds into masks in the crate wiring, the rewriting in agreement.
+-- Interfaces and steps (RULES 4 and 5; RULES 1.1 says where they come from), over a tree of parts. Here: charts and the
+-- tree; moves; the test of a guard; interfaces; what a part puts out; when a choice is permitted; all choices in order;
+-- the step's answer. Laws are elsewhere: that interfaces cut nothing off and how the tree folds into masks in the crate
+-- wiring, the rewriting in agreement.
 use mathlib.Core.Bool.{Bool, true, false, _&&_, _||_, not, cond}
 use mathlib.Core.List.{List, [], _∷_, _++_}
 use Prim.Native.Nat.{ℕ, zero, suc, _-_}
@@ -33,8 +34,9 @@ pub record Chart : Type 0 where
   pub extra : Set
   pub stays : Bool  -- may it stay? in a file of edition 2 (RULES 7.1)
 
--- A part (RULES 2.6, 2.7): a chart; two parts composed, with their feedback; a part hidden, without x in its input and y in its output; a master
--- decomposed, with its slaves, each named by the number of its record. Charts are named by number too.
+-- A part (RULES 2.6, 2.7): a chart; two parts composed, with their feedback; a part hidden, without x in its input and
+-- y in its output; a master decomposed, with its slaves, each named by the number of its record. Charts are named by
+-- number too.
 mutual
   pub data Tree : Type 0 where
     leaf : ℕ → Tree
@@ -64,7 +66,8 @@ nth m (t ∷ ts) (suc k) = nth m ts k
 abbrev pub behind : Chart → Move
 behind C = cond (C .stays) stay noMove
 
--- the move at a place of a choice, in the order of RULES 5.8: 0 is none, suc k is transition k, and staying comes after the last transition
+-- the move at a place of a choice, in the order of RULES 5.8: 0 is none, suc k is transition k, and staying comes after
+-- the last transition
 unfoldable pub pick : Chart → ℕ → Move
 pick C zero = noMove
 pick C (suc k) = nth (behind C) (C .transitions) k
@@ -87,8 +90,9 @@ after s stay = s
 
 -- ── the test of a guard ──
 
--- the guard of a transition is met (RULES 5.6); what testing it shows otherwise is in crate signals, specs/Guard.antt. Needed signals are looked up in i
--- and barred ones in j: the same set twice, except where a search has only bounds on it
+-- the guard of a transition is met (RULES 5.6); what testing it shows otherwise is in crate signals, specs/Guard.antt.
+-- Needed signals are looked up in i and barred ones in j: the same set twice, except where a search has only bounds on
+-- it
 unfoldable pub met? : Transition → Set → Set → Bool
 met? t i j = isMet (guard (t .needed) (t .barred) i j)
 
@@ -114,7 +118,8 @@ unfoldable pub inFaceChart : Chart → Set
 inFaceChart C = guards (C .transitions) ∪ C .extra
 
 module _ (E : ℕ → Chart) where
-  -- the input interface of a part (RULES 4.2): that of its chart; of several parts, theirs together; of a hidden part, its own without x
+  -- the input interface of a part (RULES 4.2): that of its chart; of several parts, theirs together; of a hidden part,
+  -- its own without x
   unfoldable mutual
     pub inFace : Tree → Set
     inFace (leaf c) = inFaceChart (E c)
@@ -155,25 +160,29 @@ module _ (M : ℕ → Move) where
 
 -- ── when a choice is permitted ──
 
--- The rule of one chart (RULES 5.6, 5.7). An inactive chart takes none. An active one takes a transition that leaves its present state and whose
--- guard is met on the offered set, joined with what its own action feeds back to it; or it stays, if it may and the offered set alone triggers
--- nothing. Given: the chart, whether it is active, the offered set, its present state, its move.
+-- The rule of one chart (RULES 5.6, 5.7). An inactive chart takes none. An active one takes a transition that leaves
+-- its present state and whose guard is met on the offered set, joined with what its own action feeds back to it; or it
+-- stays, if it may and the offered set alone triggers nothing. Given: the chart, whether it is active, the offered set,
+-- its present state, its move.
 unfoldable pub okChart : Chart → Bool → Set → ℕ → Move → Bool
 okChart C false o s noMove = true
 okChart C false o s (takes t) = false
 okChart C false o s stay = false
 okChart C true o s noMove = false
-okChart C true o s (takes t) = same (t .from) s && met? t (o ∪ (t .action ∩ C .feedback)) (o ∪ (t .action ∩ C .feedback))
+okChart C true o s (takes t) =
+    same (t .from) s && met? t (o ∪ (t .action ∩ C .feedback)) (o ∪ (t .action ∩ C .feedback))
 okChart C true o s stay = C .stays && untriggered (C .transitions) s o o
 
--- the master is in the slave's state q before the step or after it (RULES 5.3); one that stays is in its state both times
+-- the master is in the slave's state q before the step or after it (RULES 5.3); one that stays is in its state both
+-- times
 unfoldable pub meets : ℕ → Move → ℕ → Bool
 meets s m q = same s q || same (after s m) q
 
 -- E: the charts; state: of each slave, its state; cfg: the present states; M: the moves of a choice
 module _ (E : ℕ → Chart) (state : ℕ → ℕ) (cfg : ℕ → ℕ) (M : ℕ → Move) where
   unfoldable mutual
-    -- every chart of a part follows its rule (RULES 5.7); given whether the part is active, and the set that it is offered
+    -- every chart of a part follows its rule (RULES 5.7); given whether the part is active, and the set that it is
+    -- offered
     pub ok : Tree → Bool → Set → Bool
     ok (leaf c) a o = okChart (E c) a o (cfg c) (M c)
     -- both parts are offered the set and what x feeds back of their output, cut to their interfaces (RULES 5.5)
@@ -181,18 +190,20 @@ module _ (E : ℕ → Chart) (state : ℕ → ℕ) (cfg : ℕ → ℕ) (M : ℕ 
         ok l a ((o ∪ ((out M l ∪ out M r) ∩ x)) ∩ inFace E l) && ok r a ((o ∪ ((out M l ∪ out M r) ∩ x)) ∩ inFace E r)
     -- the part is offered the set without x (RULES 5.5)
     ok (hide l x y) a o = ok l a (o ∖ x)
-    -- the master's feedback set feeds back what master and slaves put out, to all of them (RULES 5.5); a slave is active if the master is and meets
-    -- the slave's state (RULES 5.3)
+    -- the master's feedback set feeds back what master and slaves put out, to all of them (RULES 5.5); a slave is
+    -- active if the master is and meets the slave's state (RULES 5.3)
     ok (dec c ss) a o =
         okChart (E c) a ((o ∪ ((actionOf (M c) ∪ outs M ss) ∩ E c .feedback)) ∩ inFaceChart (E c)) (cfg c) (M c)
         && oks ss (λ q. a && meets (cfg c) (M c) q) (o ∪ ((actionOf (M c) ∪ outs M ss) ∩ E c .feedback))
 
-    -- the same of slaves; given whether one is active, by its state, and what all are offered before the cut (RULES 5.5)
+    -- the same of slaves; given whether one is active, by its state, and what all are offered before the cut (RULES
+    -- 5.5)
     pub oks : Slaves → (ℕ → Bool) → Set → Bool
     oks nil f z = true
     oks (snoc ss i t) f z = oks ss f z && ok t (f (state i)) (z ∩ inFace E t)
 
-  -- a choice is permitted (RULES 5.7): the whole is active (RULES 5.3), and offered what its interface has of the input (RULES 5.5)
+  -- a choice is permitted (RULES 5.7): the whole is active (RULES 5.3), and offered what its interface has of the input
+  -- (RULES 5.5)
   unfoldable pub permitted : Tree → Set → Bool
   permitted t i = ok t true (i ∩ inFace E t)
 
@@ -211,8 +222,8 @@ unfoldable pub nexts : (ℕ → ℕ) → (ℕ → Move) → ℕ → ℕ → List
 nexts cfg M c zero = []
 nexts cfg M c (suc n) = after (cfg c) (M c) ∷ nexts cfg M (suc c) n
 
--- the place that an answer has for a chart (RULES 5.11): that of its transition, 254 if it stayed, 255 if it took none; given its move, and the place
--- of the move in the choice
+-- the place that an answer has for a chart (RULES 5.11): that of its transition, 254 if it stayed, 255 if it took none;
+-- given its move, and the place of the move in the choice
 unfoldable pub placeOf : Move → ℕ → ℕ
 placeOf noMove v = noPlace
 placeOf (takes t) v = v - 1
@@ -231,7 +242,8 @@ pub record Outcome : Type 0 where
 
 -- the outcome of a choice, in a file of N charts
 unfoldable pub outcomeOf : (ℕ → Chart) → (ℕ → ℕ) → Tree → ℕ → (ℕ → ℕ) → Outcome
-outcomeOf E cfg t N ch = record { output = out (moves E ch) t; next = nexts cfg (moves E ch) zero N; places = placesFrom E ch zero N }
+outcomeOf E cfg t N ch =
+    record { output = out (moves E ch) t; next = nexts cfg (moves E ch) zero N; places = placesFrom E ch zero N }
 
 module _ {A : Type 0} where
   -- f 0 ++ f 1 ++ .. ++ f m

@@ -13,9 +13,11 @@ use Rattle.meaning.specs.Rewriting.{unionUpTo}
 
 -- all signals that are fed back: in the feedback set of a chart or in the x of a composed node (RULES 8.1)
 unfoldable pub fedBack : File → Set
-fedBack F = unionUpTo (F .charts) (λ c. F .chart c .feedback) ∪ unionUpTo (F .nodes) (λ j. cond (same (F .kind j) 1) (F .x j) ∅)
+fedBack F =
+    unionUpTo (F .charts) (λ c. F .chart c .feedback) ∪ unionUpTo (F .nodes) (λ j. cond (same (F .kind j) 1) (F .x j) ∅)
 
--- one of the two transitions needs a signal that the other bars and f does not have; f: all that are fed back (RULES 8.2)
+-- one of the two transitions needs a signal that the other bars and f does not have; f: all that are fed back (RULES
+-- 8.2)
 unfoldable pub toldApart : Set → Transition → Transition → Bool
 toldApart f t u = differ ((t .needed ∩ u .barred ∪ t .barred ∩ u .needed) ∖ f) ∅
 
@@ -37,6 +39,7 @@ anyDoubtful f (t ∷ ts) = doubtfulWith f t ts || anyDoubtful f ts
 unfoldable pub plainIn : File → Bool
 plainIn F = not (anyUpTo (F .charts) (λ c. anyDoubtful (fedBack F) (F .chart c .transitions)))
 
--- what `plain` answers: yes for an accepted file of edition 1 that has none (RULES 8.3), no for a refused file (RULES 1.4)
+-- what `plain` answers: yes for an accepted file of edition 1 that has none (RULES 8.3), no for a refused file (RULES
+-- 1.4)
 unfoldable pub plainOf : List ℕ → Bool
 plainOf f = cond (same (refusalOf f) 0) (same (trailer f .edition) firstEdition && plainIn (fileOf f)) false

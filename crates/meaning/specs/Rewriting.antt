@@ -1,6 +1,7 @@
--- The rewriting (RULES 9): a file with slaves becomes a file without, rule by rule. In this order: the call signals; the charts; the nodes; the
--- rewritten file; refusals 40 to 44; the file in bytes; what the call answers. That the rewritten file steps as the file does is proved in the crate
--- agreement. Laws of the refusals are in Rewriting/Laws.antt.
+-- The rewriting (RULES 9): a file with slaves becomes a file without, rule by rule. In this order: the call signals;
+-- the charts; the nodes; the rewritten file; refusals 40 to 44; the file in bytes; what the call answers. That the
+-- rewritten file steps as the file does is proved in the crate agreement. Laws of the refusals are in
+-- Rewriting/Laws.antt.
 use mathlib.Core.Path.{_≡_}
 use mathlib.Core.Bool.{Bool, true, false, _&&_, _||_, cond}
 use mathlib.Core.Logic.{_≢_, _⊎_}
@@ -16,9 +17,11 @@ use Rattle.layout.specs.declared.body.Shape.{Shape}
 use Rattle.layout.specs.declared.record.Head.{Head}
 use Rattle.layout.specs.declared.record.Transition.{Transition}
 use Rattle.layout.specs.declared.record.Node.{Node}
-use Rattle.meaning.specs.Numbers.{firstEdition, stayEdition, mostSignals, mostFromState, mostInChart, mostNodes, noFreeSignal, manyFromState, manyInChart, manyNodes, shortOut, mayStay}
+use Rattle.meaning.specs.Numbers.{firstEdition, stayEdition, mostSignals, mostFromState, mostInChart, mostNodes}
+use Rattle.meaning.specs.Numbers.{noFreeSignal, manyFromState, manyInChart, manyNodes, shortOut, mayStay}
 use Rattle.meaning.specs.Count.{anyUpTo, tally, one}
-use Rattle.meaning.specs.Meaning.{Set, ∅, same, Chart, Tree, Slaves, leaf, comp, hide, dec, nil, snoc, guards, actions}
+use Rattle.meaning.specs.Meaning.{Set, ∅, same, Chart, Tree, Slaves, leaf, comp, hide, dec, nil, snoc, guards}
+use Rattle.meaning.specs.Meaning.{actions}
 use Rattle.meaning.specs.File.{File, trailer, wholeOf, Has, fileOf}
 use Rattle.meaning.specs.Check.{Test, firstOf, fileTests}
 use Rattle.meaning.specs.Calls.{laidOver}
@@ -41,19 +44,21 @@ module _ (F : File) where
   unfoldable pub used : Set
   used =
       unionUpTo (F .charts)
-      (λ c. guards (F .chart c .transitions) ∪ actions (F .chart c .transitions) ∪ F .chart c .feedback ∪ F .chart c .extra)
+      (λ c. guards (F .chart c .transitions) ∪ actions (F .chart c .transitions) ∪ F .chart c .feedback
+      ∪ F .chart c .extra)
       ∪ unionUpTo (F .nodes) (λ j. F .x j ∪ F .y j)
 
   -- the free signals, from the lowest up (RULES 9.2)
   unfoldable pub free : List ℕ
   free = lacking used mostSignals
 
-  -- the call signal of slave i: free signal i, counted from the lowest (RULES 9.2). If there are not enough, which 40 refuses, it is a number that is
-  -- no signal.
+  -- the call signal of slave i: free signal i, counted from the lowest (RULES 9.2). If there are not enough, which 40
+  -- refuses, it is a number that is no signal.
   unfoldable pub call : ℕ → ℕ
   call i = getD free i (mostSignals + i)
 
-  -- the same said of a number m: no set of the file has it, it is no earlier slave's call signal, and each lower number is in a set or is one
+  -- the same said of a number m: no set of the file has it, it is no earlier slave's call signal, and each lower number
+  -- is in a set or is one
   pub record LowestLeft (i m : ℕ) : Type 0 where
     pub unused : bit used m ≡ false
     pub left : (k : ℕ) → k < i → call k ≢ m
@@ -69,7 +74,8 @@ module _ (F : File) where
   abbrev pub touches : Transition → ℕ → Bool
   touches t i = same (t .from) (F .state i) || same (t .to) (F .state i)
 
-  -- what a transition of a master also outputs: the call signal of each of the chart's slaves whose state it leaves or enters (RULES 9.3)
+  -- what a transition of a master also outputs: the call signal of each of the chart's slaves whose state it leaves or
+  -- enters (RULES 9.3)
   unfoldable pub callsBy : ℕ → Transition → Set
   callsBy c t = unionUpTo (F .slaves) (λ i. cond (isOf c i && touches t i) (single (call i)) ∅)
 
@@ -91,7 +97,8 @@ module _ (call : ℕ → ℕ) where
         action = t .action ∪ added t;
       }
 
-  -- the idle transition of state s inside slave i: it leads back to s, bars the call signal and outputs nothing (RULES 9.3)
+  -- the idle transition of state s inside slave i: it leads back to s, bars the call signal and outputs nothing (RULES
+  -- 9.3)
   unfoldable pub idle : ℕ → ℕ → Transition
   idle i s = record { from = s; to = s; needed = ∅; barred = single (call i); action = ∅ }
 
@@ -101,7 +108,8 @@ module _ (call : ℕ → ℕ) where
   idles (some i) s zero = []
   idles (some i) s (suc n) = idle i s ∷ idles (some i) (suc s) n
 
-  -- a rewritten chart (RULES 9.3): its own transitions, then the idle ones, which output no call signal; all else is unchanged
+  -- a rewritten chart (RULES 9.3): its own transitions, then the idle ones, which output no call signal; all else is
+  -- unchanged
   unfoldable pub chartWith : Option ℕ → (Transition → Set) → Chart → Chart
   chartWith κ added C =
       record {
@@ -140,8 +148,8 @@ module _ (F : File) where
   abbrev pub count : ℕ → ℕ → ℕ
   count c k = tally k (λ i. one (isOf F c i))
 
-  -- how many nodes are appended for a node before the last of them, by its kind and the number of its chart's slaves: for a master the node that
-  -- holds it and a composed one for each slave, else none (RULES 9.4)
+  -- how many nodes are appended for a node before the last of them, by its kind and the number of its chart's slaves:
+  -- for a master the node that holds it and a composed one for each slave, else none (RULES 9.4)
   abbrev pub before : ℕ → ℕ → ℕ
   before zero zero = 0
   before zero (suc s) = suc (suc s)
@@ -164,19 +172,21 @@ module _ (F : File) where
   unfoldable pub callsOf : ℕ → Set
   callsOf c = unionUpTo (F .slaves) (λ i. cond (isOf F c i) (single (call F i)) ∅)
 
-  -- the composed nodes of a master c (RULES 9.4), for those of the first k slaves that are its own: a is the node just before, b the new number of
-  -- the slave's node, x the feedback set with all call signals. The node that holds c is number `at`. Its slaves come in the order of their states,
-  -- by refusal 8.
+  -- the composed nodes of a master c (RULES 9.4), for those of the first k slaves that are its own: a is the node just
+  -- before, b the new number of the slave's node, x the feedback set with all call signals. The node that holds c is
+  -- number `at`. Its slaves come in the order of their states, by refusal 8.
   unfoldable pub composed : ℕ → ℕ → ℕ → List Node
   composed c at zero = []
   composed c at (suc i) =
       cond (isOf F c i)
       (composed c at i
-      ++ (record { kind = 1; a = at + count c i; b = newName (F .node i); x = F .chart c .feedback ∪ callsOf c; y = ∅ } ∷ []))
+      ++ (record { kind = 1; a = at + count c i; b = newName (F .node i); x = F .chart c .feedback ∪ callsOf c; y = ∅ }
+      ∷ []))
       (composed c at i)
 
-  -- the nodes that are appended for node j, by its kind and the number of its chart's slaves (RULES 9.4): for a master, one that holds it, the
-  -- composed ones, and a hidden one that removes the call signals; for any other node, the same with new numbers
+  -- the nodes that are appended for node j, by its kind and the number of its chart's slaves (RULES 9.4): for a master,
+  -- one that holds it, the composed ones, and a hidden one that removes the call signals; for any other node, the same
+  -- with new numbers
   abbrev pub madeBy : ℕ → ℕ → ℕ → List Node
   madeBy zero zero j = record { kind = 0; a = F .a j; b = 0; x = ∅; y = ∅ } ∷ []
   madeBy zero (suc s) j =
@@ -240,8 +250,8 @@ fromState? R =
 unfoldable pub inChart? : File → Bool
 inChart? R = anyUpTo (R .charts) (λ c. ltb mostInChart (length (R .chart c .transitions)))
 
--- 40, 41, 42, 44 (RULES 3.6); 44: the result has more than 64 nodes. 43 is not in use, since a result that passes 42 has at most 1,024 transitions
--- (`sum-most`).
+-- 40, 41, 42, 44 (RULES 3.6); 44: the result has more than 64 nodes. 43 is not in use, since a result that passes 42
+-- has at most 1,024 transitions (`sum-most`).
 unfoldable pub rewriteTests : File → List Test
 rewriteTests F =
     record { number = noFreeSignal; applies = noFree? F }
@@ -279,7 +289,13 @@ transitionsIn F = tally (F .charts) (λ c. length (F .chart c .transitions))
 
 -- its counts, with edition 1 (RULES 9.5)
 unfoldable pub shapeIn : File → Shape
-shapeIn F = record { charts = F .charts; transitions = transitionsIn F; slaves = F .slaves; nodes = F .nodes; edition = firstEdition }
+shapeIn F = record {
+  charts = F .charts;
+  transitions = transitionsIn F;
+  slaves = F .slaves;
+  nodes = F .nodes;
+  edition = firstEdition;
+}
 
 -- the body (RULES 2.1): the records of charts, transitions, slaves, nodes
 unfoldable pub bodyBytes : File → List ℕ
@@ -316,7 +332,8 @@ stayTest f = record { number = mayStay; applies = same (trailer f .edition) stay
 unfoldable pub rewriteRefusal : List ℕ → ℕ → ℕ
 rewriteRefusal f room =
     firstOf
-    (fileTests f ++ (stayTest f ∷ rewriteTests (fileOf f)) ++ (record { number = shortOut; applies = ltb room (length (rewriteBytes f)) } ∷ []))
+    (fileTests f ++ (stayTest f ∷ rewriteTests (fileOf f))
+    ++ (record { number = shortOut; applies = ltb room (length (rewriteBytes f)) } ∷ []))
 
 -- the length of the result; 0 if the call is refused (RULES 1.4)
 unfoldable pub rewriteLength : List ℕ → ℕ → ℕ

@@ -9,7 +9,8 @@ use mathlib.Core.List.{List}
 use Prim.Native.Nat.{ℕ, zero, _≤_, _<_}
 use lib.ListN.{length, getD}
 use Rattle.meaning.specs.Numbers.{noPlace, noStep, manyOpen}
-use Rattle.meaning.specs.Meaning.{Set, Chart, Tree, noMove, takes, nth, lastPlace, moves, permitted, out, nexts, placesFrom, outcomes}
+use Rattle.meaning.specs.Meaning.{Set, Chart, Tree, noMove, takes, nth, lastPlace, moves, permitted, out, nexts}
+use Rattle.meaning.specs.Meaning.{placesFrom, outcomes}
 use Rattle.meaning.specs.Meaning.{firstPlaces, Answer, refused, given}
 use Rattle.meaning.specs.File.{File, wholeOf, fileOf}
 use Rattle.meaning.specs.Check.{refusalOf}
@@ -45,7 +46,8 @@ module _ (E : ℕ → Chart) (state : ℕ → ℕ) (cfg : ℕ → ℕ) (t : Tree
   abbrev pub placesBy : (ℕ → ℕ) → List ℕ
   placesBy ch = placesFrom E ch zero N
 
-  -- output o and next configuration n are those of a permitted choice, and no permitted choice comes before it (RULES 5.9)
+  -- output o and next configuration n are those of a permitted choice, and no permitted choice comes before it (RULES
+  -- 5.9)
   pub record Given (o : Set) (n : List ℕ) : Type 0 where
     pub choice : ℕ → ℕ
     pub chosen : Choice choice
@@ -79,21 +81,25 @@ Until r f config carried inputs rows k = (j : ℕ) → j < k → stepAt f config
 
 -- ── the rewriting (Demand 3) ──
 
--- F: the file; F′: the rewritten one; config: the configuration; a: what a step of either answers; ps and ps′: the places of both
+-- F: the file; F′: the rewritten one; config: the configuration; a: what a step of either answers; ps and ps′: the
+-- places of both
 module _ (F F′ : File) (config : List ℕ) (a : Answer) (ps ps′ : List ℕ) where
-  -- the exception: the step is given, chart c of the file took none, and in the rewritten file it takes an idle transition (RULES 9.8)
+  -- the exception: the step is given, chart c of the file took none, and in the rewritten file it takes an idle
+  -- transition (RULES 9.8)
   pub record IdleStands (c : ℕ) : Type 0 where
     pub is-given : refusalIn a ≡ 0
     pub one-of-its : c < F .charts
     pub none-taken : getD ps c noPlace ≡ noPlace
     pub slave : ℕ
-    pub is-idle : nth noMove (F′ .chart c .transitions) (getD ps′ c noPlace) ≡ takes (idle (call F) slave (getD config c 0))
+    pub is-idle : nth noMove (F′ .chart c .transitions) (getD ps′ c noPlace)
+        ≡ takes (idle (call F) slave (getD config c 0))
 
   -- apart from that, the places are the same (RULES 9.8)
   pub record PlacesAgree : Type 0 where
     pub long : length ps′ ≡ length ps
     pub each : (c : ℕ) → (getD ps′ c noPlace ≡ getD ps c noPlace) ⊎ IdleStands c
-    -- every chart of the rewritten file takes a transition in a step that is given: so where the file has 255, it is an idle one
+    -- every chart of the rewritten file takes a transition in a step that is given: so where the file has 255, it is an
+    -- idle one
     pub taken : refusalIn a ≡ 0 → (c : ℕ) → c < F .charts → getD ps′ c noPlace ≢ noPlace
 
 -- ── a plain file (the profile without doubt) ──

@@ -1,6 +1,6 @@
--- Claims on sets, decided by computation. A claim is an equation of two expressions over variables; it follows from other claims if it does at each
--- way for one signal to be in the variables or not, which `valid` tries. `sets` makes the theorem of it.
--- Assumes nothing.
+-- Claims on sets, decided by computation. A claim is an equation of two expressions over variables; it follows from
+-- other claims if it does at each way for one signal to be in the variables or not, which `valid` tries. `sets` makes
+-- the theorem of it. Assumes nothing.
 use mathlib.Core.Path.{_≡_, refl, sym, ap, ap₂, _∙_}
 use mathlib.Core.Bool.{Bool, true, false, not, _&&_, _||_, Bool·beq}
 use mathlib.Core.List.{List, [], _∷_, map}
@@ -136,7 +136,8 @@ eq-beq true = refl
 eq-beq false = refl
 
 agrees-of : (ρ : List ℕ) (n : ℕ) (h : Claim) → Says ρ h → agrees (row ρ n) h ≡ true
-agrees-of ρ n (a ≐ b) e = ap (λ (x : Bool). Bool·beq x (holds (row ρ n) b)) (sym (bit-value ρ n a) ∙ ap (λ (x : ℕ). bit x n) e ∙ bit-value ρ n b)
+agrees-of ρ n (a ≐ b) e = ap (λ (x : Bool). Bool·beq x (holds (row ρ n) b))
+    (sym (bit-value ρ n a) ∙ ap (λ (x : ℕ). bit x n) e ∙ bit-value ρ n b)
     ∙ eq-beq (holds (row ρ n) b)
 
 pass : (a b : Bool) → a ≡ true → T (not a || b) → T b
@@ -144,7 +145,8 @@ pass a b e t = rw e at t
 
 sound : (ρ : List ℕ) (hs : List Claim) (c : Claim) → ((n : ℕ) → T (follows (row ρ n) hs c)) → Follows ρ hs c
 sound ρ [] (a ≐ b) t = ext (value ρ a) (value ρ b) (λ n. bit-value ρ n a ∙ beq-eq _ _ (t n) ∙ sym (bit-value ρ n b))
-sound ρ (h ∷ hs) c t = λ e. sound ρ hs c (λ n. pass (agrees (row ρ n) h) (follows (row ρ n) hs c) (agrees-of ρ n h e) (t n))
+sound ρ (h ∷ hs) c t =
+    λ e. sound ρ hs c (λ n. pass (agrees (row ρ n) h) (follows (row ρ n) hs c) (agrees-of ρ n h e) (t n))
 
 -- the masks that stand for A, B, ..; the claims that are known; the claim; `tt`; a proof of each claim that is known
 pub sets : (ρ : List ℕ) (hs : List Claim) (c : Claim) → T (valid ρ hs c) → Follows ρ hs c

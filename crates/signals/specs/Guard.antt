@@ -21,7 +21,8 @@ lowest s = lowestFrom 64 0 s
 -- and if none is missing, the lowest barred one that is there. Needed signals are looked up in i and barred ones in j:
 -- the same set twice, except where a search has only bounds on it.
 unfoldable pub guard : ℕ → ℕ → ℕ → ℕ → Tested
-guard needed barred i j = cond (within needed i) (cond (apart barred j) Met (Present (lowest (barred ∩ j)))) (Absent (lowest (needed ∖ i)))
+guard needed barred i j =
+    cond (within needed i) (cond (apart barred j) Met (Present (lowest (barred ∩ j)))) (Absent (lowest (needed ∖ i)))
 
 abbrev pub isMet : Tested → Bool
 isMet Met = true

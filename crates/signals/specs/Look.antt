@@ -11,7 +11,8 @@ pub mod Laws
 
 -- needed signals are looked up in i, and barred ones in j
 unfoldable pub lack : ℕ → ℕ → ℕ → ℕ → Lack
-lack needed barred i j = cond (within needed i) (cond (apart barred j) Nothing (There (barred ∩ j))) (Missing (needed ∖ i))
+lack needed barred i j =
+    cond (within needed i) (cond (apart barred j) Nothing (There (barred ∩ j))) (Missing (needed ∖ i))
 
 abbrev pub isNothing : Lack → Bool
 isNothing Nothing = true

@@ -1,5 +1,5 @@
--- Signal sets (RULES 1.2). A set is a number: signal n is in it if its binary digit n is 1. The operations are the machine's own, so that code and
--- definition agree by computing. What they say of a digit is in Mask/Laws.antt.
+-- Signal sets (RULES 1.2). A set is a number: signal n is in it if its binary digit n is 1. The operations are the
+-- machine's own, so that code and definition agree by computing. What they say of a digit is in Mask/Laws.antt.
 use mathlib.Core.Path.{_≡_}
 use mathlib.Core.Bool.{Bool}
 use Prim.Native.Nat.{ℕ, _/_, _%_, _^_}

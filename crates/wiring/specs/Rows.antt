@@ -24,7 +24,8 @@ up-whole d (snoc ss i t) e = refl
 back-whole : (E : ℕ → Chart) (d : ℕ) (ss : Slaves) (c e : ℕ)
     → back E (whole d ss) c e ≡ backs E ss c e ∪ (own d c ∪ downs ss c) ∩ (own d e ∪ ups ss e) ∩ E d .feedback
 unfolding down up back
-back-whole E d nil c e = sets (own d c ∷ own d e ∷ E d .feedback ∷ []) [] (A ∩ₑ B ∩ₑ C ≐ ∅ₑ ∪ₑ (A ∪ₑ ∅ₑ) ∩ₑ (B ∪ₑ ∅ₑ) ∩ₑ C) tt
+back-whole E d nil c e =
+    sets (own d c ∷ own d e ∷ E d .feedback ∷ []) [] (A ∩ₑ B ∩ₑ C ≐ ∅ₑ ∪ₑ (A ∪ₑ ∅ₑ) ∩ₑ (B ∪ₑ ∅ₑ) ∩ₑ C) tt
 back-whole E d (snoc ss i t) c e = refl
 
 module _ (F : File) (w : Ordered F) where
@@ -32,10 +33,12 @@ module _ (F : File) (w : Ordered F) where
   abbrev pub some-of : ℕ → ℕ → Slaves
   some-of d k = gather (F .master) (λ i. treeOf F (F .node i)) d k
 
-  pub down₀ : (j c : ℕ) → j < F .nodes → F .kind j ≡ 0 → down (treeOf F j) c ≡ own (F .a j) c ∪ downs (some-of (F .a j) (F .slaves)) c
+  pub down₀ : (j c : ℕ) → j < F .nodes → F .kind j ≡ 0
+      → down (treeOf F j) c ≡ own (F .a j) c ∪ downs (some-of (F .a j) (F .slaves)) c
   down₀ j c l e = rw (tree₀ F w j l e) (down-whole (F .a j) _ c)
 
-  pub up₀ : (j c : ℕ) → j < F .nodes → F .kind j ≡ 0 → up (treeOf F j) c ≡ own (F .a j) c ∪ ups (some-of (F .a j) (F .slaves)) c
+  pub up₀ : (j c : ℕ) → j < F .nodes → F .kind j ≡ 0
+      → up (treeOf F j) c ≡ own (F .a j) c ∪ ups (some-of (F .a j) (F .slaves)) c
   up₀ j c l e = rw (tree₀ F w j l e) (up-whole (F .a j) _ c)
 
   pub back₀ : (j c e : ℕ) → j < F .nodes → F .kind j ≡ 0
@@ -43,16 +46,19 @@ module _ (F : File) (w : Ordered F) where
       ∪ down (treeOf F j) c ∩ up (treeOf F j) e ∩ F .chart (F .a j) .feedback
   back₀ j c e l k = rw (down₀ j c l k, up₀ j e l k, tree₀ F w j l k) (back-whole (F .chart) (F .a j) _ c e)
 
-  pub down₁ : (j c : ℕ) → j < F .nodes → F .kind j ≡ 1 → down (treeOf F j) c ≡ down (treeOf F (F .a j)) c ∪ down (treeOf F (F .b j)) c
+  pub down₁ : (j c : ℕ) → j < F .nodes → F .kind j ≡ 1
+      → down (treeOf F j) c ≡ down (treeOf F (F .a j)) c ∪ down (treeOf F (F .b j)) c
   unfolding down
   down₁ j c l e = rw (tree₁ F w j l e)
 
-  pub up₁ : (j c : ℕ) → j < F .nodes → F .kind j ≡ 1 → up (treeOf F j) c ≡ up (treeOf F (F .a j)) c ∪ up (treeOf F (F .b j)) c
+  pub up₁ : (j c : ℕ) → j < F .nodes → F .kind j ≡ 1
+      → up (treeOf F j) c ≡ up (treeOf F (F .a j)) c ∪ up (treeOf F (F .b j)) c
   unfolding up
   up₁ j c l e = rw (tree₁ F w j l e)
 
   pub back₁ : (j c e : ℕ) → j < F .nodes → F .kind j ≡ 1 → back (F .chart) (treeOf F j) c e
-      ≡ (back (F .chart) (treeOf F (F .a j)) c e ∪ back (F .chart) (treeOf F (F .b j)) c e) ∪ down (treeOf F j) c ∩ up (treeOf F j) e ∩ F .x j
+      ≡ (back (F .chart) (treeOf F (F .a j)) c e ∪ back (F .chart) (treeOf F (F .b j)) c e)
+      ∪ down (treeOf F j) c ∩ up (treeOf F j) e ∩ F .x j
   unfolding back
   back₁ j c e l k = rw (down₁ j c l k, up₁ j e l k, tree₁ F w j l k)
 
@@ -64,7 +70,8 @@ module _ (F : File) (w : Ordered F) where
   unfolding up
   up₂ j c l e = rw (tree₂ F w j l e)
 
-  pub back₂ : (j c e : ℕ) → j < F .nodes → F .kind j ≡ 2 → back (F .chart) (treeOf F j) c e ≡ back (F .chart) (treeOf F (F .a j)) c e
+  pub back₂ : (j c e : ℕ) → j < F .nodes → F .kind j ≡ 2
+      → back (F .chart) (treeOf F j) c e ≡ back (F .chart) (treeOf F (F .a j)) c e
   unfolding back
   back₂ j c e l k = rw (tree₂ F w j l k)
 
@@ -73,21 +80,26 @@ module _ (F : File) (w : Ordered F) where
   -- slave k is one of chart d's, or not
   pub slaves-in : (d k : ℕ) → F .master k ≡ d → some-of d (suc k) ≡ snoc (some-of d k) k (treeOf F (F .node k))
   unfolding gather
-  slaves-in d k e = ap (λ b. cond b (snoc (some-of d k) k (treeOf F (F .node k))) (some-of d k)) (ap (λ m. same m d) e ∙ same-refl d)
+  slaves-in d k e =
+      ap (λ b. cond b (snoc (some-of d k) k (treeOf F (F .node k))) (some-of d k)) (ap (λ m. same m d) e ∙ same-refl d)
 
   pub slaves-out : (d k : ℕ) → (F .master k ≡ d → ⊥) → some-of d (suc k) ≡ some-of d k
   unfolding gather
-  slaves-out d k h = ap (λ b. cond b (snoc (some-of d k) k (treeOf F (F .node k))) (some-of d k)) (same-≢ (F .master k) d h)
+  slaves-out d k h =
+      ap (λ b. cond b (snoc (some-of d k) k (treeOf F (F .node k))) (some-of d k)) (same-≢ (F .master k) d h)
 
-  pub downs-step : (d k c : ℕ) → F .master k ≡ d → downs (some-of d (suc k)) c ≡ downs (some-of d k) c ∪ down (treeOf F (F .node k)) c
+  pub downs-step : (d k c : ℕ) → F .master k ≡ d
+      → downs (some-of d (suc k)) c ≡ downs (some-of d k) c ∪ down (treeOf F (F .node k)) c
   unfolding down
   downs-step d k c e = ap (λ ss. downs ss c) (slaves-in d k e)
 
-  pub ups-step : (d k e : ℕ) → F .master k ≡ d → ups (some-of d (suc k)) e ≡ ups (some-of d k) e ∪ up (treeOf F (F .node k)) e
+  pub ups-step : (d k e : ℕ) → F .master k ≡ d
+      → ups (some-of d (suc k)) e ≡ ups (some-of d k) e ∪ up (treeOf F (F .node k)) e
   unfolding up
   ups-step d k e q = ap (λ ss. ups ss e) (slaves-in d k q)
 
   pub backs-step : (d k c e : ℕ) → F .master k ≡ d
-      → backs (F .chart) (some-of d (suc k)) c e ≡ backs (F .chart) (some-of d k) c e ∪ back (F .chart) (treeOf F (F .node k)) c e
+      → backs (F .chart) (some-of d (suc k)) c e
+      ≡ backs (F .chart) (some-of d k) c e ∪ back (F .chart) (treeOf F (F .node k)) c e
   unfolding back
   backs-step d k c e q = ap (λ ss. backs (F .chart) ss c e) (slaves-in d k q)

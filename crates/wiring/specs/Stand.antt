@@ -1,4 +1,5 @@
--- The tree of a file that tests 9 to 11 allow: no chart stands in it twice, each chart's nearest slave is known, and masters are lower.
+-- The tree of a file that tests 9 to 11 allow: no chart stands in it twice, each chart's nearest slave is known, and
+-- masters are lower.
 use mathlib.Core.Path.{_≡_, refl, sym, _∙_, ap, ap₂, subst}
 use mathlib.Core.Bool.{Bool, true, false, _&&_, _||_, cond, false≢true}
 use mathlib.Core.Option.{Option, none, some}
@@ -10,7 +11,8 @@ use Rattle.meaning.specs.Laws.Bools.{or-elim, or-l, same-refl, same→≡, and-
 use Rattle.meaning.specs.File.{Has, HasS, File, whole, gather, treeOf}
 use Rattle.meaning.specs.Laws.Above.{Above, AboveS}
 use Rattle.meaning.specs.Laws.Trees.{Ordered, Placed, Rule11, tree₀, tree₁, tree₂, all-there, above-node}
-use Rattle.meaning.specs.Laws.Names.{Rule10, bySlave, byNode, enc, kap, find, at-most, by-slave, by-node, names-a₁, names-b₁, names-a₂, hold-one, placed, joined, enc-last}
+use Rattle.meaning.specs.Laws.Names.{Rule10, bySlave, byNode, enc, kap, find, at-most, by-slave, by-node, names-a₁}
+use Rattle.meaning.specs.Laws.Names.{names-b₁, names-a₂, hold-one, placed, joined, enc-last}
 use Rattle.meaning.specs.Count.{one}
 use Rattle.meaning.specs.Count.Laws.{tally-ge}
 use Rattle.meaning.specs.Check.{names, named}
@@ -73,24 +75,28 @@ module _ (par : ℕ → ℕ) where
 pub record Tidy (F : File) (par hold : ℕ → ℕ) : Type 0 where
   pub par₁ : (j : ℕ) → j < F .nodes → F .kind j ≡ 1 → (par (F .a j) ≡ j) × (par (F .b j) ≡ j) × (F .a j ≢ F .b j)
   pub par₂ : (j : ℕ) → j < F .nodes → F .kind j ≡ 2 → par (F .a j) ≡ j
-  pub par₀ : (j : ℕ) → j < F .nodes → F .kind j ≡ 0 → (i : ℕ) → i < F .slaves → F .master i ≡ F .a j → par (F .node i) ≡ j
+  pub par₀ : (j : ℕ) → j < F .nodes → F .kind j ≡ 0 → (i : ℕ) → i < F .slaves → F .master i ≡ F .a j
+      → par (F .node i) ≡ j
   pub holds : (j : ℕ) → j < F .nodes → F .kind j ≡ 0 → (hold (F .a j) ≡ j) × (F .a j < F .charts)
   pub differ : (i k : ℕ) → i < F .slaves → k < F .slaves → F .node i ≡ F .node k → i ≡ k
 
 -- a chart in gathered slaves is in one of them
-gather-in : (sc : ℕ → ℕ) (g : ℕ → Tree) (c k d : ℕ) → HasS (gather sc g c k) d ≡ true → (i : ℕ) × (i < k) × (sc i ≡ c) × (Has (g i) d ≡ true)
+gather-in : (sc : ℕ → ℕ) (g : ℕ → Tree) (c k d : ℕ) → HasS (gather sc g c k) d ≡ true
+    → (i : ℕ) × (i < k) × (sc i ≡ c) × (Has (g i) d ≡ true)
 unfolding gather Has
 gather-in sc g c zero d h = absurd (false≢true h)
 gather-in sc g c (suc k) d h = go (same (sc k) c) refl h (gather-in sc g c k d)
   where
-    lift : ((i : ℕ) × (i < k) × (sc i ≡ c) × (Has (g i) d ≡ true)) → (i : ℕ) × (i < suc k) × (sc i ≡ c) × (Has (g i) d ≡ true)
+    lift : ((i : ℕ) × (i < k) × (sc i ≡ c) × (Has (g i) d ≡ true))
+        → (i : ℕ) × (i < suc k) × (sc i ≡ c) × (Has (g i) d ≡ true)
     lift u = (u .0, (let l = u .1 in omega arith), u .2, u .3)
 
     go : (b : Bool) → same (sc k) c ≡ b → HasS (cond b (snoc (gather sc g c k) k (g k)) (gather sc g c k)) d ≡ true
         → (HasS (gather sc g c k) d ≡ true → (i : ℕ) × (i < k) × (sc i ≡ c) × (Has (g i) d ≡ true))
         → (i : ℕ) × (i < suc k) × (sc i ≡ c) × (Has (g i) d ≡ true)
     go false e h r = lift (r h)
-    go true e h r = or-elim (Has (g k) d) (HasS (gather sc g c k) d) _ (λ p. (k, omega arith, same→≡ (sc k) c e, p)) (λ p. lift (r p)) h
+    go true e h r = or-elim (Has (g k) d) (HasS (gather sc g c k) d) _ (λ p. (k, omega arith, same→≡ (sc k) c e, p))
+        (λ p. lift (r p)) h
 
 whole-in : (c : ℕ) (ss : Slaves) (d : ℕ) → Has (whole c ss) d ≡ true → (same d c || HasS ss d) ≡ true
 unfolding Has
@@ -112,17 +118,23 @@ module _ (F : File) (w : Ordered F) (par hold : ℕ → ℕ) (ti : Tidy F par ho
       rise : (i : ℕ) → par i ≡ j → i < j → Up par (hold c) i → Up par (hold c) j
       rise i e a u = subst (λ z. Up par (hold c) z) e (more u (rw e a))
 
-      go : (k : ℕ) → F .kind j ≡ k → ((i : ℕ) → i < j → Has (treeOf F i) c ≡ true → Up par (hold c) i) → Up par (hold c) j
-      go zero e ih = or-elim (same c (F .a j)) (HasS (gather (F .master) (λ i. treeOf F (F .node i)) (F .a j) (F .slaves)) c) _
+      go : (k : ℕ) → F .kind j ≡ k → ((i : ℕ) → i < j → Has (treeOf F i) c ≡ true → Up par (hold c) i)
+          → Up par (hold c) j
+      go zero e ih =
+          or-elim (same c (F .a j)) (HasS (gather (F .master) (λ i. treeOf F (F .node i)) (F .a j) (F .slaves)) c) _
           (λ q. subst (λ z. Up par (hold c) z) (ap hold (same→≡ c (F .a j) q) ∙ ti .holds j l e .0) here)
           (λ q. let u = gather-in (F .master) (λ i. treeOf F (F .node i)) (F .a j) (F .slaves) c q in
           let a = w .lower₀ j l e (u .0) (u .1) (u .2) in
           rise (F .node (u .0)) (ti .par₀ j l e (u .0) (u .1) (u .2)) a (ih (F .node (u .0)) a (u .3)))
-          (whole-in (F .a j) (gather (F .master) (λ i. treeOf F (F .node i)) (F .a j) (F .slaves)) c (rw (tree₀ F w j l e) at h))
-      go (suc zero) e ih = let a = w .lower₁ j l e in let b = ti .par₁ j l e in or-elim (Has (treeOf F (F .a j)) c) (Has (treeOf F (F .b j)) c) _
-          (λ q. rise (F .a j) (b .0) (a .0) (ih (F .a j) (a .0) q)) (λ q. rise (F .b j) (b .1) (a .1) (ih (F .b j) (a .1) q))
+          (whole-in (F .a j) (gather (F .master) (λ i. treeOf F (F .node i)) (F .a j) (F .slaves)) c
+          (rw (tree₀ F w j l e) at h))
+      go (suc zero) e ih = let a = w .lower₁ j l e in let b = ti .par₁ j l e in
+          or-elim (Has (treeOf F (F .a j)) c) (Has (treeOf F (F .b j)) c) _
+          (λ q. rise (F .a j) (b .0) (a .0) (ih (F .a j) (a .0) q))
+          (λ q. rise (F .b j) (b .1) (a .1) (ih (F .b j) (a .1) q))
           (rw (tree₁ F w j l e) at h)
-      go (suc (suc k)) e ih = let e₂ : F .kind j ≡ 2 = (let h = w .kinds j l in omega arith) in let a = w .lower₂ j l e₂ in
+      go (suc (suc k)) e ih = let e₂ : F .kind j ≡ 2 = (let h = w .kinds j l in omega arith) in
+          let a = w .lower₂ j l e₂ in
           rise (F .a j) (ti .par₂ j l e₂) a (ih (F .a j) a (rw (tree₂ F w j l e₂) at h))
 
   held-gather : (j k : ℕ) → j < F .nodes → F .kind j ≡ 0 → k ≤ F .slaves
@@ -143,14 +155,17 @@ module _ (F : File) (w : Ordered F) (par hold : ℕ → ℕ) (ti : Tidy F par ho
         λ c. and-none (Has (treeOf F (F .node k)) c) (HasS rest c) (λ p p′.
             let u = gather-in (F .master) (λ i. treeOf F (F .node i)) (F .a j) k c p′ in let ui = u .1 in
             let lu = w .lower₀ j l e (u .0) (omega arith) (u .2) in
-            let d : F .node k ≢ F .node (u .0) = λ z. (let v : k ≡ u .0 = ti .differ k (u .0) (omega arith) (omega arith) z in omega arith) in
+            let d : F .node k ≢ F .node (u .0) =
+            λ z. (let v : k ≡ u .0 = ti .differ k (u .0) (omega arith) (omega arith) z in omega arith) in
             up-apart par (hold c) (F .node k) (F .node (u .0)) j d (ti .par₀ j l e k (omega arith) s)
             (ti .par₀ j l e (u .0) (omega arith) (u .2)) lk lu
-            (reach (F .nodes) (F .node k) c (omega arith) (omega arith) p) (reach (F .nodes) (F .node (u .0)) c (omega arith) (omega arith) (u .3))),
+            (reach (F .nodes) (F .node k) c (omega arith) (omega arith) p)
+            (reach (F .nodes) (F .node (u .0)) c (omega arith) (omega arith) (u .3))),
       )
       go false q r = r
 
-  held-whole : (c : ℕ) (ss : Slaves) → c < F .charts → Helds (F .charts) ss → HasS ss c ≡ false → Held (F .charts) (whole c ss)
+  held-whole : (c : ℕ) (ss : Slaves) → c < F .charts → Helds (F .charts) ss → HasS ss c ≡ false
+      → Held (F .charts) (whole c ss)
   held-whole c nil l h q = l
   held-whole c (snoc ss i t) l h q = (l, h, q)
 
@@ -160,25 +175,30 @@ module _ (F : File) (w : Ordered F) (par hold : ℕ → ℕ) (ti : Tidy F par ho
     where
       go : (k : ℕ) → F .kind j ≡ k → ((i : ℕ) → i < j → Held (F .charts) (treeOf F i)) → Held (F .charts) (treeOf F j)
       go zero e ih = let hj = ti .holds j l e in
-          rw (tree₀ F w j l e) (held-whole (F .a j) (gather (F .master) (λ i. treeOf F (F .node i)) (F .a j) (F .slaves)) (hj .1)
+          rw (tree₀ F w j l e)
+          (held-whole (F .a j) (gather (F .master) (λ i. treeOf F (F .node i)) (F .a j) (F .slaves)) (hj .1)
           (held-gather j (F .slaves) l e (omega arith) (λ i a b. ih (F .node i) (w .lower₀ j l e i a b)))
           (not-true (λ q. let u = gather-in (F .master) (λ i. treeOf F (F .node i)) (F .a j) (F .slaves) (F .a j) q in
           let a = w .lower₀ j l e (u .0) (u .1) (u .2) in
-          let z = up-le par (hold (F .a j)) (F .node (u .0)) (reach (F .nodes) (F .node (u .0)) (F .a j) (omega arith) (omega arith) (u .3)) in
+          let z = up-le par (hold (F .a j)) (F .node (u .0))
+          (reach (F .nodes) (F .node (u .0)) (F .a j) (omega arith) (omega arith) (u .3)) in
           let y = hj .0 in omega arith)))
       go (suc zero) e ih = let a = w .lower₁ j l e in let b = ti .par₁ j l e in rw (tree₁ F w j l e) (
         ih (F .a j) (a .0),
         ih (F .b j) (a .1),
         λ c. and-none (Has (treeOf F (F .a j)) c) (Has (treeOf F (F .b j)) c) (λ p q.
             let a0 = a .0 in let a1 = a .1 in
-            up-apart par (hold c) (F .a j) (F .b j) j (b .2) (b .0) (b .1) a0 a1 (reach (F .nodes) (F .a j) c (omega arith) (omega arith) p)
+            up-apart par (hold c) (F .a j) (F .b j) j (b .2) (b .0) (b .1) a0 a1
+            (reach (F .nodes) (F .a j) c (omega arith) (omega arith) p)
             (reach (F .nodes) (F .b j) c (omega arith) (omega arith) q)),
       )
-      go (suc (suc k)) e ih = let e₂ : F .kind j ≡ 2 = (let h = w .kinds j l in omega arith) in rw (tree₂ F w j l e₂) (ih (F .a j) (w .lower₂ j l e₂))
+      go (suc (suc k)) e ih = let e₂ : F .kind j ≡ 2 = (let h = w .kinds j l in omega arith) in
+          rw (tree₂ F w j l e₂) (ih (F .a j) (w .lower₂ j l e₂))
 
 -- ── the slaves of the charts, from where the nodes stand ──
 module _ (F : File) (w : Ordered F) (encN kapC : ℕ → Option ℕ) (pl : Placed F encN kapC) where
-  enc-gather : (c k : ℕ) → k ≤ F .slaves → ((i : ℕ) → i < F .slaves → F .master i ≡ c → Enc kapC (F .master) (treeOf F (F .node i)) (some i))
+  enc-gather : (c k : ℕ) → k ≤ F .slaves
+      → ((i : ℕ) → i < F .slaves → F .master i ≡ c → Enc kapC (F .master) (treeOf F (F .node i)) (some i))
       → Encs kapC (F .master) (gather (F .master) (λ i. treeOf F (F .node i)) c k) c
   unfolding gather
   enc-gather c zero b h = tt
@@ -192,7 +212,8 @@ module _ (F : File) (w : Ordered F) (encN kapC : ℕ → Option ℕ) (pl : Place
       go true q r = let s = same→≡ (F .master k) c q in (r, s, h k (omega arith) s)
       go false q r = r
 
-  enc-whole : (c : ℕ) (ss : Slaves) (κ : Option ℕ) → kapC c ≡ κ → Encs kapC (F .master) ss c → Enc kapC (F .master) (whole c ss) κ
+  enc-whole : (c : ℕ) (ss : Slaves) (κ : Option ℕ) → kapC c ≡ κ → Encs kapC (F .master) ss c
+      → Enc kapC (F .master) (whole c ss) κ
   enc-whole c nil κ e h = e
   enc-whole c (snoc ss i t) κ e h = (e, h)
 
@@ -200,10 +221,13 @@ module _ (F : File) (w : Ordered F) (encN kapC : ℕ → Option ℕ) (pl : Place
   enc-tree zero j p l = absurd (omega arith)
   enc-tree (suc f) j p l = go (F .kind j) refl (λ i a. enc-tree f i (omega arith) (omega arith))
     where
-      go : (k : ℕ) → F .kind j ≡ k → ((i : ℕ) → i < j → Enc kapC (F .master) (treeOf F i) (encN i)) → Enc kapC (F .master) (treeOf F j) (encN j)
-      go zero e ih = rw (tree₀ F w j l e) (enc-whole (F .a j) (gather (F .master) (λ i. treeOf F (F .node i)) (F .a j) (F .slaves)) (encN j)
+      go : (k : ℕ) → F .kind j ≡ k → ((i : ℕ) → i < j → Enc kapC (F .master) (treeOf F i) (encN i))
+          → Enc kapC (F .master) (treeOf F j) (encN j)
+      go zero e ih = rw (tree₀ F w j l e)
+          (enc-whole (F .a j) (gather (F .master) (λ i. treeOf F (F .node i)) (F .a j) (F .slaves)) (encN j)
           (pl .hold j l e .1)
-          (enc-gather (F .a j) (F .slaves) (omega arith) (λ i a b. rw (pl .in₀ j l e i a b) at (ih (F .node i) (w .lower₀ j l e i a b)))))
+          (enc-gather (F .a j) (F .slaves) (omega arith)
+          (λ i a b. rw (pl .in₀ j l e i a b) at (ih (F .node i) (w .lower₀ j l e i a b)))))
       go (suc zero) e ih = let h = w .lower₁ j l e in let q = pl .in₁ j l e in
           rw (tree₁ F w j l e) (rw (q .0) at (ih (F .a j) (h .0)), rw (q .1) at (ih (F .b j) (h .1)))
       go (suc (suc k)) e ih = let e₂ : F .kind j ≡ 2 = (let h = w .kinds j l in omega arith) in
@@ -219,15 +243,18 @@ module _ (encC : ℕ → Option ℕ) (sc : ℕ → ℕ) where
 
     low-tree : (t : Tree) (κ : Option ℕ) → Enc encC sc t κ → Above t → (c : ℕ) → Has t c ≡ true → (encC c ≡ κ) ⊎ Lower c
     low-tree (leaf d) κ k v c h = inl (ap encC (same→≡ c d h) ∙ k)
-    low-tree (comp l r x) κ k v c h = or-elim (Has l c) (Has r c) _ (λ e. low-tree l κ (k .0) (v .0) c e) (λ e. low-tree r κ (k .1) (v .1) c e) h
+    low-tree (comp l r x) κ k v c h =
+        or-elim (Has l c) (Has r c) _ (λ e. low-tree l κ (k .0) (v .0) c e) (λ e. low-tree r κ (k .1) (v .1) c e) h
     low-tree (hide l x y) κ k v c h = low-tree l κ k v c h
     low-tree (dec d ss) κ k v c h =
-        or-elim (same c d) (HasS ss c) _ (λ e. inl (ap encC (same→≡ c d e) ∙ k .0)) (λ e. inr (low-slaves ss d (k .1) (v .1) c e (v .0 c e))) h
+        or-elim (same c d) (HasS ss c) _ (λ e. inl (ap encC (same→≡ c d e) ∙ k .0))
+        (λ e. inr (low-slaves ss d (k .1) (v .1) c e (v .0 c e))) h
 
     low-slaves : (ss : Slaves) (d : ℕ) → Encs encC sc ss d → AboveS ss → (c : ℕ) → HasS ss c ≡ true → d < c → Lower c
     low-slaves nil d k v c h l = absurd (false≢true h)
     low-slaves (snoc ss i t) d k v c h l =
-        or-elim (Has t c) (HasS ss c) _ (λ e. go (low-tree t (some i) (k .2) (v .1) c e)) (λ e. low-slaves ss d (k .0) (v .0) c e l) h
+        or-elim (Has t c) (HasS ss c) _ (λ e. go (low-tree t (some i) (k .2) (v .1) c e))
+        (λ e. low-slaves ss d (k .0) (v .0) c e l) h
       where
         go : ((encC c ≡ some i) ⊎ Lower c) → Lower c
         go (inl e) = (i, e, (let z = k .1 in omega arith))
@@ -263,18 +290,24 @@ module _ (F : File) (w : Ordered F) (r : Rule10 F) (r11 : Rule11 F)
   twice : (j : ℕ) → j < F .nodes → F .kind j ≡ 1 → F .a j ≢ F .b j
   unfolding names named
   twice j l e q = let a = w .lower₁ j l e in let a0 = a .0 in
-      let x : one (same (F .kind j) 1 && same (F .a j) (F .a j)) ≡ 1 = ap one (and-i (ap (λ z. same z 1) e ∙ same-refl 1) (same-refl (F .a j))) in
+      let x : one (same (F .kind j) 1 && same (F .a j) (F .a j)) ≡ 1 =
+      ap one (and-i (ap (λ z. same z 1) e ∙ same-refl 1) (same-refl (F .a j))) in
       let y : one (same (F .kind j) 1 && same (F .b j) (F .a j)) ≡ 1 =
       ap one (and-i (ap (λ z. same z 1) e ∙ same-refl 1) (ap (λ z. same z (F .a j)) (sym q) ∙ same-refl (F .a j))) in
-      let g = tally-ge (F .nodes) (λ k. names F k (F .a j)) j l in let m = at-most F w r (F .a j) (omega arith) in omega arith
+      let g = tally-ge (F .nodes) (λ k. names F k (F .a j)) j l in
+      let m = at-most F w r (F .a j) (omega arith) in omega arith
 
   tidy : Tidy F parF holdF
   unfolding parF
   tidy = record {
-    par₁ = λ j l e. let h = w .lower₁ j l e in let a = h .0 in let b = h .1 in
-        (by j (F .a j) (omega arith) l (names-a₁ F w r j e), by j (F .b j) (omega arith) l (names-b₁ F w r j e), twice j l e);
+    par₁ = λ j l e. let h = w .lower₁ j l e in let a = h .0 in let b = h .1 in (
+      by j (F .a j) (omega arith) l (names-a₁ F w r j e),
+      by j (F .b j) (omega arith) l (names-b₁ F w r j e),
+      twice j l e,
+    );
     par₂ = λ j l e. let h = w .lower₂ j l e in by j (F .a j) (omega arith) l (names-a₂ F w r j e);
-    par₀ = λ j l e i m q. ap (λ a. parBy a (byNode F (F .node i))) (by-slave F w r i (F .node i) (node-there i m .0) m refl) ∙ ap holdF q
+    par₀ = λ j l e i m q.
+        ap (λ a. parBy a (byNode F (F .node i))) (by-slave F w r i (F .node i) (node-there i m .0) m refl) ∙ ap holdF q
         ∙ hold-is j l e;
     holds = λ j l e. (hold-is j l e, chart-there j l e);
     differ = λ i k l m e. let p = by-slave F w r i (F .node i) (node-there i l .0) l refl in
@@ -287,11 +320,13 @@ module _ (F : File) (w : Ordered F) (r : Rule10 F) (r11 : Rule11 F)
     has = λ c l. all-there F w (joined F w r chart-there node-there) last c e l;
     encs = root;
     lower = λ c i l q. lower-at c i q (low-tree (kap F) (F .master) (treeOf F last) none root
-        (above-node F w r11 (F .nodes) last (omega arith) (omega arith)) c (all-there F w (joined F w r chart-there node-there) last c e l));
+        (above-node F w r11 (F .nodes) last (omega arith) (omega arith)) c
+        (all-there F w (joined F w r chart-there node-there) last c e l));
   }
     where
       root : Enc (kap F) (F .master) (treeOf F last) none
-      root = rw (enc-last F w r last e) at (enc-tree F w (enc F) (kap F) (placed F w r chart-there node-there) (F .nodes) last (omega arith)
+      root = rw (enc-last F w r last e) at
+          (enc-tree F w (enc F) (kap F) (placed F w r chart-there node-there) (F .nodes) last (omega arith)
           (omega arith))
 
       lower-at : (c i : ℕ) → kap F c ≡ some i → ((kap F c ≡ none) ⊎ Lower (kap F) (F .master) c) → F .master i < c

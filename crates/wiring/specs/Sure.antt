@@ -1,5 +1,5 @@
--- What a chart surely puts out: all that every transition from its present state does, if it stands in no slave and so is surely active. One that
--- may stay puts out nothing for sure.
+-- What a chart surely puts out: all that every transition from its present state does, if it stands in no slave and so
+-- is surely active. One that may stay puts out nothing for sure.
 use mathlib.Core.Path.{_≡_, refl, sym, _∙_, ap}
 use mathlib.Core.Bool.{Bool, true, false, cond, false≢true}
 use mathlib.Core.Option.{Option, none, some}
@@ -41,7 +41,8 @@ surely enc E cfg c = outside (enc c) (sureIn (E c .stays) (sureOf (E c .transiti
 
 -- ── a chart that keeps activity and state puts out what it surely does ──
 
--- the rule of a chart (RULES 5.7) is this, its activity and its state, and the exact test of guards. b: may the chart stay?
+-- the rule of a chart (RULES 5.7) is this, its activity and its state, and the exact test of guards. b: may the chart
+-- stay?
 unfoldable pub open? : Bool → Bool → ℕ → Move → Bool
 open? b false s noMove = true
 open? b false s (takes t) = false
@@ -50,17 +51,20 @@ open? b true s noMove = false
 open? b true s (takes t) = same (t .from) s
 open? b true s stay = b
 
-sure-nth : (ts : List Transition) (q k : ℕ) → open? false true q (nth noMove ts k) ≡ true → Within (sureOf ts q) (actionOf (nth noMove ts k))
+sure-nth : (ts : List Transition) (q k : ℕ) → open? false true q (nth noMove ts k) ≡ true
+    → Within (sureOf ts q) (actionOf (nth noMove ts k))
 unfolding sureOf nth actionOf open?
 sure-nth [] q k h = absurd (false≢true h)
 sure-nth (t ∷ ts) q zero h = rw h (sets (sureOf ts q ∷ t .action ∷ []) [] (A ∩ₑ B ⊑ B) tt)
 sure-nth (t ∷ ts) q (suc k) h = go (same (t .from) q) (sure-nth ts q k h)
   where
-    go : (b : Bool) → Within (sureOf ts q) (actionOf (nth noMove ts k)) → Within (cond b (sureOf ts q ∩ t .action) (sureOf ts q)) (actionOf (nth noMove ts k))
+    go : (b : Bool) → Within (sureOf ts q) (actionOf (nth noMove ts k))
+        → Within (cond b (sureOf ts q ∩ t .action) (sureOf ts q)) (actionOf (nth noMove ts k))
     go true r = sets (sureOf ts q ∷ t .action ∷ actionOf (nth noMove ts k) ∷ []) (A ⊑ C ∷ []) (A ∩ₑ B ⊑ C) tt r
     go false r = r
 
-sure-pick : (K : Chart) (q v : ℕ) → open? (K .stays) true q (pick K v) ≡ true → Within (sureIn (K .stays) (sureOf (K .transitions) q)) (actionOf (pick K v))
+sure-pick : (K : Chart) (q v : ℕ) → open? (K .stays) true q (pick K v) ≡ true
+    → Within (sureIn (K .stays) (sureOf (K .transitions) q)) (actionOf (pick K v))
 unfolding pick open?
 sure-pick K q zero h = absurd (false≢true h)
 sure-pick K q (suc k) h = go (K .stays) h
@@ -70,12 +74,17 @@ sure-pick K q (suc k) h = go (K .stays) h
     go true h = sets (actionOf (nth stay (K .transitions) k) ∷ []) [] (∅ₑ ⊑ A) tt
     go false h = sure-nth (K .transitions) q k h
 
-module _ (E : ℕ → Chart) (state : ℕ → ℕ) (cfg : ℕ → ℕ) (N : ℕ) (enc : ℕ → Option ℕ) (sc : ℕ → ℕ) (t : Tree) (s : Stands N enc sc t) where
-  pub sure-open : (ch : ℕ → ℕ) (c : ℕ) → c < N → open? (E c .stays) (awake enc sc state cfg (moves E ch) c) (cfg c) (moves E ch c) ≡ true
+module _ (E : ℕ → Chart) (state : ℕ → ℕ) (cfg : ℕ → ℕ) (N : ℕ) (enc : ℕ → Option ℕ) (sc : ℕ → ℕ) (t : Tree)
+    (s : Stands N enc sc t) where
+  pub sure-open : (ch : ℕ → ℕ) (c : ℕ) → c < N
+      → open? (E c .stays) (awake enc sc state cfg (moves E ch) c) (cfg c) (moves E ch c) ≡ true
       → Within (surely enc E cfg c) (actionOf (moves E ch c))
   unfolding surely moves
   sure-open ch c l h = go (enc c) refl
     where
-      go : (κ : Option ℕ) → enc c ≡ κ → Within (outside κ (sureIn (E c .stays) (sureOf (E c .transitions) (cfg c)))) (actionOf (pick (E c) (ch c)))
+      go : (κ : Option ℕ) → enc c ≡ κ
+          → Within (outside κ (sureIn (E c .stays) (sureOf (E c .transitions) (cfg c)))) (actionOf (pick (E c) (ch c)))
       go (some i) e = sets (actionOf (pick (E c) (ch c)) ∷ []) [] (∅ₑ ⊑ A) tt
-      go none e = sure-pick (E c) (cfg c) (ch c) (ap (λ b. open? (E c .stays) b (cfg c) (pick (E c) (ch c))) (sym (awake-by enc sc state cfg (moves E ch) N (s .lower) c l ∙ ap (awakeBy sc state cfg (moves E ch) (awake enc sc state cfg (moves E ch))) e)) ∙ h)
+      go none e = sure-pick (E c) (cfg c) (ch c)
+          (ap (λ b. open? (E c .stays) b (cfg c) (pick (E c) (ch c))) (sym (awake-by enc sc state cfg (moves E ch) N
+          (s .lower) c l ∙ ap (awakeBy sc state cfg (moves E ch) (awake enc sc state cfg (moves E ch))) e)) ∙ h)

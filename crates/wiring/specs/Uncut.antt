@@ -1,12 +1,15 @@
 -- The step without the cuts to interfaces: they change nothing, for a chart looks at its guard signals alone.
--- Assumes of each move only that it is one of its chart's transitions (or that its guard signals are in the chart's interface).
+-- Assumes of each move only that it is one of its chart's transitions (or that its guard signals are in the chart's
+-- interface).
 use mathlib.Core.Path.{_≡_, refl, sym, _∙_, ap, ap₂}
 use mathlib.Core.Bool.{Bool, true, false, _&&_, cond}
 use mathlib.Core.List.{List, [], _∷_}
 use Prim.Native.Nat.{ℕ, zero, suc}
 use Rattle.signals.specs.Mask.{_∪_, _∩_, _∖_}
 use Rattle.signals.specs.Decide.{sets, A, B, C, D, _∪ₑ_, _∩ₑ_, _∖ₑ_, _≐_, _⊑_}
-use Rattle.meaning.specs.Meaning.{Set, same, Chart, Tree, Slaves, leaf, comp, hide, dec, nil, snoc, Move, noMove, takes, stay, nth, behind, pick, moves, guards, actionOf, inFaceChart, inFace, inFaces, out, outs, okChart, meets, ok, oks, permitted}
+use Rattle.meaning.specs.Meaning.{Set, same, Chart, Tree, Slaves, leaf, comp, hide, dec, nil, snoc, Move, noMove, takes}
+use Rattle.meaning.specs.Meaning.{stay, nth, behind, pick, moves, guards, actionOf, inFaceChart, inFace, inFaces, out}
+use Rattle.meaning.specs.Meaning.{outs, okChart, meets, ok, oks, permitted}
 use Rattle.layout.specs.declared.record.Transition.{Transition}
 use Rattle.meaning.specs.Laws.Guards.{met-cut, quiet-cut}
 
@@ -53,7 +56,8 @@ guards-in : (C : Chart) → guards (C .transitions) ∖ inFaceChart C ≡ 0
 unfolding inFaceChart
 guards-in C = sets (guards (C .transitions) ∷ C .extra ∷ []) [] (A ⊑ A ∪ₑ B) tt
 
-okC-cut : (K : Chart) (a : Bool) (o : Set) (s : ℕ) (m : Move) → Within (inFaceChart K) m → okChart K a (o ∩ inFaceChart K) s m ≡ okChart K a o s m
+okC-cut : (K : Chart) (a : Bool) (o : Set) (s : ℕ) (m : Move) → Within (inFaceChart K) m
+    → okChart K a (o ∩ inFaceChart K) s m ≡ okChart K a o s m
 unfolding okChart
 okC-cut K false o s noMove w = refl
 okC-cut K false o s (takes t) w = refl
@@ -62,16 +66,19 @@ okC-cut K true o s noMove w = refl
 okC-cut K true o s (takes t) w = ap (λ p. same (t .from) s && p) (met-cut t (inFaceChart K) _ _ w
     (sets (o ∷ (t .action ∩ K .feedback) ∷ inFaceChart K ∷ []) [] ((A ∩ₑ C ∪ₑ B) ∩ₑ C ≐ (A ∪ₑ B) ∩ₑ C) tt))
 okC-cut K true o s stay w = ap (λ p. K .stays && p)
-    (quiet-cut (K .transitions) s (inFaceChart K) (o ∩ inFaceChart K) o (guards-in K) (sets (o ∷ inFaceChart K ∷ []) [] (A ∩ₑ B ∩ₑ B ≐ A ∩ₑ B) tt))
+    (quiet-cut (K .transitions) s (inFaceChart K) (o ∩ inFaceChart K) o (guards-in K)
+    (sets (o ∷ inFaceChart K ∷ []) [] (A ∩ₑ B ∩ₑ B ≐ A ∩ₑ B) tt))
 
-module _ (E : ℕ → Chart) (state : ℕ → ℕ) (cfg : ℕ → ℕ) (M : ℕ → Move) (own : (c : ℕ) → Within (inFaceChart (E c)) (M c)) where
+module _ (E : ℕ → Chart) (state : ℕ → ℕ) (cfg : ℕ → ℕ) (M : ℕ → Move)
+    (own : (c : ℕ) → Within (inFaceChart (E c)) (M c)) where
   -- what is offered counts only up to the interface
   via : (t : Tree) (a : Bool) (o p : Set) → okU E state cfg M t a (o ∩ inFace E t) ≡ okU E state cfg M t a o
       → okU E state cfg M t a (p ∩ inFace E t) ≡ okU E state cfg M t a p
       → o ∩ inFace E t ≡ p ∩ inFace E t → okU E state cfg M t a o ≡ okU E state cfg M t a p
   via t a o p h k e = sym h ∙ ap (okU E state cfg M t a) e ∙ k
 
-  vias : (ss : Slaves) (f : ℕ → Bool) (o p : Set) → oksU E state cfg M ss f (o ∩ inFaces E ss) ≡ oksU E state cfg M ss f o
+  vias : (ss : Slaves) (f : ℕ → Bool) (o p : Set)
+      → oksU E state cfg M ss f (o ∩ inFaces E ss) ≡ oksU E state cfg M ss f o
       → oksU E state cfg M ss f (p ∩ inFaces E ss) ≡ oksU E state cfg M ss f p
       → o ∩ inFaces E ss ≡ p ∩ inFaces E ss → oksU E state cfg M ss f o ≡ oksU E state cfg M ss f p
   vias ss f o p h k e = sym h ∙ ap (oksU E state cfg M ss f) e ∙ k
@@ -87,17 +94,22 @@ module _ (E : ℕ → Chart) (state : ℕ → ℕ) (cfg : ℕ → ℕ) (M : ℕ 
     cut : (t : Tree) (a : Bool) (o : Set) → okU E state cfg M t a (o ∩ inFace E t) ≡ okU E state cfg M t a o
     cut (leaf c) a o = okC-cut (E c) a o (cfg c) (M c) (own c)
     cut (comp l r x) a o = ap₂ _&&_
-        (via l a (o ∩ (inFace E l ∪ inFace E r) ∪ w) (o ∪ w) (cut l a (o ∩ (inFace E l ∪ inFace E r) ∪ w)) (cut l a (o ∪ w))
+        (via l a (o ∩ (inFace E l ∪ inFace E r) ∪ w) (o ∪ w) (cut l a (o ∩ (inFace E l ∪ inFace E r) ∪ w))
+        (cut l a (o ∪ w))
         (cut-left o w (inFace E l) (inFace E r)))
-        (via r a (o ∩ (inFace E l ∪ inFace E r) ∪ w) (o ∪ w) (cut r a (o ∩ (inFace E l ∪ inFace E r) ∪ w)) (cut r a (o ∪ w))
+        (via r a (o ∩ (inFace E l ∪ inFace E r) ∪ w) (o ∪ w) (cut r a (o ∩ (inFace E l ∪ inFace E r) ∪ w))
+        (cut r a (o ∪ w))
         (cut-right o w (inFace E l) (inFace E r)))
       where
         w : Set
         w = (out M l ∪ out M r) ∩ x
-    cut (hide l x y) a o = via l a ((o ∩ (inFace E l ∖ x)) ∖ x) (o ∖ x) (cut l a ((o ∩ (inFace E l ∖ x)) ∖ x)) (cut l a (o ∖ x))
+    cut (hide l x y) a o =
+        via l a ((o ∩ (inFace E l ∖ x)) ∖ x) (o ∖ x) (cut l a ((o ∩ (inFace E l ∖ x)) ∖ x)) (cut l a (o ∖ x))
         (cut-less o (inFace E l) x)
-    cut (dec c ss) a o = ap₂ _&&_ (viac c a (o ∩ (inFaceChart (E c) ∪ inFaces E ss) ∪ w) (o ∪ w) (cut-left o w (inFaceChart (E c)) (inFaces E ss)))
-        (vias ss f (o ∩ (inFaceChart (E c) ∪ inFaces E ss) ∪ w) (o ∪ w) (cuts ss f (o ∩ (inFaceChart (E c) ∪ inFaces E ss) ∪ w)) (cuts ss f (o ∪ w))
+    cut (dec c ss) a o = ap₂ _&&_ (viac c a (o ∩ (inFaceChart (E c) ∪ inFaces E ss) ∪ w) (o ∪ w)
+        (cut-left o w (inFaceChart (E c)) (inFaces E ss)))
+        (vias ss f (o ∩ (inFaceChart (E c) ∪ inFaces E ss) ∪ w) (o ∪ w)
+        (cuts ss f (o ∩ (inFaceChart (E c) ∪ inFaces E ss) ∪ w)) (cuts ss f (o ∪ w))
         (cut-right o w (inFaceChart (E c)) (inFaces E ss)))
       where
         w : Set
@@ -106,12 +118,14 @@ module _ (E : ℕ → Chart) (state : ℕ → ℕ) (cfg : ℕ → ℕ) (M : ℕ 
         f : ℕ → Bool
         f q = a && meets (cfg c) (M c) q
 
-    cuts : (ss : Slaves) (f : ℕ → Bool) (z : Set) → oksU E state cfg M ss f (z ∩ inFaces E ss) ≡ oksU E state cfg M ss f z
+    cuts : (ss : Slaves) (f : ℕ → Bool) (z : Set)
+        → oksU E state cfg M ss f (z ∩ inFaces E ss) ≡ oksU E state cfg M ss f z
     cuts nil f z = refl
     cuts (snoc ss i t) f z = ap₂ _&&_
         (vias ss f (z ∩ (inFaces E ss ∪ inFace E t)) z (cuts ss f (z ∩ (inFaces E ss ∪ inFace E t))) (cuts ss f z)
         (cut-fst z (inFaces E ss) (inFace E t)))
-        (via t (f (state i)) (z ∩ (inFaces E ss ∪ inFace E t)) z (cut t (f (state i)) (z ∩ (inFaces E ss ∪ inFace E t))) (cut t (f (state i)) z)
+        (via t (f (state i)) (z ∩ (inFaces E ss ∪ inFace E t)) z (cut t (f (state i)) (z ∩ (inFaces E ss ∪ inFace E t)))
+        (cut t (f (state i)) z)
         (cut-snd z (inFaces E ss) (inFace E t)))
 
   mutual
@@ -119,7 +133,8 @@ module _ (E : ℕ → Chart) (state : ℕ → ℕ) (cfg : ℕ → ℕ) (M : ℕ 
 
     pub no-cut : (t : Tree) (a : Bool) (o : Set) → ok E state cfg M t a o ≡ okU E state cfg M t a o
     no-cut (leaf c) a o = refl
-    no-cut (comp l r x) a o = ap₂ _&&_ (no-cut l a (z ∩ inFace E l) ∙ cut l a z) (no-cut r a (z ∩ inFace E r) ∙ cut r a z)
+    no-cut (comp l r x) a o =
+        ap₂ _&&_ (no-cut l a (z ∩ inFace E l) ∙ cut l a z) (no-cut r a (z ∩ inFace E r) ∙ cut r a z)
       where
         z : Set
         z = o ∪ ((out M l ∪ out M r) ∩ x)
@@ -132,18 +147,22 @@ module _ (E : ℕ → Chart) (state : ℕ → ℕ) (cfg : ℕ → ℕ) (M : ℕ 
 
     no-cuts : (ss : Slaves) (f : ℕ → Bool) (z : Set) → oks E state cfg M ss f z ≡ oksU E state cfg M ss f z
     no-cuts nil f z = refl
-    no-cuts (snoc ss i t) f z = ap₂ _&&_ (no-cuts ss f z) (no-cut t (f (state i)) (z ∩ inFace E t) ∙ cut t (f (state i)) z)
+    no-cuts (snoc ss i t) f z =
+        ap₂ _&&_ (no-cuts ss f z) (no-cut t (f (state i)) (z ∩ inFace E t) ∙ cut t (f (state i)) z)
 
   pub permitted-uncut : (t : Tree) (i : Set) → permitted E state cfg M t i ≡ okU E state cfg M t true i
   unfolding permitted
   permitted-uncut t i = no-cut t true (i ∩ inFace E t) ∙ cut t true i
 
 -- a choice's moves are such
-nth-within : (m : Move) (ts : List Transition) (I : Set) → Within I m → guards ts ∖ I ≡ 0 → (k : ℕ) → Within I (nth m ts k)
+nth-within : (m : Move) (ts : List Transition) (I : Set) → Within I m → guards ts ∖ I ≡ 0 → (k : ℕ)
+    → Within I (nth m ts k)
 unfolding nth guards
 nth-within m [] I w h k = w
-nth-within m (t ∷ ts) I w h zero = sets (t .needed ∷ t .barred ∷ guards ts ∷ I ∷ []) (A ∪ₑ B ∪ₑ C ⊑ D ∷ []) (A ∪ₑ B ⊑ D) tt h
-nth-within m (t ∷ ts) I w h (suc k) = nth-within m ts I w (sets (t .needed ∷ t .barred ∷ guards ts ∷ I ∷ []) (A ∪ₑ B ∪ₑ C ⊑ D ∷ []) (C ⊑ D) tt h) k
+nth-within m (t ∷ ts) I w h zero =
+    sets (t .needed ∷ t .barred ∷ guards ts ∷ I ∷ []) (A ∪ₑ B ∪ₑ C ⊑ D ∷ []) (A ∪ₑ B ⊑ D) tt h
+nth-within m (t ∷ ts) I w h (suc k) =
+    nth-within m ts I w (sets (t .needed ∷ t .barred ∷ guards ts ∷ I ∷ []) (A ∪ₑ B ∪ₑ C ⊑ D ∷ []) (C ⊑ D) tt h) k
 
 behind-within : (b : Bool) (I : Set) → Within I (cond b stay noMove)
 behind-within true I = tt
@@ -155,4 +174,5 @@ own-moves E ch c = go (ch c)
   where
     go : (v : ℕ) → Within (inFaceChart (E c)) (pick (E c) v)
     go zero = tt
-    go (suc k) = nth-within (behind (E c)) (E c .transitions) (inFaceChart (E c)) (behind-within (E c .stays) (inFaceChart (E c))) (guards-in (E c)) k
+    go (suc k) = nth-within (behind (E c)) (E c .transitions) (inFaceChart (E c))
+        (behind-within (E c .stays) (inFaceChart (E c))) (guards-in (E c)) k

@@ -9,7 +9,8 @@ use mathlib.Core.List.{[], _∷_}
 use Prim.Native.Nat.{_^_, _-_}
 use Rattle.signals.specs.Mask.{_∪_, _∩_, _∖_}
 use Rattle.signals.specs.Decide.{sets, A, B, C, D, E as Eₑ, F as Fₑ, G as Gₑ, ∅ₑ, _∪ₑ_, _∩ₑ_, _∖ₑ_, _≐_}
-use Rattle.meaning.specs.Meaning.{Set, ∅, same, Chart, Tree, Slaves, leaf, comp, hide, dec, nil, snoc, Move, noMove, takes, stay, actionOf, met?, untriggered, out, outs, okChart, meets}
+use Rattle.meaning.specs.Meaning.{Set, ∅, same, Chart, Tree, Slaves, leaf, comp, hide, dec, nil, snoc, Move, noMove}
+use Rattle.meaning.specs.Meaning.{takes, stay, actionOf, met?, untriggered, out, outs, okChart, meets}
 use Rattle.meaning.specs.Count.Laws.{or-left, or-right}
 use Rattle.meaning.specs.Laws.Bools.{and-second, or-l, or-r, same-refl, same→≡, same→≢, same-≢}
 use Rattle.meaning.specs.File.{Has, HasS}
@@ -152,7 +153,8 @@ join-feed (suc k) act b y a x = ap (λ j. j ∪ act k ∩ (b k ∪ a ∩ y k ∩
     ∙ sets (join k (λ e. act e ∩ b e) ∷ join k (λ e. act e ∩ y e) ∷ act k ∷ b k ∷ y k ∷ a ∷ x ∷ []) []
     (A ∪ₑ B ∩ₑ Gₑ ∩ₑ Fₑ ∪ₑ C ∩ₑ (D ∪ₑ Fₑ ∩ₑ Eₑ ∩ₑ Gₑ) ≐ A ∪ₑ C ∩ₑ D ∪ₑ (B ∪ₑ C ∩ₑ Eₑ) ∩ₑ Gₑ ∩ₑ Fₑ) tt
 
-join-or : (N : ℕ) (act y z : ℕ → Set) → join N (λ e. act e ∩ (y e ∪ z e)) ≡ join N (λ e. act e ∩ y e) ∪ join N (λ e. act e ∩ z e)
+join-or : (N : ℕ) (act y z : ℕ → Set)
+    → join N (λ e. act e ∩ (y e ∪ z e)) ≡ join N (λ e. act e ∩ y e) ∪ join N (λ e. act e ∩ z e)
 unfolding join
 join-or zero act y z = sets [] [] (∅ₑ ≐ ∅ₑ ∪ₑ ∅ₑ) tt
 join-or (suc k) act y z = ap (λ j. j ∪ act k ∩ (y k ∪ z k)) (join-or k act y z)
@@ -169,7 +171,8 @@ join-none : (N : ℕ) (act y : ℕ → Set) → ((e : ℕ) → e < N → y e ≡
 unfolding join
 join-none zero act y h = refl
 join-none (suc k) act y h =
-    sets (join k (λ e. act e ∩ y e) ∷ act k ∷ y k ∷ []) (A ≐ ∅ₑ ∷ C ≐ ∅ₑ ∷ []) (A ∪ₑ B ∩ₑ C ≐ ∅ₑ) tt (join-none k act y (λ e l. h e (omega arith)))
+    sets (join k (λ e. act e ∩ y e) ∷ act k ∷ y k ∷ []) (A ≐ ∅ₑ ∷ C ≐ ∅ₑ ∷ []) (A ∪ₑ B ∩ₑ C ≐ ∅ₑ) tt
+    (join-none k act y (λ e l. h e (omega arith)))
     (h k (omega arith))
 
 join-own : (N : ℕ) (act : ℕ → Set) (d : ℕ) → Small (act d) → d < N → join N (λ e. act e ∩ own d e) ≡ act d
@@ -177,26 +180,33 @@ unfolding join
 join-own zero act d s l = absurd (omega arith)
 join-own (suc k) act d s l = go (same k d) refl (λ m. join-own k act d s m)
   where
-    go : (b : Bool) → same k d ≡ b → (d < k → join k (λ e. act e ∩ own d e) ≡ act d) → (join k (λ e. act e ∩ own d e) ∪ act k ∩ own d k) ≡ act d
+    go : (b : Bool) → same k d ≡ b → (d < k → join k (λ e. act e ∩ own d e) ≡ act d)
+        → (join k (λ e. act e ∩ own d e) ∪ act k ∩ own d k) ≡ act d
     go true p rec = let q : k ≡ d = same→≡ k d p in
-        sets (join k (λ e. act e ∩ own d e) ∷ act k ∷ own d k ∷ full ∷ act d ∷ []) (A ≐ ∅ₑ ∷ C ≐ D ∷ B ≐ Eₑ ∷ Eₑ ∩ₑ D ≐ Eₑ ∷ []) (A ∪ₑ B ∩ₑ C ≐ Eₑ) tt
-        (join-none k act (own d) (λ e l. own-off d e (same-≢ e d (λ z. omega arith)))) (ap (own d) q ∙ own-on d) (ap act q) s
+        sets (join k (λ e. act e ∩ own d e) ∷ act k ∷ own d k ∷ full ∷ act d ∷ [])
+        (A ≐ ∅ₑ ∷ C ≐ D ∷ B ≐ Eₑ ∷ Eₑ ∩ₑ D ≐ Eₑ ∷ []) (A ∪ₑ B ∩ₑ C ≐ Eₑ) tt
+        (join-none k act (own d) (λ e l. own-off d e (same-≢ e d (λ z. omega arith)))) (ap (own d) q ∙ own-on d)
+        (ap act q) s
     go false p rec = let z : k ≢ d = same→≢ k d p in
-        sets (join k (λ e. act e ∩ own d e) ∷ act k ∷ own d k ∷ act d ∷ []) (A ≐ D ∷ C ≐ ∅ₑ ∷ []) (A ∪ₑ B ∩ₑ C ≐ D) tt (rec (omega arith))
+        sets (join k (λ e. act e ∩ own d e) ∷ act k ∷ own d k ∷ act d ∷ []) (A ≐ D ∷ C ≐ ∅ₑ ∷ []) (A ∪ₑ B ∩ₑ C ≐ D) tt
+        (rec (omega arith))
         (own-off d k p)
 
 join-small : (N : ℕ) (act y : ℕ → Set) → ((e : ℕ) → Small (act e)) → Small (join N (λ e. act e ∩ y e))
 unfolding join
 join-small zero act y h = sets (full ∷ []) [] (∅ₑ ∩ₑ A ≐ ∅ₑ) tt
 join-small (suc k) act y h =
-    sets (join k (λ e. act e ∩ y e) ∷ act k ∷ y k ∷ full ∷ []) (A ∩ₑ D ≐ A ∷ B ∩ₑ D ≐ B ∷ []) ((A ∪ₑ B ∩ₑ C) ∩ₑ D ≐ A ∪ₑ B ∩ₑ C) tt
+    sets (join k (λ e. act e ∩ y e) ∷ act k ∷ y k ∷ full ∷ []) (A ∩ₑ D ≐ A ∷ B ∩ₑ D ≐ B ∷ [])
+    ((A ∪ₑ B ∩ₑ C) ∩ₑ D ≐ A ∪ₑ B ∩ₑ C) tt
     (join-small k act y h) (h k)
 
 -- feedback of x, from rows: a chart is offered what its part is, with the feedback joined
-feed : (N : ℕ) (act b y : ℕ → Set) (z a x : Set) → offered N act z a (λ e. b e ∪ a ∩ y e ∩ x) ≡ offered N act (z ∪ join N (λ e. act e ∩ y e) ∩ x) a b
+feed : (N : ℕ) (act b y : ℕ → Set) (z a x : Set)
+    → offered N act z a (λ e. b e ∪ a ∩ y e ∩ x) ≡ offered N act (z ∪ join N (λ e. act e ∩ y e) ∩ x) a b
 unfolding offered
 feed N act b y z a x = ap (λ j. z ∩ a ∪ j) (join-feed N act b y a x)
-    ∙ sets (z ∷ a ∷ x ∷ join N (λ e. act e ∩ b e) ∷ join N (λ e. act e ∩ y e) ∷ []) [] (A ∩ₑ B ∪ₑ (D ∪ₑ Eₑ ∩ₑ C ∩ₑ B) ≐ (A ∪ₑ Eₑ ∩ₑ C) ∩ₑ B ∪ₑ D) tt
+    ∙ sets (z ∷ a ∷ x ∷ join N (λ e. act e ∩ b e) ∷ join N (λ e. act e ∩ y e) ∷ []) []
+    (A ∩ₑ B ∪ₑ (D ∪ₑ Eₑ ∩ₑ C ∩ₑ B) ≐ (A ∪ₑ Eₑ ∩ₑ C) ∩ₑ B ∪ₑ D) tt
 
 -- ── a chart that is not in the tree has no part in the rows ──
 apart-r : (a b : Bool) → (a && b) ≡ false → b ≡ true → a ≡ false
@@ -208,13 +218,16 @@ mutual
 
   down-off : (t : Tree) (c : ℕ) → Has t c ≡ false → down t c ≡ ∅
   down-off (leaf d) c h = own-off d c h
-  down-off (comp l r x) c h = none-or (down-off l c (or-left (Has l c) (Has r c) h)) (down-off r c (or-right (Has l c) (Has r c) h))
+  down-off (comp l r x) c h =
+      none-or (down-off l c (or-left (Has l c) (Has r c) h)) (down-off r c (or-right (Has l c) (Has r c) h))
   down-off (hide l x y) c h = none-less x (down-off l c h)
-  down-off (dec d ss) c h = none-or (own-off d c (or-left (same c d) (HasS ss c) h)) (downs-off ss c (or-right (same c d) (HasS ss c) h))
+  down-off (dec d ss) c h =
+      none-or (own-off d c (or-left (same c d) (HasS ss c) h)) (downs-off ss c (or-right (same c d) (HasS ss c) h))
 
   downs-off : (ss : Slaves) (c : ℕ) → HasS ss c ≡ false → downs ss c ≡ ∅
   downs-off nil c h = refl
-  downs-off (snoc ss i t) c h = none-or (downs-off ss c (or-right (Has t c) (HasS ss c) h)) (down-off t c (or-left (Has t c) (HasS ss c) h))
+  downs-off (snoc ss i t) c h =
+      none-or (downs-off ss c (or-right (Has t c) (HasS ss c) h)) (down-off t c (or-left (Has t c) (HasS ss c) h))
 
 module _ (E : ℕ → Chart) where
   mutual
@@ -222,15 +235,18 @@ module _ (E : ℕ → Chart) where
 
     back-off : (t : Tree) (c : ℕ) → Has t c ≡ false → (e : ℕ) → back E t c e ≡ ∅
     back-off (leaf d) c h e = none-cut (own d e) (E d .feedback) (own-off d c h)
-    back-off (comp l r x) c h e = none-or (none-or (back-off l c (or-left (Has l c) (Has r c) h) e) (back-off r c (or-right (Has l c) (Has r c) h) e))
+    back-off (comp l r x) c h e = none-or
+        (none-or (back-off l c (or-left (Has l c) (Has r c) h) e) (back-off r c (or-right (Has l c) (Has r c) h) e))
         (none-cut (up l e ∪ up r e) x (down-off (comp l r x) c h))
     back-off (hide l x y) c h e = back-off l c h e
     back-off (dec d ss) c h e =
-        none-or (backs-off ss c (or-right (same c d) (HasS ss c) h) e) (none-cut (own d e ∪ ups ss e) (E d .feedback) (down-off (dec d ss) c h))
+        none-or (backs-off ss c (or-right (same c d) (HasS ss c) h) e)
+        (none-cut (own d e ∪ ups ss e) (E d .feedback) (down-off (dec d ss) c h))
 
     backs-off : (ss : Slaves) (c : ℕ) → HasS ss c ≡ false → (e : ℕ) → backs E ss c e ≡ ∅
     backs-off nil c h e = refl
-    backs-off (snoc ss i t) c h e = none-or (backs-off ss c (or-right (Has t c) (HasS ss c) h) e) (back-off t c (or-left (Has t c) (HasS ss c) h) e)
+    backs-off (snoc ss i t) c h e =
+        none-or (backs-off ss c (or-right (Has t c) (HasS ss c) h) e) (back-off t c (or-left (Has t c) (HasS ss c) h) e)
 
 -- ── every chart of a tree ──
 mutual
@@ -239,15 +255,18 @@ mutual
   each-cong : (t : Tree) (f g : ℕ → Bool) → ((c : ℕ) → Has t c ≡ true → f c ≡ g c) → each t f ≡ each t g
   each-cong (leaf d) f g h = h d (same-refl d)
   each-cong (comp l r x) f g h =
-      ap₂ _&&_ (each-cong l f g (λ c k. h c (or-l (Has l c) (Has r c) k))) (each-cong r f g (λ c k. h c (or-r (Has l c) (Has r c) k)))
+      ap₂ _&&_ (each-cong l f g (λ c k. h c (or-l (Has l c) (Has r c) k)))
+      (each-cong r f g (λ c k. h c (or-r (Has l c) (Has r c) k)))
   each-cong (hide l x y) f g h = each-cong l f g h
   each-cong (dec d ss) f g h =
-      ap₂ _&&_ (h d (or-l (same d d) (HasS ss d) (same-refl d))) (eachs-cong ss f g (λ c k. h c (or-r (same c d) (HasS ss c) k)))
+      ap₂ _&&_ (h d (or-l (same d d) (HasS ss d) (same-refl d)))
+      (eachs-cong ss f g (λ c k. h c (or-r (same c d) (HasS ss c) k)))
 
   eachs-cong : (ss : Slaves) (f g : ℕ → Bool) → ((c : ℕ) → HasS ss c ≡ true → f c ≡ g c) → eachs ss f ≡ eachs ss g
   eachs-cong nil f g h = refl
   eachs-cong (snoc ss i t) f g h =
-      ap₂ _&&_ (eachs-cong ss f g (λ c k. h c (or-r (Has t c) (HasS ss c) k))) (each-cong t f g (λ c k. h c (or-l (Has t c) (HasS ss c) k)))
+      ap₂ _&&_ (eachs-cong ss f g (λ c k. h c (or-r (Has t c) (HasS ss c) k)))
+      (each-cong t f g (λ c k. h c (or-l (Has t c) (HasS ss c) k)))
 
 -- ── the output ──
 module _ (N : ℕ) (M : ℕ → Move) (small : (e : ℕ) → Small (actionOf (M e))) where
@@ -261,14 +280,17 @@ module _ (N : ℕ) (M : ℕ → Move) (small : (e : ℕ) → Small (actionOf (M 
     out-wired (leaf d) h = sym (join-own N acts d (small d) h)
     out-wired (comp l r x) h = ap₂ _∪_ (out-wired l (h .0)) (out-wired r (h .1)) ∙ sym (join-or N acts (up l) (up r))
     out-wired (hide l x y) h = ap (λ s. s ∖ y) (out-wired l h) ∙ sym (join-less N acts (up l) y)
-    out-wired (dec d ss) h = ap₂ _∪_ (sym (join-own N acts d (small d) (h .0))) (outs-wired ss (h .1)) ∙ sym (join-or N acts (own d) (ups ss))
+    out-wired (dec d ss) h = ap₂ _∪_ (sym (join-own N acts d (small d) (h .0))) (outs-wired ss (h .1))
+        ∙ sym (join-or N acts (own d) (ups ss))
 
     outs-wired : (ss : Slaves) → Helds N ss → outs M ss ≡ join N (λ e. actionOf (M e) ∩ ups ss e)
     outs-wired nil h = sym (join-none N acts (λ e. ∅) (λ e l. refl))
-    outs-wired (snoc ss i t) h = ap₂ _∪_ (outs-wired ss (h .0)) (out-wired t (h .1)) ∙ sym (join-or N acts (ups ss) (up t))
+    outs-wired (snoc ss i t) h =
+        ap₂ _∪_ (outs-wired ss (h .0)) (out-wired t (h .1)) ∙ sym (join-or N acts (ups ss) (up t))
 
 -- ── what a part's chart is offered ──
-okC-fits : (K : Chart) (a : Bool) (o : Set) (s : ℕ) (m : Move) → okChart K a o s m ≡ fits K a (o ∪ actionOf m ∩ K .feedback) s m
+okC-fits : (K : Chart) (a : Bool) (o : Set) (s : ℕ) (m : Move)
+    → okChart K a o s m ≡ fits K a (o ∪ actionOf m ∩ K .feedback) s m
 unfolding okChart fits actionOf
 okC-fits K false o s noMove = refl
 okC-fits K false o s (takes t) = refl
@@ -285,22 +307,29 @@ or-∅ a b = sets (a ∷ b ∷ []) (B ≐ ∅ₑ ∷ []) (A ∪ₑ B ≐ A) tt
 ∅-or a b = sets (a ∷ b ∷ []) (A ≐ ∅ₑ ∷ []) (A ∪ₑ B ≐ B) tt
 
 module _ (N : ℕ) (act : ℕ → Set) where
-  fst-part : (z a₁ a₂ : Set) (b₁ b₂ : ℕ → Set) → a₂ ≡ ∅ → ((e : ℕ) → b₂ e ≡ ∅) → offered N act z (a₁ ∪ a₂) (λ e. b₁ e ∪ b₂ e) ≡ offered N act z a₁ b₁
+  fst-part : (z a₁ a₂ : Set) (b₁ b₂ : ℕ → Set) → a₂ ≡ ∅ → ((e : ℕ) → b₂ e ≡ ∅)
+      → offered N act z (a₁ ∪ a₂) (λ e. b₁ e ∪ b₂ e) ≡ offered N act z a₁ b₁
   fst-part z a₁ a₂ b₁ b₂ p q = ap₂ (offered N act z) (or-∅ a₁ a₂ p) (fun-ext (λ e. or-∅ (b₁ e) (b₂ e) (q e)))
 
-  snd-part : (z a₁ a₂ : Set) (b₁ b₂ : ℕ → Set) → a₁ ≡ ∅ → ((e : ℕ) → b₁ e ≡ ∅) → offered N act z (a₁ ∪ a₂) (λ e. b₁ e ∪ b₂ e) ≡ offered N act z a₂ b₂
+  snd-part : (z a₁ a₂ : Set) (b₁ b₂ : ℕ → Set) → a₁ ≡ ∅ → ((e : ℕ) → b₁ e ≡ ∅)
+      → offered N act z (a₁ ∪ a₂) (λ e. b₁ e ∪ b₂ e) ≡ offered N act z a₂ b₂
   snd-part z a₁ a₂ b₁ b₂ p q = ap₂ (offered N act z) (∅-or a₁ a₂ p) (fun-ext (λ e. ∅-or (b₁ e) (b₂ e) (q e)))
 
-  alone : (d : ℕ) (z a : Set) (b : ℕ → Set) → Small z → a ≡ ∅ → ((e : ℕ) → b e ≡ ∅) → offered N act z (own d d ∪ a) b ≡ z
+  alone : (d : ℕ) (z a : Set) (b : ℕ → Set) → Small z → a ≡ ∅ → ((e : ℕ) → b e ≡ ∅)
+      → offered N act z (own d d ∪ a) b ≡ z
   unfolding offered
-  alone d z a b s p h = sets (z ∷ own d d ∷ a ∷ full ∷ join N (λ e. act e ∩ b e) ∷ []) (B ≐ D ∷ C ≐ ∅ₑ ∷ A ∩ₑ D ≐ A ∷ Eₑ ≐ ∅ₑ ∷ [])
+  alone d z a b s p h =
+      sets (z ∷ own d d ∷ a ∷ full ∷ join N (λ e. act e ∩ b e) ∷ []) (B ≐ D ∷ C ≐ ∅ₑ ∷ A ∩ₑ D ≐ A ∷ Eₑ ≐ ∅ₑ ∷ [])
       (A ∩ₑ (B ∪ₑ C) ∪ₑ Eₑ ≐ A) tt
       (own-on d) p s (join-none N act b (λ e l. h e))
 
-  leaf-part : (d : ℕ) (z x : Set) → Small z → Small (act d) → d < N → offered N act z (own d d) (λ e. own d d ∩ own d e ∩ x) ≡ z ∪ act d ∩ x
+  leaf-part : (d : ℕ) (z x : Set) → Small z → Small (act d) → d < N
+      → offered N act z (own d d) (λ e. own d d ∩ own d e ∩ x) ≡ z ∪ act d ∩ x
   leaf-part d z x s t l = ap₂ (offered N act z) (sym (or-∅ (own d d) ∅ refl))
-      (fun-ext (λ e. sym (∅-or ∅ (own d d ∩ own d e ∩ x) refl) ∙ ap (λ a. ∅ ∪ a ∩ own d e ∩ x) (sym (or-∅ (own d d) ∅ refl))))
-      ∙ feed N act (λ e. ∅) (own d) z (own d d ∪ ∅) x ∙ ap (λ w. offered N act (z ∪ w ∩ x) (own d d ∪ ∅) (λ e. ∅)) (join-own N act d t l)
+      (fun-ext
+      (λ e. sym (∅-or ∅ (own d d ∩ own d e ∩ x) refl) ∙ ap (λ a. ∅ ∪ a ∩ own d e ∩ x) (sym (or-∅ (own d d) ∅ refl))))
+      ∙ feed N act (λ e. ∅) (own d) z (own d d ∪ ∅) x
+      ∙ ap (λ w. offered N act (z ∪ w ∩ x) (own d d ∪ ∅) (λ e. ∅)) (join-own N act d t l)
       ∙ alone d (z ∪ act d ∩ x) ∅ (λ e. ∅) (sets (z ∷ act d ∷ x ∷ full ∷ []) (A ∩ₑ D ≐ A ∷ B ∩ₑ D ≐ B ∷ [])
       ((A ∪ₑ B ∩ₑ C) ∩ₑ D ≐ A ∪ₑ B ∩ₑ C) tt s t) refl (λ e. refl)
 
@@ -315,8 +344,10 @@ small-less z x = sets (z ∷ x ∷ full ∷ []) (A ∩ₑ C ≐ A ∷ []) ((A �
 small-fed : (z o x : Set) → Small z → Small o → Small (z ∪ o ∩ x)
 small-fed z o x = sets (z ∷ o ∷ x ∷ full ∷ []) (A ∩ₑ D ≐ A ∷ B ∩ₑ D ≐ B ∷ []) ((A ∪ₑ B ∩ₑ C) ∩ₑ D ≐ A ∪ₑ B ∩ₑ C) tt
 
-module _ (E : ℕ → Chart) (state : ℕ → ℕ) (cfg : ℕ → ℕ) (M : ℕ → Move) (N : ℕ) (enc : ℕ → Option ℕ) (sc : ℕ → ℕ) (act : ℕ → Bool)
-    (awake : (c : ℕ) → c < N → act c ≡ awakeBy sc state cfg M act (enc c)) (small : (e : ℕ) → Small (actionOf (M e))) where
+module _ (E : ℕ → Chart) (state : ℕ → ℕ) (cfg : ℕ → ℕ) (M : ℕ → Move) (N : ℕ) (enc : ℕ → Option ℕ) (sc : ℕ → ℕ)
+    (act : ℕ → Bool)
+    (awake : (c : ℕ) → c < N → act c ≡ awakeBy sc state cfg M act (enc c)) (small : (e : ℕ)
+    → Small (actionOf (M e))) where
   -- chart c's rule, offered by its row
   abbrev pub ruleAt : Set → (ℕ → Set) → (ℕ → ℕ → Set) → ℕ → Bool
   ruleAt z a b c = fits (E c) (act c) (offered N (λ e. actionOf (M e)) z (a c) (b c)) (cfg c) (M c)
@@ -327,19 +358,25 @@ module _ (E : ℕ → Chart) (state : ℕ → ℕ) (cfg : ℕ → ℕ) (M : ℕ 
   mutual
     unfolding okU each Has back down out up
 
-    pub wired : (t : Tree) (κ : Option ℕ) (a : Bool) (z : Set) → Small z → Held N t → Enc enc sc t κ → a ≡ awakeBy sc state cfg M act κ
+    pub wired : (t : Tree) (κ : Option ℕ) (a : Bool) (z : Set) → Small z → Held N t → Enc enc sc t κ
+        → a ≡ awakeBy sc state cfg M act κ
         → okU E state cfg M t a z ≡ each t (ruleAt z (down t) (back E t))
     wired (leaf d) κ a z sm h k e = okC-fits (E d) a z (cfg d) (M d) ∙ ap₂ (λ b o. fits (E d) b o (cfg d) (M d))
-        (e ∙ ap (awakeBy sc state cfg M act) (sym k) ∙ sym (awake d h)) (sym (leaf-part N (λ e. actionOf (M e)) d z (E d .feedback) sm (small d) h))
+        (e ∙ ap (awakeBy sc state cfg M act) (sym k) ∙ sym (awake d h))
+        (sym (leaf-part N (λ e. actionOf (M e)) d z (E d .feedback) sm (small d) h))
     wired (comp l r x) κ a z sm h k e = ap₂ _&&_
         (wired l κ a z′ sm′ (h .0) (k .0) e
-        ∙ sym (each-cong l (ruleAt z (down (comp l r x)) (back E (comp l r x))) (ruleAt z′ (down l) (back E l)) (λ c m. ap-fits c _ _
+        ∙ sym (each-cong l (ruleAt z (down (comp l r x)) (back E (comp l r x))) (ruleAt z′ (down l) (back E l))
+        (λ c m. ap-fits c _ _
         (fed c ∙ fst-part N (λ e. actionOf (M e)) z′ (down l c) (down r c) (back E l c) (back E r c)
-        (down-off r c (and-second (Has l c) (Has r c) (h .2 c) m)) (back-off E r c (and-second (Has l c) (Has r c) (h .2 c) m))))))
+        (down-off r c (and-second (Has l c) (Has r c) (h .2 c) m))
+        (back-off E r c (and-second (Has l c) (Has r c) (h .2 c) m))))))
         (wired r κ a z′ sm′ (h .1) (k .1) e
-        ∙ sym (each-cong r (ruleAt z (down (comp l r x)) (back E (comp l r x))) (ruleAt z′ (down r) (back E r)) (λ c m. ap-fits c _ _
+        ∙ sym (each-cong r (ruleAt z (down (comp l r x)) (back E (comp l r x))) (ruleAt z′ (down r) (back E r))
+        (λ c m. ap-fits c _ _
         (fed c ∙ snd-part N (λ e. actionOf (M e)) z′ (down l c) (down r c) (back E l c) (back E r c)
-        (down-off l c (apart-r (Has l c) (Has r c) (h .2 c) m)) (back-off E l c (apart-r (Has l c) (Has r c) (h .2 c) m))))))
+        (down-off l c (apart-r (Has l c) (Has r c) (h .2 c) m))
+        (back-off E l c (apart-r (Has l c) (Has r c) (h .2 c) m))))))
       where
         z′ : Set
         z′ = z ∪ (out M l ∪ out M r) ∩ x
@@ -351,17 +388,23 @@ module _ (E : ℕ → Chart) (state : ℕ → ℕ) (cfg : ℕ → ℕ) (M : ℕ 
         fed : (c : ℕ) → offered N (λ e. actionOf (M e)) z (down l c ∪ down r c)
             (λ e. (back E l c e ∪ back E r c e) ∪ (down l c ∪ down r c) ∩ (up l e ∪ up r e) ∩ x)
             ≡ offered N (λ e. actionOf (M e)) z′ (down l c ∪ down r c) (λ e. back E l c e ∪ back E r c e)
-        fed c = feed N (λ e. actionOf (M e)) (λ e. back E l c e ∪ back E r c e) (λ e. up l e ∪ up r e) z (down l c ∪ down r c) x
-            ∙ ap (λ w. offered N (λ e. actionOf (M e)) (z ∪ w ∩ x) (down l c ∪ down r c) (λ e. back E l c e ∪ back E r c e))
+        fed c = feed N (λ e. actionOf (M e)) (λ e. back E l c e ∪ back E r c e)
+            (λ e. up l e ∪ up r e) z (down l c ∪ down r c) x
+            ∙ ap
+            (λ w. offered N (λ e. actionOf (M e)) (z ∪ w ∩ x) (down l c ∪ down r c) (λ e. back E l c e ∪ back E r c e))
             (sym (out-wired N M small (comp l r x) h))
     wired (hide l x y) κ a z sm h k e = wired l κ a (z ∖ x) (small-less z x sm) h k e
-        ∙ sym (each-cong l (ruleAt z (down (hide l x y)) (back E (hide l x y))) (ruleAt (z ∖ x) (down l) (back E l)) (λ c m. ap-fits c _ _
+        ∙ sym (each-cong l (ruleAt z (down (hide l x y)) (back E (hide l x y))) (ruleAt (z ∖ x) (down l) (back E l))
+        (λ c m. ap-fits c _ _
         (filtered N (λ e. actionOf (M e)) z (down l c) x (back E l c))))
     wired (dec d ss) κ a z sm h k e = ap₂ _&&_
         (okC-fits (E d) a z′ (cfg d) (M d) ∙ ap₂ (λ b o. fits (E d) b o (cfg d) (M d)) am
-        (inside ∙ sym (fed d ∙ alone N (λ e. actionOf (M e)) d z′ (downs ss d) (backs E ss d) sm′ (downs-off ss d (h .2)) (backs-off E ss d (h .2)))))
-        (wireds ss d (λ q. a && meets (cfg d) (M d) q) z′ sm′ (h .1) (k .1) (λ q. ap (λ b. b && meets (cfg d) (M d) q) am)
-        ∙ sym (eachs-cong ss (ruleAt z (down (dec d ss)) (back E (dec d ss))) (ruleAt z′ (downs ss) (backs E ss)) (λ c m. ap-fits c _ _
+        (inside ∙ sym (fed d ∙ alone N
+        (λ e. actionOf (M e)) d z′ (downs ss d) (backs E ss d) sm′ (downs-off ss d (h .2)) (backs-off E ss d (h .2)))))
+        (wireds ss d (λ q. a && meets (cfg d) (M d) q) z′ sm′ (h .1) (k .1)
+        (λ q. ap (λ b. b && meets (cfg d) (M d) q) am)
+        ∙ sym (eachs-cong ss (ruleAt z (down (dec d ss)) (back E (dec d ss))) (ruleAt z′ (downs ss) (backs E ss))
+        (λ c m. ap-fits c _ _
         (fed c ∙ ap (λ s. offered N (λ e. actionOf (M e)) z′ s (backs E ss c))
         (∅-or (own d c) (downs ss c) (own-off d c (same-≢ c d (λ q. true≢false (sym m ∙ ap (HasS ss) q ∙ h .2)))))))))
       where
@@ -370,18 +413,21 @@ module _ (E : ℕ → Chart) (state : ℕ → ℕ) (cfg : ℕ → ℕ) (M : ℕ 
 
         sm′ : Small z′
         sm′ = small-fed z (actionOf (M d) ∪ outs M ss) (E d .feedback) sm
-            (subst Small (sym (out-wired N M small (dec d ss) h)) (join-small N (λ e. actionOf (M e)) (λ e. own d e ∪ ups ss e) small))
+            (subst Small (sym (out-wired N M small (dec d ss) h))
+            (join-small N (λ e. actionOf (M e)) (λ e. own d e ∪ ups ss e) small))
 
         am : a ≡ act d
         am = e ∙ ap (awakeBy sc state cfg M act) (sym (k .0)) ∙ sym (awake d (h .0))
 
         inside : z′ ∪ actionOf (M d) ∩ E d .feedback ≡ z′
-        inside = sets (z ∷ actionOf (M d) ∷ outs M ss ∷ E d .feedback ∷ []) [] (A ∪ₑ (B ∪ₑ C) ∩ₑ D ∪ₑ B ∩ₑ D ≐ A ∪ₑ (B ∪ₑ C) ∩ₑ D) tt
+        inside = sets (z ∷ actionOf (M d) ∷ outs M ss ∷ E d .feedback ∷ []) []
+            (A ∪ₑ (B ∪ₑ C) ∩ₑ D ∪ₑ B ∩ₑ D ≐ A ∪ₑ (B ∪ₑ C) ∩ₑ D) tt
 
         fed : (c : ℕ) → offered N (λ e. actionOf (M e)) z (own d c ∪ downs ss c)
             (λ e. backs E ss c e ∪ (own d c ∪ downs ss c) ∩ (own d e ∪ ups ss e) ∩ E d .feedback)
             ≡ offered N (λ e. actionOf (M e)) z′ (own d c ∪ downs ss c) (λ e. backs E ss c e)
-        fed c = feed N (λ e. actionOf (M e)) (backs E ss c) (λ e. own d e ∪ ups ss e) z (own d c ∪ downs ss c) (E d .feedback)
+        fed c = feed N (λ e. actionOf (M e)) (backs E ss c)
+            (λ e. own d e ∪ ups ss e) z (own d c ∪ downs ss c) (E d .feedback)
             ∙ ap (λ w. offered N (λ e. actionOf (M e)) (z ∪ w ∩ E d .feedback) (own d c ∪ downs ss c) (backs E ss c))
             (sym (out-wired N M small (dec d ss) h))
 
@@ -391,10 +437,15 @@ module _ (E : ℕ → Chart) (state : ℕ → ℕ) (cfg : ℕ → ℕ) (M : ℕ 
     wireds nil d f z sm h k e = refl
     wireds (snoc ss i t) d f z sm h k e = ap₂ _&&_
         (wireds ss d f z sm (h .0) (k .0) e
-        ∙ sym (eachs-cong ss (ruleAt z (downs (snoc ss i t)) (backs E (snoc ss i t))) (ruleAt z (downs ss) (backs E ss)) (λ c m. ap-fits c _ _
+        ∙ sym (eachs-cong ss (ruleAt z (downs (snoc ss i t)) (backs E (snoc ss i t))) (ruleAt z (downs ss) (backs E ss))
+        (λ c m. ap-fits c _ _
         (fst-part N (λ e. actionOf (M e)) z (downs ss c) (down t c) (backs E ss c) (back E t c)
-        (down-off t c (apart-r (Has t c) (HasS ss c) (h .2 c) m)) (back-off E t c (apart-r (Has t c) (HasS ss c) (h .2 c) m))))))
-        (wired t (some i) (f (state i)) z sm (h .1) (k .2) (e (state i) ∙ ap (λ c. act c && meets (cfg c) (M c) (state i)) (sym (k .1)))
-        ∙ sym (each-cong t (ruleAt z (downs (snoc ss i t)) (backs E (snoc ss i t))) (ruleAt z (down t) (back E t)) (λ c m. ap-fits c _ _
+        (down-off t c (apart-r (Has t c) (HasS ss c) (h .2 c) m))
+        (back-off E t c (apart-r (Has t c) (HasS ss c) (h .2 c) m))))))
+        (wired t (some i) (f (state i)) z sm (h .1) (k .2)
+        (e (state i) ∙ ap (λ c. act c && meets (cfg c) (M c) (state i)) (sym (k .1)))
+        ∙ sym (each-cong t (ruleAt z (downs (snoc ss i t)) (backs E (snoc ss i t))) (ruleAt z (down t) (back E t))
+        (λ c m. ap-fits c _ _
         (snd-part N (λ e. actionOf (M e)) z (downs ss c) (down t c) (backs E ss c) (back E t c)
-        (downs-off ss c (and-second (Has t c) (HasS ss c) (h .2 c) m)) (backs-off E ss c (and-second (Has t c) (HasS ss c) (h .2 c) m))))))
+        (downs-off ss c (and-second (Has t c) (HasS ss c) (h .2 c) m))
+        (backs-off E ss c (and-second (Has t c) (HasS ss c) (h .2 c) m))))))

@@ -1,4 +1,5 @@
--- Laws of a body, in this order: a run of values; where a chart's transitions start; the fields of its records are below their widths.
+-- Laws of a body, in this order: a run of values; where a chart's transitions start; the fields of its records are
+-- below their widths.
 use mathlib.Core.Path.{_≡_, refl, sym, ap, _∙_}
 use mathlib.Core.Logic.{⊎-elim}
 use mathlib.Core.List.{List}
@@ -9,8 +10,10 @@ use native.Mathlib.Omega.{arith}
 use lib.ListN.{length, getD}
 use Rattle.layout.specs.Le.{AllBytes}
 use Rattle.layout.specs.Le.Laws.{bytes-drop}
-use Rattle.layout.specs.Record.Laws.{HeadFits, TransitionFits, SlaveFits, NodeFits, head-fits, transition-fits, slave-fits, node-fits}
-use Rattle.layout.specs.Body.{transitionsFrom, slavesFrom, nodesFrom, headAt, transitionAt, slaveAt, nodeAt, startOf, from}
+use Rattle.layout.specs.Record.Laws.{HeadFits, TransitionFits, SlaveFits, NodeFits, head-fits, transition-fits}
+use Rattle.layout.specs.Record.Laws.{slave-fits, node-fits}
+use Rattle.layout.specs.Body.{transitionsFrom, slavesFrom, nodesFrom, headAt, transitionAt, slaveAt, nodeAt}
+use Rattle.layout.specs.Body.{startOf, from}
 use Rattle.layout.specs.declared.body.Shape.{Shape}
 
 -- ---- from

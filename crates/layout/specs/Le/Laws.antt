@@ -1,9 +1,11 @@
--- Laws of numbers in little-endian order, in this order: the number of bytes; the bytes of a number; a number read back; a run of stores; both as
--- code reads and writes them, a number as two halves; what is written in a slice is read there again.
+-- Laws of numbers in little-endian order, in this order: the number of bytes; the bytes of a number; a number read
+-- back; a run of stores; both as code reads and writes them, a number as two halves; what is written in a slice is read
+-- there again.
 use mathlib.Core.Path.{_≡_, refl, sym, ap, ap₂, _∙_}
 use mathlib.Core.List.{List, [], _∷_, _++_, append-assoc}
 use Prim.Native.Nat.{ℕ, zero, suc, _+_, _*_, _/_, _%_, _^_, _≤_, _<_}
-use native.Mathlib.Nat.{zero-mul, mul-assoc, pow-suc, mul-one, zero-add, mod-one, div-div-eq-div-mul, pow-succ', add-zero, suc-add, add-mul, div-one, mod-lt, mod-eq-of-lt, one-le-pow, suc-inj}
+use native.Mathlib.Nat.{zero-mul, mul-assoc, pow-suc, mul-one, zero-add, mod-one, div-div-eq-div-mul, pow-succ'}
+use native.Mathlib.Nat.{add-zero, suc-add, add-mul, div-one, mod-lt, mod-eq-of-lt, one-le-pow, suc-inj}
 use native.Mathlib.Omega.{arith}
 use native.Mathlib.Numerals.{add-one}
 use lib.Arith.{mod-mul, digits-mod, digits-div}
@@ -24,7 +26,8 @@ unfolding le
 le-zero s = refl
 
 -- one byte more
-pub le-step : (n : ℕ) (s : List ℕ) (at : ℕ) → at < length s → le (suc n) (drop at s) ≡ getD s at 0 + le n (drop (suc at) s) * 256
+pub le-step : (n : ℕ) (s : List ℕ) (at : ℕ) → at < length s
+    → le (suc n) (drop at s) ≡ getD s at 0 + le n (drop (suc at) s) * 256
 unfolding le
 le-step n s at h = rw (drop-cons s at 0 h)
 
@@ -58,7 +61,8 @@ length-bytes (suc n) x = ap suc (length-bytes n (x / 256))
 pub bytes-split : (m n x : ℕ) → bytes (m + n) x ≡ bytes m x ++ bytes n (x / 256 ^ m)
 unfolding bytes
 bytes-split zero n x = rw (zero-add, div-one)
-bytes-split (suc m) n x = rw (suc-add, pow-succ', ← div-div-eq-div-mul) (ap (λ (l : List ℕ). x % 256 ∷ l) (bytes-split m n (x / 256)))
+bytes-split (suc m) n x =
+    rw (suc-add, pow-succ', ← div-div-eq-div-mul) (ap (λ (l : List ℕ). x % 256 ∷ l) (bytes-split m n (x / 256)))
 
 -- the lowest n + 1 digits: their lowest, and the others
 mod-low : (n x : ℕ) → x % 256 ^ suc n ≡ (x / 256 % 256 ^ n) * 256 + x % 256
@@ -93,10 +97,12 @@ le-bytes-append n x ys h = le-append n (bytes n x) ys (length-bytes n x) ∙ le-
 
 pub sets-append : (l : List ℕ) (i : ℕ) (xs ys : List ℕ) → sets l i (xs ++ ys) ≡ sets (sets l i xs) (i + length xs) ys
 sets-append l i [] ys = rw add-zero
-sets-append l i (x ∷ xs) ys = sets-append (set l i x) (suc i) xs ys ∙ ap (λ (k : ℕ). sets (sets (set l i x) (suc i) xs) k ys) (omega arith)
+sets-append l i (x ∷ xs) ys =
+    sets-append (set l i x) (suc i) xs ys ∙ ap (λ (k : ℕ). sets (sets (set l i x) (suc i) xs) k ys) (omega arith)
 
 -- where a run of stores begins, it is what stands there
-pub drop-sets : (s : List ℕ) (at : ℕ) (xs : List ℕ) → at + length xs ≤ length s → drop at (sets s at xs) ≡ xs ++ drop (at + length xs) s
+pub drop-sets : (s : List ℕ) (at : ℕ) (xs : List ℕ) → at + length xs ≤ length s
+    → drop at (sets s at xs) ≡ xs ++ drop (at + length xs) s
 drop-sets s at xs h =
     rw (sets-eq xs s at h, append-assoc) (drop-at (take at s) _ at (length-take-le at s (omega arith)))
 
@@ -107,19 +113,23 @@ pub le-two : (s : List ℕ) (at : ℕ) → at + 2 ≤ length s → getD s at 0 +
 le-two s at h =
     rw (le-step 1 s at (omega arith), le-step 0 s (suc at) (omega arith), le-zero, add-one) (omega arith)
 
-pub put-two : (s : List ℕ) (at x : ℕ) → x < 256 ^ 2 → set (set s at (x % 256)) (at + 1) (x / 256) ≡ sets s at (bytes 2 x)
+pub put-two : (s : List ℕ) (at x : ℕ) → x < 256 ^ 2
+    → set (set s at (x % 256)) (at + 1) (x / 256) ≡ sets s at (bytes 2 x)
 unfolding bytes
 put-two s at x h = ap₂ (λ (i y : ℕ). set (set s at (x % 256)) i y) (add-one at) (sym (mod-eq-of-lt (omega arith)))
 
 -- two halves
-pub le-twice : (n : ℕ) (s : List ℕ) (at : ℕ) → le n (drop at s) + le n (drop (at + n) s) * 256 ^ n ≡ le (n + n) (drop at s)
+pub le-twice : (n : ℕ) (s : List ℕ) (at : ℕ)
+    → le n (drop at s) + le n (drop (at + n) s) * 256 ^ n ≡ le (n + n) (drop at s)
 le-twice n s at = rw (le-split, drop-drop)
 
 pub put-twice : (n : ℕ) (s : List ℕ) (at x : ℕ)
     → sets (sets s at (bytes n (x % 256 ^ n))) (at + n) (bytes n (x / 256 ^ n)) ≡ sets s at (bytes (n + n) x)
 put-twice n s at x =
-    rw (bytes-mod, bytes-split, sets-append) (ap (λ (k : ℕ). sets (sets s at (bytes n x)) (at + k) (bytes n (x / 256 ^ n))) (sym (length-bytes n x)))
+    rw (bytes-mod, bytes-split, sets-append)
+    (ap (λ (k : ℕ). sets (sets s at (bytes n x)) (at + k) (bytes n (x / 256 ^ n))) (sym (length-bytes n x)))
 
 -- ---- what is written in a slice is read there again
-pub le-put : (n : ℕ) (s : List ℕ) (at x : ℕ) → at + n ≤ length s → x < 256 ^ n → le n (drop at (sets s at (bytes n x))) ≡ x
+pub le-put : (n : ℕ) (s : List ℕ) (at x : ℕ) → at + n ≤ length s → x < 256 ^ n
+    → le n (drop at (sets s at (bytes n x))) ≡ x
 le-put n s at x h k = rw (drop-sets s at (bytes n x) (rw length-bytes h)) (le-bytes-append n x _ k)

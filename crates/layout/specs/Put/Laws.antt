@@ -1,5 +1,5 @@
--- Laws of Put and Room, in this order: nothing; one part after another; a byte; a buffer keeps its length; what is written at 0 lies over the
--- buffer; room for a first part, and for what follows it.
+-- Laws of Put and Room, in this order: nothing; one part after another; a byte; a buffer keeps its length; what is
+-- written at 0 lies over the buffer; room for a first part, and for what follows it.
 use mathlib.Core.Path.{_≡_, refl, sym, _∙_}
 use mathlib.Core.List.{List, [], _∷_, _++_}
 use Prim.Native.Nat.{ℕ, _+_, _≤_}
@@ -28,7 +28,8 @@ pub put-length : {l m xs : List ℕ} {at j : ℕ} → Put l at xs m j → length
 put-length {l} {m} {xs} {at} p = rw (p .is) (length-sets l at xs)
 
 -- what is written at 0
-pub put-over : {l m xs : List ℕ} {j : ℕ} → Put l 0 xs m j → length xs ≤ length l → (j ≡ length xs) × (m ≡ xs ++ drop (length xs) l)
+pub put-over : {l m xs : List ℕ} {j : ℕ} → Put l 0 xs m j → length xs ≤ length l
+    → (j ≡ length xs) × (m ≡ xs ++ drop (length xs) l)
 put-over {l} {m} {xs} p h = (p .place ∙ zero-add _, p .is ∙ sets-eq xs l 0 (rw zero-add h) ∙ rw zero-add)
 
 module _ (l : List ℕ) (at : ℕ) (xs ys : List ℕ) (h : Room l at (xs ++ ys)) where

@@ -1,5 +1,5 @@
--- Laws of the records of a chart file, in this order: how long each is in bytes; what is written reads back, whatever comes after it; the same in
--- a slice; the fields of a record that is read from bytes are below their widths.
+-- Laws of the records of a chart file, in this order: how long each is in bytes; what is written reads back, whatever
+-- comes after it; the same in a slice; the fields of a record that is read from bytes are below their widths.
 use mathlib.Core.Path.{_≡_, refl, ap, _∙_}
 use mathlib.Core.List.{List, _++_}
 use Prim.Native.Nat.{ℕ, _+_, _^_, _≤_, _<_}
@@ -39,7 +39,8 @@ length-node r = refl
 
 -- ---- what is written reads back: of a byte by computing, of a longer number by `le-bytes-append`
 
-pub trailer-back : (r : Trailer) (rest : List ℕ) → r .distance < 256 ^ 4 → r .transitions < 256 ^ 2 → trailerOf (trailerBytes r ++ rest) ≡ r
+pub trailer-back : (r : Trailer) (rest : List ℕ) → r .distance < 256 ^ 4 → r .transitions < 256 ^ 2
+    → trailerOf (trailerBytes r ++ rest) ≡ r
 unfolding bytes trailerOf trailerBytes
 trailer-back r rest d t =
     let past : ℕ → List ℕ = λ k. drop k (trailerBytes r ++ rest) in
@@ -52,7 +53,8 @@ trailer-back r rest d t =
       transitions = le-bytes-append 2 (r .transitions) (past 10) t i;
     }
 
-pub head-back : (r : Head) (rest : List ℕ) → r .feedback < 256 ^ 8 → r .extra < 256 ^ 8 → headOf (headBytes r ++ rest) ≡ r
+pub head-back : (r : Head) (rest : List ℕ) → r .feedback < 256 ^ 8 → r .extra < 256 ^ 8
+    → headOf (headBytes r ++ rest) ≡ r
 unfolding bytes headOf headBytes
 head-back r rest f e =
     let past : ℕ → List ℕ = λ k. drop k (headBytes r ++ rest) in
@@ -142,7 +144,14 @@ module _ (s : List ℕ) (h : AllBytes s) where
   pub trailer-fits : TrailerFits (trailerOf s)
   unfolding trailerOf
   trailer-fits =
-      record { distance = le-fits 4 0; charts = h 4; slaves = h 5; nodes = h 6; edition = h 7; transitions = le-fits 2 8 }
+      record {
+        distance = le-fits 4 0;
+        charts = h 4;
+        slaves = h 5;
+        nodes = h 6;
+        edition = h 7;
+        transitions = le-fits 2 8;
+      }
 
   pub head-fits : HeadFits (headOf s)
   unfolding headOf

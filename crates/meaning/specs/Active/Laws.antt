@@ -1,7 +1,7 @@
 -- Laws of activity and of what parts put out. In this order: a permitted choice moves the charts that are active, and
--- no others (`ok-active`); in it the part of a slave keeps to the rules by whether the slave is active (`slave-part`); a
--- chart moves exactly if its nearest slave is active (`near`); what a part puts out hangs on its charts' actions alone
--- (`out-cong`), and is nothing if they take none (`out-none`); a place of a step says what its chart puts out
+-- no others (`ok-active`); in it the part of a slave keeps to the rules by whether the slave is active (`slave-part`);
+-- a chart moves exactly if its nearest slave is active (`near`); what a part puts out hangs on its charts' actions
+-- alone (`out-cong`), and is nothing if they take none (`out-none`); a place of a step says what its chart puts out
 -- (`place-action`), and that it moves (`place-some`).
 use mathlib.Core.Path.{_≡_, refl, sym, _∙_, ap, ap₂}
 use mathlib.Core.Bool.{Bool, true, false, _&&_, _||_, cond, false≢true}
@@ -16,7 +16,9 @@ use Rattle.signals.specs.Mask.{_∪_, _∩_, _∖_}
 use Rattle.signals.specs.Decide.{sets, A, ∅ₑ, _∪ₑ_, _∖ₑ_, _≐_}
 use Rattle.layout.specs.declared.record.Transition.{Transition}
 use Rattle.meaning.specs.Numbers.{mostInChart, noPlace, stayPlace}
-use Rattle.meaning.specs.Meaning.{Set, ∅, same, Chart, Tree, Slaves, leaf, comp, hide, dec, nil, snoc, Move, noMove, takes, stay, nth, behind, pick, actionOf, after, inFace, out, outs, okChart, meets, ok, oks, placeOf}
+use Rattle.meaning.specs.Meaning.{Set, ∅, same, Chart, Tree, Slaves, leaf, comp, hide, dec, nil, snoc, Move}
+use Rattle.meaning.specs.Meaning.{noMove, takes, stay, nth, behind, pick, actionOf, after, inFace, out, outs}
+use Rattle.meaning.specs.Meaning.{okChart, meets, ok, oks, placeOf}
 use Rattle.meaning.specs.File.{File, whole, gather, treeOf, Has, HasS}
 use Rattle.meaning.specs.Rewriting.{nearestIn, nearestAmong}
 use Rattle.meaning.specs.Active.{active, actives}

@@ -20,7 +20,8 @@ use Rattle.meaning.specs.Count.Laws.{any-never, any-all}
 use Rattle.meaning.specs.Meaning.{Set, same, Outcome, refused, given, answer, firstPlaces}
 use Rattle.meaning.specs.File.{File, fileOf}
 use Rattle.meaning.specs.Check.{Test, firstOf, fileTests, refusalOf}
-use Rattle.meaning.specs.Check.Laws.{below, alike, Passes, firstOf-passes, firstOf-++, all-pass, front, call-passed, in-front}
+use Rattle.meaning.specs.Check.Laws.{below, alike, Passes, firstOf-passes, firstOf-++, all-pass, front}
+use Rattle.meaning.specs.Check.Laws.{call-passed, in-front}
 use Rattle.meaning.specs.Calls.{made, outcomesIn, configTests, Valid, stepRefusal, foundIn, manyOpen?, stepIn}
 use Rattle.meaning.specs.Calls.{stepOf, allPlaces}
 use Rattle.meaning.specs.Calls.{placesFound, placesIn, placesOf, runRefusal}
@@ -46,10 +47,12 @@ made-cong zero f g e = refl
 made-cong (suc n) f g e = ap₂ (λ xs x. xs ++ (x ∷ [])) (made-cong n f g (λ i l. e i (omega arith))) (e n (omega arith))
 
 -- one more byte stored over a buffer
-pub made-store : (b : List ℕ) (f : ℕ → ℕ) (i : ℕ) → i < length b → set (made i f ++ drop i b) i (f i) ≡ made (i + 1) f ++ drop (i + 1) b
+pub made-store : (b : List ℕ) (f : ℕ → ℕ) (i : ℕ) → i < length b
+    → set (made i f ++ drop i b) i (f i) ≡ made (i + 1) f ++ drop (i + 1) b
 unfolding made
 made-store b f i h =
-    rw (drop-cons b i 0, set-at (made i f) (getD b i 0) (drop (suc i) b) (f i) i (length-made i f), add-one, append-assoc)
+    rw
+    (drop-cons b i 0, set-at (made i f) (getD b i 0) (drop (suc i) b) (f i) i (length-made i f), add-one, append-assoc)
 
 -- ── places ──
 
@@ -95,7 +98,8 @@ module _ (r : ℕ) where
   none-first [] e = refl
   none-first (o ∷ os) e = absurd (let z : _≡_ {A = ℕ} 0 1 = cc in omega arith)
 
-  pub in-refused : (F : File) (config : List ℕ) (i : Set) → stepIn F config i ≡ refused r → placesIn F config i ≡ allPlaces []
+  pub in-refused : (F : File) (config : List ℕ) (i : Set) → stepIn F config i ≡ refused r
+      → placesIn F config i ≡ allPlaces []
   in-refused F config i e = go (manyOpen? F config) refl
     where
       go : (b : Bool) → manyOpen? F config ≡ b → placesIn F config i ≡ allPlaces []
@@ -106,15 +110,18 @@ module _ (r : ℕ) where
           ap allPlaces (none-first (outcomesIn F config i) (sym (step-by F config i false q) ∙ e))
 
   -- the same of a step behind other tests, whose number is n
-  pub behind-refused : (n : ℕ) (F : File) (config : List ℕ) (i : Set) → cond (same n 0) (stepIn F config i) (refused n) ≡ refused r
+  pub behind-refused : (n : ℕ) (F : File) (config : List ℕ) (i : Set)
+      → cond (same n 0) (stepIn F config i) (refused n) ≡ refused r
       → cond (same n 0) (placesIn F config i) (allPlaces []) ≡ allPlaces []
   behind-refused n F config i e = go (same n 0) e
     where
-      go : (b : Bool) → cond b (stepIn F config i) (refused n) ≡ refused r → cond b (placesIn F config i) (allPlaces []) ≡ allPlaces []
+      go : (b : Bool) → cond b (stepIn F config i) (refused n) ≡ refused r
+          → cond b (placesIn F config i) (allPlaces []) ≡ allPlaces []
       go true h = in-refused F config i h
       go false h = refl
 
-  pub of-refused : (f config : List ℕ) (i : Set) (room : ℕ) → stepOf f config i room ≡ refused r → placesOf f config i room ≡ allPlaces []
+  pub of-refused : (f config : List ℕ) (i : Set) (room : ℕ) → stepOf f config i room ≡ refused r
+      → placesOf f config i room ≡ allPlaces []
   unfolding stepOf placesOf
   of-refused f config i room e = behind-refused (stepRefusal f config room) (fileOf f) config i e
 
@@ -127,7 +134,8 @@ module _ (f config : List ℕ) where
   config-passes v = (
     agrees (length config) (fileOf f .charts) (v .long),
     (
-      any-all (fileOf f .charts) _ (λ c m. ap not (lt-ltb (getD config c 0) (fileOf f .chart c .states) (v .states c m))),
+      any-all (fileOf f .charts) _
+          (λ c m. ap not (lt-ltb (getD config c 0) (fileOf f .chart c .states) (v .states c m))),
       tt,
     ),
   )

@@ -1,6 +1,7 @@
--- Laws of the file check, grouped under what they speak of: a test that is false; the first refusal that applies (`firstOf`); what a file that is
--- not refused meets (`refusalOf`); what 3 gives (`counts?`); what 6 gives (`charts?`); that more than 8 transitions from a state are found as a walk
--- goes, and that transitions lead to states of their chart (`transitions?`). Those of 8 to 11 are in Check/Nodes.antt.
+-- Laws of the file check, grouped under what they speak of: a test that is false; the first refusal that applies
+-- (`firstOf`); what a file that is not refused meets (`refusalOf`); what 3 gives (`counts?`); what 6 gives (`charts?`);
+-- that more than 8 transitions from a state are found as a walk goes, and that transitions lead to states of their
+-- chart (`transitions?`). Those of 8 to 11 are in Check/Nodes.antt.
 use mathlib.Core.Path.{_≡_, refl, sym, _∙_, ap}
 use mathlib.Core.Bool.{Bool, true, false, _||_}
 use mathlib.Core.List.{List, [], _∷_, _++_, append-nil, List·Memᴰ, List·Memᴰ·cases-cons, List·Memᴰ·not-nil}
@@ -14,13 +15,17 @@ use Rattle.layout.specs.Body.{headAt, transitionAt, startOf, from, transitionsO
 use Rattle.layout.specs.declared.body.Shape.{Shape}
 use Rattle.layout.specs.declared.record.Trailer.{Trailer}
 use Rattle.layout.specs.declared.record.Transition.{Transition}
-use Rattle.meaning.specs.Numbers.{mostCharts, mostSlaves, mostNodes, mostTransitions, mostStates, mostInChart, mostFromState}
+use Rattle.meaning.specs.Numbers.{mostCharts, mostSlaves, mostNodes, mostTransitions, mostStates, mostInChart}
+use Rattle.meaning.specs.Numbers.{mostFromState}
 use Rattle.meaning.specs.Count.{anyUpTo, tally, one}
-use Rattle.meaning.specs.Count.Laws.{or-left, or-right, or-three, or-four, any-never, any-all, any-cong, tally-mono}
+use Rattle.meaning.specs.Count.Laws.{or-left, or-right, or-three, or-four, any-never, any-all, any-cong}
+use Rattle.meaning.specs.Count.Laws.{tally-mono}
 use Rattle.meaning.specs.Meaning.{same}
 use Rattle.meaning.specs.Laws.Bools.{same→≡}
 use Rattle.meaning.specs.File.{endOf, trailer, bodyOf, shapeOf, fileOf}
-use Rattle.meaning.specs.Check.{Test, firstOf, differ, notBelow, edition?, counts?, distance?, nonzero, zeros?, chart?, charts?, inChart, ends?, leaving, transitions?, slaves?, nodes?, naming?, inside?, fileTests, refusalOf}
+use Rattle.meaning.specs.Check.{Test, firstOf, differ, notBelow, edition?, counts?, distance?, nonzero, zeros?}
+use Rattle.meaning.specs.Check.{chart?, charts?, inChart, ends?, leaving, transitions?, slaves?, nodes?, naming?}
+use Rattle.meaning.specs.Check.{inside?, fileTests, refusalOf}
 
 -- ── Bool ──
 
@@ -67,7 +72,8 @@ unfolding firstOf
 firstOf-cong t ts us h = rw h
 
 -- a test that applies only where the one before it does
-pub firstOf-covered : (t u : Test) (ts : List Test) → (t .applies ≡ false → u .applies ≡ false) → firstOf (t ∷ u ∷ ts) ≡ firstOf (t ∷ ts)
+pub firstOf-covered : (t u : Test) (ts : List Test) → (t .applies ≡ false → u .applies ≡ false)
+    → firstOf (t ∷ u ∷ ts) ≡ firstOf (t ∷ ts)
 firstOf-covered t u ts h =
     ⊎-elim
     (λ (e : t .applies ≡ true). firstOf-here t (u ∷ ts) e ∙ sym (firstOf-here t ts e))
@@ -136,8 +142,10 @@ pub record Passed (f : List ℕ) : Type 0 where
 
 pub numbered : (f : List ℕ) → Numbered (fileTests f)
 unfolding fileTests
-numbered f =
-    (lit< tt, (lit< tt, (lit< tt, (lit< tt, (lit< tt, (lit< tt, (lit< tt, (lit< tt, (lit< tt, (lit< tt, (lit< tt, tt)))))))))))
+numbered f = (
+  lit< tt,
+  (lit< tt, (lit< tt, (lit< tt, (lit< tt, (lit< tt, (lit< tt, (lit< tt, (lit< tt, (lit< tt, (lit< tt, tt)))))))))),
+)
 
 pub file-passes : (f : List ℕ) → refusalOf f ≡ 0 → Passes (fileTests f)
 unfolding refusalOf
@@ -194,7 +202,8 @@ pub counted : (t : Trailer) → counts? t ≡ false → Counted t
 unfolding counts?
 counted t h =
     let p =
-    or-four (same (t .charts) 0 || ltb mostCharts (t .charts)) (ltb mostSlaves (t .slaves)) (same (t .nodes) 0 || ltb mostNodes (t .nodes))
+    or-four (same (t .charts) 0 || ltb mostCharts (t .charts)) (ltb mostSlaves (t .slaves))
+    (same (t .nodes) 0 || ltb mostNodes (t .nodes))
     (ltb mostTransitions (t .transitions)) h in
     let c = in-limit (t .charts) mostCharts (p .0) in
     let k = in-limit (t .nodes) mostNodes (p .2) in
@@ -222,7 +231,8 @@ module _ (n : Shape) (b : List ℕ) where
   chart-passed c h =
       let r = headAt n b c in
       let p =
-      or-three (same (r .states) 0 || ltb mostStates (r .states)) (notBelow (r .initial) (r .states)) (ltb mostInChart (r .transitions)) h in
+      or-three (same (r .states) 0 || ltb mostStates (r .states)) (notBelow (r .initial) (r .states))
+      (ltb mostInChart (r .transitions)) h in
       let s = in-limit (r .states) mostStates (p .0) in
       record {
         some-state = s .0;
@@ -245,7 +255,8 @@ module _ (n : Shape) (b : List ℕ) (c : ℕ) where
   abbrev fromAt : ℕ → ℕ
   fromAt k = inChart n b c k .from
 
-  -- transition k of chart c is bad as a walk meets it: an end that its chart does not have, or more than 8 from its state up to it
+  -- transition k of chart c is bad as a walk meets it: an end that its chart does not have, or more than 8 from its
+  -- state up to it
   unfoldable pub badAt : ℕ → Bool
   badAt k = ends? n b c k || ltb mostFromState (leaving n b c (fromAt k) (suc k))
 
@@ -266,7 +277,8 @@ module _ (n : Shape) (b : List ℕ) (c : ℕ) where
   leaving-other s k h = leaving-more s k ∙ rw (ne-eqb (fromAt k) s h) (omega arith)
 
   -- no more than 8 up to the last transition from s, no more than 8 in all
-  leaving-last : (s k : ℕ) → ((u : ℕ) → u < k → leaving n b c (fromAt u) (suc u) ≤ mostFromState) → leaving n b c s k ≤ mostFromState
+  leaving-last : (s k : ℕ) → ((u : ℕ) → u < k → leaving n b c (fromAt u) (suc u) ≤ mostFromState)
+      → leaving n b c s k ≤ mostFromState
   leaving-last s zero h = rw (leaving-none s) (omega arith)
   leaving-last s (suc k) h =
       ⊎-elim
@@ -288,7 +300,8 @@ module _ (n : Shape) (b : List ℕ) (c : ℕ) where
       or-both
       (any-all k (ends? n b c) (λ u l. or-left _ _ (any-never k badAt h u l)))
       (any-all (headAt n b c .states) _
-      (λ s _. le-ltb _ _ (leaving-last s k (λ u l. ltb-false _ _ (or-right (ends? n b c u) _ (any-never k badAt h u l))))))
+      (λ s _. le-ltb _ _
+      (leaving-last s k (λ u l. ltb-false _ _ (or-right (ends? n b c u) _ (any-never k badAt h u l))))))
 
   walked-back : (k : ℕ) → upTo k ≡ false → anyUpTo k badAt ≡ false
   unfolding badAt ends?
@@ -300,13 +313,15 @@ module _ (n : Shape) (b : List ℕ) (c : ℕ) where
       let m : ltb mostFromState (leaving n b c (fromAt u) k) ≡ false =
       any-never (headAt n b c .states) _ (or-right (anyUpTo k (ends? n b c)) _ h) (fromAt u) r in
       or-both e
-      (le-ltb mostFromState (leaving n b c (fromAt u) (suc u)) (omega (arith, ltb-false, leaving-mono (fromAt u) (suc u) k (omega arith)))))
+      (le-ltb mostFromState (leaving n b c (fromAt u) (suc u))
+      (omega (arith, ltb-false, leaving-mono (fromAt u) (suc u) k (omega arith)))))
 
   -- it is the test of each transition as a walk meets it
   pub walked : (k : ℕ) → anyUpTo k badAt ≡ upTo k
   walked k = both-pass _ _ (walked-there k) (walked-back k)
 
-pub transitions-walked : (n : Shape) (b : List ℕ) → transitions? n b ≡ anyUpTo (n .charts) (λ c. anyUpTo (headAt n b c .transitions) (badAt n b c))
+pub transitions-walked : (n : Shape) (b : List ℕ)
+    → transitions? n b ≡ anyUpTo (n .charts) (λ c. anyUpTo (headAt n b c .transitions) (badAt n b c))
 unfolding transitions?
 transitions-walked n b = any-cong (n .charts) _ _ (λ c _. sym (walked n b c (headAt n b c .transitions)))
 

@@ -1,6 +1,7 @@
--- Laws of `anyUpTo` and `tally`, grouped under each: first the forms that a loop which counts up uses, none passed, one more passed, one found, all
--- passed; then, of sums, those of the same, of nothing, of sums, in another order, from the front, of one place only, of fewer, of no
--- more than so much each, of two places, of multiples, of no more at each place.
+-- Laws of `anyUpTo` and `tally`, grouped under each: first the forms that a loop which counts up uses, none passed, one
+-- more passed, one found, all passed; then, of sums, those of the same, of nothing, of sums, in another order, from the
+-- front, of one place only, of fewer, of no more than so much each, of two places, of multiples, of no more at each
+-- place.
 use mathlib.Core.Path.{_≡_, refl, sym, _∙_, ap, ap₂}
 use mathlib.Core.Bool.{Bool, true, false, _||_, false≢true}
 use mathlib.Core.Logic.{_≢_, _⊎_, inl, inr, ⊎-elim}
@@ -42,14 +43,16 @@ or-four a b c d h = let q = or-three a b c (or-left (a || b || c) d h) in (q .0,
 pub any-at : (n : ℕ) (p : ℕ → Bool) (k : ℕ) → k < n → p k ≡ true → anyUpTo n p ≡ true
 unfolding anyUpTo
 any-at zero p k l e = absurd (omega arith)
-any-at (suc n) p k l e = ⊎-elim (λ q. rw (← q, e) (or-r (anyUpTo k p) true refl)) (λ m. rw (any-at n p k m e)) (below-suc k n l)
+any-at (suc n) p k l e =
+    ⊎-elim (λ q. rw (← q, e) (or-r (anyUpTo k p) true refl)) (λ m. rw (any-at n p k m e)) (below-suc k n l)
 
 -- all passed
 pub any-never : (n : ℕ) (p : ℕ → Bool) → anyUpTo n p ≡ false → (k : ℕ) → k < n → p k ≡ false
 unfolding anyUpTo
 any-never zero p h k l = absurd (omega arith)
 any-never (suc n) p h k l =
-    ⊎-elim (λ q. rw q (or-right (anyUpTo n p) (p n) h)) (λ m. any-never n p (or-left (anyUpTo n p) (p n) h) k m) (below-suc k n l)
+    ⊎-elim (λ q. rw q (or-right (anyUpTo n p) (p n) h))
+    (λ m. any-never n p (or-left (anyUpTo n p) (p n) h) k m) (below-suc k n l)
 
 -- a counter that is at the limit has passed all
 pub any-done : (i n : ℕ) (p : ℕ → Bool) → i ≤ n → n ≤ i → anyUpTo i p ≡ false → false ≡ anyUpTo n p
@@ -96,7 +99,8 @@ tally-add (suc n) f g = let a = tally-add n f g in omega arith
 pub tally-swap : (n m : ℕ) (h : ℕ → ℕ → ℕ) → tally n (λ j. tally m (λ i. h i j)) ≡ tally m (λ i. tally n (λ j. h i j))
 unfolding tally
 tally-swap zero m h = sym (tally-zero m (λ i. 0) (λ i l. refl))
-tally-swap (suc n) m h = ap (λ z. tally m (λ i. h i n) + z) (tally-swap n m h) ∙ sym (tally-add m (λ i. h i n) (λ i. tally n (λ j. h i j)))
+tally-swap (suc n) m h =
+    ap (λ z. tally m (λ i. h i n) + z) (tally-swap n m h) ∙ sym (tally-add m (λ i. h i n) (λ i. tally n (λ j. h i j)))
 
 pub tally-front : (n : ℕ) (f : ℕ → ℕ) → tally (suc n) f ≡ f 0 + tally n (λ i. f (suc i))
 unfolding tally
@@ -110,14 +114,16 @@ tally-only zero f i l h = absurd (omega arith)
 tally-only (suc n) f i l h =
     ⊎-elim
     (λ e. let z = tally-zero n f (λ k q. h k (omega arith) (λ w. omega arith)) in rw e (omega arith))
-    (λ m. let a = h n (omega arith) (λ w. omega arith) in let b = tally-only n f i m (λ k q. h k (omega arith)) in omega arith)
+    (λ m. let a = h n (omega arith) (λ w. omega arith) in let b = tally-only n f i m (λ k q. h k (omega arith)) in
+    omega arith)
     (below-suc i n l)
 
 -- a place with all before it
 pub tally-plus : (n : ℕ) (f : ℕ → ℕ) (i : ℕ) → i < n → f i + tally i f ≤ tally n f
 unfolding tally
 tally-plus zero f i l = absurd (omega arith)
-tally-plus (suc n) f i l = ⊎-elim (λ e. rw e (le-refl _)) (λ m. let h = tally-plus n f i m in omega arith) (below-suc i n l)
+tally-plus (suc n) f i l =
+    ⊎-elim (λ e. rw e (le-refl _)) (λ m. let h = tally-plus n f i m in omega arith) (below-suc i n l)
 
 pub tally-ge : (n : ℕ) (f : ℕ → ℕ) (i : ℕ) → i < n → f i ≤ tally n f
 tally-ge n f i l = let h = tally-plus n f i l in omega arith

@@ -1,7 +1,8 @@
--- What is inactive (RULES 5.3), in a step that is given. In this order: what is known of such a step; a chart that is inactive keeps its state and
--- has no place, and one that is active has one (`inactive-stays`, `inactive-place`, `active-place`); a chart is as active as its nearest slave
--- (`outside-active`, `inside-active`); the places say what the whole puts out (`whole-output`), and a part whose charts are inactive puts out nothing
--- (`inactive-output`); in a slave that is inactive every chart is, at any depth, so that the slave stays as it is and puts out nothing
+-- What is inactive (RULES 5.3), in a step that is given. In this order: what is known of such a step; a chart that is
+-- inactive keeps its state and has no place, and one that is active has one (`inactive-stays`, `inactive-place`,
+-- `active-place`); a chart is as active as its nearest slave (`outside-active`, `inside-active`); the places say what
+-- the whole puts out (`whole-output`), and a part whose charts are inactive puts out nothing (`inactive-output`); in a
+-- slave that is inactive every chart is, at any depth, so that the slave stays as it is and puts out nothing
 -- (`inactive-inside`, `slave-stays`, `slave-output`).
 use mathlib.Core.Path.{_≡_, sym, _∙_, ap, ap₂, fun-ext}
 use mathlib.Core.Bool.{Bool, true, false, _&&_, _||_}
@@ -17,7 +18,8 @@ use Rattle.signals.specs.Mask.{_∩_}
 use Rattle.layout.specs.Body.{transitionsOf}
 use Rattle.layout.specs.Body.Laws.{length-from}
 use Rattle.meaning.specs.Numbers.{mostInChart, noPlace}
-use Rattle.meaning.specs.Meaning.{Set, ∅, same, Move, noMove, nth, pick, actionOf, after, inFace, out, ok, meets, permitted, moves, placeOf, given}
+use Rattle.meaning.specs.Meaning.{Set, ∅, same, Move, noMove, nth, pick, actionOf, after, inFace, out, ok, meets}
+use Rattle.meaning.specs.Meaning.{permitted, moves, placeOf, given}
 use Rattle.meaning.specs.File.{File, treeOf, wholeOf, Has, trailer, bodyOf, shapeOf, chartOf, fileAt, fileOf}
 use Rattle.meaning.specs.Check.Laws.{passed, counted, charted}
 use Rattle.meaning.specs.Check.Nodes.{Sound, sound, has-below}
@@ -25,7 +27,8 @@ use Rattle.meaning.specs.Calls.{foundIn, stepOf, placesFound, placesOf}
 use Rattle.meaning.specs.Calls.Laws.{getD-all, Answered, answered}
 use Rattle.meaning.specs.Rewriting.{nearestSlave}
 use Rattle.meaning.specs.Active.{activeIn, slaveActive, putOut}
-use Rattle.meaning.specs.Active.Laws.{some?, some-none, ok-active, slave-part, By, near, out-cong, out-none, place-action, place-some}
+use Rattle.meaning.specs.Active.Laws.{some?, some-none, ok-active, slave-part, By, near, out-cong, out-none}
+use Rattle.meaning.specs.Active.Laws.{place-action, place-some}
 use Rattle.meaning.specs.Laws.Choices.{length-nexts, getD-nexts, getD-places}
 use Rattle.meaning.specs.Laws.Trees.{Joined, all-there}
 use Rattle.meaning.specs.Laws.Names.{joined}

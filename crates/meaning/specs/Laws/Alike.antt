@@ -19,7 +19,9 @@ use Rattle.meaning.specs.File.{File, trailer, shapeOf, fileAt, fileOf}
 use Rattle.meaning.specs.Check.{Test, firstOf, differ, notBelow, fileTests, refusalOf}
 use Rattle.meaning.specs.Check.Laws.{eq-or-not, call-refused, call-passed, in-front, passed, counted}
 use Rattle.meaning.specs.Check.Nodes.{Treed, treed}
-use Rattle.meaning.specs.Calls.{made, laidOver, firstRefusal, initials, firstBytes, configTests, stepRefusal, stepIn, stepOf, runRefusal, afterStep, carriedAfter, rowOf, rowsOf, carriedOf, runBytes, runCarried}
+use Rattle.meaning.specs.Calls.{made, laidOver, firstRefusal, initials, firstBytes, configTests, stepRefusal}
+use Rattle.meaning.specs.Calls.{stepIn, stepOf, runRefusal, afterStep, carriedAfter, rowOf, rowsOf, carriedOf}
+use Rattle.meaning.specs.Calls.{runBytes, runCarried}
 use Rattle.meaning.specs.Calls.Laws.{made-cong, step-allowed, run-allowed}
 use Rattle.meaning.specs.Laws.Bools.{same→≡}
 

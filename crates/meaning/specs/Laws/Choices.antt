@@ -1,6 +1,7 @@
--- Choices in order. In this order: lists one behind another (`upto`); a choice with one place more (`upd`), and which go on from it (`Below`); a
--- beginning that has no permitted choice (`search-empty`); the states after a choice (`nexts`), and equal ones (`eqList`); its places; and the
--- transition at a place of a list that is read from a body (`nth-from`).
+-- Choices in order. In this order: lists one behind another (`upto`); a choice with one place more (`upd`), and which
+-- go on from it (`Below`); a beginning that has no permitted choice (`search-empty`); the states after a choice
+-- (`nexts`), and equal ones (`eqList`); its places; and the transition at a place of a list that is read from a body
+-- (`nth-from`).
 use mathlib.Core.Path.{_≡_, refl, sym, _∙_, ap, ap₂}
 use mathlib.Core.Bool.{true, false, false≢true}
 use mathlib.Core.List.{List, [], _∷_, _++_, append-nil}
@@ -13,7 +14,9 @@ use lib.Seq.{drop-cons}
 use Rattle.layout.specs.Body.{from}
 use Rattle.layout.specs.declared.record.Transition.{Transition}
 use Rattle.meaning.specs.Numbers.{noPlace}
-use Rattle.meaning.specs.Meaning.{Set, same, Chart, Tree, Move, takes, nth, behind, pick, lastPlace, after, permitted, upd, moves, nexts, placeOf, placesFrom, upto, outcome, search, eqList}
+use Rattle.meaning.specs.Meaning.{Set, same, Chart, Tree, Move, takes, nth, behind, pick, lastPlace, after}
+use Rattle.meaning.specs.Meaning.{permitted, upd, moves, nexts, placeOf, placesFrom, upto, outcome, search}
+use Rattle.meaning.specs.Meaning.{eqList}
 use Rattle.meaning.specs.Laws.Bools.{and-l, and-r, same-refl, same→≡, same-≢}
 
 -- ── upto ──
@@ -51,12 +54,14 @@ Below c ch ch₂ = (i : ℕ) → i < c → ch₂ i ≡ ch i
 -- ── search ──
 
 module _ (E : ℕ → Chart) (state : ℕ → ℕ) (cfg : ℕ → ℕ) (t : Tree) (inp : Set) (N : ℕ) where
-  pub search-empty : (n c : ℕ) (ch : ℕ → ℕ) → ((ch₂ : ℕ → ℕ) → Below c ch ch₂ → permitted E state cfg (moves E ch₂) t inp ≡ false)
+  pub search-empty : (n c : ℕ) (ch : ℕ → ℕ)
+      → ((ch₂ : ℕ → ℕ) → Below c ch ch₂ → permitted E state cfg (moves E ch₂) t inp ≡ false)
       → search E state cfg t inp N n c ch ≡ []
   unfolding search outcome
   search-empty zero c ch h = rw (h ch (λ i l. refl))
   search-empty (suc n) c ch h = upto-cong (lastPlace (E c)) _ (λ v. []) (λ v l. search-empty n (suc c) (upd ch c v)
-      (λ ch₂ b. h ch₂ (λ i l. b i (omega arith) ∙ upd-off ch c v i l))) ∙ upto-first (lastPlace (E c)) (λ v. []) (λ k l. refl)
+      (λ ch₂ b. h ch₂ (λ i l. b i (omega arith) ∙ upd-off ch c v i l))) ∙ upto-first (lastPlace (E c)) (λ v. [])
+      (λ k l. refl)
 
 -- ── nexts ──
 
@@ -65,12 +70,14 @@ unfolding nexts
 length-nexts cfg M c zero = refl
 length-nexts cfg M c (suc n) = ap suc (length-nexts cfg M (suc c) n)
 
-pub getD-nexts : (cfg : ℕ → ℕ) (M : ℕ → Move) (c n i : ℕ) → i < n → getD (nexts cfg M c n) i 0 ≡ after (cfg (c + i)) (M (c + i))
+pub getD-nexts : (cfg : ℕ → ℕ) (M : ℕ → Move) (c n i : ℕ) → i < n
+    → getD (nexts cfg M c n) i 0 ≡ after (cfg (c + i)) (M (c + i))
 unfolding nexts
 getD-nexts cfg M c zero i l = absurd (omega arith)
 getD-nexts cfg M c (suc n) zero l = ap (λ z. after (cfg z) (M z)) (sym (add-zero c))
 getD-nexts cfg M c (suc n) (suc i) l =
-    getD-nexts cfg M (suc c) n i (omega arith) ∙ ap (λ z. after (cfg z) (M z)) (let e : suc c + i ≡ c + suc i = omega arith in e)
+    getD-nexts cfg M (suc c) n i (omega arith)
+    ∙ ap (λ z. after (cfg z) (M z)) (let e : suc c + i ≡ c + suc i = omega arith in e)
 
 -- ── eqList ──
 
@@ -125,28 +132,35 @@ module _ (E : ℕ → Chart) where
   length-places ch c zero = refl
   length-places ch c (suc n) = ap suc (length-places ch (suc c) n)
 
-  pub getD-places : (ch : ℕ → ℕ) (k n c : ℕ) → c < n → getD (placesFrom E ch k n) c noPlace ≡ placeAt (k + c) (ch (k + c))
+  pub getD-places : (ch : ℕ → ℕ) (k n c : ℕ) → c < n
+      → getD (placesFrom E ch k n) c noPlace ≡ placeAt (k + c) (ch (k + c))
   unfolding placesFrom
   getD-places ch k zero c l = absurd (omega arith)
   getD-places ch k (suc n) zero l = ap (λ z. placeAt z (ch z)) (let e : k ≡ k + 0 = omega arith in e)
   getD-places ch k (suc n) (suc c) l =
-      getD-places ch (suc k) n c (omega arith) ∙ ap (λ z. placeAt z (ch z)) (let e : suc k + c ≡ k + suc c = omega arith in e)
+      getD-places ch (suc k) n c (omega arith)
+      ∙ ap (λ z. placeAt z (ch z)) (let e : suc k + c ≡ k + suc c = omega arith in e)
 
-  pub places-cong : (ch ch₂ : ℕ → ℕ) (c n : ℕ) → ((i : ℕ) → c ≤ i → i < c + n → ch₂ i ≡ ch i) → placesFrom E ch₂ c n ≡ placesFrom E ch c n
+  pub places-cong : (ch ch₂ : ℕ → ℕ) (c n : ℕ) → ((i : ℕ) → c ≤ i → i < c + n → ch₂ i ≡ ch i)
+      → placesFrom E ch₂ c n ≡ placesFrom E ch c n
   unfolding placesFrom
   places-cong ch ch₂ c zero h = refl
   places-cong ch ch₂ c (suc n) h =
-      ap₂ _∷_ (ap (placeAt c) (h c (omega arith) (omega arith))) (places-cong ch ch₂ (suc c) n (λ i l m. h i (omega arith) (omega arith)))
+      ap₂ _∷_ (ap (placeAt c) (h c (omega arith) (omega arith)))
+      (places-cong ch ch₂ (suc c) n (λ i l m. h i (omega arith) (omega arith)))
 
-  places-more : (ch : ℕ → ℕ) (c n : ℕ) → placesFrom E ch c (suc n) ≡ placesFrom E ch c n ++ (placeAt (c + n) (ch (c + n)) ∷ [])
+  places-more : (ch : ℕ → ℕ) (c n : ℕ)
+      → placesFrom E ch c (suc n) ≡ placesFrom E ch c n ++ (placeAt (c + n) (ch (c + n)) ∷ [])
   unfolding placesFrom
   places-more ch c zero = ap (λ z. placeAt z (ch z) ∷ []) (sym (add-zero c))
   places-more ch c (suc n) = ap (λ l. placeAt c (ch c) ∷ l)
       (places-more ch (suc c) n
-      ∙ ap (λ z. placesFrom E ch (suc c) n ++ (placeAt z (ch z) ∷ [])) (let e : suc c + n ≡ c + suc n = omega arith in e))
+      ∙ ap (λ z. placesFrom E ch (suc c) n ++ (placeAt z (ch z) ∷ []))
+      (let e : suc c + n ≡ c + suc n = omega arith in e))
 
   -- one chart more is settled
-  pub places-upd : (ch : ℕ → ℕ) (k v : ℕ) → placesFrom E (upd ch k v) zero (suc k) ≡ placesFrom E ch zero k ++ (placeOf (pick (E k) v) v ∷ [])
+  pub places-upd : (ch : ℕ → ℕ) (k v : ℕ)
+      → placesFrom E (upd ch k v) zero (suc k) ≡ placesFrom E ch zero k ++ (placeOf (pick (E k) v) v ∷ [])
   places-upd ch k v = places-more (upd ch k v) zero k
       ∙ ap₂ (λ l x. l ++ (x ∷ [])) (places-cong ch (upd ch k v) zero k (λ i l m. upd-off ch k v i (omega arith)))
       (ap (λ z. placeAt z (upd ch k v z)) (let e : zero + k ≡ k = omega arith in e) ∙ ap (placeAt k) (upd-at ch k v))

@@ -1,11 +1,13 @@
--- The step in words (RULES 5.9, 5.10): a step is given exactly if a permitted choice exists (`given-if`, `refused-if`); it is the first in the order
--- (`given-first`); the mark is yes exactly if all permitted choices agree on output and next configuration (`mark-yes`, `mark-no`). Then: an
--- inactive part takes none (`inactive`); a signal outside the interface changes nothing (`outside-outcomes`, `outside`); the next configuration is
--- valid (`valid-next`). All of it over a tree: of files, what is outside and what is valid is in Files, what is inactive in Activity.
+-- The step in words (RULES 5.9, 5.10): a step is given exactly if a permitted choice exists (`given-if`, `refused-if`);
+-- it is the first in the order (`given-first`); the mark is yes exactly if all permitted choices agree on output and
+-- next configuration (`mark-yes`, `mark-no`). Then: an inactive part takes none (`inactive`); a signal outside the
+-- interface changes nothing (`outside-outcomes`, `outside`); the next configuration is valid (`valid-next`). All of it
+-- over a tree: of files, what is outside and what is valid is in Files, what is inactive in Activity.
 use mathlib.Core.Path.{_≡_, refl, sym, _∙_, ap, subst, fun-ext}
 use mathlib.Core.Bool.{Bool, true, false, _&&_, cond, true≢false, false≢true}
 use mathlib.Core.Logic.{_⊎_, inl, inr}
-use mathlib.Core.List.{List, [], _∷_, _++_, List·Memᴰ, List·Memᴰ·head, List·Memᴰ·tail, List·Memᴰ·cases-cons, List·Memᴰ·not-nil, List·Memᴰ·append-cases, Memᴰ·append-left, Memᴰ·append-right}
+use mathlib.Core.List.{List, [], _∷_, _++_, List·Memᴰ, List·Memᴰ·head, List·Memᴰ·tail, List·Memᴰ·cases-cons}
+use mathlib.Core.List.{List·Memᴰ·not-nil, List·Memᴰ·append-cases, Memᴰ·append-left, Memᴰ·append-right}
 use Prim.Native.Nat.{ℕ, zero, suc, _+_, _≤_, _<_}
 use native.Mathlib.Decide.{decLt}
 use native.Mathlib.Omega.{arith}
@@ -14,12 +16,17 @@ use native.Mathlib.Nat.{zero-add}
 use Rattle.layout.specs.declared.record.Transition.{Transition}
 use Rattle.signals.specs.Mask.{_∩_, _∖_}
 use Rattle.meaning.specs.Numbers.{noStep}
-use Rattle.meaning.specs.Meaning.{Set, same, Chart, Tree, Slaves, leaf, comp, hide, dec, nil, snoc, Move, noMove, takes, stay, nth, pick, behind, lastPlace, after, out, okChart, ok, oks, permitted, inFace, upd, moves, nexts, placesFrom, Outcome, outcomeOf, firstPlaces, upto, outcome, search, outcomes, Answer, refused, given, eqList, agree, answer}
+use Rattle.meaning.specs.Meaning.{Set, same, Chart, Tree, Slaves, leaf, comp, hide, dec, nil, snoc, Move, noMove}
+use Rattle.meaning.specs.Meaning.{takes, stay, nth, pick, behind, lastPlace, after, out, okChart, ok, oks}
+use Rattle.meaning.specs.Meaning.{permitted, inFace, upd, moves, nexts, placesFrom, Outcome, outcomeOf}
+use Rattle.meaning.specs.Meaning.{firstPlaces, upto, outcome, search, outcomes, Answer, refused, given, eqList}
+use Rattle.meaning.specs.Meaning.{agree, answer}
 use Rattle.meaning.specs.File.{Has, HasS}
 use Rattle.meaning.specs.Words.{Before, outputBy, nextBy, placesBy, Given}
 use Rattle.meaning.specs.Words as words
 use Rattle.meaning.specs.Laws.Bools.{or-elim, same-refl, same→≡, and-l, and-r}
-use Rattle.meaning.specs.Laws.Choices.{upd-at, upd-other, upd-off, Below, length-nexts, getD-nexts, eqList→≡, eqList-refl}
+use Rattle.meaning.specs.Laws.Choices.{upd-at, upd-other, upd-off, Below, length-nexts, getD-nexts, eqList→≡}
+use Rattle.meaning.specs.Laws.Choices.{eqList-refl}
 
 -- ── lists one behind another ──
 module _ {A : Type 0} where
@@ -30,7 +37,8 @@ module _ {A : Type 0} where
     where
       go : Dec (v < suc m) → (v ≤ m → List·Memᴰ x (upto m f)) → List·Memᴰ x (upto m f ++ f (suc m))
       go (yes b) r = Memᴰ·append-left (f (suc m)) (r (omega arith))
-      go (no b) r = Memᴰ·append-right (upto m f) (subst (λ z. List·Memᴰ x (f z)) (let e : v ≡ suc m = omega arith in e) h)
+      go (no b) r =
+          Memᴰ·append-right (upto m f) (subst (λ z. List·Memᴰ x (f z)) (let e : v ≡ suc m = omega arith in e) h)
 
   -- an element stands in one of the lists
   In-one : ℕ → (ℕ → List A) → A → Type 0
@@ -41,7 +49,8 @@ module _ {A : Type 0} where
   upto-out zero f x h = (zero, omega arith, h)
   upto-out (suc m) f x h = go (List·Memᴰ·append-cases (upto m f) h) (upto-out m f x)
     where
-      go : List·Memᴰ x (upto m f) ⊎ List·Memᴰ x (f (suc m)) → (List·Memᴰ x (upto m f) → In-one m f x) → In-one (suc m) f x
+      go : List·Memᴰ x (upto m f) ⊎ List·Memᴰ x (f (suc m)) → (List·Memᴰ x (upto m f) → In-one m f x)
+          → In-one (suc m) f x
       go (inl a) r = let u = r a in (u .0, (let l = u .1 in omega arith), u .2)
       go (inr b) r = (suc m, omega arith, b)
 
@@ -72,14 +81,28 @@ module _ {A : Type 0} where
 
   upto-head : (m : ℕ) (f : ℕ → List A) (x : A) (xs : List A) → upto m f ≡ x ∷ xs → Heads m f x
   unfolding upto
-  upto-head zero f x xs e = record { place = 0; most = omega arith; rest = xs; begins = e; before = λ u l. absurd (omega arith) }
+  upto-head zero f x xs e =
+      record { place = 0; most = omega arith; rest = xs; begins = e; before = λ u l. absurd (omega arith) }
   upto-head (suc m) f x xs e = go (upto m f) refl e (λ ys q. upto-head m f x ys q)
     where
-      go : (l : List A) → upto m f ≡ l → l ++ f (suc m) ≡ x ∷ xs → ((ys : List A) → upto m f ≡ x ∷ ys → Heads m f x) → Heads (suc m) f x
-      go [] p q r = record { place = suc m; most = omega arith; rest = xs; begins = q; before = λ u l. upto-empty m f p u (omega arith) }
+      go : (l : List A) → upto m f ≡ l → l ++ f (suc m) ≡ x ∷ xs → ((ys : List A) → upto m f ≡ x ∷ ys → Heads m f x)
+          → Heads (suc m) f x
+      go [] p q r = record {
+        place = suc m;
+        most = omega arith;
+        rest = xs;
+        begins = q;
+        before = λ u l. upto-empty m f p u (omega arith);
+      }
       go (y ∷ ys) p q r =
           let h = r ys (p ∙ ap (λ z. z ∷ ys) (let z : y ≡ x = cc in z)) in
-          record { place = h .place; most = (let l = h .most in omega arith); rest = h .rest; begins = h .begins; before = h .before }
+          record {
+            place = h .place;
+            most = (let l = h .most in omega arith);
+            rest = h .rest;
+            begins = h .begins;
+            before = h .before;
+          }
 
 -- ── choices ──
 
@@ -104,7 +127,8 @@ module _ (E : ℕ → Chart) (state : ℕ → ℕ) (cfg : ℕ → ℕ) (t : Tree
   Begun k ch = ((c : ℕ) → c < k → ch c ≤ lastPlace (E c)) × ((c : ℕ) → k ≤ c → ch c ≡ 0)
 
   begun-more : (k v : ℕ) (ch : ℕ → ℕ) → Begun k ch → v ≤ lastPlace (E k) → Begun (suc k) (upd ch k v)
-  begun-more k v ch b l = (λ c m. go c m (decLt c k), λ c m. upd-other ch k v c (λ e. omega arith) ∙ b .1 c (omega arith))
+  begun-more k v ch b l =
+      (λ c m. go c m (decLt c k), λ c m. upd-other ch k v c (λ e. omega arith) ∙ b .1 c (omega arith))
     where
       go : (c : ℕ) → c < suc k → Dec (c < k) → upd ch k v c ≤ lastPlace (E c)
       go c m (yes d) = rw (upd-off ch k v c d) (b .0 c d)
@@ -136,10 +160,13 @@ module _ (E : ℕ → Chart) (state : ℕ → ℕ) (cfg : ℕ → ℕ) (t : Tree
       → List·Memᴰ (by ch₂) (search E state cfg t inp N n k ch)
   unfolding search outcome outcomeOf
   has zero k ch ch₂ e b q g p =
-      subst (λ z. List·Memᴰ (by ch₂) (outcome E state cfg t inp N z)) (settled k ch ch₂ (omega arith) b q g) (rw p (List·Memᴰ·head refl))
+      subst (λ z. List·Memᴰ (by ch₂) (outcome E state cfg t inp N z)) (settled k ch ch₂ (omega arith) b q g)
+      (rw p (List·Memᴰ·head refl))
   has (suc n) k ch ch₂ e b q g p =
-      upto-in (lastPlace (E k)) (ch₂ k) (λ v. search E state cfg t inp N n (suc k) (upd ch k v)) (by ch₂) (q .places k (omega arith))
-      (has n (suc k) (upd ch k (ch₂ k)) ch₂ (omega arith) (begun-more k (ch₂ k) ch b (q .places k (omega arith))) q (goes-on-more k ch ch₂ g) p)
+      upto-in (lastPlace (E k)) (ch₂ k)
+      (λ v. search E state cfg t inp N n (suc k) (upd ch k v)) (by ch₂) (q .places k (omega arith))
+      (has n (suc k) (upd ch k (ch₂ k)) ch₂ (omega arith) (begun-more k (ch₂ k) ch b (q .places k (omega arith))) q
+      (goes-on-more k ch ch₂ g) p)
 
   -- ── each outcome in the list is that of a permitted choice ──
   pub record From (k : ℕ) (ch : ℕ → ℕ) (x : Outcome) : Type 0 where
@@ -149,30 +176,45 @@ module _ (E : ℕ → Chart) (state : ℕ → ℕ) (cfg : ℕ → ℕ) (t : Tree
     pub permits : Permitted choice
     pub is : x ≡ by choice
 
-  one-outcome : (k : ℕ) (ch : ℕ → ℕ) (x : Outcome) (p : Bool) → permitted E state cfg (moves E ch) t inp ≡ p → k ≡ N → Begun k ch
+  one-outcome : (k : ℕ) (ch : ℕ → ℕ) (x : Outcome) (p : Bool) → permitted E state cfg (moves E ch) t inp ≡ p → k ≡ N
+      → Begun k ch
       → List·Memᴰ x (cond p (by ch ∷ []) []) → From k ch x
   one-outcome k ch x true e f b h =
-      record { choice = ch; chosen = begun-all k ch f b; goes-on = λ c l. refl; permits = e; is = only-one (List·Memᴰ·cases-cons h) }
+      record {
+        choice = ch;
+        chosen = begun-all k ch f b;
+        goes-on = λ c l. refl;
+        permits = e;
+        is = only-one (List·Memᴰ·cases-cons h);
+      }
     where
       only-one : (x ≡ by ch) ⊎ List·Memᴰ x [] → x ≡ by ch
       only-one (inl q) = q
       only-one (inr m) = absurd (List·Memᴰ·not-nil m)
   one-outcome k ch x false e f b h = absurd (List·Memᴰ·not-nil h)
 
-  only : (n k : ℕ) (ch : ℕ → ℕ) (x : Outcome) → n + k ≡ N → Begun k ch → List·Memᴰ x (search E state cfg t inp N n k ch) → From k ch x
+  only : (n k : ℕ) (ch : ℕ → ℕ) (x : Outcome) → n + k ≡ N → Begun k ch → List·Memᴰ x (search E state cfg t inp N n k ch)
+      → From k ch x
   unfolding search outcome outcomeOf In-one
   only zero k ch x e b h = one-outcome k ch x (permitted E state cfg (moves E ch) t inp) refl (omega arith) b h
   only (suc n) k ch x e b h =
       let u = upto-out (lastPlace (E k)) (λ v. search E state cfg t inp N n (suc k) (upd ch k v)) x h in
       let r = only n (suc k) (upd ch k (u .0)) x (omega arith) (begun-more k (u .0) ch b (u .1)) (u .2) in
-      record { choice = r .choice; chosen = r .chosen; goes-on = goes-on-less k (u .0) ch (r .choice) (r .goes-on); permits = r .permits; is = r .is }
+      record {
+        choice = r .choice;
+        chosen = r .chosen;
+        goes-on = goes-on-less k (u .0) ch (r .choice) (r .goes-on);
+        permits = r .permits;
+        is = r .is;
+      }
 
   -- ── the list begins with the first ──
   pub record First (k : ℕ) (ch : ℕ → ℕ) (x : Outcome) : Type 0 where
     pub from : From k ch x
     pub first : (ch₂ : ℕ → ℕ) → Choice ch₂ → Permitted ch₂ → Below k ch ch₂ → Before ch₂ (from .choice) → ⊥
 
-  first-of : (n k : ℕ) (ch : ℕ → ℕ) (x : Outcome) (xs : List Outcome) → n + k ≡ N → Begun k ch → search E state cfg t inp N n k ch ≡ x ∷ xs
+  first-of : (n k : ℕ) (ch : ℕ → ℕ) (x : Outcome) (xs : List Outcome) → n + k ≡ N → Begun k ch
+      → search E state cfg t inp N n k ch ≡ x ∷ xs
       → First k ch x
   unfolding search
   first-of zero k ch x xs e b h =
@@ -181,19 +223,24 @@ module _ (E : ℕ → Chart) (state : ℕ → ℕ) (cfg : ℕ → ℕ) (t : Tree
         from = r;
         first = λ ch₂ q p g w. let s = settled k ch ch₂ (omega arith) b q g in
             let s₂ = settled k ch (r .choice) (omega arith) b (r .chosen) (r .goes-on) in
-            (let z : ch₂ (w .at) ≡ r .choice (w .at) = ap (λ f. f (w .at)) (s ∙ sym s₂) in let l = w .lower in omega arith);
+            (let z : ch₂ (w .at) ≡ r .choice (w .at) = ap (λ f. f (w .at)) (s ∙ sym s₂) in let l = w .lower in
+            omega arith);
       }
   first-of (suc n) k ch x xs e b h =
       let u = upto-head (lastPlace (E k)) (λ v. search E state cfg t inp N n (suc k) (upd ch k v)) x xs h in
       let b₂ = begun-more k (u .place) ch b (u .most) in
       let r = first-of n (suc k) (upd ch k (u .place)) x (u .rest) (omega arith) b₂ (u .begins) in
       earlier u r (λ ch₂ q p g l. absurd (List·Memᴰ·not-nil (subst (λ z. List·Memᴰ (by ch₂) z) (u .before (ch₂ k) l)
-      (has n (suc k) (upd ch k (ch₂ k)) ch₂ (omega arith) (begun-more k (ch₂ k) ch b (q .places k (omega arith))) q (goes-on-more k ch ch₂ g) p))))
+      (has n (suc k) (upd ch k (ch₂ k)) ch₂ (omega arith) (begun-more k (ch₂ k) ch b (q .places k (omega arith))) q
+      (goes-on-more k ch ch₂ g) p))))
     where
       earlier : (u : Heads (lastPlace (E k)) (λ v. search E state cfg t inp N n (suc k) (upd ch k v)) x)
           → First (suc k) (upd ch k (u .place)) x
           → ((ch₂ : ℕ → ℕ) → Choice ch₂ → Permitted ch₂ → Below k ch ch₂ → ch₂ k < u .place → ⊥) → First k ch x
-      earlier u r not-lower = record { from = f; first = λ ch₂ q p g w. go ch₂ q p g w (decLt (ch₂ k) (u .place)) (decLt (u .place) (ch₂ k)) }
+      earlier u r not-lower = record {
+        from = f;
+        first = λ ch₂ q p g w. go ch₂ q p g w (decLt (ch₂ k) (u .place)) (decLt (u .place) (ch₂ k));
+      }
         where
           f : From k ch x
           f = record {
@@ -207,7 +254,8 @@ module _ (E : ℕ → Chart) (state : ℕ → ℕ) (cfg : ℕ → ℕ) (t : Tree
           mine : r .from .choice k ≡ u .place
           mine = r .from .goes-on k (omega arith) ∙ upd-at ch k (u .place)
 
-          go : (ch₂ : ℕ → ℕ) → Choice ch₂ → Permitted ch₂ → Below k ch ch₂ → Before ch₂ (r .from .choice) → Dec (ch₂ k < u .place)
+          go : (ch₂ : ℕ → ℕ) → Choice ch₂ → Permitted ch₂ → Below k ch ch₂ → Before ch₂ (r .from .choice)
+              → Dec (ch₂ k < u .place)
               → Dec (u .place < ch₂ k) → ⊥
           go ch₂ q p g w (yes l) m = not-lower ch₂ q p g l
           go ch₂ q p g w (no l) (no m) = let z : ch₂ k ≡ u .place = omega arith in
@@ -216,8 +264,10 @@ module _ (E : ℕ → Chart) (state : ℕ → ℕ) (cfg : ℕ → ℕ) (t : Tree
             where
               apart : Dec (k < w .at) → Dec (w .at < k) → ⊥
               apart (yes a) c = let z = w .equal k a in let y = mine in omega arith
-              apart (no a) (yes c) = let z = g (w .at) c in let y = f .goes-on (w .at) c in let l₂ = w .lower in omega arith
-              apart (no a) (no c) = let z : w .at ≡ k = omega arith in let l₂ = subst (λ v. ch₂ v < r .from .choice v) z (w .lower) in let y = mine in
+              apart (no a) (yes c) = let z = g (w .at) c in let y = f .goes-on (w .at) c in
+                  let l₂ = w .lower in omega arith
+              apart (no a) (no c) = let z : w .at ≡ k = omega arith in
+                  let l₂ = subst (λ v. ch₂ v < r .from .choice v) z (w .lower) in let y = mine in
                   omega arith
 
   nowhere : Begun zero (λ c. zero)
@@ -228,9 +278,11 @@ module _ (E : ℕ → Chart) (state : ℕ → ℕ) (cfg : ℕ → ℕ) (t : Tree
   the-answer = answer (outcomes E state cfg t inp N)
 
   -- ── a step is given exactly if a permitted choice exists ──
-  pub given-if : (ch : ℕ → ℕ) → Choice ch → Permitted ch → (o : Set) × (n : List ℕ) × (m : Bool) × (the-answer ≡ given o n m)
+  pub given-if : (ch : ℕ → ℕ) → Choice ch → Permitted ch
+      → (o : Set) × (n : List ℕ) × (m : Bool) × (the-answer ≡ given o n m)
   unfolding outcomes answer
-  given-if ch q p = go (outcomes E state cfg t inp N) refl (has N zero (λ c. zero) ch (omega arith) nowhere q (λ c l. absurd (omega arith)) p)
+  given-if ch q p = go (outcomes E state cfg t inp N) refl
+      (has N zero (λ c. zero) ch (omega arith) nowhere q (λ c l. absurd (omega arith)) p)
     where
       go : (l : List Outcome) → outcomes E state cfg t inp N ≡ l → List·Memᴰ (by ch) (outcomes E state cfg t inp N)
           → (o : Set) × (n : List ℕ) × (m : Bool) × (the-answer ≡ given o n m)
@@ -244,7 +296,8 @@ module _ (E : ℕ → Chart) (state : ℕ → ℕ) (cfg : ℕ → ℕ) (t : Tree
       go : (l : List Outcome) → outcomes E state cfg t inp N ≡ l → answer l ≡ refused noStep
       go [] e = refl
       go (x ∷ xs) e =
-          let r = only N zero (λ c. zero) x (omega arith) nowhere (subst (λ z. List·Memᴰ x z) (sym e) (List·Memᴰ·head refl)) in
+          let r =
+          only N zero (λ c. zero) x (omega arith) nowhere (subst (λ z. List·Memᴰ x z) (sym e) (List·Memᴰ·head refl)) in
           absurd (none-there (r .choice) (r .chosen) (r .permits))
 
   -- ── it is the first in the order ──
@@ -285,7 +338,10 @@ abbrev agrees : Outcome → Outcome → Bool
 agrees a b = same (a .output) (b .output) && eqList (a .next) (b .next)
 
 agrees-eq : (a b : Outcome) → agrees a b ≡ true → (b .output ≡ a .output) × (b .next ≡ a .next)
-agrees-eq a b e = (sym (same→≡ (a .output) (b .output) (and-l _ _ e)), sym (eqList→≡ (a .next) (b .next) (and-r (same (a .output) (b .output)) _ e)))
+agrees-eq a b e = (
+  sym (same→≡ (a .output) (b .output) (and-l _ _ e)),
+  sym (eqList→≡ (a .next) (b .next) (and-r (same (a .output) (b .output)) _ e)),
+)
 
 agrees-self : (a b : Outcome) → b .output ≡ a .output → b .next ≡ a .next → agrees a b ≡ true
 agrees-self a b p q = rw (p, q, same-refl (a .output)) (eqList-refl (a .next))
@@ -336,7 +392,8 @@ module _ (E : ℕ → Chart) (state : ℕ → ℕ) (cfg : ℕ → ℕ) (t : Tree
       let l = listed E state cfg t inp N (outcomes E state cfg t inp N) o n true e in
       let a = agree-all (l .head) (l .rest) (l .mark) (by E state cfg t inp N ch)
       (subst (λ z. List·Memᴰ (by E state cfg t inp N ch) z) (l .is)
-      (has E state cfg t inp N N zero (λ c. zero) ch (omega arith) (nowhere E state cfg t inp N) q (λ c l. absurd (omega arith)) p)) in
+      (has E state cfg t inp N N zero (λ c. zero) ch (omega arith) (nowhere E state cfg t inp N) q
+      (λ c l. absurd (omega arith)) p)) in
       (a .0 ∙ l .output, a .1 ∙ l .next)
 
   -- no: some permitted choice has another output or next configuration
@@ -352,7 +409,8 @@ module _ (E : ℕ → Chart) (state : ℕ → ℕ) (cfg : ℕ → ℕ) (t : Tree
         r .choice,
         r .chosen,
         r .permits,
-        λ w. u .2 (ap (λ x. x .output) (r .is) ∙ w .0 ∙ sym (l .output), ap (λ x. x .next) (r .is) ∙ w .1 ∙ sym (l .next)),
+        λ w. u .2
+            (ap (λ x. x .output) (r .is) ∙ w .0 ∙ sym (l .output), ap (λ x. x .next) (r .is) ∙ w .1 ∙ sym (l .next)),
       )
 
 -- ── a part that is inactive takes none, so that its charts stay in their states and put out nothing ──
@@ -369,20 +427,23 @@ module _ (E : ℕ → Chart) (state : ℕ → ℕ) (cfg : ℕ → ℕ) (M : ℕ 
     pub inactive : (t : Tree) (o : Set) → ok E state cfg M t false o ≡ true → (c : ℕ) → Has t c ≡ true → M c ≡ noMove
     inactive (leaf d) o h c k = ap M (same→≡ c d k) ∙ chart-inactive (E d) o (cfg d) (M d) h
     inactive (comp l r x) o h c k =
-        or-elim (Has l c) (Has r c) _ (λ e. inactive l _ (and-l _ _ h) c e) (λ e. inactive r _ (and-r (ok E state cfg M l false _) _ h) c e) k
+        or-elim (Has l c) (Has r c) _ (λ e. inactive l _ (and-l _ _ h) c e)
+        (λ e. inactive r _ (and-r (ok E state cfg M l false _) _ h) c e) k
     inactive (hide l x y) o h c k = inactive l (o ∖ x) h c k
     inactive (dec d ss) o h c k =
         or-elim (same c d) (HasS ss c) _ (λ e. ap M (same→≡ c d e) ∙ chart-inactive (E d) _ (cfg d) (M d) (and-l _ _ h))
         (λ e. inactive-slaves ss _ (and-r (okChart (E d) false _ (cfg d) (M d)) _ h) c e) k
 
-    pub inactive-slaves : (ss : Slaves) (z : Set) → oks E state cfg M ss (λ q. false) z ≡ true → (c : ℕ) → HasS ss c ≡ true → M c ≡ noMove
+    pub inactive-slaves : (ss : Slaves) (z : Set) → oks E state cfg M ss (λ q. false) z ≡ true → (c : ℕ)
+        → HasS ss c ≡ true → M c ≡ noMove
     inactive-slaves nil z h c k = absurd (false≢true k)
     inactive-slaves (snoc ss i t) z h c k =
         or-elim (Has t c) (HasS ss c) _ (λ e. inactive t _ (and-r (oks E state cfg M ss (λ q. false) z) _ h) c e)
         (λ e. inactive-slaves ss z (and-l _ _ h) c e) k
 
 -- ── a signal outside the interface changes nothing ──
-module _ (E : ℕ → Chart) (state : ℕ → ℕ) (cfg : ℕ → ℕ) (t : Tree) (i j : Set) (N : ℕ) (alike : i ∩ inFace E t ≡ j ∩ inFace E t) where
+module _ (E : ℕ → Chart) (state : ℕ → ℕ) (cfg : ℕ → ℕ) (t : Tree) (i j : Set) (N : ℕ)
+    (alike : i ∩ inFace E t ≡ j ∩ inFace E t) where
   outside-search : (n c : ℕ) (ch : ℕ → ℕ) → search E state cfg t i N n c ch ≡ search E state cfg t j N n c ch
   unfolding search outcome permitted
   outside-search zero c ch = rw alike
@@ -397,7 +458,8 @@ module _ (E : ℕ → Chart) (state : ℕ → ℕ) (cfg : ℕ → ℕ) (t : Tree
   outside = ap answer outside-outcomes
 
 -- ── the next configuration is valid again ──
-nth-in : (m : Move) (ts : List Transition) (k s w : ℕ) → ((u : Transition) → List·Memᴰ u ts → u .to < w) → after s m < w → after s (nth m ts k) < w
+nth-in : (m : Move) (ts : List Transition) (k s w : ℕ) → ((u : Transition) → List·Memᴰ u ts → u .to < w) → after s m < w
+    → after s (nth m ts k) < w
 unfolding nth after
 nth-in m [] k s w h l = l
 nth-in m (u ∷ ts) zero s w h l = h u (List·Memᴰ·head refl)
@@ -415,7 +477,8 @@ module _ (E : ℕ → Chart) (state : ℕ → ℕ) (cfg : ℕ → ℕ) (t : Tree
   after-in : (c v : ℕ) → c < N → after (cfg c) (pick (E c) v) < E c .states
   unfolding pick after
   after-in c zero l = valid c l
-  after-in c (suc k) l = nth-in (behind (E c)) (E c .transitions) k (cfg c) (E c .states) (leads c l) (behind-in (E c .stays) (cfg c) (E c .states) (valid c l))
+  after-in c (suc k) l = nth-in (behind (E c)) (E c .transitions) k (cfg c) (E c .states) (leads c l)
+      (behind-in (E c .stays) (cfg c) (E c .states) (valid c l))
 
   pub valid-next : (o : Set) (n : List ℕ) (m : Bool) → answer (outcomes E state cfg t inp N) ≡ given o n m
       → (length n ≡ N) × ((c : ℕ) → c < N → getD n c 0 < E c .states)

@@ -1,6 +1,7 @@
--- What the editions do not share (RULES 7). In this order: a chart that may not stay has no place for it (`places-one`, `never-stays`, `stay-one`), and its
--- rule is that of a chart which takes a transition (`ok-one`); one that may stay has its place behind all its transitions (`places-two`, `stay-place`)
--- and is permitted to stay exactly if nothing triggers it (`stay-two`); and which files these are (`one-stays`, `two-stays`, `edition-left`).
+-- What the editions do not share (RULES 7). In this order: a chart that may not stay has no place for it (`places-one`,
+-- `never-stays`, `stay-one`), and its rule is that of a chart which takes a transition (`ok-one`); one that may stay
+-- has its place behind all its transitions (`places-two`, `stay-place`) and is permitted to stay exactly if nothing
+-- triggers it (`stay-two`); and which files these are (`one-stays`, `two-stays`, `edition-left`).
 use mathlib.Core.Path.{_≡_, refl, sym, _∙_, ap}
 use mathlib.Core.Bool.{Bool, true, false, _&&_, not, cond, true≢false, false≢true}
 use mathlib.Core.List.{List, [], _∷_}
@@ -10,7 +11,8 @@ use lib.ListN.{length}
 use Rattle.signals.specs.Mask.{_∪_, _∩_, within, apart}
 use Rattle.layout.specs.declared.record.Transition.{Transition}
 use Rattle.meaning.specs.Numbers.{firstEdition, stayEdition, stayPlace}
-use Rattle.meaning.specs.Meaning.{Set, same, Chart, Move, noMove, takes, stay, nth, behind, pick, lastPlace, untriggered, okChart, placeOf}
+use Rattle.meaning.specs.Meaning.{Set, same, Chart, Move, noMove, takes, stay, nth, behind, pick, lastPlace}
+use Rattle.meaning.specs.Meaning.{untriggered, okChart, placeOf}
 use Rattle.meaning.specs.File.{trailer, shapeOf, chartOf, fileAt, fileOf}
 use Rattle.meaning.specs.Check.{differ, edition?}
 use Rattle.meaning.specs.Laws.Guards.{met-is}
@@ -58,7 +60,8 @@ okOne F true o s (takes t) =
     same (t .from) s && (within (t .needed) (o ∪ (t .action ∩ F)) && apart (t .barred) (o ∪ (t .action ∩ F)))
 okOne F true o s stay = false
 
-pub ok-one : (C : Chart) → C .stays ≡ false → (a : Bool) (o : Set) (s : ℕ) (m : Move) → okChart C a o s m ≡ okOne (C .feedback) a o s m
+pub ok-one : (C : Chart) → C .stays ≡ false → (a : Bool) (o : Set) (s : ℕ) (m : Move)
+    → okChart C a o s m ≡ okOne (C .feedback) a o s m
 unfolding okChart okOne
 ok-one C one false o s noMove = refl
 ok-one C one false o s (takes t) = refl
@@ -107,7 +110,8 @@ module _ (f : List ℕ) where
   two-stays e c = stays-is c ∙ ap (λ n. same n stayEdition) e ∙ same-refl 2
 
   -- what passes 2, and 46 too, is edition 1
-  pub edition-left : edition? (trailer f) ≡ false → same (trailer f .edition) stayEdition ≡ false → trailer f .edition ≡ firstEdition
+  pub edition-left : edition? (trailer f) ≡ false → same (trailer f .edition) stayEdition ≡ false
+      → trailer f .edition ≡ firstEdition
   unfolding edition?
   edition-left h k = go (same (trailer f .edition) firstEdition) refl
     where

@@ -27,10 +27,12 @@ use Rattle.meaning.specs.Calls.{placesFound, placesIn, placesOf, refusal
 use Rattle.meaning.specs.Calls.{rowAt, configAt, carriedAt}
 use Rattle.meaning.specs.Calls.{stepAt, carriedAfter, rowsOf, carriedOf, laidOver, runRefusal, runBytes}
 use Rattle.meaning.specs.Calls.{runCarried}
-use Rattle.meaning.specs.Calls.Laws.{step-open, step-allowed, run-open, run-allowed, behind-cong, behind-is, answered}
+use Rattle.meaning.specs.Calls.Laws.{step-open, step-allowed, run-open, run-allowed, behind-cong, behind-is}
+use Rattle.meaning.specs.Calls.Laws.{answered}
 use Rattle.meaning.specs.Laws.Bools.{same→≡}
 use Rattle.meaning.specs.Laws.Demand2.{outside-outcomes}
-use Rattle.meaning.specs.Laws.Runs.{Leads, file-leads, Stand, stepFrom, standAt, rowsFrom, valid-after, rows-all, valid-at, row-at, stand-take, carried-given, carried-refused, carried-last}
+use Rattle.meaning.specs.Laws.Runs.{Leads, file-leads, Stand, stepFrom, standAt, rowsFrom, valid-after, rows-all}
+use Rattle.meaning.specs.Laws.Runs.{valid-at, row-at, stand-take, carried-given, carried-refused, carried-last}
 
 -- ── a signal outside the interface changes nothing ──
 

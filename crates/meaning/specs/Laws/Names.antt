@@ -1,4 +1,5 @@
--- Test 10 (RULES 3.2): each node has one name, except the last, which has none. So each node has one place in the whole.
+-- Test 10 (RULES 3.2): each node has one name, except the last, which has none. So each node has one place in the
+-- whole.
 use mathlib.Core.Path.{_≡_, refl, sym, _∙_, ap, ap₂}
 use mathlib.Core.Bool.{Bool, true, false, _&&_, not, cond, true≢false, false≢true}
 use mathlib.Core.Option.{Option, none, some}
@@ -29,7 +30,8 @@ unfolding find
 find-none zero p h = refl
 find-none (suc n) p h = rw (h n (omega arith)) (find-none n p (λ i l. h i (omega arith)))
 
-pub find-one : (n : ℕ) (p : ℕ → Bool) (i : ℕ) → i < n → p i ≡ true → ((k : ℕ) → k < n → p k ≡ true → k ≡ i) → find n p ≡ some i
+pub find-one : (n : ℕ) (p : ℕ → Bool) (i : ℕ) → i < n → p i ≡ true → ((k : ℕ) → k < n → p k ≡ true → k ≡ i)
+    → find n p ≡ some i
 unfolding find
 find-one zero p i l e u = absurd (omega arith)
 find-one (suc n) p i l e u = go (p n) refl (λ h. find-one n p i h e (λ k m. u k (omega arith)))
@@ -43,7 +45,8 @@ unfolding find
 find-some zero p i e = absurd (let z : _≡_ {A = ℕ} 0 1 = cc in omega arith)
 find-some (suc n) p i e = go (p n) refl e (λ h. find-some n p i h)
   where
-    go : (b : Bool) → p n ≡ b → cond b (some n) (find n p) ≡ some i → (find n p ≡ some i → (i < n) × (p i ≡ true)) → (i < suc n) × (p i ≡ true)
+    go : (b : Bool) → p n ≡ b → cond b (some n) (find n p) ≡ some i → (find n p ≡ some i → (i < n) × (p i ≡ true))
+        → (i < suc n) × (p i ≡ true)
     go true q e r = let z : n ≡ i = cc in (omega arith, rw (sym z) q)
     go false q e r = let u = r e in (let h = u .0 in omega arith, u .1)
 
@@ -81,9 +84,11 @@ module _ (F : File) where
   nearest-below zero j i e = absurd (let z : _≡_ {A = ℕ} 0 1 = cc in omega arith)
   nearest-below (suc f) j i e = go (bySlave j) refl (byNode j) e (λ k. nearest-below f k i)
     where
-      go : (a : Option ℕ) → bySlave j ≡ a → (b : Option ℕ) → up a b (nearest f) ≡ some i → ((k : ℕ) → nearest f k ≡ some i → i < F .slaves)
+      go : (a : Option ℕ) → bySlave j ≡ a → (b : Option ℕ) → up a b (nearest f) ≡ some i
+          → ((k : ℕ) → nearest f k ≡ some i → i < F .slaves)
           → i < F .slaves
-      go (some h) p b e r = let z : h ≡ i = cc in let u = find-some (F .slaves) (λ i. same (F .node i) j) h p in let v = u .0 in omega arith
+      go (some h) p b e r = let z : h ≡ i = cc in let u = find-some (F .slaves) (λ i. same (F .node i) j) h p in
+          let v = u .0 in omega arith
       go none p (some k) e r = r k e
       go none p none e r = absurd (let z : _≡_ {A = ℕ} 0 1 = cc in omega arith)
 
@@ -97,11 +102,13 @@ module _ (F : File) (w : Ordered F) (r : Rule10 F) where
     where
       go : (b : Bool) → same (suc j) (F .nodes) ≡ b → named F j ≤ 1
       go true e = let h = r .named-last j (same→≡ _ _ e) in omega arith
-      go false e = let z : suc j ≢ F .nodes = same→≢ (suc j) (F .nodes) e in let h = r .named-once j (omega arith) in omega arith
+      go false e = let z : suc j ≢ F .nodes = same→≢ (suc j) (F .nodes) e in
+          let h = r .named-once j (omega arith) in omega arith
 
   pub by-slave : (i j : ℕ) → j < F .nodes → i < F .slaves → F .node i ≡ j → bySlave F j ≡ some i
   unfolding named
-  by-slave i j l m e = find-one (F .slaves) (λ i. same (F .node i) j) i m (rw e (same-refl j)) (λ k n q. go k n q (same k i) refl)
+  by-slave i j l m e =
+      find-one (F .slaves) (λ i. same (F .node i) j) i m (rw e (same-refl j)) (λ k n q. go k n q (same k i) refl)
     where
       go : (k : ℕ) → k < F .slaves → same (F .node k) j ≡ true → (b : Bool) → same k i ≡ b → k ≡ i
       go k n q true h = same→≡ k i h
@@ -121,21 +128,25 @@ module _ (F : File) (w : Ordered F) (r : Rule10 F) where
     where
       no-slave : (i : ℕ) → i < F .slaves → (b : Bool) → same (F .node i) j ≡ b → b ≡ false
       no-slave i n false e = refl
-      no-slave i n true e = let t = tally-ge (F .slaves) (λ i. one (same (F .node i) j)) i n in let t′ = tally-ge (F .nodes) (λ k. names F k j) k m in
+      no-slave i n true e = let t = tally-ge (F .slaves) (λ i. one (same (F .node i) j)) i n in
+          let t′ = tally-ge (F .nodes) (λ k. names F k j) k m in
           let a : one (same (F .node i) j) ≡ 1 = rw e in let c = at-most j l in absurd (omega arith)
 
       one : (k′ : ℕ) → k′ < F .nodes → not (same (names F k′ j) 0) ≡ true → (b : Bool) → same k′ k ≡ b → k′ ≡ k
       one k′ n q true h = same→≡ k′ k h
       one k′ n q false h = let z : k′ ≢ k = same→≢ k′ k h in
           let t = tally-two (F .nodes) (λ k. names F k j) k′ k n m z in let c = at-most j l in
-          let y : names F k′ j ≢ 0 = λ u. false≢true (sym (ap not (ap (λ v. same v 0) u ∙ same-refl 0)) ∙ q) in absurd (omega arith)
+          let y : names F k′ j ≢ 0 = λ u. false≢true (sym (ap not (ap (λ v. same v 0) u ∙ same-refl 0)) ∙ q) in
+          absurd (omega arith)
 
   -- a node that names j is above j
   pub higher : (k j : ℕ) → k < F .nodes → 0 < names F k j → j < k
   unfolding names
-  higher k j l p = go (same (F .kind k) 1) refl (same (F .kind k) 2) refl (same (F .a k) j) refl (same (F .b k) j) refl p
+  higher k j l p =
+      go (same (F .kind k) 1) refl (same (F .kind k) 2) refl (same (F .a k) j) refl (same (F .b k) j) refl p
     where
-      go : (a : Bool) → same (F .kind k) 1 ≡ a → (b : Bool) → same (F .kind k) 2 ≡ b → (c : Bool) → same (F .a k) j ≡ c → (d : Bool)
+      go : (a : Bool) → same (F .kind k) 1 ≡ a → (b : Bool) → same (F .kind k) 2 ≡ b → (c : Bool) → same (F .a k) j ≡ c
+          → (d : Bool)
           → same (F .b k) j ≡ d
           → 0 < one (a && c) + one (a && d) + one (b && c) → j < k
       go true ea b eb true ec d ed h = rw (same→≡ (F .a k) j ec) at (w .lower₁ k l (same→≡ (F .kind k) 1 ea) .0)
@@ -151,14 +162,16 @@ module _ (F : File) (w : Ordered F) (r : Rule10 F) where
   unfolding nearest
   near-fuel zero g j l p q = absurd (omega arith)
   near-fuel (suc f) zero j l p q = absurd (omega arith)
-  near-fuel (suc f) (suc g) j l p q = go (bySlave F j) (byNode F j) refl (λ k m h. near-fuel f g k m (omega arith) (omega arith))
+  near-fuel (suc f) (suc g) j l p q =
+      go (bySlave F j) (byNode F j) refl (λ k m h. near-fuel f g k m (omega arith) (omega arith))
     where
       go : (a b : Option ℕ) → byNode F j ≡ b → ((k : ℕ) → k < F .nodes → j < k → nearest F f k ≡ nearest F g k)
           → up a b (nearest F f) ≡ up a b (nearest F g)
       go (some i) b e ih = refl
       go none none e ih = refl
       go none (some k) e ih = let u = find-some (F .nodes) (λ k. not (same (names F k j) 0)) k e in
-          ih k (u .0) (higher k j (u .0) (let y : names F k j ≢ 0 = λ z. false≢true (sym (ap not (ap (λ v. same v 0) z ∙ same-refl 0)) ∙ u .1) in
+          ih k (u .0) (higher k j (u .0)
+          (let y : names F k j ≢ 0 = λ z. false≢true (sym (ap not (ap (λ v. same v 0) z ∙ same-refl 0)) ∙ u .1) in
           omega arith))
 
   pub enc-slave : (i : ℕ) → i < F .slaves → F .node i < F .nodes → enc F (F .node i) ≡ some i
@@ -179,7 +192,8 @@ module _ (F : File) (w : Ordered F) (r : Rule10 F) where
   pub enc-last : (j : ℕ) → suc j ≡ F .nodes → enc F j ≡ none
   unfolding enc nearest named
   enc-last j e = near-fuel (F .nodes) (suc (F .nodes)) j (omega arith) (omega arith) (omega arith)
-      ∙ ap₂ (λ a b. up a b (nearest F (F .nodes))) (find-none (F .slaves) (λ i. same (F .node i) j) (λ i n. no-slave i n (same (F .node i) j) refl))
+      ∙ ap₂ (λ a b. up a b (nearest F (F .nodes)))
+      (find-none (F .slaves) (λ i. same (F .node i) j) (λ i n. no-slave i n (same (F .node i) j) refl))
       (find-none (F .nodes) (λ k. not (same (names F k j) 0)) (λ k n. no-node k n))
     where
       none-at : named F j ≡ 0
@@ -187,11 +201,13 @@ module _ (F : File) (w : Ordered F) (r : Rule10 F) where
 
       no-slave : (i : ℕ) → i < F .slaves → (b : Bool) → same (F .node i) j ≡ b → b ≡ false
       no-slave i n false q = refl
-      no-slave i n true q = let t = tally-ge (F .slaves) (λ i. one (same (F .node i) j)) i n in let a : one (same (F .node i) j) ≡ 1 = ap one q in
+      no-slave i n true q = let t = tally-ge (F .slaves) (λ i. one (same (F .node i) j)) i n in
+          let a : one (same (F .node i) j) ≡ 1 = ap one q in
           let z = none-at in absurd (omega arith)
 
       no-node : (k : ℕ) → k < F .nodes → not (same (names F k j) 0) ≡ false
-      no-node k n = let t = tally-ge (F .nodes) (λ k. names F k j) k n in let z = none-at in let y : names F k j ≡ 0 = omega arith in
+      no-node k n = let t = tally-ge (F .nodes) (λ k. names F k j) k n in let z = none-at in
+          let y : names F k j ≡ 0 = omega arith in
           ap not (ap (λ v. same v 0) y ∙ same-refl 0)
 
   near-under : (f j i : ℕ) → j < F .nodes → nearest F f j ≡ some i → j ≤ F .node i
@@ -204,7 +220,8 @@ module _ (F : File) (w : Ordered F) (r : Rule10 F) where
       go (some i′) p b q e ih = let z : i′ ≡ i = cc in let u = find-some (F .slaves) (λ i. same (F .node i) j) i′ p in
           let v : F .node i ≡ j = ap (F .node) (sym z) ∙ same→≡ (F .node i′) j (u .1) in omega arith
       go none p (some k) q e ih = let u = find-some (F .nodes) (λ k. not (same (names F k j) 0)) k q in
-          let h = higher k j (u .0) (let y : names F k j ≢ 0 = λ z. false≢true (sym (ap not (ap (λ v. same v 0) z ∙ same-refl 0)) ∙ u .1) in
+          let h = higher k j (u .0)
+          (let y : names F k j ≢ 0 = λ z. false≢true (sym (ap not (ap (λ v. same v 0) z ∙ same-refl 0)) ∙ u .1) in
           omega arith) in
           let v = ih k (u .0) e in omega arith
       go none p none q e ih = absurd (let z : _≡_ {A = ℕ} 0 1 = cc in omega arith)
@@ -212,12 +229,14 @@ module _ (F : File) (w : Ordered F) (r : Rule10 F) where
   pub hold-one : (j : ℕ) → j < F .nodes → F .kind j ≡ 0 → F .a j < F .charts
       → find (F .nodes) (λ k. same (F .kind k) 0 && same (F .a k) (F .a j)) ≡ some j
   unfolding held
-  hold-one j l e c = find-one (F .nodes) (λ k. same (F .kind k) 0 && same (F .a k) (F .a j)) j l own (λ k n q. go k n q (same k j) refl)
+  hold-one j l e c = find-one (F .nodes) (λ k. same (F .kind k) 0 && same (F .a k) (F .a j)) j l own
+      (λ k n q. go k n q (same k j) refl)
     where
       own : (same (F .kind j) 0 && same (F .a j) (F .a j)) ≡ true
       own = and-i (ap (λ z. same z 0) e ∙ same-refl 0) (same-refl (F .a j))
 
-      go : (k : ℕ) → k < F .nodes → (same (F .kind k) 0 && same (F .a k) (F .a j)) ≡ true → (b : Bool) → same k j ≡ b → k ≡ j
+      go : (k : ℕ) → k < F .nodes → (same (F .kind k) 0 && same (F .a k) (F .a j)) ≡ true → (b : Bool)
+          → same k j ≡ b → k ≡ j
       go k n q true h = same→≡ k j h
       go k n q false h = let z : k ≢ j = same→≢ k j h in
           let t = tally-two (F .nodes) (λ k. one (same (F .kind k) 0 && same (F .a k) (F .a j))) k j n l z in
@@ -261,7 +280,8 @@ module _ (F : File) (w : Ordered F) (r : Rule10 F) where
     unfolding names
     who k j l p = go (same (F .kind k) 1) refl (same (F .kind k) 2) refl (same (F .a k) j) refl (same (F .b k) j) refl p
       where
-        go : (a : Bool) → same (F .kind k) 1 ≡ a → (b : Bool) → same (F .kind k) 2 ≡ b → (c : Bool) → same (F .a k) j ≡ c → (d : Bool)
+        go : (a : Bool) → same (F .kind k) 1 ≡ a → (b : Bool) → same (F .kind k) 2 ≡ b → (c : Bool)
+            → same (F .a k) j ≡ c → (d : Bool)
             → same (F .b k) j ≡ d
             → 0 < one (a && c) + one (a && d) + one (b && c) → Namer F j
         go true ea b eb true ec d ed h = left k l (same→≡ (F .kind k) 1 ea) (same→≡ (F .a k) j ec)
@@ -275,12 +295,14 @@ module _ (F : File) (w : Ordered F) (r : Rule10 F) where
     pub joined : Joined F
     unfolding held named
     joined = record {
-      holder = λ c l. let h = r .once c l in let u = tally-find (F .nodes) (λ k. one (same (F .kind k) 0 && same (F .a k) c)) (omega arith) in (
-        u .0,
-        u .1,
-        same→≡ (F .kind (u .0)) 0 (and-l _ _ (pos (same (F .kind (u .0)) 0 && same (F .a (u .0)) c) (u .2))),
-        same→≡ (F .a (u .0)) c (and-r (same (F .kind (u .0)) 0) _ (pos (same (F .kind (u .0)) 0 && same (F .a (u .0)) c) (u .2))),
-      );
+      holder = λ c l. let h = r .once c l in
+          let u = tally-find (F .nodes) (λ k. one (same (F .kind k) 0 && same (F .a k) c)) (omega arith) in (
+            u .0,
+            u .1,
+            same→≡ (F .kind (u .0)) 0 (and-l _ _ (pos (same (F .kind (u .0)) 0 && same (F .a (u .0)) c) (u .2))),
+            same→≡ (F .a (u .0)) c
+                (and-r (same (F .kind (u .0)) 0) _ (pos (same (F .kind (u .0)) 0 && same (F .a (u .0)) c) (u .2))),
+          );
       named = λ j l. go j (tally (F .slaves) (λ i. one (same (F .node i) j))) refl (r .named-once j l);
       master = λ i l. node-there i l .1;
     }
@@ -289,7 +311,8 @@ module _ (F : File) (w : Ordered F) (r : Rule10 F) where
         pos true h = refl
         pos false h = absurd (omega arith)
 
-        go : (j x : ℕ) → tally (F .slaves) (λ i. one (same (F .node i) j)) ≡ x → x + tally (F .nodes) (λ k. names F k j) ≡ 1 → Namer F j
+        go : (j x : ℕ) → tally (F .slaves) (λ i. one (same (F .node i) j)) ≡ x
+            → x + tally (F .nodes) (λ k. names F k j) ≡ 1 → Namer F j
         go j zero e h = let u = tally-find (F .nodes) (λ k. names F k j) (omega arith) in who (u .0) j (u .1) (u .2)
         go j (suc x) e h = let u = tally-find (F .slaves) (λ i. one (same (F .node i) j)) (omega arith) in
             slave (u .0) (u .1) (same→≡ (F .node (u .0)) j (pos (same (F .node (u .0)) j) (u .2)))

@@ -1,6 +1,7 @@
--- Laws of the run (RULES 6), in this order: what 7 tests (`body-leads`, `file-leads`); each configuration is valid again
--- (`valid-after`); a row's length; no row is ever missing (`rows-all`); row k is the step from where the k inputs before it lead (`row-at`); what is
--- carried (`carried-given` to `carried-last`). Of the bytes that a run leaves, and of the set that it returns, they are in Files.
+-- Laws of the run (RULES 6), in this order: what 7 tests (`body-leads`, `file-leads`); each configuration is valid
+-- again (`valid-after`); a row's length; no row is ever missing (`rows-all`); row k is the step from where the k inputs
+-- before it lead (`row-at`); what is carried (`carried-given` to `carried-last`). Of the bytes that a run leaves, and
+-- of the set that it returns, they are in Files.
 use mathlib.Core.Path.{_≡_, refl, ap, _∙_}
 use mathlib.Core.Bool.{Bool, false}
 use mathlib.Core.List.{List, [], _∷_, _++_, List·Memᴰ}
@@ -24,7 +25,8 @@ pub use Rattle.meaning.specs.Calls.{Valid}
 
 -- each transition leads to a state of its chart
 abbrev pub Leads : File → Type 0
-Leads F = (c : ℕ) → c < F .charts → (u : Transition) → List·Memᴰ u (F .chart c .transitions) → u .to < F .chart c .states
+Leads F =
+    (c : ℕ) → c < F .charts → (u : Transition) → List·Memᴰ u (F .chart c .transitions) → u .to < F .chart c .states
 
 -- which 7 tests
 pub body-leads : (n : Shape) (b : List ℕ) → transitions? n b ≡ false → Leads (fileAt n b)
@@ -50,7 +52,8 @@ standAfter r s i = record { config = afterStep r (s .config); carried = carriedA
 -- where it stands after k inputs
 unfoldable pub standAt : File → Stand → List Set → ℕ → Stand
 standAt F s inputs zero = s
-standAt F s inputs (suc k) = standAfter (stepFrom F (standAt F s inputs k) (getD inputs k 0)) (standAt F s inputs k) (getD inputs k 0)
+standAt F s inputs (suc k) =
+    standAfter (stepFrom F (standAt F s inputs k) (getD inputs k 0)) (standAt F s inputs k) (getD inputs k 0)
 
 abbrev pub rowsFrom : File → Stand → List Set → List ℕ
 rowsFrom F s inputs = rowsOf F (s .config) (s .carried) inputs
@@ -58,7 +61,8 @@ rowsFrom F s inputs = rowsOf F (s .config) (s .carried) inputs
 abbrev pub carriedFrom : File → Stand → List Set → Set
 carriedFrom F s inputs = carriedOf F (s .config) (s .carried) inputs
 
-pub length-row : (r : Answer) (config : List ℕ) (k : ℕ) → length (afterStep r config) ≡ k → length (rowOf r config) ≡ 10 + k
+pub length-row : (r : Answer) (config : List ℕ) (k : ℕ) → length (afterStep r config) ≡ k
+    → length (rowOf r config) ≡ 10 + k
 unfolding rowOf
 length-row r config k h = rw (length-append, length-bytes 8 (outputIn r)) (omega (arith, h))
 
@@ -67,16 +71,19 @@ module _ (F : File) (s : Stand) (inputs : List Set) (k : ℕ) (l : k < length in
   abbrev next : Answer
   next = stepFrom F s (getD inputs k 0)
 
-  pub rows-next : rowsFrom F s (drop k inputs) ≡ rowOf next (s .config) ++ rowsFrom F (standAfter next s (getD inputs k 0)) (drop (suc k) inputs)
+  pub rows-next : rowsFrom F s (drop k inputs)
+      ≡ rowOf next (s .config) ++ rowsFrom F (standAfter next s (getD inputs k 0)) (drop (suc k) inputs)
   unfolding rowsOf
   rows-next = rw (drop-cons inputs k 0)
 
-  pub carried-next : carriedFrom F s (drop k inputs) ≡ carriedFrom F (standAfter next s (getD inputs k 0)) (drop (suc k) inputs)
+  pub carried-next : carriedFrom F s (drop k inputs)
+      ≡ carriedFrom F (standAfter next s (getD inputs k 0)) (drop (suc k) inputs)
   unfolding carriedOf
   carried-next = rw (drop-cons inputs k 0)
 
 module _ (F : File) (leads : Leads F) where
-  valid-answer : (config : List ℕ) (i : Set) (r : Answer) → stepIn F config i ≡ r → Valid F config → Valid F (afterStep r config)
+  valid-answer : (config : List ℕ) (i : Set) (r : Answer) → stepIn F config i ≡ r → Valid F config
+      → Valid F (afterStep r config)
   unfolding foundIn
   valid-answer config i (refused r) e v = v
   valid-answer config i (given o n m) e v =
@@ -87,11 +94,13 @@ module _ (F : File) (leads : Leads F) where
   pub valid-after : (config : List ℕ) (i : Set) → Valid F config → Valid F (afterStep (stepIn F config i) config)
   valid-after config i v = valid-answer config i (stepIn F config i) refl v
 
-  pub length-next : (config : List ℕ) (i : Set) → Valid F config → length (rowOf (stepIn F config i) config) ≡ 10 + F .charts
+  pub length-next : (config : List ℕ) (i : Set) → Valid F config
+      → length (rowOf (stepIn F config i) config) ≡ 10 + F .charts
   length-next config i v = length-row (stepIn F config i) config (F .charts) (valid-after config i v .long)
 
   -- no row is ever missing: there are as many as inputs
-  pub rows-all : (s : Stand) (inputs : List Set) → Valid F (s .config) → length (rowsFrom F s inputs) ≡ length inputs * (10 + F .charts)
+  pub rows-all : (s : Stand) (inputs : List Set) → Valid F (s .config)
+      → length (rowsFrom F s inputs) ≡ length inputs * (10 + F .charts)
   unfolding rowsOf
   rows-all s [] v = omega arith
   rows-all s (i ∷ is) v =
@@ -107,10 +116,12 @@ module _ (F : File) (leads : Leads F) where
     pub valid-at : (k : ℕ) → Valid F (standAt F s inputs k .config)
     unfolding standAt
     valid-at zero = v
-    valid-at (suc k) = let t = standAt F s inputs k in valid-after (t .config) (t .carried ∪ getD inputs k 0) (valid-at k)
+    valid-at (suc k) = let t = standAt F s inputs k in
+        valid-after (t .config) (t .carried ∪ getD inputs k 0) (valid-at k)
 
     -- from row k on the rows are those of the inputs that are left
-    pub rows-from : (k : ℕ) → k ≤ length inputs → drop (k * (10 + F .charts)) (rowsFrom F s inputs) ≡ rowsFrom F (standAt F s inputs k) (drop k inputs)
+    pub rows-from : (k : ℕ) → k ≤ length inputs
+        → drop (k * (10 + F .charts)) (rowsFrom F s inputs) ≡ rowsFrom F (standAt F s inputs k) (drop k inputs)
     unfolding standAt
     rows-from zero l = ap (λ n. drop n (rowsFrom F s inputs)) (let e : 0 * (10 + F .charts) ≡ 0 = omega arith in e)
     rows-from (suc k) l =
@@ -122,7 +133,8 @@ module _ (F : File) (leads : Leads F) where
           rows-from k (omega arith),
           rows-next F t inputs k (omega arith),
         )
-        (drop-at (rowOf (stepFrom F t i) (t .config)) (rowsFrom F (standAfter (stepFrom F t i) t i) (drop (suc k) inputs)) (10 + F .charts)
+        (drop-at (rowOf (stepFrom F t i) (t .config))
+        (rowsFrom F (standAfter (stepFrom F t i) t i) (drop (suc k) inputs)) (10 + F .charts)
         (length-next (t .config) (t .carried ∪ i) (valid-at k)))
 
     -- each row is the step from where the run stands before it
@@ -133,11 +145,13 @@ module _ (F : File) (leads : Leads F) where
         let t = standAt F s inputs k in
         let i = getD inputs k 0 in
         rw (rows-from k (omega arith), rows-next F t inputs k l)
-        (take-at (rowOf (stepFrom F t i) (t .config)) (rowsFrom F (standAfter (stepFrom F t i) t i) (drop (suc k) inputs)) (10 + F .charts)
+        (take-at (rowOf (stepFrom F t i) (t .config))
+        (rowsFrom F (standAfter (stepFrom F t i) t i) (drop (suc k) inputs)) (10 + F .charts)
         (length-next (t .config) (t .carried ∪ i) (valid-at k)))
 
   -- where it stands after k inputs, the inputs from k on do not matter
-  pub stand-take : (s : Stand) (inputs : List Set) (n k : ℕ) → k ≤ n → standAt F s (take n inputs) k ≡ standAt F s inputs k
+  pub stand-take : (s : Stand) (inputs : List Set) (n k : ℕ) → k ≤ n
+      → standAt F s (take n inputs) k ≡ standAt F s inputs k
   unfolding standAt
   stand-take s inputs n zero l = refl
   stand-take s inputs n (suc k) l = rw (stand-take s inputs n k (omega arith), getD-take n inputs k 0 (omega arith))
@@ -146,7 +160,8 @@ module _ (F : File) (leads : Leads F) where
 
   module _ (s : Stand) (inputs : List Set) where
     -- a step given carries nothing on; a refused one, all that it was offered
-    pub carried-given : (k : ℕ) (o : Set) (n : List ℕ) (m : Bool) → stepFrom F (standAt F s inputs k) (getD inputs k 0) ≡ given o n m
+    pub carried-given : (k : ℕ) (o : Set) (n : List ℕ) (m : Bool)
+        → stepFrom F (standAt F s inputs k) (getD inputs k 0) ≡ given o n m
         → standAt F s inputs (suc k) .carried ≡ ∅
     unfolding standAt
     carried-given k o n m e = ap (λ r. carriedAfter r (standAt F s inputs k .carried ∪ getD inputs k 0)) e
@@ -157,7 +172,8 @@ module _ (F : File) (leads : Leads F) where
     carried-refused k r e = ap (λ a. carriedAfter a (standAt F s inputs k .carried ∪ getD inputs k 0)) e
 
     -- what the run returns is what the inputs behind the first k return from where it stands there
-    carried-behind : (k : ℕ) → k ≤ length inputs → carriedFrom F s inputs ≡ carriedFrom F (standAt F s inputs k) (drop k inputs)
+    carried-behind : (k : ℕ) → k ≤ length inputs
+        → carriedFrom F s inputs ≡ carriedFrom F (standAt F s inputs k) (drop k inputs)
     unfolding standAt
     carried-behind zero l = refl
     carried-behind (suc k) l = carried-behind k (omega arith) ∙ carried-next F (standAt F s inputs k) inputs k l
@@ -165,4 +181,5 @@ module _ (F : File) (leads : Leads F) where
     -- so it is what is carried after the last input
     pub carried-last : carriedFrom F s inputs ≡ standAt F s inputs (length inputs) .carried
     unfolding carriedOf
-    carried-last = carried-behind (length inputs) (omega arith) ∙ ap (carriedFrom F (standAt F s inputs (length inputs))) (drop-length inputs)
+    carried-last = carried-behind (length inputs) (omega arith)
+        ∙ ap (carriedFrom F (standAt F s inputs (length inputs))) (drop-length inputs)

@@ -1,5 +1,5 @@
--- Thirteen small charts (EXAMPLES 2, 3): seventeen answers over the bytes of chart files, as one table and one claim (`thirteen`). Then the same
--- charts in edition 2 (EXAMPLES 4), and the places of a step in which a chart stays.
+-- Thirteen small charts (EXAMPLES 2, 3): seventeen answers over the bytes of chart files, as one table and one claim
+-- (`thirteen`). Then the same charts in edition 2 (EXAMPLES 4), and the places of a step in which a chart stays.
 use mathlib.Core.Path.{_≡_, refl}
 use mathlib.Core.Bool.{Bool, true, false}
 use mathlib.Core.List.{List, [], _∷_, _++_}
@@ -8,7 +8,8 @@ use lib.ListN.{length, replicate}
 use Rattle.signals.specs.Mask.{_∪_, single}
 use Rattle.signals.specs.Guard.{lowestFrom, guard}
 use Rattle.layout.specs.Le.{le, bytes}
-use Rattle.layout.specs.Record.{trailerOf, headOf, transitionOf, slaveOf, nodeOf, trailerBytes, headBytes, transitionBytes, slaveBytes, nodeBytes}
+use Rattle.layout.specs.Record.{trailerOf, headOf, transitionOf, slaveOf, nodeOf, trailerBytes, headBytes}
+use Rattle.layout.specs.Record.{transitionBytes, slaveBytes, nodeBytes}
 use Rattle.layout.specs.Body.{headAt, transitionAt, slaveAt, nodeAt, startOf, from, transitionsOf}
 use Rattle.layout.specs.declared.record.Head.{Head}
 use Rattle.layout.specs.declared.record.Node.{Node}
@@ -16,9 +17,15 @@ use Rattle.layout.specs.declared.record.Slave.{Slave}
 use Rattle.layout.specs.declared.record.Transition.{Transition}
 use Rattle.meaning.specs.Numbers.{mostCharts, noPlace, stayPlace}
 use Rattle.meaning.specs.Count.{anyUpTo, tally}
-use Rattle.meaning.specs.Meaning.{Set, same, Answer, refused, given, nth, pick, lastPlace, actionOf, after, met?, untriggered, guards, inFaceChart, inFace, inFaces, out, outs, okChart, meets, ok, oks, permitted, upd, moves, nexts, placeOf, placesFrom, upto, outcomeOf, outcome, search, outcomes, eqList, agree, answer, firstPlaces}
-use Rattle.meaning.specs.File.{gather, build, treeOf, Has, HasS, trailer, bodyOf, shapeOf, chartOf, fileAt, fileOf}
-use Rattle.meaning.specs.Check.{firstOf, edition?, counts?, distance?, nonzero, zeros?, chart?, charts?, ends?, leaving, transitions?, rising, slave?, slaves?, nodeOfKind?, nodes?, names, named, held, naming?, inside?, fileTests, refusalOf}
+use Rattle.meaning.specs.Meaning.{Set, same, Answer, refused, given, nth, pick, lastPlace, actionOf, after, met?}
+use Rattle.meaning.specs.Meaning.{untriggered, guards, inFaceChart, inFace, inFaces, out, outs, okChart, meets}
+use Rattle.meaning.specs.Meaning.{ok, oks, permitted, upd, moves, nexts, placeOf, placesFrom, upto, outcomeOf}
+use Rattle.meaning.specs.Meaning.{outcome, search, outcomes, eqList, agree, answer, firstPlaces}
+use Rattle.meaning.specs.File.{gather, build, treeOf, Has, HasS, trailer, bodyOf, shapeOf, chartOf, fileAt}
+use Rattle.meaning.specs.File.{fileOf}
+use Rattle.meaning.specs.Check.{firstOf, edition?, counts?, distance?, nonzero, zeros?, chart?, charts?, ends?}
+use Rattle.meaning.specs.Check.{leaving, transitions?, rising, slave?, slaves?, nodeOfKind?, nodes?, names, named}
+use Rattle.meaning.specs.Check.{held, naming?, inside?, fileTests, refusalOf}
 use Rattle.meaning.specs.Open.{openChart, openTree, isOpen, choices, howMany, openChoices}
 use Rattle.meaning.specs.Calls.{configTests, stepRefusal, foundIn, manyOpen?, stepIn, stepOf, placesFound}
 use Rattle.meaning.specs.Calls.{placesIn, placesOf}
@@ -56,7 +63,8 @@ drawnLines (d ∷ ds) = d .lines ++ drawnLines ds
 body : List Drawn → List Slave → List Node → List ℕ
 unfolding joined drawnLines head
 body ds ss ns =
-    joined (λ d. headBytes (head d)) ds ++ joined transitionBytes (drawnLines ds) ++ joined slaveBytes ss ++ joined nodeBytes ns
+    joined (λ d. headBytes (head d)) ds ++ joined transitionBytes (drawnLines ds) ++ joined slaveBytes ss
+    ++ joined nodeBytes ns
 
 -- a chart file of an edition, with no front
 file : ℕ → List Drawn → List Slave → List Node → List ℕ
@@ -196,7 +204,14 @@ table =
     ∷ []
 
 pub thirteen : answers 1 ≡ table
-unfolding answers table single le bytes trailerOf headOf transitionOf slaveOf nodeOf trailerBytes headBytes transitionBytes slaveBytes nodeBytes headAt transitionAt slaveAt nodeAt startOf from transitionsOf anyUpTo tally same nth pick lastPlace actionOf after lowestFrom guard met? untriggered guards inFaceChart inFace inFaces out outs okChart meets ok oks permitted upd moves nexts placeOf placesFrom upto outcomeOf outcome search outcomes eqList agree answer gather build treeOf Has HasS trailer bodyOf shapeOf chartOf fileAt fileOf firstOf edition? counts? distance? nonzero zeros? chart? charts? ends? leaving transitions? rising slave? slaves? nodeOfKind? nodes? names named held naming? inside? fileTests refusalOf configTests stepRefusal openChart openTree isOpen choices howMany openChoices foundIn manyOpen? stepIn stepOf
+unfolding answers table single le bytes trailerOf headOf transitionOf slaveOf nodeOf trailerBytes headBytes
+    transitionBytes slaveBytes nodeBytes headAt transitionAt slaveAt nodeAt startOf from transitionsOf anyUpTo tally
+    same nth pick lastPlace actionOf after lowestFrom guard met? untriggered guards inFaceChart inFace inFaces out outs
+    okChart meets ok oks permitted upd moves nexts placeOf placesFrom upto outcomeOf outcome search outcomes eqList
+    agree answer gather build treeOf Has HasS trailer bodyOf shapeOf chartOf fileAt fileOf firstOf edition? counts?
+    distance? nonzero zeros? chart? charts? ends? leaving transitions? rising slave? slaves? nodeOfKind? nodes? names
+    named held naming? inside? fileTests refusalOf configTests stepRefusal openChart openTree isOpen choices howMany
+    openChoices foundIn manyOpen? stepIn stepOf
 thirteen = refl
 
 -- the same charts in edition 2, where a chart may stay (RULES 5.7)
@@ -223,7 +238,14 @@ table₂ =
     ∷ []
 
 pub second : answers 2 ≡ table₂
-unfolding answers table₂ single le bytes trailerOf headOf transitionOf slaveOf nodeOf trailerBytes headBytes transitionBytes slaveBytes nodeBytes headAt transitionAt slaveAt nodeAt startOf from transitionsOf anyUpTo tally same nth pick lastPlace actionOf after lowestFrom guard met? untriggered guards inFaceChart inFace inFaces out outs okChart meets ok oks permitted upd moves nexts placeOf placesFrom upto outcomeOf outcome search outcomes eqList agree answer gather build treeOf Has HasS trailer bodyOf shapeOf chartOf fileAt fileOf firstOf edition? counts? distance? nonzero zeros? chart? charts? ends? leaving transitions? rising slave? slaves? nodeOfKind? nodes? names named held naming? inside? fileTests refusalOf configTests stepRefusal openChart openTree isOpen choices howMany openChoices foundIn manyOpen? stepIn stepOf
+unfolding answers table₂ single le bytes trailerOf headOf transitionOf slaveOf nodeOf trailerBytes headBytes
+    transitionBytes slaveBytes nodeBytes headAt transitionAt slaveAt nodeAt startOf from transitionsOf anyUpTo tally
+    same nth pick lastPlace actionOf after lowestFrom guard met? untriggered guards inFaceChart inFace inFaces out outs
+    okChart meets ok oks permitted upd moves nexts placeOf placesFrom upto outcomeOf outcome search outcomes eqList
+    agree answer gather build treeOf Has HasS trailer bodyOf shapeOf chartOf fileAt fileOf firstOf edition? counts?
+    distance? nonzero zeros? chart? charts? ends? leaving transitions? rising slave? slaves? nodeOfKind? nodes? names
+    named held naming? inside? fileTests refusalOf configTests stepRefusal openChart openTree isOpen choices howMany
+    openChoices foundIn manyOpen? stepIn stepOf
 second = refl
 
 -- P2 in edition 2: the first chart takes its transition 0, the second stays
@@ -232,5 +254,12 @@ unfolding P set
 places₂ = placesOf (P 2 [] []) (0 ∷ 0 ∷ []) (set (0 ∷ [])) 2
 
 pub stayed : places₂ ≡ 0 ∷ stayPlace ∷ replicate (mostCharts - 2) noPlace
-unfolding places₂ single le bytes trailerOf headOf transitionOf slaveOf nodeOf trailerBytes headBytes transitionBytes slaveBytes nodeBytes headAt transitionAt slaveAt nodeAt startOf from transitionsOf anyUpTo tally same nth pick lastPlace actionOf after lowestFrom guard met? untriggered guards inFaceChart inFace inFaces out outs okChart meets ok oks permitted upd moves nexts placeOf placesFrom upto outcomeOf outcome search outcomes eqList agree answer gather build treeOf Has HasS trailer bodyOf shapeOf chartOf fileAt fileOf firstOf edition? counts? distance? nonzero zeros? chart? charts? ends? leaving transitions? rising slave? slaves? nodeOfKind? nodes? names named held naming? inside? fileTests refusalOf configTests stepRefusal openChart openTree isOpen choices howMany openChoices firstPlaces manyOpen? placesFound placesIn placesOf
+unfolding places₂ single le bytes trailerOf headOf transitionOf slaveOf nodeOf trailerBytes headBytes transitionBytes
+    slaveBytes nodeBytes headAt transitionAt slaveAt nodeAt startOf from transitionsOf anyUpTo tally same nth pick
+    lastPlace actionOf after lowestFrom guard met? untriggered guards inFaceChart inFace inFaces out outs okChart meets
+    ok oks permitted upd moves nexts placeOf placesFrom upto outcomeOf outcome search outcomes eqList agree answer
+    gather build treeOf Has HasS trailer bodyOf shapeOf chartOf fileAt fileOf firstOf edition? counts? distance? nonzero
+    zeros? chart? charts? ends? leaving transitions? rising slave? slaves? nodeOfKind? nodes? names named held naming?
+    inside? fileTests refusalOf configTests stepRefusal openChart openTree isOpen choices howMany openChoices
+    firstPlaces manyOpen? placesFound placesIn placesOf
 stayed = refl

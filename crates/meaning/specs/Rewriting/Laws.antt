@@ -1,6 +1,7 @@
--- Laws of unions as a loop takes them, and that each set is in its union (`unionUpTo`); and of the rewriting's refusals, in this order: what 42 gives
--- of the list of a chart (`list-most`); that no sum of such lists passes the limit of all charts (`sum-most`); so that a test of the sum behind 42
--- changes no first refusal, of the list (`sum-untested`) or of the call (`refusal-same`).
+-- Laws of unions as a loop takes them, and that each set is in its union (`unionUpTo`); and of the rewriting's
+-- refusals, in this order: what 42 gives of the list of a chart (`list-most`); that no sum of such lists passes the
+-- limit of all charts (`sum-most`); so that a test of the sum behind 42 changes no first refusal, of the list
+-- (`sum-untested`) or of the call (`refusal-same`).
 use mathlib.Core.Path.{_≡_, refl, sym, _∙_, ap, ap₂}
 use mathlib.Core.Bool.{false}
 use mathlib.Core.List.{List, [], _∷_, _++_, append-assoc}
@@ -14,13 +15,16 @@ use lib.Dec.{ltb}
 use lib.ListN.{length}
 use Rattle.signals.specs.Mask.{_∪_, _∖_}
 use Rattle.signals.specs.Decide.{sets, A, B, C, ∅ₑ, _∪ₑ_, _≐_, _⊑_}
-use Rattle.meaning.specs.Numbers.{mostCharts, mostInChart, mostTransitions, mostNodes, noFreeSignal, manyFromState, manyInChart, manyNodes, shortOut}
+use Rattle.meaning.specs.Numbers.{mostCharts, mostInChart, mostTransitions, mostNodes, noFreeSignal}
+use Rattle.meaning.specs.Numbers.{manyFromState, manyInChart, manyNodes, shortOut}
 use Rattle.meaning.specs.Count.Laws.{below-suc, any-never, tally-most}
 use Rattle.meaning.specs.Meaning.{Set, ∅}
 use Rattle.meaning.specs.File.{File, trailer, shapeOf, fileAt, fileOf}
 use Rattle.meaning.specs.Check.{Test, firstOf, fileTests, refusalOf}
-use Rattle.meaning.specs.Check.Laws.{eq-or-not, firstOf-cong, firstOf-covered, passed, call-refused, call-passed, counted}
-use Rattle.meaning.specs.Rewriting.{unionUpTo, rewrite, transitionsIn, noFree?, fromState?, inChart?, rewriteTests, rewriteBytes, stayTest, rewriteRefusal}
+use Rattle.meaning.specs.Check.Laws.{eq-or-not, firstOf-cong, firstOf-covered, passed, call-refused, call-passed}
+use Rattle.meaning.specs.Check.Laws.{counted}
+use Rattle.meaning.specs.Rewriting.{unionUpTo, rewrite, transitionsIn, noFree?, fromState?, inChart?}
+use Rattle.meaning.specs.Rewriting.{rewriteTests, rewriteBytes, stayTest, rewriteRefusal}
 
 -- ── unionUpTo ──
 
@@ -46,9 +50,11 @@ union-in (suc n) f i l = ⊎-elim (λ e. rw e (sets (unionUpTo n f ∷ f n ∷ [
 
 -- ── inChart? ──
 
-pub list-most : (R : File) → inChart? R ≡ false → (c : ℕ) → c < R .charts → length (R .chart c .transitions) ≤ mostInChart
+pub list-most : (R : File) → inChart? R ≡ false → (c : ℕ) → c < R .charts
+    → length (R .chart c .transitions) ≤ mostInChart
 unfolding inChart?
-list-most R h c l = ltb-false mostInChart _ (any-never (R .charts) (λ c. ltb mostInChart (length (R .chart c .transitions))) h c l)
+list-most R h c l =
+    ltb-false mostInChart _ (any-never (R .charts) (λ c. ltb mostInChart (length (R .chart c .transitions))) h c l)
 
 -- ── transitionsIn ──
 
@@ -56,10 +62,12 @@ list-most R h c l = ltb-false mostInChart _ (any-never (R .charts) (λ c. ltb mo
 room-for-all : mostInChart * mostCharts ≤ mostTransitions
 room-for-all = omega arith
 
-pub sum-most : (R : File) → R .charts ≤ mostCharts → ((c : ℕ) → c < R .charts → length (R .chart c .transitions) ≤ mostInChart)
+pub sum-most : (R : File) → R .charts ≤ mostCharts
+    → ((c : ℕ) → c < R .charts → length (R .chart c .transitions) ≤ mostInChart)
     → transitionsIn R ≤ mostTransitions
 unfolding transitionsIn
-sum-most R l h = le-trans (tally-most mostInChart (R .charts) _ h) (le-trans (mul-le-mul-left mostInChart l) room-for-all)
+sum-most R l h =
+    le-trans (tally-most mostInChart (R .charts) _ h) (le-trans (mul-le-mul-left mostInChart l) room-for-all)
 
 -- ── firstOf: a test of the sum, whatever its number, behind 42 ──
 
@@ -78,7 +86,8 @@ module _ (number : ℕ) where
       ∷ record { number = manyNodes; applies = ltb mostNodes (rewrite F .nodes) }
       ∷ []
 
-  pub sum-untested : (F : File) → F .charts ≤ mostCharts → (us : List Test) → firstOf (testsWithSum F ++ us) ≡ firstOf (rewriteTests F ++ us)
+  pub sum-untested : (F : File) → F .charts ≤ mostCharts → (us : List Test)
+      → firstOf (testsWithSum F ++ us) ≡ firstOf (rewriteTests F ++ us)
   unfolding rewriteTests
   sum-untested F l us =
       firstOf-cong _ _ _ (firstOf-cong _ _ _
@@ -86,13 +95,17 @@ module _ (number : ℕ) where
 
   -- for every file, refused by 1 to 11 or not
   pub refusal-same : (f : List ℕ) (room : ℕ)
-      → firstOf (fileTests f ++ (stayTest f ∷ testsWithSum (fileOf f) ++ (record { number = shortOut; applies = ltb room (length (rewriteBytes f)) } ∷ [])))
+      → firstOf (fileTests f ++ (stayTest f ∷ testsWithSum (fileOf f) ++ (record {
+        number = shortOut;
+        applies = ltb room (length (rewriteBytes f));
+      } ∷ [])))
       ≡ rewriteRefusal f room
   unfolding rewriteRefusal
   refusal-same f room =
       ⊎-elim
       (λ (e : refusalOf f ≡ 0).
-      call-passed f _ e ∙ firstOf-cong (stayTest f) _ _ (sum-untested (fileOf f) (charts-most f e) roomTest) ∙ sym (call-passed f _ e))
+      call-passed f _ e ∙ firstOf-cong (stayTest f) _ _ (sum-untested (fileOf f) (charts-most f e) roomTest)
+      ∙ sym (call-passed f _ e))
       (λ (e : refusalOf f ≡ 0 → ⊥). call-refused f _ e ∙ sym (call-refused f _ e))
       (eq-or-not (refusalOf f) 0)
       ∙ ap firstOf (sym (append-assoc (fileTests f) (stayTest f ∷ rewriteTests (fileOf f)) roomTest))

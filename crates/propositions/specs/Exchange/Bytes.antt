@@ -11,7 +11,8 @@ use lib.Dec.{ltb}
 use lib.ListN.{length, getD, take, drop, length-drop}
 use lib.Seq.{getD-drop, length-take-le}
 use Rattle.layout.specs.Record.{trailerOf, nodeOf}
-use Rattle.layout.specs.Body.{transitionsFrom, slavesFrom, nodesFrom, sizeOf, headAt, transitionAt, slaveAt, nodeAt, startOf, from, transitionsOf}
+use Rattle.layout.specs.Body.{transitionsFrom, slavesFrom, nodesFrom, sizeOf, headAt, transitionAt, slaveAt, nodeAt}
+use Rattle.layout.specs.Body.{startOf, from, transitionsOf}
 use Rattle.layout.specs.Body.Laws.{startOf-mono}
 use Rattle.layout.specs.declared.body.Shape.{Shape}
 use Rattle.meaning.specs.Numbers.{stayEdition, mostStates, mostInChart, mostFromState}
@@ -19,12 +20,16 @@ use Rattle.meaning.specs.Count.{anyUpTo, one}
 use Rattle.meaning.specs.Count.Laws.{or-left, or-right, any-cong, tally-cong}
 use Rattle.meaning.specs.Meaning.{same}
 use Rattle.meaning.specs.File.{File, endOf, trailer, bodyOf, shapeOf, chartOf, fileAt, fileOf}
-use Rattle.meaning.specs.Check.{Test, firstOf, notBelow, differ, edition?, counts?, distance?, nonzero, zeros?, chart?, charts?, inChart, ends?, leaving, transitions?, fileTests, refusalOf}
+use Rattle.meaning.specs.Check.{Test, firstOf, notBelow, differ, edition?, counts?, distance?, nonzero, zeros?, chart?}
+use Rattle.meaning.specs.Check.{charts?, inChart, ends?, leaving, transitions?, fileTests, refusalOf}
 use Rattle.meaning.specs.Check.Laws.{alike, summed, eq-or-not}
 use Rattle.meaning.specs.Check.Nodes.{treed}
 use Rattle.propositions.specs.Exchange.{swapAt, partsIn, exchange, HasComposed}
-use Rattle.propositions.specs.Exchange.Records.{exchanged, Stands, kept, swapped, Turned, slaves-turned, nodes-turned, naming-turned, inside-turned}
-use Rattle.propositions.specs.Exchange.Swap.{length-swap, swap-other, swap-first, swap-second, drop-behind, take-swap, drop-swap, Agrees, head-agrees, transition-agrees, slave-agrees, node-agrees, le-agrees}
+use Rattle.propositions.specs.Exchange.Records.{exchanged, Stands, kept, swapped, Turned, slaves-turned}
+use Rattle.propositions.specs.Exchange.Records.{nodes-turned, naming-turned, inside-turned}
+use Rattle.propositions.specs.Exchange.Swap.{length-swap, swap-other, swap-first, swap-second, drop-behind}
+use Rattle.propositions.specs.Exchange.Swap.{take-swap, drop-swap, Agrees, head-agrees, transition-agrees}
+use Rattle.propositions.specs.Exchange.Swap.{slave-agrees, node-agrees, le-agrees}
 
 -- ── the body ──
 

@@ -10,7 +10,8 @@ use Rattle.meaning.specs.Count.{anyUpTo, tally, one}
 use Rattle.meaning.specs.Count.Laws.{any-cong, tally-cong}
 use Rattle.meaning.specs.Meaning.{∅, same, Tree, Slaves, comp, hide, snoc}
 use Rattle.meaning.specs.File.{File, byKind, whole, gather, build, treeOf, wholeOf, Has, HasS}
-use Rattle.meaning.specs.Check.{notBelow, differ, rising, inOrder, slave?, slaves?, nodeOfKind?, nodes?, holds, held, names, named, naming?, inside?}
+use Rattle.meaning.specs.Check.{notBelow, differ, rising, inOrder, slave?, slaves?, nodeOfKind?, nodes?, holds, held}
+use Rattle.meaning.specs.Check.{names, named, naming?, inside?}
 use Rattle.meaning.specs.Check.Laws.{below}
 use Rattle.meaning.specs.Check.Nodes.{Treed}
 use Rattle.meaning.specs.Rewriting.{unionUpTo}

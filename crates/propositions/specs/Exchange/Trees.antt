@@ -8,7 +8,10 @@ use Prim.Native.Nat.{ℕ, zero, suc, _+_, _<_}
 use native.Mathlib.Omega.{arith}
 use Rattle.signals.specs.Mask.{_∪_, _∩_, _∖_}
 use Rattle.signals.specs.Decide.{sets, A, B, _∪ₑ_, _≐_}
-use Rattle.meaning.specs.Meaning.{Set, Chart, Tree, Slaves, leaf, comp, hide, dec, nil, snoc, Move, pick, lastPlace, actionOf, after, inFaceChart, inFace, inFaces, actions, outFace, outFaces, out, outs, okChart, meets, ok, oks, permitted, upd, moves, nexts, placeOf, placesFrom, outcomeOf, upto, outcome, search, outcomes}
+use Rattle.meaning.specs.Meaning.{Set, Chart, Tree, Slaves, leaf, comp, hide, dec, nil, snoc, Move, pick, lastPlace}
+use Rattle.meaning.specs.Meaning.{actionOf, after, inFaceChart, inFace, inFaces, actions, outFace, outFaces, out, outs}
+use Rattle.meaning.specs.Meaning.{okChart, meets, ok, oks, permitted, upd, moves, nexts, placeOf, placesFrom, outcomeOf}
+use Rattle.meaning.specs.Meaning.{upto, outcome, search, outcomes}
 use Rattle.meaning.specs.Open.{openChart, openTree, openSlaves, isOpen, choices, howMany, openChoices}
 
 -- E, E′: the charts; s, s′: the slaves' states; the same where the tree has them

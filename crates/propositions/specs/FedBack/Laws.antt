@@ -21,7 +21,8 @@ use Rattle.meaning.specs.Laws.Alike.{accepted-treed, accepted-node}
 use Rattle.meaning.specs.Words.{Given}
 use Rattle.meaning.specs.Laws.Demand2.{given-if, given-first, mark-yes}
 use Rattle.meaning.specs.Laws.Trees.{tree₁}
-use Rattle.propositions.specs.FedBack.{feedbackOf, joinedIn, WholeComposed, fedBackOf, joinedOf, ChoiceIn, PermittedIn, choiceOutput, choiceNext}
+use Rattle.propositions.specs.FedBack.{feedbackOf, joinedIn, WholeComposed, fedBackOf, joinedOf, ChoiceIn}
+use Rattle.propositions.specs.FedBack.{PermittedIn, choiceOutput, choiceNext}
 use Rattle.propositions.specs.FedBack.Trees.{fed-back}
 
 -- ── sets ──

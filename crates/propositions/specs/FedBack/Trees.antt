@@ -6,7 +6,8 @@ use mathlib.Core.List.{[], _∷_}
 use Prim.Native.Nat.{ℕ}
 use Rattle.signals.specs.Mask.{_∪_, _∩_, _∖_}
 use Rattle.signals.specs.Decide.{sets, A, B, C, ∅ₑ, _∪ₑ_, _∩ₑ_, _≐_}
-use Rattle.meaning.specs.Meaning.{Set, ∅, Chart, Tree, leaf, comp, hide, dec, Move, noMove, takes, stay, same, actionOf, meets, untriggered, met?, inFaceChart, inFace, out, okChart, ok, oks, permitted}
+use Rattle.meaning.specs.Meaning.{Set, ∅, Chart, Tree, leaf, comp, hide, dec, Move, noMove, takes, stay, same, actionOf}
+use Rattle.meaning.specs.Meaning.{meets, untriggered, met?, inFaceChart, inFace, out, okChart, ok, oks, permitted}
 use Rattle.propositions.specs.FedBack.{feedbackOf, joinedIn}
 
 -- a chart that stays feeds nothing back

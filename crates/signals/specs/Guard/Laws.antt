@@ -22,11 +22,13 @@ unfolding lowestFrom
 lowest-in zero n m s l r h = absurd (omega arith)
 lowest-in (suc k) n m s l r h = go (bit s n) refl (λ p q. lowest-in k (suc n) m s p q h)
   where
-    go : (b : Bool) → bit s n ≡ b → (suc n ≤ m → m < suc n + k → bit s (lowestFrom k (suc n) s) ≡ true) → bit s (cond b n (lowestFrom k (suc n) s)) ≡ true
+    go : (b : Bool) → bit s n ≡ b → (suc n ≤ m → m < suc n + k → bit s (lowestFrom k (suc n) s) ≡ true)
+        → bit s (cond b n (lowestFrom k (suc n) s)) ≡ true
     go true e ih = e
     go false e ih = later (decLt n m) ih
       where
-        later : Dec (n < m) → (suc n ≤ m → m < suc n + k → bit s (lowestFrom k (suc n) s) ≡ true) → bit s (lowestFrom k (suc n) s) ≡ true
+        later : Dec (n < m) → (suc n ≤ m → m < suc n + k → bit s (lowestFrom k (suc n) s) ≡ true)
+            → bit s (lowestFrom k (suc n) s) ≡ true
         later (yes d) ih = ih (omega arith) (omega arith)
         later (no d) ih = let z : m ≡ n = omega arith in absurd (true≢false (sym h ∙ ap (bit s) z ∙ e))
 
@@ -35,7 +37,8 @@ unfolding lowestFrom
 lowest-first zero n j s l r = absurd (omega arith)
 lowest-first (suc k) n j s l r = go (bit s n) refl r (λ p q. lowest-first k (suc n) j s p q)
   where
-    go : (b : Bool) → bit s n ≡ b → j < cond b n (lowestFrom k (suc n) s) → (suc n ≤ j → j < lowestFrom k (suc n) s → bit s j ≡ false) → bit s j ≡ false
+    go : (b : Bool) → bit s n ≡ b → j < cond b n (lowestFrom k (suc n) s)
+        → (suc n ≤ j → j < lowestFrom k (suc n) s → bit s j ≡ false) → bit s j ≡ false
     go true e r ih = absurd (omega arith)
     go false e r ih = later (decLt n j) ih
       where
@@ -109,13 +112,15 @@ module _ (needed barred i j : ℕ) (n-lt : needed < 2 ^ 64) (b-lt : barred < 2 ^
         wanted = and-l _ _ there;
         missing = not-of _ (and-r (bit needed (lowest (needed ∖ i))) _ there);
         none-lower =
-            λ k l. off-but (bit needed k) (bit i k) (sym (bit-less k needed i) ∙ lowest-first 64 0 k (needed ∖ i) (omega arith) l);
+            λ k l. off-but (bit needed k) (bit i k)
+            (sym (bit-less k needed i) ∙ lowest-first 64 0 k (needed ∖ i) (omega arith) l);
       }
     where
       there : (bit needed (lowest (needed ∖ i)) && not (bit i (lowest (needed ∖ i)))) ≡ true
       there =
           sym (bit-less (lowest (needed ∖ i)) needed i)
-          ∙ some-in (needed ∖ i) (λ n l. bit-less n needed i ∙ and-off _ _ (bit-high 64 needed n n-lt l)) (eqb-false _ 0 h)
+          ∙ some-in (needed ∖ i)
+          (λ n l. bit-less n needed i ∙ and-off _ _ (bit-high 64 needed n n-lt l)) (eqb-false _ 0 h)
 
   lowest-present : apart barred j ≡ false → LowestPresent barred j (lowest (barred ∩ j))
   lowest-present h =
@@ -123,13 +128,15 @@ module _ (needed barred i j : ℕ) (n-lt : needed < 2 ^ 64) (b-lt : barred < 2 ^
         unwanted = and-l _ _ there;
         there = and-r (bit barred (lowest (barred ∩ j))) _ there;
         none-lower =
-            λ k l. off-both (bit barred k) (bit j k) (sym (bit-cut k barred j) ∙ lowest-first 64 0 k (barred ∩ j) (omega arith) l);
+            λ k l. off-both (bit barred k) (bit j k)
+            (sym (bit-cut k barred j) ∙ lowest-first 64 0 k (barred ∩ j) (omega arith) l);
       }
     where
       there : (bit barred (lowest (barred ∩ j)) && bit j (lowest (barred ∩ j))) ≡ true
       there =
           sym (bit-cut (lowest (barred ∩ j)) barred j)
-          ∙ some-in (barred ∩ j) (λ n l. bit-cut n barred j ∙ and-off _ _ (bit-high 64 barred n b-lt l)) (eqb-false _ 0 h)
+          ∙ some-in (barred ∩ j)
+          (λ n l. bit-cut n barred j ∙ and-off _ _ (bit-high 64 barred n b-lt l)) (eqb-false _ 0 h)
 
   -- every answer says what it should
   pub guard-shows : Shows needed barred i j (guard needed barred i j)

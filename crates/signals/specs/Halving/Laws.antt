@@ -3,7 +3,8 @@
 use mathlib.Core.Path.{_≡_, refl, sym, ap, _∙_}
 use mathlib.Core.Bool.{Bool, true, false, _&&_}
 use Prim.Native.Nat.{ℕ, zero, suc, _+_, _-_, _*_, _/_, _%_, _^_, _≤_, _<_, suc-le-suc, zero-le}
-use native.Mathlib.Nat.{add-zero, div-add-mod', div-div-eq-div-mul, mul-mod-left, mod-lt, mul-assoc, mod-eq-of-lt, div-one}
+use native.Mathlib.Nat.{add-zero, div-add-mod', div-div-eq-div-mul, mul-mod-left, mod-lt, mul-assoc, mod-eq-of-lt}
+use native.Mathlib.Nat.{div-one}
 use native.Mathlib.Omega.{arith}
 use native.Mathlib.Decide.{decLt}
 use lib.Pow.{pow-add}
@@ -36,7 +37,8 @@ none-below s k i h l =
 -- none of the first k, and none of the k behind them
 none-of-both : (s k : ℕ) → s % 2 ^ k ≡ 0 → s / 2 ^ k % 2 ^ k ≡ 0 → s % 2 ^ (k + k) ≡ 0
 none-of-both s k h e =
-    let q : s / 2 ^ k ≡ s / 2 ^ k / 2 ^ k * 2 ^ k = sym (div-add-mod' (s / 2 ^ k) (2 ^ k)) ∙ ap (λ x. s / 2 ^ k / 2 ^ k * 2 ^ k + x) e ∙ add-zero _ in
+    let q : s / 2 ^ k ≡ s / 2 ^ k / 2 ^ k * 2 ^ k =
+    sym (div-add-mod' (s / 2 ^ k) (2 ^ k)) ∙ ap (λ x. s / 2 ^ k / 2 ^ k * 2 ^ k + x) e ∙ add-zero _ in
     let p : s ≡ s / 2 ^ k * 2 ^ k = sym (div-add-mod' s (2 ^ k)) ∙ ap (λ x. s / 2 ^ k * 2 ^ k + x) h ∙ add-zero _ in
     ap (λ x. x % 2 ^ (k + k))
     (p ∙ ap (λ x. x * 2 ^ k) q ∙ mul-assoc (s / 2 ^ k / 2 ^ k) (2 ^ k) (2 ^ k)
@@ -47,7 +49,8 @@ none-of-both s k h e =
 pub halved : (s k : ℕ) (r : Rest) → r .left % 2 ^ k ≡ 0 → Leads s (k + k) r
     → Leads s k (record { left = r .left / 2 ^ k; passed = r .passed + k })
 halved s k r h (e, (some, none)) = (
-  ap (λ x. x / 2 ^ k) e ∙ div-div-eq-div-mul s (2 ^ r .passed) (2 ^ k) ∙ ap (λ x. s / x) (sym (pow-add 2 (r .passed) k)),
+  ap (λ x. x / 2 ^ k) e ∙ div-div-eq-div-mul s (2 ^ r .passed) (2 ^ k)
+      ∙ ap (λ x. s / x) (sym (pow-add 2 (r .passed) k)),
   ((λ z. some (none-of-both (r .left) k h z)), (λ j l. go j l (decLt j (r .passed)))),
 )
   where
@@ -63,7 +66,8 @@ kept s k r h (e, (some, none)) = (e, (h, none))
 
 -- at first nothing is passed
 pub all-left : (s : ℕ) → s < 2 ^ 64 → 0 < s → Leads s 64 (record { left = s; passed = 0 })
-all-left s l h = (sym (div-one s), ((λ z. let e = sym (mod-eq-of-lt l) ∙ z in omega arith), (λ j d. absurd (omega arith))))
+all-left s l h =
+    (sym (div-one s), ((λ z. let e = sym (mod-eq-of-lt l) ∙ z in omega arith), (λ j d. absurd (omega arith))))
 
 -- at last one signal is left
 one-left : (x : ℕ) → (x % 2 ≡ 0 → ⊥) → x % 2 ≡ 1
@@ -77,4 +81,5 @@ one-left x h = let l = mod-lt x (suc-le-suc (zero-le {n = 1})) in go (x % 2) h l
 pub led : (s : ℕ) (r : Rest) → r .passed < 64 → Leads s 1 r → r .passed ≡ lowest s
 unfolding bit
 led s r l (e, (some, none)) =
-    sym (lowest-is (r .passed) s l (ap (λ x. eqb (x % 2) 1) (sym e) ∙ eq-eqb (r .left % 2) 1 (one-left (r .left) some)) none)
+    sym (lowest-is (r .passed) s l
+    (ap (λ x. eqb (x % 2) 1) (sym e) ∙ eq-eqb (r .left % 2) 1 (one-left (r .left) some)) none)

@@ -1,9 +1,11 @@
--- Laws of sets as masks, in this order: the digits of a number; a digit of each operation; sets with the same signals are equal; the set of one
--- signal; sets below a limit; inclusion signal by signal; removal as code may write it. Identities of sets are proved by `sets` of Decide.antt.
+-- Laws of sets as masks, in this order: the digits of a number; a digit of each operation; sets with the same signals
+-- are equal; the set of one signal; sets below a limit; inclusion signal by signal; removal as code may write it.
+-- Identities of sets are proved by `sets` of Decide.antt.
 use mathlib.Core.Path.{_≡_, refl, sym, ap, ap₂, _∙_}
 use mathlib.Core.Bool.{Bool, true, false, not, _&&_, _||_, Bool·beq, true≢false, false≢true}
 use Prim.Native.Nat.{ℕ, zero, suc, _+_, _*_, _/_, _%_, _^_, _≤_, _<_, zero-le, suc-le-suc, min, max}
-use native.Mathlib.Nat.{mod-lt, le-of-suc-le-suc, not-suc-le-zero, div-add-mod', div-div-eq-div-mul, pow-succ', div-one, pow-suc, zero-div, mul-mod-left, mul-div-cancel, div-eq-of-lt, lt-of-lt-of-le}
+use native.Mathlib.Nat.{mod-lt, le-of-suc-le-suc, not-suc-le-zero, div-add-mod', div-div-eq-div-mul, pow-succ', div-one}
+use native.Mathlib.Nat.{pow-suc, zero-div, mul-mod-left, mul-div-cancel, div-eq-of-lt, lt-of-lt-of-le}
 use lib.Dec.{eqb, lit<, eqb·zero-suc, eqb·suc-zero, eqb·suc-suc}
 use borrow.Author.Tests.{eqb-true, eq-eqb}
 use native.Mathlib.Decide.{decLt}
@@ -32,15 +34,18 @@ module _ (op : ℕ → ℕ → ℕ) (f : ℕ → ℕ → ℕ) (g : Bool → Bool
     (digit : (x y : ℕ) → x < 2 → y < 2 → eqb (f x y) 1 ≡ g (eqb x 1) (eqb y 1)) where
   op-half : (a b : ℕ) → op a b / 2 ≡ op (a / 2) (b / 2)
   op-half a b = ap (λ (x : ℕ). x / 2) (step a b)
-      ∙ digits-div (op (a / 2) (b / 2)) (small (a % 2) (b % 2) (mod-lt a (suc-le-suc zero-le)) (mod-lt b (suc-le-suc zero-le)))
+      ∙ digits-div (op (a / 2) (b / 2))
+      (small (a % 2) (b % 2) (mod-lt a (suc-le-suc zero-le)) (mod-lt b (suc-le-suc zero-le)))
 
   op-odd : (a b : ℕ) → op a b % 2 ≡ f (a % 2) (b % 2)
   op-odd a b = ap (λ (x : ℕ). x % 2) (step a b)
-      ∙ digits-mod (op (a / 2) (b / 2)) (small (a % 2) (b % 2) (mod-lt a (suc-le-suc zero-le)) (mod-lt b (suc-le-suc zero-le)))
+      ∙ digits-mod (op (a / 2) (b / 2))
+      (small (a % 2) (b % 2) (mod-lt a (suc-le-suc zero-le)) (mod-lt b (suc-le-suc zero-le)))
 
   bit-op : (n a b : ℕ) → bit (op a b) n ≡ g (bit a n) (bit b n)
   unfolding odd
-  bit-op zero a b = rw (bit-zero, bit-zero, bit-zero, op-odd) (digit (a % 2) (b % 2) (mod-lt a (suc-le-suc zero-le)) (mod-lt b (suc-le-suc zero-le)))
+  bit-op zero a b = rw (bit-zero, bit-zero, bit-zero, op-odd)
+      (digit (a % 2) (b % 2) (mod-lt a (suc-le-suc zero-le)) (mod-lt b (suc-le-suc zero-le)))
   bit-op (suc n) a b = rw (bit-suc (op a b), bit-suc a, bit-suc b, op-half) (bit-op n (a / 2) (b / 2))
 
 -- a statement of two digits holds if it holds of the four pairs
@@ -62,7 +67,8 @@ bit-union = bit-op bitOr max _||_ or-step (two (λ (x y : ℕ). max x y < 2) (li
     (two (λ (x y : ℕ). eqb (max x y) 1 ≡ (eqb x 1 || eqb y 1)) refl refl refl refl)
 
 bit-xor : (n a b : ℕ) → bit (bitXor a b) n ≡ not (Bool·beq (bit a n) (bit b n))
-bit-xor = bit-op bitXor differ (λ x y. not (Bool·beq x y)) xor-step (two (λ (x y : ℕ). differ x y < 2) (lit< tt) (lit< tt) (lit< tt) (lit< tt))
+bit-xor = bit-op bitXor differ
+    (λ x y. not (Bool·beq x y)) xor-step (two (λ (x y : ℕ). differ x y < 2) (lit< tt) (lit< tt) (lit< tt) (lit< tt))
     (two (λ (x y : ℕ). eqb (differ x y) 1 ≡ not (Bool·beq (eqb x 1) (eqb y 1))) refl refl refl refl)
 
 xor-but : (x y : Bool) → not (Bool·beq x (x && y)) ≡ (x && not y)
@@ -71,7 +77,8 @@ xor-but true false = refl
 xor-but false y = refl
 
 pub bit-less : (n a b : ℕ) → bit (a ∖ b) n ≡ (bit a n && not (bit b n))
-bit-less n a b = bit-xor n a (bitAnd a b) ∙ ap (λ (x : Bool). not (Bool·beq (bit a n) x)) (bit-cut n a b) ∙ xor-but (bit a n) (bit b n)
+bit-less n a b = bit-xor n a (bitAnd a b) ∙ ap (λ (x : Bool). not (Bool·beq (bit a n) x)) (bit-cut n a b)
+    ∙ xor-but (bit a n) (bit b n)
 
 -- nothing is in the empty set
 pub bit-none : (n : ℕ) → bit 0 n ≡ false
@@ -80,11 +87,13 @@ bit-none n = rw zero-div
 
 -- ---- two sets with the same signals are equal
 same-digit : (x y : ℕ) → x < 2 → y < 2 → eqb x 1 ≡ eqb y 1 → x ≡ y
-same-digit = two (λ (x y : ℕ). eqb x 1 ≡ eqb y 1 → x ≡ y) (λ e. refl) (λ e. absurd (false≢true e)) (λ e. absurd (true≢false e)) (λ e. refl)
+same-digit = two (λ (x y : ℕ). eqb x 1 ≡ eqb y 1 → x ≡ y) (λ e. refl) (λ e. absurd (false≢true e))
+    (λ e. absurd (true≢false e)) (λ e. refl)
 
 same-odd : (a b : ℕ) → bit a 0 ≡ bit b 0 → a % 2 ≡ b % 2
 unfolding odd
-same-odd a b e = same-digit (a % 2) (b % 2) (mod-lt a (suc-le-suc zero-le)) (mod-lt b (suc-le-suc zero-le)) (sym (bit-zero a) ∙ e ∙ bit-zero b)
+same-odd a b e = same-digit (a % 2) (b % 2) (mod-lt a (suc-le-suc zero-le)) (mod-lt b (suc-le-suc zero-le))
+    (sym (bit-zero a) ∙ e ∙ bit-zero b)
 
 same-half : (a b : ℕ) → ((n : ℕ) → bit a n ≡ bit b n) → (n : ℕ) → bit (a / 2) n ≡ bit (b / 2) n
 same-half a b h n = sym (bit-suc a n) ∙ h (suc n) ∙ bit-suc b n
@@ -113,7 +122,8 @@ unfolding single odd
 bit-single zero zero = bit-zero 1
 bit-single zero (suc m) = bit-suc 1 m ∙ bit-none m ∙ sym (eqb·zero-suc m)
 bit-single (suc n) zero = bit-zero (2 ^ suc n) ∙ ap odd (pow-suc 2 n) ∙ odd-double (2 ^ n) ∙ sym (eqb·suc-zero n)
-bit-single (suc n) (suc m) = bit-suc (2 ^ suc n) m ∙ ap (λ (x : ℕ). bit x m) (half-pow n) ∙ bit-single n m ∙ sym (eqb·suc-suc n m)
+bit-single (suc n) (suc m) =
+    bit-suc (2 ^ suc n) m ∙ ap (λ (x : ℕ). bit x m) (half-pow n) ∙ bit-single n m ∙ sym (eqb·suc-suc n m)
 
 -- ---- a set of the signals below k
 pub bit-high : (k s n : ℕ) → s < 2 ^ k → k ≤ n → bit s n ≡ false
@@ -164,6 +174,7 @@ single-apart s n h =
 
 pub apart-single : (s n : ℕ) → Apart (single n) s → bit s n ≡ false
 apart-single s n w =
-    ap (λ (b : Bool). b && bit s n) (sym (bit-single n n ∙ eq-eqb n n refl)) ∙ sym (bit-cut n (single n) s) ∙ ap (λ (x : ℕ). bit x n) w ∙ bit-none n
+    ap (λ (b : Bool). b && bit s n) (sym (bit-single n n ∙ eq-eqb n n refl)) ∙ sym (bit-cut n (single n) s)
+    ∙ ap (λ (x : ℕ). bit x n) w ∙ bit-none n
 
 pub ruleset bits = (bit-union, bit-cut, bit-less, bit-none)

@@ -12,5 +12,6 @@ returns c = put-two (now (c .args .s)) (c .args .at) (c .args .x) (c .fits .x .f
 
 pub put16-spec : {M : Type 1} → statement M
 put16-spec =
-    tie.close (tie.spec (λ c. search needs) (λ c. search needs) (λ c. search needs) (λ c. search needs) (λ c. simp length-set (omega arith))
+    tie.close (tie.spec (λ c. search needs) (λ c. search needs) (λ c. search needs) (λ c. search needs)
+    (λ c. simp length-set (omega arith))
     (λ c. search needs) returns)

@@ -1,4 +1,5 @@
--- `record::read_transition` meets its contract. A field at k of the record at `at` is read at `at + k`. Assumes nothing.
+-- `record::read_transition` meets its contract. A field at k of the record at `at` is read at `at + k`. Assumes
+-- nothing.
 use borrow.Author.Needs.{needs}
 use denote.Ref.{now}
 use Rattle.layout.specs.Record.{transitionOf}

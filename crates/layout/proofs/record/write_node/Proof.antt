@@ -35,5 +35,8 @@ write-node-spec =
     (λ c κs. simp length-set (omega arith))
     (λ c. search needs)
     (λ c κs. omega (arith, simp (length-sets, length-set) at (ap length (c .before .before .before .put64 .ensures))))
-    (λ c. omega (arith, simp (length-sets, length-set) at (ap length (c .before .before .before .before .before .before .put64 .ensures))))
+    (λ c. omega (
+      arith,
+      simp (length-sets, length-set) at (ap length (c .before .before .before .before .before .before .put64 .ensures)),
+    ))
     returns)

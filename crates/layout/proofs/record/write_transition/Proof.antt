@@ -14,13 +14,16 @@ use Rattle.layout.proofs.record.write_transition.Tie as tie
 returns : tie.Need-returns
 unfolding bytes transitionBytes
 returns c =
-    let a = c .before .before .before .before .before .before .before .before .before .before .before .before .before .before .before .before .before .args in
+    let a = c .before .before .before .before .before .before .before .before .before .before .before .before .before
+    .before .before .before .before .args in
     let r = a .r in
     let front = part (byte (first (now (a .s)) (a .at) (r .from)) (r .to)) (bytes 2 0)
-    (c .before .before .before .before .before .before .before .before .before .before .before .before .before .before .put16 .ensures) in
+    (c .before .before .before .before .before .before .before .before .before .before .before .before .before .before
+    .put16 .ensures) in
     let needed = part front (bytes 8 (r .needed))
     (c .before .before .before .before .before .before .before .before .before .before .put64 .ensures) in
-    let barred = part needed (bytes 8 (r .barred)) (c .before .before .before .before .before .before .put642 .ensures) in
+    let barred =
+    part needed (bytes 8 (r .barred)) (c .before .before .before .before .before .before .put642 .ensures) in
     part barred (bytes 8 (r .action)) (c .before .before .put643 .ensures) .is
 
 pub write-transition-spec : {M : Type 1} → statement M
@@ -35,14 +38,23 @@ write-transition-spec =
     (λ c. search needs)
     (λ c κs. omega (arith, simp (length-sets, length-set) at (ap length (c .before .before .before .put16 .ensures))))
     (λ c. search needs)
-    (λ c κs. omega (arith, simp (length-sets, length-set) at (ap length (c .before .before .before .before .before .before .before .put16 .ensures))))
+    (λ c κs. omega (
+      arith,
+      simp (length-sets, length-set) at
+          (ap length (c .before .before .before .before .before .before .before .put16 .ensures)),
+    ))
     (λ c. search needs)
     (λ c κs. omega (
       arith,
       simp (
         length-sets,
         length-set,
-      ) at (ap length (c .before .before .before .before .before .before .before .before .before .before .before .put16 .ensures)),
+      ) at (ap length
+          (c .before .before .before .before .before .before .before .before .before .before .before .put16 .ensures)),
     ))
-    (λ c. omega (arith, simp (length-sets, length-set) at (ap length (c .before .before .before .before .before .before .before .before .before .before .before .before .before .before .put16 .ensures))))
+    (λ c. omega (
+      arith,
+      simp (length-sets, length-set) at (ap length (c .before .before .before .before .before .before .before .before
+          .before .before .before .before .before .before .put16 .ensures)),
+    ))
     returns)

@@ -23,7 +23,8 @@ returns c =
       omega arith,
       λ s.
           halved s (b .args .k) (b .args .r)
-          (ap (λ x. b .args .r .left % x) (sym (power (b .args .k) (omega arith))) ∙ (let h = c .before .if1 .taken in omega arith)),
+          (ap (λ x. b .args .r .left % x) (sym (power (b .args .k) (omega arith)))
+          ∙ (let h = c .before .if1 .taken in omega arith)),
     )
 
 returns-2 : tie.Need-returns-2
@@ -32,7 +33,8 @@ returns-2 c =
       omega arith,
       λ s.
           kept s (b .args .k) (b .args .r)
-          (λ z. let e = ap (λ x. b .args .r .left % x) (power (b .args .k) (omega arith)) ∙ z in let h = c .if1 .left in omega arith),
+          (λ z. let e = ap (λ x. b .args .r .left % x) (power (b .args .k) (omega arith)) ∙ z in let h = c .if1 .left in
+          omega arith),
     )
 
 pub halve-spec : {M : Type 1} → statement M
