@@ -1,4 +1,5 @@
--- The rewritten file in bytes passes 1 to 11, if the file does and 40 to 44 do not apply; and what is read of it is the rewritten file.
+-- The rewritten file in bytes passes 1 to 11, if the file does and 40 to 44 do not apply; and what is read of it is the
+-- rewritten file.
 use mathlib.Core.Path.{_≡_, refl, sym, _∙_, ap, ap₂, subst}
 use mathlib.Core.Bool.{Bool, true, false, _&&_, _||_, not, cond, true≢false}
 use mathlib.Core.List.{List, [], _∷_, _++_, append-nil}
@@ -18,13 +19,17 @@ use Rattle.layout.specs.declared.record.Head.{Head}
 use Rattle.layout.specs.declared.record.Transition.{Transition}
 use Rattle.layout.specs.declared.record.Slave.{Slave}
 use Rattle.layout.specs.declared.record.Node.{Node}
-use Rattle.meaning.specs.Numbers.{firstEdition, mostCharts, mostSlaves, mostNodes, mostTransitions, mostStates, mostInChart, mostFromState}
+use Rattle.meaning.specs.Numbers.{firstEdition, mostCharts, mostSlaves, mostNodes, mostTransitions, mostStates}
+use Rattle.meaning.specs.Numbers.{mostInChart, mostFromState}
 use Rattle.meaning.specs.Count.{anyUpTo, tally, one}
 use Rattle.meaning.specs.Count.Laws.{any-all, any-never, tally-cong, tally-front}
 use Rattle.meaning.specs.Meaning.{same}
 use Rattle.meaning.specs.File.{File, endOf, trailer, bodyOf, shapeOf, fileAt, fileOf}
-use Rattle.meaning.specs.Check.{edition?, differ, notBelow, counts?, distance?, nonzero, zeros?, chart?, charts?, ends?, leaving, transitions?, slaves?, nodeOfKind?, nodes?, names, named, holds, held, naming?, inside?, refusalOf}
-use Rattle.meaning.specs.Rewriting.{chartWith, rewrittenChart, rewrite, leavingIn, transitionsIn, noFree?, fromState?, inChart?, headFor, shapeIn, bodyBytes, encode}
+use Rattle.meaning.specs.Check.{edition?, differ, notBelow, counts?, distance?, nonzero, zeros?, chart?, charts?, ends?}
+use Rattle.meaning.specs.Check.{leaving, transitions?, slaves?, nodeOfKind?, nodes?, names, named, holds, held, naming?}
+use Rattle.meaning.specs.Check.{inside?, refusalOf}
+use Rattle.meaning.specs.Rewriting.{chartWith, rewrittenChart, rewrite, leavingIn, transitionsIn, noFree?, fromState?}
+use Rattle.meaning.specs.Rewriting.{inChart?, headFor, shapeIn, bodyBytes, encode}
 use Rattle.meaning.specs.Rewriting.Laws.{list-most, sum-most}
 use Rattle.meaning.specs.Laws.Bools.{and-l, and-r, same-refl, same→≡, same-≢, same→≢}
 use Rattle.meaning.specs.Laws.Trees.{Ordered}
@@ -33,7 +38,9 @@ use Rattle.agreement.specs.Every.{every-at}
 use Rattle.agreement.specs.Laid.{orderedR, start-mono, start-suc}
 use Rattle.agreement.specs.Recheck.{rule10R}
 use Rattle.agreement.specs.Step.{Rewritten}
-use Rattle.agreement.specs.Encoded.{noTransition, Fits, nodeIn, head-there, some-transition-there, node-there, head-is, start-is, transition-is, node-is, chart-back, trailerFor, length-encode, end-is, trailer-there, trailer-is, body-is, shape-is, file-is}
+use Rattle.agreement.specs.Encoded.{noTransition, Fits, nodeIn, head-there, some-transition-there, node-there}
+use Rattle.agreement.specs.Encoded.{head-is, start-is, transition-is, node-is, chart-back, trailerFor}
+use Rattle.agreement.specs.Encoded.{length-encode, end-is, trailer-there, trailer-is, body-is, shape-is, file-is}
 use Rattle.agreement.specs.Reads.{reads-back, tree-same}
 use Rattle.meaning.specs.Check.Laws.{Passed}
 use Rattle.agreement.specs.Passed.{passes}
@@ -95,16 +102,19 @@ trailer-zero t (suc zero) l = refl
 trailer-zero t (suc (suc i)) l = absurd (omega arith)
 
 -- the zero bytes of a record that stands at a place
-pub zeros-at : (s xs r : List ℕ) (at k m : ℕ) → drop at s ≡ xs ++ r → k + m ≤ length xs → ((i : ℕ) → i < m → getD xs (k + i) 0 ≡ 0)
+pub zeros-at : (s xs r : List ℕ) (at k m : ℕ) → drop at s ≡ xs ++ r → k + m ≤ length xs
+    → ((i : ℕ) → i < m → getD xs (k + i) 0 ≡ 0)
     → nonzero s (at + k) m ≡ false
 unfolding nonzero
 zeros-at s xs r at k m e l h = any-all m (λ i. differ (getD s (at + k + i) 0) 0) (λ i q. equal (getD s (at + k + i) 0) 0
-    (ap (λ z. getD s z 0) (let z : at + k + i ≡ at + (k + i) = omega arith in z) ∙ sym (getD-drop at s (k + i) 0) ∙ ap (λ z. getD z (k + i) 0) e
+    (ap (λ z. getD s z 0) (let z : at + k + i ≡ at + (k + i) = omega arith in z) ∙ sym (getD-drop at s (k + i) 0)
+    ∙ ap (λ z. getD z (k + i) 0) e
     ∙ List·getD-append xs r 0 (k + i) (omega arith) ∙ h i q))
 
 -- ── how many transitions leave a state ──
 
-pub leaving-list : (ts : List Transition) (s : ℕ) → tally (length ts) (λ u. one (same (getD ts u noTransition .from) s)) ≡ leavingIn ts s
+pub leaving-list : (ts : List Transition) (s : ℕ)
+    → tally (length ts) (λ u. one (same (getD ts u noTransition .from) s)) ≡ leavingIn ts s
 unfolding leavingIn tally
 leaving-list [] s = refl
 leaving-list (t ∷ ts) s = tally-front (length ts) (λ u. one (same (getD (t ∷ ts) u noTransition .from) s))
@@ -169,32 +179,40 @@ module _ (F : File) (rg : Regular F) (gv : Given F) where
   counts : counts? (trailer (encode R)) ≡ false
   unfolding counts?
   counts = ap counts? (trailer-is R fits)
-      ∙ neither _ _ (neither _ _ (neither _ _ (neither _ _ (there (F .charts) (rg .some-chart)) (le-ltb mostCharts (F .charts) (rg .charts)))
+      ∙ neither _ _ (neither _ _
+      (neither _ _ (neither _ _ (there (F .charts) (rg .some-chart)) (le-ltb mostCharts (F .charts) (rg .charts)))
       (le-ltb mostSlaves 0 (omega arith)))
-      (neither _ _ (there (R .nodes) some-node) (le-ltb mostNodes (R .nodes) (gv .nodes)))) (le-ltb mostTransitions (transitionsIn R) total)
+      (neither _ _ (there (R .nodes) some-node) (le-ltb mostNodes (R .nodes) (gv .nodes))))
+      (le-ltb mostTransitions (transitionsIn R) total)
 
   distance : distance? (encode R) ≡ false
   unfolding distance?
   distance = neither _ _ (equal _ _ (ap (λ t. t .distance) (trailer-is R fits) ∙ ap sizeOf (sym (shape-is R fits))))
       (le-ltb (endOf (encode R)) (trailer (encode R) .distance)
-      (let e = end-is R fits in let d : trailer (encode R) .distance ≡ sizeOf (shapeIn R) = ap (λ t. t .distance) (trailer-is R fits) in omega arith))
+      (let e = end-is R fits in let d : trailer (encode R) .distance ≡ sizeOf (shapeIn R) =
+      ap (λ t. t .distance) (trailer-is R fits) in omega arith))
 
-  zeros : (nonzero (encode R) (endOf (encode R) + 10) 2 || zeros? (shapeOf (trailer (encode R))) (bodyOf (encode R))) ≡ false
+  zeros : (nonzero (encode R) (endOf (encode R) + 10) 2 || zeros? (shapeOf (trailer (encode R))) (bodyOf (encode R)))
+      ≡ false
   unfolding zeros? shapeIn
   zeros = neither _ _
-      (zeros-at (encode R) (trailerBytes t) [] (endOf (encode R)) 10 2 (trailer-there R fits ∙ sym (append-nil (trailerBytes t)))
+      (zeros-at (encode R) (trailerBytes t) [] (endOf (encode R)) 10 2
+      (trailer-there R fits ∙ sym (append-nil (trailerBytes t)))
       (let e = length-trailer t in omega arith) (trailer-zero t))
       (ap₂ zeros? (shape-is R fits) (body-is R fits)
       ∙ neither _ _ (neither _ _ (neither _ _
       (any-all (R .charts) _ (λ c l. let u = head-there R c l in
-      zeros-at b (headBytes (headFor (R .chart c))) (u .0) (24 * c) 3 5 (u .1) (let e = length-head (headFor (R .chart c)) in omega arith)
+      zeros-at b (headBytes (headFor (R .chart c))) (u .0) (24 * c) 3 5 (u .1)
+      (let e = length-head (headFor (R .chart c)) in omega arith)
       (head-zero (headFor (R .chart c)))))
       (any-all (transitionsIn R) _ (λ k l. let u = some-transition-there R k l in
-      zeros-at b (transitionBytes (u .0)) (u .1) (transitionsFrom n + 28 * k) 2 2 (u .2) (let e = length-transition (u .0) in omega arith)
+      zeros-at b (transitionBytes (u .0)) (u .1) (transitionsFrom n + 28 * k) 2 2 (u .2)
+      (let e = length-transition (u .0) in omega arith)
       (transition-zero (u .0)))))
       (any-all 0 _ (λ i l. absurd (omega arith))))
       (any-all (R .nodes) _ (λ j l. let u = node-there R j l in
-      zeros-at b (nodeBytes (nodeIn R j)) (u .0) (nodesFrom n + 20 * j) 3 1 (u .1) (let e = length-node (nodeIn R j) in omega arith)
+      zeros-at b (nodeBytes (nodeIn R j)) (u .0) (nodesFrom n + 20 * j) 3 1 (u .1)
+      (let e = length-node (nodeIn R j) in omega arith)
       (node-zero (nodeIn R j)))))
     where
       t : Trailer
@@ -212,7 +230,8 @@ module _ (F : File) (rg : Regular F) (gv : Given F) where
       (equal _ _ (start-is R fits (R .charts) (omega arith)))
     where
       form : Head → Bool
-      form h = (same (h .states) 0 || ltb mostStates (h .states)) || notBelow (h .initial) (h .states) || ltb mostInChart (h .transitions)
+      form h = (same (h .states) 0 || ltb mostStates (h .states)) || notBelow (h .initial) (h .states)
+          || ltb mostInChart (h .transitions)
 
   states-stay : (c : ℕ) → R .chart c .states ≡ F .chart c .states
   unfolding rewrittenChart chartWith
@@ -223,11 +242,13 @@ module _ (F : File) (rg : Regular F) (gv : Given F) where
   transitions = any-all (R .charts) _ (λ c l. neither _ _
       (any-all (headAt n b c .transitions) (ends? n b c) (λ k m. let m′ = subst (λ z. k < z) (count c l) m in
       ap₂ (λ t s. notBelow (t .from) s || notBelow (t .to) s) (transition-is R fits c k l m′) (states c l)
-      ∙ (let h = every-at (λ t. (t .from < F .chart c .states) × (t .to < F .chart c .states)) (R .chart c .transitions) k noTransition m′
+      ∙ (let h = every-at (λ t. (t .from < F .chart c .states) × (t .to < F .chart c .states))
+      (R .chart c .transitions) k noTransition m′
       (new-states F rg (gv .room) c l) in
       neither _ _ (lower _ _ (h .0)) (lower _ _ (h .1)))))
       (any-all (headAt n b c .states) _ (λ s m. ap (ltb mostFromState) (leaves c l s)
-      ∙ any-never (R .chart c .states) (λ s. ltb mostFromState (leavingIn (R .chart c .transitions) s)) (any-never (R .charts) _ (gv .leaving) c l) s
+      ∙ any-never (R .chart c .states)
+      (λ s. ltb mostFromState (leavingIn (R .chart c .transitions) s)) (any-never (R .charts) _ (gv .leaving) c l) s
       (subst (λ z. s < z) (ap (λ h. h .states) (head-is R fits c l)) m))))
     where
       count : (c : ℕ) → c < R .charts → headAt n b c .transitions ≡ length (R .chart c .transitions)
@@ -237,9 +258,11 @@ module _ (F : File) (rg : Regular F) (gv : Given F) where
       states c l = ap (λ h. h .states) (head-is R fits c l) ∙ states-stay c
 
       leaves : (c : ℕ) → c < R .charts → (s : ℕ)
-          → tally (headAt n b c .transitions) (λ u. one (same (transitionAt n b (startOf n b c + u) .from) s)) ≡ leavingIn (R .chart c .transitions) s
+          → tally (headAt n b c .transitions) (λ u. one (same (transitionAt n b (startOf n b c + u) .from) s))
+          ≡ leavingIn (R .chart c .transitions) s
       leaves c l s = ap (λ k. tally k (λ u. one (same (transitionAt n b (startOf n b c + u) .from) s))) (count c l)
-          ∙ tally-cong (length (R .chart c .transitions)) _ (λ u. one (same (getD (R .chart c .transitions) u noTransition .from) s))
+          ∙ tally-cong (length (R .chart c .transitions)) _
+          (λ u. one (same (getD (R .chart c .transitions) u noTransition .from) s))
           (λ u m. ap (λ t. one (same (t .from) s)) (transition-is R fits c u l m))
           ∙ leaving-list (R .chart c .transitions) s
 
@@ -265,19 +288,23 @@ module _ (F : File) (rg : Regular F) (gv : Given F) where
     where
       go : (j k : ℕ) → nodeAt n b j .kind ≡ k → Known j (nodeAt n b j) → nodeOfKind? G k j ≡ false
       go j zero e h = let u = h .0 .held e in
-          neither _ _ (neither _ _ (neither _ _ (lower _ _ (u .0)) (equal _ _ (u .1))) (equal _ _ (u .2))) (equal _ _ (u .3))
-      go j (suc zero) e h = let u = h .1 e in neither _ _ (neither _ _ (lower _ _ (u .0)) (lower _ _ (u .1))) (equal _ _ (h .0 .both e))
+          neither _ _ (neither _ _ (neither _ _ (lower _ _ (u .0)) (equal _ _ (u .1))) (equal _ _ (u .2)))
+          (equal _ _ (u .3))
+      go j (suc zero) e h = let u = h .1 e in
+          neither _ _ (neither _ _ (lower _ _ (u .0)) (lower _ _ (u .1))) (equal _ _ (h .0 .both e))
       go j (suc (suc zero)) e h = neither _ _ (lower _ _ (h .2 e)) (equal _ _ (h .0 .hidden e))
       go j (suc (suc (suc k))) e h = absurd (let u = h .0 .kind in omega arith)
 
   held-same : (c : ℕ) → held G c ≡ held R c
   unfolding held fileAt shapeIn
-  held-same c = tally-cong (R .nodes) _ _ (λ k l. ap (λ d. one (same (d .kind) 0 && same (d .a) c)) (node-is R fits k l))
+  held-same c =
+      tally-cong (R .nodes) _ _ (λ k l. ap (λ d. one (same (d .kind) 0 && same (d .a) c)) (node-is R fits k l))
 
   named-same : (j : ℕ) → named G j ≡ named R j
   unfolding named names fileAt shapeIn tally
   named-same j = ap (λ z. 0 + z) (tally-cong (R .nodes) _ _
-      (λ k l. ap (λ d. one (same (d .kind) 1 && same (d .a) j) + one (same (d .kind) 1 && same (d .b) j) + one (same (d .kind) 2 && same (d .a) j))
+      (λ k l. ap (λ d. one (same (d .kind) 1 && same (d .a) j) + one (same (d .kind) 1 && same (d .b) j)
+      + one (same (d .kind) 2 && same (d .a) j))
       (node-is R fits k l)))
 
   naming : naming? G ≡ false

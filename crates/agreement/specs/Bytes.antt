@@ -12,7 +12,8 @@ use Rattle.layout.specs.declared.record.Head.{Head}
 use Rattle.layout.specs.declared.record.Transition.{Transition}
 use Rattle.layout.specs.declared.record.Node.{Node}
 use Rattle.meaning.specs.File.{File}
-use Rattle.meaning.specs.Rewriting.{chartWith, rewrittenChart, rewrite, inTurn, headFor, transitionsBytes, bodyBytes, encode}
+use Rattle.meaning.specs.Rewriting.{chartWith, rewrittenChart, rewrite, inTurn, headFor, transitionsBytes, bodyBytes}
+use Rattle.meaning.specs.Rewriting.{encode}
 use Rattle.meaning.specs.Rewriting.Laws.{list-most}
 use Rattle.agreement.specs.Every.{Every, every-imp}
 use Rattle.agreement.specs.Laid.{orderedR}
@@ -54,14 +55,18 @@ in-turn (suc n) f h = and (in-turn n f (λ i l. h i (omega arith))) (h n (omega 
 
 pub head-bytes : (r : Head) → r .states < 256 → r .initial < 256 → r .transitions < 256 → Bytes (headBytes r)
 unfolding headBytes
-head-bytes r s i t = and (and (byte s (byte i (byte t (nought (nought (nought (nought (nought end)))))))) (number 8 (r .feedback)))
+head-bytes r s i t =
+    and (and (byte s (byte i (byte t (nought (nought (nought (nought (nought end)))))))) (number 8 (r .feedback)))
     (number 8 (r .extra))
 
 pub transition-bytes : (r : Transition) → r .from < 256 → r .to < 256 → Bytes (transitionBytes r)
 unfolding transitionBytes
-transition-bytes r f t = and (and (and (byte f (byte t (nought (nought end)))) (number 8 (r .needed))) (number 8 (r .barred))) (number 8 (r .action))
+transition-bytes r f t =
+    and (and (and (byte f (byte t (nought (nought end)))) (number 8 (r .needed))) (number 8 (r .barred)))
+    (number 8 (r .action))
 
-pub transitions-bytes : (ts : List Transition) → Every (λ t. (t .from < 256) × (t .to < 256)) ts → Bytes (transitionsBytes ts)
+pub transitions-bytes : (ts : List Transition) → Every (λ t. (t .from < 256) × (t .to < 256)) ts
+    → Bytes (transitionsBytes ts)
 unfolding transitionsBytes
 transitions-bytes [] h = end
 transitions-bytes (t ∷ ts) h = and (transition-bytes t (h .0 .0) (h .0 .1)) (transitions-bytes ts (h .1))
@@ -70,9 +75,11 @@ pub node-bytes : (r : Node) → r .kind < 256 → r .a < 256 → r .b < 256 → 
 unfolding nodeBytes
 node-bytes r k a b = and (and (byte k (byte a (byte b (nought end)))) (number 8 (r .x))) (number 8 (r .y))
 
-pub trailer-bytes : (r : Trailer) → r .charts < 256 → r .slaves < 256 → r .nodes < 256 → r .edition < 256 → Bytes (trailerBytes r)
+pub trailer-bytes : (r : Trailer) → r .charts < 256 → r .slaves < 256 → r .nodes < 256 → r .edition < 256
+    → Bytes (trailerBytes r)
 unfolding trailerBytes
-trailer-bytes r c s n e = and (and (number 4 (r .distance)) (byte c (byte s (byte n (byte e (number 2 (r .transitions))))))) (nought (nought end))
+trailer-bytes r c s n e = and
+    (and (number 4 (r .distance)) (byte c (byte s (byte n (byte e (number 2 (r .transitions))))))) (nought (nought end))
 
 -- ── the file ──
 
@@ -88,8 +95,12 @@ module _ (F : File) (rg : Regular F) (gv : Given F) where
 
   lists : (c : ℕ) → c < F .charts → Bytes (transitionsBytes (R .chart c .transitions))
   lists c l = transitions-bytes (R .chart c .transitions)
-      (every-imp (λ t. (t .from < F .chart c .states) × (t .to < F .chart c .states)) (λ t. (t .from < 256) × (t .to < 256))
-      (λ t h. (let g = rg .most-states c l in let a = h .0 in omega arith, let g = rg .most-states c l in let a = h .1 in omega arith))
+      (every-imp (λ t. (t .from < F .chart c .states) × (t .to < F .chart c .states))
+      (λ t. (t .from < 256) × (t .to < 256))
+      (λ t h. (
+        let g = rg .most-states c l in let a = h .0 in omega arith,
+        let g = rg .most-states c l in let a = h .1 in omega arith,
+      ))
       (R .chart c .transitions) (new-states F rg (gv .room) c l))
 
   nodes : (j : ℕ) → j < R .nodes → Bytes (nodeBytes (nodeIn R j))
@@ -98,15 +109,18 @@ module _ (F : File) (rg : Regular F) (gv : Given F) where
       go : (k : ℕ) → R .kind j ≡ k → Bytes (nodeBytes (nodeIn R j))
       go zero e = let h = formed F rg (gv .room) j l .held e in let a = h .0 in let c = rg .charts in let b = h .1 in
           node-bytes (nodeIn R j) (omega arith) (omega arith) (omega arith)
-      go (suc zero) e = let h = orderedR F (rg .ready .sound .ordered) .lower₁ j l e in let a = h .0 in let b = h .1 in let n = gv .nodes in
+      go (suc zero) e = let h = orderedR F (rg .ready .sound .ordered) .lower₁ j l e in let a = h .0 in let b = h .1 in
+          let n = gv .nodes in
           node-bytes (nodeIn R j) (omega arith) (omega arith) (omega arith)
       go (suc (suc k)) e = let w = formed F rg (gv .room) j l .kind in let e₂ : R .kind j ≡ 2 = omega arith in
           let a = orderedR F (rg .ready .sound .ordered) .lower₂ j l e₂ in
-          let b = formed F rg (gv .room) j l .hidden e₂ in let n = gv .nodes in node-bytes (nodeIn R j) (omega arith) (omega arith) (omega arith)
+          let b = formed F rg (gv .room) j l .hidden e₂ in let n = gv .nodes in
+          node-bytes (nodeIn R j) (omega arith) (omega arith) (omega arith)
 
   pub new-bytes : AllBytes (encode R)
   unfolding encode bodyBytes
-  new-bytes = all-bytes (and (and (and (and (in-turn (R .charts) _ heads) (in-turn (R .charts) _ lists)) (in-turn 0 _ (λ i l. absurd (omega arith))))
+  new-bytes = all-bytes (and (and (and (and (in-turn (R .charts) _ heads) (in-turn (R .charts) _ lists))
+      (in-turn 0 _ (λ i l. absurd (omega arith))))
       (in-turn (R .nodes) _ nodes))
       (trailer-bytes t (let c = rg .charts in omega arith) (lit< tt) (let n = gv .nodes in omega arith) (lit< tt)))
     where

@@ -21,7 +21,8 @@ use Rattle.meaning.specs.Check.{firstOf, fileTests, refusalOf}
 use Rattle.meaning.specs.Calls.{firstRefusal, firstBytes, inputOf, outputOf, stepRefusal, stepIn, stepOf, allPlaces}
 use Rattle.meaning.specs.Calls.{placesIn, placesOf, runRefusal, runBytes, runCarried}
 use Rattle.meaning.specs.Calls.Laws.{step-allowed}
-use Rattle.meaning.specs.Rewriting.{free, call, LowestLeft, noFree?, chartWith, rewrittenChart, rewriteTests, rewriteBytes, stayTest, rewriteRefusal, rewrite, rewriteLength, shapeIn}
+use Rattle.meaning.specs.Rewriting.{free, call, LowestLeft, noFree?, chartWith, rewrittenChart, rewriteTests}
+use Rattle.meaning.specs.Rewriting.{rewriteBytes, stayTest, rewriteRefusal, rewrite, rewriteLength, shapeIn}
 use Rattle.meaning.specs.Words.{AgreeUnless, Until, PlacesAgree}
 use Rattle.meaning.specs.Laws.Bools.{same-refl, same→≡}
 use Rattle.meaning.specs.Laws.Alike.{ConfigsAlike, first-refusal-alike, first-alike, step-refusal-alike}
@@ -75,7 +76,8 @@ regular f ab p one = record {
   charts = counted (trailer f) (p .counts) .charts;
   most-states = λ c l. charted (shapeOf (trailer f)) (bodyOf f) (p .charts) c l .states;
   initials = λ c l. charted (shapeOf (trailer f)) (bodyOf f) (p .charts) c l .initial;
-  feedbacks = λ c l. let h = headAt-fits (shapeOf (trailer f)) (bodyOf f) (body-bytes f p ab) c in (h .feedback, h .extra);
+  feedbacks =
+      λ c l. let h = headAt-fits (shapeOf (trailer f)) (bodyOf f) (body-bytes f p ab) c in (h .feedback, h .extra);
   lists = λ c l. smalls f p ab c;
   states = λ c l. ended f p c l;
   sets = λ j l. let h = nodeAt-fits (shapeOf (trailer f)) (bodyOf f) (body-bytes f p ab) j in (h .x, h .y);
@@ -125,7 +127,8 @@ module _ (f : List ℕ) (ab : AllBytes f) (room : ℕ) (ok : rewriteRefusal f ro
   no-front : endOf f′ - trailer f′ .distance ≡ 0
   unfolding rewriteBytes
   no-front = let ft = fits (fileOf f) rg (allowed f room ok .given) in
-      ap₂ _-_ (end-is (rewrite (fileOf f)) ft) (ap (λ t. t .distance) (trailer-is (rewrite (fileOf f)) ft)) ∙ omega arith
+      ap₂ _-_ (end-is (rewrite (fileOf f)) ft) (ap (λ t. t .distance) (trailer-is (rewrite (fileOf f)) ft))
+      ∙ omega arith
 
   alike : ConfigsAlike (fileOf f) (fileOf f′)
   unfolding rewrittenChart chartWith
@@ -229,14 +232,17 @@ call-exactly f room ok i l m =
     call-is (fileOf f) i (omega arith) m
 
 -- a file of edition 1 without slaves rewrites to itself, without its front
-pub slaveless-rewrites : (f : List ℕ) → AllBytes f → refusalOf f ≡ 0 → trailer f .edition ≡ firstEdition → fileOf f .slaves ≡ 0
+pub slaveless-rewrites : (f : List ℕ) → AllBytes f → refusalOf f ≡ 0 → trailer f .edition ≡ firstEdition
+    → fileOf f .slaves ≡ 0
     → rewriteBytes f ≡ drop (endOf f - trailer f .distance) f
 unfolding rewriteBytes fileOf
 slaveless-rewrites f ab e one none-there =
     let p = passed f e in slaveless-same (fileOf f) (ready f p ab one) (p .nodes) none-there ∙ encode-again f p ab one
 
 -- rewritten again, a rewritten file stays as it is
-pub twice : (f : List ℕ) → AllBytes f → (room : ℕ) → rewriteRefusal f room ≡ 0 → rewriteBytes (rewriteBytes f) ≡ rewriteBytes f
-twice f ab room ok = slaveless-rewrites (rewriteBytes f) (new-bytes f ab room ok) (same-check f ab room ok) (new-edition f ab room ok)
+pub twice : (f : List ℕ) → AllBytes f → (room : ℕ) → rewriteRefusal f room ≡ 0
+    → rewriteBytes (rewriteBytes f) ≡ rewriteBytes f
+twice f ab room ok =
+    slaveless-rewrites (rewriteBytes f) (new-bytes f ab room ok) (same-check f ab room ok) (new-edition f ab room ok)
     (no-slaves f ab room ok)
     ∙ ap (λ k. drop k (rewriteBytes f)) (no-front f ab room ok)

@@ -1,4 +1,5 @@
--- A rewritten chart: where its transitions stand, how many they are, its interface; a chart whose sets have no call signal.
+-- A rewritten chart: where its transitions stand, how many they are, its interface; a chart whose sets have no call
+-- signal.
 use mathlib.Core.Path.{_≡_, refl, sym, _∙_, ap, subst}
 use mathlib.Core.Bool.{false, cond}
 use mathlib.Core.Option.{Option, none, some}
@@ -40,7 +41,8 @@ module _ (sig : ℕ → ℕ) where
   unfolding nth idles
   nth-idles d i b zero q l = absurd (omega arith)
   nth-idles d i b (suc n) zero l = ap (λ z. takes (idle sig i z)) (sym (add-zero b))
-  nth-idles d i b (suc n) (suc q) l = nth-idles d i (suc b) n q (omega arith) ∙ ap (λ z. takes (idle sig i z)) (omega arith)
+  nth-idles d i b (suc n) (suc q) l =
+      nth-idles d i (suc b) n q (omega arith) ∙ ap (λ z. takes (idle sig i z)) (omega arith)
 
   pub nth-idle : (d : Move) (i : ℕ) (T : Transition → Set) (C : Chart) (q : ℕ) → q < C .states
       → nth d (chartWith sig (some i) T C .transitions) (length (C .transitions) + q) ≡ takes (idle sig i q)
@@ -54,20 +56,24 @@ module _ (sig : ℕ → ℕ) where
   unfolding pick chartWith
   idle-at i T C q l = nth-idle (behind C) i T C q l
 
-  pub pick-moved : (κ : Option ℕ) (T : Transition → Set) (C : Chart) (s v : ℕ) → v ≤ length (C .transitions) → s < C .states
+  pub pick-moved : (κ : Option ℕ) (T : Transition → Set) (C : Chart) (s v : ℕ) → v ≤ length (C .transitions)
+      → s < C .states
       → pick (chartWith sig κ T C) (place κ (length (C .transitions)) s v) ≡ moveR sig κ T s (pick C v)
   unfolding pick place moveR chartWith
   pick-moved none T C s zero l b = refl
-  pick-moved none T C s (suc k) l b = nth-own none T s (behind C) (behind C) (C .transitions) (idles sig none zero (C .states)) k (omega arith)
+  pick-moved none T C s (suc k) l b =
+      nth-own none T s (behind C) (behind C) (C .transitions) (idles sig none zero (C .states)) k (omega arith)
   pick-moved (some i) T C s zero l b = idle-at i T C s b
-  pick-moved (some i) T C s (suc k) l b = nth-own (some i) T s (behind C) (behind C) (C .transitions) (idles sig (some i) zero (C .states)) k (omega arith)
+  pick-moved (some i) T C s (suc k) l b =
+      nth-own (some i) T s (behind C) (behind C) (C .transitions) (idles sig (some i) zero (C .states)) k (omega arith)
 
   pub idles-length : (i b n : ℕ) → length (idles sig (some i) b n) ≡ n
   unfolding idles
   idles-length i b zero = refl
   idles-length i b (suc n) = ap suc (idles-length i (suc b) n)
 
-  pub places : (i : ℕ) (T : Transition → Set) (C : Chart) → length (chartWith sig (some i) T C .transitions) ≡ length (C .transitions) + C .states
+  pub places : (i : ℕ) (T : Transition → Set) (C : Chart)
+      → length (chartWith sig (some i) T C .transitions) ≡ length (C .transitions) + C .states
   unfolding chartWith
   places i T C = rw (
     length-append (map (called sig (some i) T) (C .transitions)) (idles sig (some i) zero (C .states)),
@@ -75,9 +81,11 @@ module _ (sig : ℕ → ℕ) where
     idles-length i zero (C .states),
   )
 
-  pub places-none : (T : Transition → Set) (C : Chart) → length (chartWith sig none T C .transitions) ≡ length (C .transitions)
+  pub places-none : (T : Transition → Set) (C : Chart)
+      → length (chartWith sig none T C .transitions) ≡ length (C .transitions)
   unfolding chartWith idles
-  places-none T C = rw (append-nil (map (called sig none T) (C .transitions)), length-map (C .transitions) (called sig none T))
+  places-none T C =
+      rw (append-nil (map (called sig none T) (C .transitions)), length-map (C .transitions) (called sig none T))
 
   pub guards-idles : (κ : Option ℕ) (b n : ℕ) → guards (idles sig κ b (suc n)) ≡ callIn sig κ
   unfolding guards idles callIn idle
@@ -91,7 +99,8 @@ module _ (sig : ℕ → ℕ) where
   unfolding guards called
   guards-own κ T [] r h = h ∙ sets (callIn sig κ ∷ []) [] (A ≐ ∅ₑ ∪ₑ A) tt
   guards-own κ T (t ∷ ts) r h = ap (λ z. ((t .needed ∪ callIn sig κ) ∪ t .barred) ∪ z) (guards-own κ T ts r h)
-      ∙ sets (t .needed ∷ t .barred ∷ guards ts ∷ callIn sig κ ∷ []) [] (((A ∪ₑ D) ∪ₑ B) ∪ₑ (Cₑ ∪ₑ D) ≐ ((A ∪ₑ B) ∪ₑ Cₑ) ∪ₑ D) tt
+      ∙ sets (t .needed ∷ t .barred ∷ guards ts ∷ callIn sig κ ∷ []) []
+      (((A ∪ₑ D) ∪ₑ B) ∪ₑ (Cₑ ∪ₑ D) ≐ ((A ∪ₑ B) ∪ₑ Cₑ) ∪ₑ D) tt
 
   -- the interface has the call signal of the nearest slave besides
   pub face-is : (κ : Option ℕ) (T : Transition → Set) (C : Chart) → zero < C .states
@@ -102,7 +111,8 @@ module _ (sig : ℕ → ℕ) where
       go : (m : ℕ) → zero < m → guards (map (called sig κ T) (C .transitions) ++ idles sig κ zero m) ∪ C .extra
           ≡ (guards (C .transitions) ∪ C .extra) ∪ callIn sig κ
       go zero l = absurd (omega arith)
-      go (suc m) l = ap (λ z. z ∪ C .extra) (guards-own κ T (C .transitions) (idles sig κ zero (suc m)) (guards-idles κ zero m))
+      go (suc m) l =
+          ap (λ z. z ∪ C .extra) (guards-own κ T (C .transitions) (idles sig κ zero (suc m)) (guards-idles κ zero m))
           ∙ sets (guards (C .transitions) ∷ callIn sig κ ∷ C .extra ∷ []) [] ((A ∪ₑ B) ∪ₑ Cₑ ≐ (A ∪ₑ Cₑ) ∪ₑ B) tt
 
   -- transitions, and a chart, whose sets have no call signal
@@ -119,12 +129,14 @@ module _ (sig : ℕ → ℕ) where
   pub old-pick : (C : Chart) (v : ℕ) → C .stays ≡ false → OldTs (C .transitions) → OldMove sig (pick C v)
   unfolding pick
   old-pick C zero e o = tt
-  old-pick C (suc k) e o = subst (OldMove sig) (sym (ap (λ b. nth (cond b stay noMove) (C .transitions) k) e)) (old-nth (C .transitions) k o)
+  old-pick C (suc k) e o =
+      subst (OldMove sig) (sym (ap (λ b. nth (cond b stay noMove) (C .transitions) k) e)) (old-nth (C .transitions) k o)
 
   pub old-guards : (ts : List Transition) → OldTs ts → Old sig (guards ts)
   unfolding guards
   old-guards [] o = old-none sig
-  old-guards (t ∷ ts) o = old-join sig (t .needed ∪ t .barred) (guards ts) (old-join sig (t .needed) (t .barred) (o .0 .0) (o .0 .1))
+  old-guards (t ∷ ts) o =
+      old-join sig (t .needed ∪ t .barred) (guards ts) (old-join sig (t .needed) (t .barred) (o .0 .0) (o .0 .1))
       (old-guards ts (o .1))
 
   -- of edition 1
@@ -136,4 +148,5 @@ module _ (sig : ℕ → ℕ) where
 
   pub old-faceChart : (C : Chart) → OldChart C → Old sig (inFaceChart C)
   unfolding inFaceChart
-  old-faceChart C o = old-join sig (guards (C .transitions)) (C .extra) (old-guards (C .transitions) (o .old-transitions)) (o .old-extra)
+  old-faceChart C o = old-join sig (guards (C .transitions)) (C .extra)
+      (old-guards (C .transitions) (o .old-transitions)) (o .old-extra)

@@ -1,5 +1,5 @@
--- A file written into bytes reads back, on all that is read. In this order: records in turn; transitions in turn; the body's parts; the trailer;
--- the file.
+-- A file written into bytes reads back, on all that is read. In this order: records in turn; transitions in turn; the
+-- body's parts; the trailer; the file.
 use mathlib.Core.Path.{_≡_, refl, sym, _∙_, ap, ap₂, subst}
 use mathlib.Core.Logic.{⊎-elim}
 use mathlib.Core.Bool.{false}
@@ -9,9 +9,12 @@ use native.Mathlib.Nat.{mul-zero, mul-suc}
 use native.Mathlib.Omega.{arith}
 use lib.ListN.{length, getD, take, drop, length-append, List·getD-append}
 use lib.Seq.{drop-at, take-at, drop-append-add, getD-append-add, ext-getD}
-use Rattle.layout.specs.Record.{trailerOf, headOf, transitionOf, slaveOf, nodeOf, trailerBytes, headBytes, transitionBytes, slaveBytes, nodeBytes}
-use Rattle.layout.specs.Record.Laws.{length-trailer, length-head, length-transition, length-slave, length-node, trailer-back, head-back, transition-back, slave-back, node-back}
-use Rattle.layout.specs.Body.{transitionsFrom, slavesFrom, nodesFrom, sizeOf, headAt, transitionAt, slaveAt, nodeAt, startOf, from, transitionsOf}
+use Rattle.layout.specs.Record.{trailerOf, headOf, transitionOf, slaveOf, nodeOf, trailerBytes, headBytes}
+use Rattle.layout.specs.Record.{transitionBytes, slaveBytes, nodeBytes}
+use Rattle.layout.specs.Record.Laws.{length-trailer, length-head, length-transition, length-slave, length-node}
+use Rattle.layout.specs.Record.Laws.{trailer-back, head-back, transition-back, slave-back, node-back}
+use Rattle.layout.specs.Body.{transitionsFrom, slavesFrom, nodesFrom, sizeOf, headAt, transitionAt, slaveAt, nodeAt}
+use Rattle.layout.specs.Body.{startOf, from, transitionsOf}
 use Rattle.layout.specs.Body.Laws.{length-from, getD-from}
 use Rattle.layout.specs.declared.body.Shape.{Shape}
 use Rattle.layout.specs.declared.record.Trailer.{Trailer}
@@ -44,9 +47,11 @@ module _ (w : ℕ) (f : ℕ → List ℕ) (h : (i : ℕ) → length (f i) ≡ w)
       (λ e. (
         rest,
         ap (drop (w * i)) (append-assoc (inTurn n f) (f n) rest)
-            ∙ drop-at (inTurn n f) (f n ++ rest) (w * i) (length-turn n ∙ ap (λ z. w * z) (sym e)) ∙ ap (λ z. f z ++ rest) (sym e),
+            ∙ drop-at (inTurn n f) (f n ++ rest) (w * i) (length-turn n ∙ ap (λ z. w * z) (sym e))
+            ∙ ap (λ z. f z ++ rest) (sym e),
       ))
-      (λ m. let u = turn-at n i (f n ++ rest) m in (u .0, ap (drop (w * i)) (append-assoc (inTurn n f) (f n) rest) ∙ u .1)) (below-suc i n l)
+      (λ m. let u = turn-at n i (f n ++ rest) m in
+      (u .0, ap (drop (w * i)) (append-assoc (inTurn n f) (f n) rest) ∙ u .1)) (below-suc i n l)
 
 -- ── transitions in turn ──
 
@@ -57,7 +62,8 @@ noTransition = record { from = 0; to = 0; needed = ∅; barred = ∅; action = �
 length-transitions : (ts : List Transition) → length (transitionsBytes ts) ≡ 28 * length ts
 unfolding transitionsBytes
 length-transitions [] = refl
-length-transitions (t ∷ ts) = length-append (transitionBytes t) (transitionsBytes ts) ∙ omega (arith, length-transition t, length-transitions ts)
+length-transitions (t ∷ ts) =
+    length-append (transitionBytes t) (transitionsBytes ts) ∙ omega (arith, length-transition t, length-transitions ts)
 
 transitions-append : (a b : List Transition) → transitionsBytes (a ++ b) ≡ transitionsBytes a ++ transitionsBytes b
 unfolding transitionsBytes
@@ -70,7 +76,8 @@ transitions-at : (ts : List Transition) (k : ℕ) (rest : List ℕ) → k < leng
     → (r : List ℕ) × (drop (28 * k) (transitionsBytes ts ++ rest) ≡ transitionBytes (getD ts k noTransition) ++ r)
 unfolding transitionsBytes
 transitions-at [] k rest l = absurd (omega arith)
-transitions-at (t ∷ ts) zero rest l = (transitionsBytes ts ++ rest, append-assoc (transitionBytes t) (transitionsBytes ts) rest)
+transitions-at (t ∷ ts) zero rest l =
+    (transitionsBytes ts ++ rest, append-assoc (transitionBytes t) (transitionsBytes ts) rest)
 transitions-at (t ∷ ts) (suc k) rest l = let u = transitions-at ts k rest (omega arith) in (
   u .0,
   ap (drop (28 * suc k)) (append-assoc (transitionBytes t) (transitionsBytes ts) rest)
@@ -112,9 +119,11 @@ module _ (ts : ℕ → List Transition) where
           → (tally c (λ c. length (ts c)) + k < length (all n ++ ts n))
           × (getD (all n ++ ts n) (tally c (λ c. length (ts c)) + k) noTransition ≡ getD (ts c) k noTransition)
       here c e k m = rw e (
-        (let a = length-append (all n) (ts n) in let b = length-all n in let m′ : k < length (ts n) = subst (λ c. k < length (ts c)) e m in
+        (let a = length-append (all n) (ts n) in let b = length-all n in
+            let m′ : k < length (ts n) = subst (λ c. k < length (ts c)) e m in
             omega arith),
-        ap (λ z. getD (all n ++ ts n) (z + k) noTransition) (sym (length-all n)) ∙ getD-append-add (all n) (ts n) k noTransition,
+        ap (λ z. getD (all n ++ ts n) (z + k) noTransition) (sym (length-all n))
+            ∙ getD-append-add (all n) (ts n) k noTransition,
       )
 
 -- ── the body ──
@@ -157,7 +166,8 @@ module _ (F : File) where
   ns = inTurn (F .nodes) (λ j. nodeBytes (nodeIn j))
 
   length-hs : length hs ≡ 24 * F .charts
-  length-hs = length-turn 24 (λ c. headBytes (headFor (F .chart c))) (λ c. length-head (headFor (F .chart c))) (F .charts)
+  length-hs =
+      length-turn 24 (λ c. headBytes (headFor (F .chart c))) (λ c. length-head (headFor (F .chart c))) (F .charts)
 
   length-rs : length rs ≡ 28 * transitionsIn F
   unfolding transitionsIn
@@ -176,9 +186,11 @@ module _ (F : File) where
       ∙ omega (arith, length-append (hs ++ rs) ss, length-append hs rs, length-hs, length-rs, length-ss, length-ns)
 
   -- what stands at a place of each part
-  pub head-there : (c : ℕ) → c < F .charts → (r : List ℕ) × (drop (24 * c) (bodyBytes F) ≡ headBytes (headFor (F .chart c)) ++ r)
+  pub head-there : (c : ℕ) → c < F .charts
+      → (r : List ℕ) × (drop (24 * c) (bodyBytes F) ≡ headBytes (headFor (F .chart c)) ++ r)
   unfolding bodyBytes
-  head-there c l = let u = turn-at 24 (λ c. headBytes (headFor (F .chart c))) (λ c. length-head (headFor (F .chart c))) (F .charts) c
+  head-there c l =
+      let u = turn-at 24 (λ c. headBytes (headFor (F .chart c))) (λ c. length-head (headFor (F .chart c))) (F .charts) c
       (rs ++ (ss ++ ns)) l in
       (u .0, ap (drop (24 * c)) (append-assoc (hs ++ rs) ss ns ∙ append-assoc hs rs (ss ++ ns)) ∙ u .1)
 
@@ -198,33 +210,40 @@ module _ (F : File) where
   )
 
   pub some-transition-there : (t : ℕ) → t < transitionsIn F
-      → (u : Transition) × (r : List ℕ) × (drop (transitionsFrom (shapeIn F) + 28 * t) (bodyBytes F) ≡ transitionBytes u ++ r)
+      → (u : Transition) × (r : List ℕ)
+      × (drop (transitionsFrom (shapeIn F) + 28 * t) (bodyBytes F) ≡ transitionBytes u ++ r)
   unfolding transitionsIn
   some-transition-there t l = let u = place-there t (let e = length-all listOf (F .charts) in omega arith) in
       (getD (all listOf (F .charts)) t noTransition, u .0, u .1)
 
   pub transition-there : (c k : ℕ) → c < F .charts → k < length (F .chart c .transitions)
-      → (r : List ℕ) × (drop (transitionsFrom (shapeIn F) + 28 * (tally c (λ c. length (F .chart c .transitions)) + k)) (bodyBytes F)
+      → (r : List ℕ)
+      × (drop (transitionsFrom (shapeIn F) + 28 * (tally c (λ c. length (F .chart c .transitions)) + k)) (bodyBytes F)
       ≡ transitionBytes (getD (F .chart c .transitions) k noTransition) ++ r)
   transition-there c k l m = let v = all-at listOf (F .charts) c k l m in
       let u = place-there (tally c (λ c. length (F .chart c .transitions)) + k) (v .0) in
       (u .0, u .1 ∙ ap (λ z. transitionBytes z ++ u .0) (v .1))
 
-  pub slave-there : (i : ℕ) → i < F .slaves → (r : List ℕ) × (drop (slavesFrom (shapeIn F) + 4 * i) (bodyBytes F) ≡ slaveBytes (slaveIn i) ++ r)
+  pub slave-there : (i : ℕ) → i < F .slaves
+      → (r : List ℕ) × (drop (slavesFrom (shapeIn F) + 4 * i) (bodyBytes F) ≡ slaveBytes (slaveIn i) ++ r)
   unfolding bodyBytes shapeIn
-  slave-there i l = let u = turn-at 4 (λ i. slaveBytes (slaveIn i)) (λ i. length-slave (slaveIn i)) (F .slaves) i ns l in (
-    u .0,
-    ap (drop (24 * F .charts + 28 * transitionsIn F + 4 * i)) (append-assoc (hs ++ rs) ss ns)
-        ∙ past (hs ++ rs) (ss ++ ns) (24 * F .charts + 28 * transitionsIn F) (4 * i) (length-append hs rs ∙ omega (arith, length-hs, length-rs))
-        ∙ u .1,
-  )
+  slave-there i l =
+      let u = turn-at 4 (λ i. slaveBytes (slaveIn i)) (λ i. length-slave (slaveIn i)) (F .slaves) i ns l in (
+        u .0,
+        ap (drop (24 * F .charts + 28 * transitionsIn F + 4 * i)) (append-assoc (hs ++ rs) ss ns)
+            ∙ past (hs ++ rs) (ss ++ ns) (24 * F .charts + 28 * transitionsIn F) (4 * i)
+            (length-append hs rs ∙ omega (arith, length-hs, length-rs))
+            ∙ u .1,
+      )
 
-  pub node-there : (j : ℕ) → j < F .nodes → (r : List ℕ) × (drop (nodesFrom (shapeIn F) + 20 * j) (bodyBytes F) ≡ nodeBytes (nodeIn j) ++ r)
+  pub node-there : (j : ℕ) → j < F .nodes
+      → (r : List ℕ) × (drop (nodesFrom (shapeIn F) + 20 * j) (bodyBytes F) ≡ nodeBytes (nodeIn j) ++ r)
   unfolding bodyBytes shapeIn
   node-there j l = let u = turn-at 20 (λ j. nodeBytes (nodeIn j)) (λ j. length-node (nodeIn j)) (F .nodes) j [] l in (
     u .0,
     past ((hs ++ rs) ++ ss) ns (24 * F .charts + 28 * transitionsIn F + 4 * F .slaves) (20 * j)
-        (length-append (hs ++ rs) ss ∙ omega (arith, length-append hs rs, length-hs, length-rs, length-ss)) ∙ ap (drop (20 * j)) (sym (append-nil ns))
+        (length-append (hs ++ rs) ss ∙ omega (arith, length-append hs rs, length-hs, length-rs, length-ss))
+        ∙ ap (drop (20 * j)) (sym (append-nil ns))
         ∙ u .1,
   )
 
@@ -237,25 +256,31 @@ module _ (F : File) (ft : Fits F) where
 
   pub head-is : (c : ℕ) → c < F .charts → headAt n b c ≡ headFor (F .chart c)
   unfolding headAt headFor
-  head-is c l = let u = head-there F c l in ap headOf (u .1) ∙ head-back (headFor (F .chart c)) (u .0) (ft .heads c l .0) (ft .heads c l .1)
+  head-is c l = let u = head-there F c l in
+      ap headOf (u .1) ∙ head-back (headFor (F .chart c)) (u .0) (ft .heads c l .0) (ft .heads c l .1)
 
   pub start-is : (c : ℕ) → c ≤ F .charts → startOf n b c ≡ tally c (λ c. length (F .chart c .transitions))
   unfolding startOf tally headFor
   start-is zero l = refl
-  start-is (suc c) l = let h = ap (λ z. z .transitions) (head-is c (omega arith)) in let g = start-is c (omega arith) in omega arith
+  start-is (suc c) l = let h = ap (λ z. z .transitions) (head-is c (omega arith)) in
+      let g = start-is c (omega arith) in omega arith
 
   pub transition-is : (c k : ℕ) → c < F .charts → k < length (F .chart c .transitions)
       → transitionAt n b (startOf n b c + k) ≡ getD (F .chart c .transitions) k noTransition
   unfolding transitionAt
-  transition-is c k l m = let u = transition-there F c k l m in let f = every-at Small (F .chart c .transitions) k noTransition m (ft .lists c l) in
+  transition-is c k l m = let u = transition-there F c k l m in
+      let f = every-at Small (F .chart c .transitions) k noTransition m (ft .lists c l) in
       ap (λ z. transitionOf (drop (transitionsFrom n + 28 * (z + k)) b)) (start-is c (omega arith))
-      ∙ ap transitionOf (u .1) ∙ transition-back (getD (F .chart c .transitions) k noTransition) (u .0) (f .0) (f .1) (f .2)
+      ∙ ap transitionOf (u .1)
+      ∙ transition-back (getD (F .chart c .transitions) k noTransition) (u .0) (f .0) (f .1) (f .2)
 
   pub list-is : (c : ℕ) → c < F .charts → transitionsOf n b c ≡ F .chart c .transitions
   unfolding transitionsOf headFor
   list-is c l = ap (λ z. from (transitionAt n b) (startOf n b c) (z .transitions)) (head-is c l)
-      ∙ ext-getD noTransition (from (transitionAt n b) (startOf n b c) (length ts)) ts (length-from (transitionAt n b) (startOf n b c) (length ts))
-      (λ k m. let m′ : k < length ts = subst (λ z. k < z) (length-from (transitionAt n b) (startOf n b c) (length ts)) m in
+      ∙ ext-getD noTransition (from (transitionAt n b) (startOf n b c) (length ts)) ts
+      (length-from (transitionAt n b) (startOf n b c) (length ts))
+      (λ k m.
+      let m′ : k < length ts = subst (λ z. k < z) (length-from (transitionAt n b) (startOf n b c) (length ts)) m in
       getD-from (transitionAt n b) (startOf n b c) (length ts) k noTransition m′ ∙ transition-is c k l m′)
     where
       ts : List Transition
@@ -267,12 +292,20 @@ module _ (F : File) (ft : Fits F) where
 
   pub node-is : (j : ℕ) → j < F .nodes → nodeAt n b j ≡ nodeIn F j
   unfolding nodeAt
-  node-is j l = let u = node-there F j l in ap nodeOf (u .1) ∙ node-back (nodeIn F j) (u .0) (ft .sets j l .0) (ft .sets j l .1)
+  node-is j l = let u = node-there F j l in
+      ap nodeOf (u .1) ∙ node-back (nodeIn F j) (u .0) (ft .sets j l .0) (ft .sets j l .1)
 
   pub chart-back : (c : ℕ) → c < F .charts → chartOf n b c ≡ F .chart c
   unfolding chartOf headFor shapeIn
   chart-back c l = ap₂ (λ (h : Head) (ts : List Transition).
-      record { states = h .states; initial = h .initial; transitions = ts; feedback = h .feedback; extra = h .extra; stays = same firstEdition stayEdition })
+      record {
+        states = h .states;
+        initial = h .initial;
+        transitions = ts;
+        feedback = h .feedback;
+        extra = h .extra;
+        stays = same firstEdition stayEdition;
+      })
       (head-is c l) (list-is c l)
       ∙ ap (λ x. record {
         states = F .chart c .states;
@@ -297,7 +330,8 @@ module _ (F : File) (ft : Fits F) where
 
   pub length-encode : length (encode F) ≡ sizeOf (shapeIn F) + 12
   unfolding encode
-  length-encode = length-append (bodyBytes F) (trailerBytes trailerFor) ∙ omega (arith, length-body F, length-trailer trailerFor)
+  length-encode =
+      length-append (bodyBytes F) (trailerBytes trailerFor) ∙ omega (arith, length-body F, length-trailer trailerFor)
 
   pub end-is : endOf (encode F) ≡ sizeOf (shapeIn F)
   end-is = omega (arith, length-encode)
@@ -308,7 +342,8 @@ module _ (F : File) (ft : Fits F) where
 
   pub trailer-is : trailer (encode F) ≡ trailerFor
   unfolding trailer
-  trailer-is = ap trailerOf (trailer-there ∙ sym (append-nil (trailerBytes trailerFor))) ∙ trailer-back trailerFor [] (ft .size) (ft .total)
+  trailer-is = ap trailerOf (trailer-there ∙ sym (append-nil (trailerBytes trailerFor)))
+      ∙ trailer-back trailerFor [] (ft .size) (ft .total)
 
   pub body-is : bodyOf (encode F) ≡ bodyBytes F
   unfolding bodyOf encode

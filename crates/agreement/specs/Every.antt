@@ -1,4 +1,5 @@
--- A statement of every transition of a list: of two lists, of one in it, of those by number, of those changed one by one.
+-- A statement of every transition of a list: of two lists, of one in it, of those by number, of those changed one by
+-- one.
 use mathlib.Core.Path.{_≡_, sym, subst}
 use mathlib.Core.List.{List, [], _∷_, _++_, map, List·Memᴰ, List·Memᴰ·cases-cons, List·Memᴰ·not-nil}
 use mathlib.Core.Logic.{⊎-elim}
@@ -33,14 +34,17 @@ module _ (P : Transition → Type 0) where
   every-from f k zero h = tt
   every-from f k (suc n) h = (
     subst (λ z. P (f z)) (add-zero k) (h 0 (omega arith)),
-    every-from f (suc k) n (λ i l. subst (λ z. P (f z)) (let e : k + suc i ≡ suc k + i = omega arith in e) (h (suc i) (omega arith))),
+    every-from f (suc k) n
+        (λ i l. subst (λ z. P (f z)) (let e : k + suc i ≡ suc k + i = omega arith in e) (h (suc i) (omega arith))),
   )
 
-  pub every-map : (Q : Transition → Type 0) (g : Transition → Transition) → ((t : Transition) → P t → Q (g t)) → (ts : List Transition) → Every P ts
+  pub every-map : (Q : Transition → Type 0) (g : Transition → Transition) → ((t : Transition) → P t → Q (g t))
+      → (ts : List Transition) → Every P ts
       → Every Q (map g ts)
   every-map Q g h [] k = tt
   every-map Q g h (t ∷ ts) k = (h t (k .0), every-map Q g h ts (k .1))
 
-  pub every-imp : (Q : Transition → Type 0) → ((t : Transition) → P t → Q t) → (ts : List Transition) → Every P ts → Every Q ts
+  pub every-imp : (Q : Transition → Type 0) → ((t : Transition) → P t → Q t) → (ts : List Transition) → Every P ts
+      → Every Q ts
   every-imp Q h [] k = tt
   every-imp Q h (t ∷ ts) k = (h t (k .0), every-imp Q h ts (k .1))

@@ -1,4 +1,5 @@
--- The rewriting keeps both interfaces of the whole. (Inside, a rewritten part has the call signal of the nearest slave besides: `face-t` of Same.)
+-- The rewriting keeps both interfaces of the whole. (Inside, a rewritten part has the call signal of the nearest slave
+-- besides: `face-t` of Same.)
 use mathlib.Core.Path.{_≡_, refl, _∙_, ap, ap₂, subst₂}
 use mathlib.Core.Option.{Option, none, some}
 use mathlib.Core.List.{List, [], _∷_, _++_, map}
@@ -6,7 +7,8 @@ use Prim.Native.Nat.{ℕ, zero, suc, _<_}
 use Rattle.signals.specs.Mask.{_∪_, _∖_}
 use Rattle.signals.specs.Decide.{sets, A, B, C, D, ∅ₑ, _∪ₑ_, _∖ₑ_, _≐_, _⊑_, _⊥ₑ_}
 use Rattle.layout.specs.declared.record.Transition.{Transition}
-use Rattle.meaning.specs.Meaning.{Set, ∅, Chart, Tree, Slaves, leaf, comp, hide, dec, nil, snoc, Move, noMove, actions, inFaceChart, inFace, outFace, outFaces}
+use Rattle.meaning.specs.Meaning.{Set, ∅, Chart, Tree, Slaves, leaf, comp, hide, dec, nil, snoc, Move, noMove, actions}
+use Rattle.meaning.specs.Meaning.{inFaceChart, inFace, outFace, outFaces}
 use Rattle.meaning.specs.File.{File, wholeOf}
 use Rattle.meaning.specs.Rewriting.{call, callIn, idle, idles, called, chartWith}
 use Rattle.meaning.specs.Laws.Names.{kap}
@@ -43,7 +45,8 @@ module _ (sig state : ℕ → ℕ) where
   unfolding added
   added-calls ss [] = sets (calls sig ss ∷ []) [] (∅ₑ ⊑ A) tt
   added-calls ss (t ∷ ts) =
-      sets (touch sig state ss t ∷ added (touch sig state ss) ts ∷ calls sig ss ∷ []) (A ⊑ C ∷ B ⊑ C ∷ []) (A ∪ₑ B ⊑ C) tt
+      sets (touch sig state ss t ∷ added (touch sig state ss) ts ∷ calls sig ss ∷ []) (A ⊑ C ∷ B ⊑ C ∷ [])
+      (A ∪ₑ B ⊑ C) tt
       (touch-calls sig state ss t) (added-calls ss ts)
 
   added-nil : (ts : List Transition) → added (touch sig state nil) ts ≡ ∅
@@ -58,12 +61,14 @@ module _ (sig state : ℕ → ℕ) where
 
   -- ── outputs of a tree ──
 
-  module _ (kap : ℕ → Option ℕ) (slv : ℕ → Slaves) (N : ℕ) (E E′ : ℕ → Chart) (old : (c : ℕ) → c < N → OldChart sig (E c))
+  module _ (kap : ℕ → Option ℕ) (slv : ℕ → Slaves) (N : ℕ) (E E′ : ℕ → Chart)
+      (old : (c : ℕ) → c < N → OldChart sig (E c))
       (same-chart : (c : ℕ) → c < N → E′ c ≡ chartWith sig (kap c) (touch sig state (slv c)) (E c)) where
     abbrev fbs : ℕ → Set
     fbs c = E c .feedback
 
-    actions-R : (c : ℕ) → c < N → actions (E′ c .transitions) ≡ actions (E c .transitions) ∪ added (touch sig state (slv c)) (E c .transitions)
+    actions-R : (c : ℕ) → c < N
+        → actions (E′ c .transitions) ≡ actions (E c .transitions) ∪ added (touch sig state (slv c)) (E c .transitions)
     unfolding chartWith
     actions-R c l = ap (λ C. actions (C .transitions)) (same-chart c l)
         ∙ actions-own (kap c) (touch sig state (slv c)) (E c .transitions) (idles sig (kap c) zero (E c .states))
@@ -81,23 +86,27 @@ module _ (sig state : ℕ → ℕ) where
 
       outs-old : (ss : Slaves) (κ : Option ℕ) → FitS sig kap slv N ss κ → Old sig (outFaces E ss)
       outs-old nil κ f = old-none sig
-      outs-old (snoc ss i t) κ f = old-join sig (outFaces E ss) (outFace E t) (outs-old ss κ (f .0)) (out-old t (some i) (f .2))
+      outs-old (snoc ss i t) κ f =
+          old-join sig (outFaces E ss) (outFace E t) (outs-old ss κ (f .0)) (out-old t (some i) (f .2))
 
     mutual
       unfolding outFace tree
 
       pub out-t : (t : Tree) (κ : Option ℕ) → Fit sig kap slv N t κ → outFace E′ (tree sig fbs t) ≡ outFace E t
       out-t (leaf c) κ f = actions-R c (f .0)
-          ∙ ap (λ z. actions (E c .transitions) ∪ z) (ap (λ ss. added (touch sig state ss) (E c .transitions)) (f .2) ∙ added-nil (E c .transitions))
+          ∙ ap (λ z. actions (E c .transitions) ∪ z)
+          (ap (λ ss. added (touch sig state ss) (E c .transitions)) (f .2) ∙ added-nil (E c .transitions))
           ∙ sets (actions (E c .transitions) ∷ []) [] (A ∪ₑ ∅ₑ ≐ A) tt
       out-t (comp a b x) κ f = ap₂ _∪_ (out-t a κ (f .0)) (out-t b κ (f .1))
       out-t (hide a x y) κ f = ap (λ z. z ∖ y) (out-t a κ (f .1))
       out-t (dec c ss) κ f = ap (λ z. z ∖ calls sig ss) (out-s ss κ (f .4) c (fbs c ∪ calls sig ss)
           ∙ ap (λ z. z ∪ outFaces E ss) (actions-R c (f .0)
           ∙ ap (λ z. actions (E c .transitions) ∪ added (touch sig state z) (E c .transitions)) (f .2)))
-          ∙ sets (actions (E c .transitions) ∷ added (touch sig state ss) (E c .transitions) ∷ outFaces E ss ∷ calls sig ss ∷ [])
+          ∙ sets (actions (E c .transitions) ∷ added (touch sig state ss) (E c .transitions) ∷ outFaces E ss
+          ∷ calls sig ss ∷ [])
           (D ⊥ₑ A ∷ D ⊥ₑ C ∷ B ⊑ D ∷ []) (((A ∪ₑ B) ∪ₑ C) ∖ₑ D ≐ A ∪ₑ C) tt
-          (calls-old sig ss (actions (E c .transitions)) (actions-old (E c .transitions) (old c (f .0) .old-transitions)))
+          (calls-old sig ss (actions (E c .transitions))
+          (actions-old (E c .transitions) (old c (f .0) .old-transitions)))
           (calls-old sig ss (outFaces E ss) (outs-old ss κ (f .4))) (added-calls ss (E c .transitions))
 
       out-s : (ss : Slaves) (κ : Option ℕ) → FitS sig kap slv N ss κ → (c : ℕ) (x : Set)
@@ -115,7 +124,8 @@ module _ (sig state : ℕ → ℕ) where
       abbrev rested : ℕ → Move
       rested c = moveR sig (kap c) (touch sig state (slv c)) 0 noMove
 
-      at : (c : ℕ) (κ : Option ℕ) (ss : Slaves) → c < N → kap c ≡ κ → slv c ≡ ss → At sig state (λ c. 0) E E′ rest rested κ c ss
+      at : (c : ℕ) (κ : Option ℕ) (ss : Slaves) → c < N → kap c ≡ κ → slv c ≡ ss
+          → At sig state (λ c. 0) E E′ rest rested κ c ss
       unfolding chartWith
       at c κ ss l p q = subst₂ (λ κ ss. At sig state (λ c. 0) E E′ rest rested κ c ss) p q (record {
         moved = refl;
@@ -139,19 +149,23 @@ module _ (sig state : ℕ → ℕ) where
         rw-s nil κ f = tt
         rw-s (snoc ss i t) κ f = (rw-s ss κ (f .0), f .1, rw-t t (some i) (f .2))
 
-      pub in-t : ((i j : ℕ) → sig i ≡ sig j → i ≡ j) → (t : Tree) → Fit sig kap slv N t none → inFace E′ (tree sig fbs t) ≡ inFace E t
+      pub in-t : ((i j : ℕ) → sig i ≡ sig j → i ≡ j) → (t : Tree) → Fit sig kap slv N t none
+          → inFace E′ (tree sig fbs t) ≡ inFace E t
       unfolding callIn
-      in-t inj t f = face-t sig state inj (λ c. 0) E E′ rest rested t none (rw-t t none f) ∙ sets (inFace E t ∷ []) [] (A ∪ₑ ∅ₑ ≐ A) tt
+      in-t inj t f = face-t sig state inj (λ c. 0) E E′ rest rested t none (rw-t t none f)
+          ∙ sets (inFace E t ∷ []) [] (A ∪ₑ ∅ₑ ≐ A) tt
 
 -- ── the whole of a file ──
 
 module _ (F : File) (rd : Ready F) (F′ : File) (r : Rewritten F F′) where
   pub input-is : inFace (F′ .chart) (wholeOf F′) ≡ inFace (F .chart) (wholeOf F)
   input-is = ap (inFace (F′ .chart)) (whole-is F rd F′ r)
-      ∙ in-t (call F) (F .state) (kap F) (slavesOf F) (F .charts) (F .chart) (F′ .chart) (old-chart F (rd .small) (rd .one)) (chart-is F rd F′ r)
+      ∙ in-t (call F) (F .state) (kap F) (slavesOf F) (F .charts) (F .chart) (F′ .chart)
+      (old-chart F (rd .small) (rd .one)) (chart-is F rd F′ r)
       (rd .some-state) (call-inj F) (wholeOf F) (fits F rd)
 
   pub output-is : outFace (F′ .chart) (wholeOf F′) ≡ outFace (F .chart) (wholeOf F)
   output-is = ap (outFace (F′ .chart)) (whole-is F rd F′ r)
-      ∙ out-t (call F) (F .state) (kap F) (slavesOf F) (F .charts) (F .chart) (F′ .chart) (old-chart F (rd .small) (rd .one)) (chart-is F rd F′ r)
+      ∙ out-t (call F) (F .state) (kap F) (slavesOf F) (F .charts) (F .chart) (F′ .chart)
+      (old-chart F (rd .small) (rd .one)) (chart-is F rd F′ r)
       (wholeOf F) none (fits F rd)

@@ -1,5 +1,5 @@
--- How charts stand in a file's tree, as the theorem on outcomes assumes it: each in its nearest slave, with its slaves. And that the nearest slave,
--- found from the whole down, is the one found from the chart up.
+-- How charts stand in a file's tree, as the theorem on outcomes assumes it: each in its nearest slave, with its slaves.
+-- And that the nearest slave, found from the whole down, is the one found from the chart up.
 use mathlib.Core.Path.{_≡_, refl, sym, _∙_, ap, subst}
 use mathlib.Core.Bool.{Bool, true, false, _||_, cond, false≢true}
 use mathlib.Core.Option.{Option, none, some}
@@ -35,17 +35,20 @@ module _ (F : File) (w : Ordered F) (enc kap : ℕ → Option ℕ) (pl : Placed 
   abbrev slv : ℕ → Slaves
   slv = slavesOf F
 
-  fit-whole : (c : ℕ) (κ : Option ℕ) (ss : Slaves) → c < F .charts → kap c ≡ κ → slv c ≡ ss → FitS sig kap slv (F .charts) ss κ
+  fit-whole : (c : ℕ) (κ : Option ℕ) (ss : Slaves) → c < F .charts → kap c ≡ κ → slv c ≡ ss
+      → FitS sig kap slv (F .charts) ss κ
       → Fit sig kap slv (F .charts) (whole c ss) κ
   fit-whole c κ nil l p q f = (l, p, q)
   fit-whole c κ (snoc ss i t) l p q f = (l, p, q, tt, f)
 
   apart : (j i : ℕ) → j < F .nodes → F .node i < j → (κ : Option ℕ) → enc j ≡ κ → Apart sig κ i
   apart j i l h none e = tt
-  apart j i l h (some k) e = λ q. let b = pl .under j k l e in let b′ : j ≤ F .node i = subst (λ z. j ≤ F .node z) q b in omega arith
+  apart j i l h (some k) e =
+      λ q. let b = pl .under j k l e in let b′ : j ≤ F .node i = subst (λ z. j ≤ F .node z) q b in omega arith
 
   fit-gather : (c k : ℕ) (κ : Option ℕ) → k ≤ F .slaves
-      → ((i : ℕ) → i < F .slaves → F .master i ≡ c → Apart sig κ i × Fit sig kap slv (F .charts) (treeOf F (F .node i)) (some i))
+      → ((i : ℕ) → i < F .slaves → F .master i ≡ c
+      → Apart sig κ i × Fit sig kap slv (F .charts) (treeOf F (F .node i)) (some i))
       → FitS sig kap slv (F .charts) (gather (F .master) (λ i. treeOf F (F .node i)) c k) κ
   unfolding gather
   fit-gather c zero κ l h = tt
@@ -65,7 +68,8 @@ module _ (F : File) (w : Ordered F) (enc kap : ℕ → Option ℕ) (pl : Placed 
     where
       go : (k : ℕ) → F .kind j ≡ k → ((i : ℕ) → i < j → Fit sig kap slv (F .charts) (treeOf F i) (enc i))
           → Fit sig kap slv (F .charts) (treeOf F j) (enc j)
-      go zero e ih = rw (tree₀ F w j l e) (fit-whole (F .a j) (enc j) (slv (F .a j)) (pl .hold j l e .0) (pl .hold j l e .1) refl
+      go zero e ih =
+          rw (tree₀ F w j l e) (fit-whole (F .a j) (enc j) (slv (F .a j)) (pl .hold j l e .0) (pl .hold j l e .1) refl
           (fit-gather (F .a j) (F .slaves) (enc j) (omega arith) (λ i a b. let h = w .lower₀ j l e i a b in
           (apart j i l h (enc j) refl, rw (pl .in₀ j l e i a b) at (ih (F .node i) h)))))
       go (suc zero) e ih = let h = w .lower₁ j l e in let q = pl .in₁ j l e in
@@ -76,7 +80,8 @@ module _ (F : File) (w : Ordered F) (enc kap : ℕ → Option ℕ) (pl : Placed 
 -- ── the nearest slave ──
 
 module _ (sig : ℕ → ℕ) (kap : ℕ → Option ℕ) (slv : ℕ → Slaves) (N : ℕ) (c : ℕ) where
-  choose : (b b′ : Bool) (p q k : Option ℕ) → (b ≡ true → p ≡ k) → (b′ ≡ true → q ≡ k) → (b || b′) ≡ true → cond b p q ≡ k
+  choose : (b b′ : Bool) (p q k : Option ℕ) → (b ≡ true → p ≡ k) → (b′ ≡ true → q ≡ k) → (b || b′) ≡ true
+      → cond b p q ≡ k
   choose true b′ p q k f g h = f refl
   choose false b′ p q k f g h = g h
 
@@ -85,10 +90,13 @@ module _ (sig : ℕ → ℕ) (kap : ℕ → Option ℕ) (slv : ℕ → Slaves) (
 
     pub nearest-fit : (t : Tree) (κ : Option ℕ) → Fit sig kap slv N t κ → Has t c ≡ true → nearestIn t κ c ≡ kap c
     nearest-fit (leaf d) κ f h = sym (ap kap (same→≡ c d h) ∙ f .1)
-    nearest-fit (comp p q x) κ f h = choose (Has p c) (Has q c) _ _ _ (λ e. nearest-fit p κ (f .0) e) (λ e. nearest-fit q κ (f .1) e) h
+    nearest-fit (comp p q x) κ f h =
+        choose (Has p c) (Has q c) _ _ _ (λ e. nearest-fit p κ (f .0) e) (λ e. nearest-fit q κ (f .1) e) h
     nearest-fit (hide p x y) κ f h = nearest-fit p κ (f .1) h
-    nearest-fit (dec d ss) κ f h = choose (same c d) (HasS ss c) _ _ _ (λ e. sym (ap kap (same→≡ c d e) ∙ f .1)) (λ e. nearest-fits ss κ (f .4) e) h
+    nearest-fit (dec d ss) κ f h = choose (same c d) (HasS ss c) _ _ _ (λ e. sym (ap kap (same→≡ c d e) ∙ f .1))
+        (λ e. nearest-fits ss κ (f .4) e) h
 
     nearest-fits : (ss : Slaves) (κ : Option ℕ) → FitS sig kap slv N ss κ → HasS ss c ≡ true → nearestAmong ss c ≡ kap c
     nearest-fits nil κ f h = absurd (false≢true h)
-    nearest-fits (snoc ss i t) κ f h = choose (Has t c) (HasS ss c) _ _ _ (λ e. nearest-fit t (some i) (f .2) e) (λ e. nearest-fits ss κ (f .0) e) h
+    nearest-fits (snoc ss i t) κ f h =
+        choose (Has t c) (HasS ss c) _ _ _ (λ e. nearest-fit t (some i) (f .2) e) (λ e. nearest-fits ss κ (f .0) e) h

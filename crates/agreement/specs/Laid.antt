@@ -1,5 +1,5 @@
--- The nodes of the rewritten file, laid down in order. In this order: how many are made for each node, and where they begin; what stands at a place;
--- so they are nodes as Renamed asks for (`nodesR`); each names lower ones (`orderedR`).
+-- The nodes of the rewritten file, laid down in order. In this order: how many are made for each node, and where they
+-- begin; what stands at a place; so they are nodes as Renamed asks for (`nodesR`); each names lower ones (`orderedR`).
 use mathlib.Core.Path.{_≡_, refl, sym, _∙_, ap, ap₂, subst, subst₂}
 use mathlib.Core.Bool.{Bool, true, false, cond, false≢true}
 use mathlib.Core.Logic.{_≢_}
@@ -13,7 +13,8 @@ use Rattle.meaning.specs.Meaning.{Set, ∅, same}
 use Rattle.signals.specs.Mask.{_∪_}
 use Rattle.layout.specs.declared.record.Node.{Node}
 use Rattle.meaning.specs.Laws.Bools.{same-refl, same→≡, same→≢}
-use Rattle.meaning.specs.Rewriting.{callsOf, count, before, start, newName, composed, madeBy, madeFor, laid, newNode, rewrite}
+use Rattle.meaning.specs.Rewriting.{callsOf, count, before, start, newName, composed, madeBy, madeFor, laid, newNode}
+use Rattle.meaning.specs.Rewriting.{rewrite}
 use Rattle.meaning.specs.File.{File}
 use Rattle.meaning.specs.Laws.Trees.{Ordered}
 use Rattle.meaning.specs.Count.{one, tally}
@@ -42,7 +43,8 @@ module _ (F : File) where
     where
       go : (b : Bool) → same j (suc n) ≡ b → (j ≤ n → start F j ≤ start F n) → start F j ≤ start F (suc n)
       go true e r = rw (same→≡ j (suc n) e) (omega arith)
-      go false e r = let z : j ≢ suc n = same→≢ j (suc n) e in let y = r (omega arith) in let u = start-suc n in omega arith
+      go false e r = let z : j ≢ suc n = same→≢ j (suc n) e in let y = r (omega arith) in
+          let u = start-suc n in omega arith
 
   pub inside : (n j q : ℕ) → j < n → q < width j → start F j + q < start F n
   inside n j q l h = let a = start-mono n (suc j) l in let u = start-suc j in omega arith
@@ -63,7 +65,13 @@ module _ (F : File) where
   parts-length c at (suc i) = go (same (F .master i) c) (parts-length c at i)
     where
       nd : Node
-      nd = record { kind = 1; a = at + count F c i; b = newName F (F .node i); x = F .chart c .feedback ∪ callsOf F c; y = ∅ }
+      nd = record {
+        kind = 1;
+        a = at + count F c i;
+        b = newName F (F .node i);
+        x = F .chart c .feedback ∪ callsOf F c;
+        y = ∅;
+      }
 
       go : (d : Bool) → length (composed F c at i) ≡ count F c i
           → length (cond d (composed F c at i ++ (nd ∷ [])) (composed F c at i)) ≡ one d + count F c i
@@ -98,26 +106,43 @@ module _ (F : File) where
       go true e r = rw (same→≡ j n e) (ap (λ z. getD (laid F n ++ madeFor F n) (z + q) noNode) (sym (laid-length n))
           ∙ getD-append-add (laid F n) (madeFor F n) q noNode)
       go false e r = let z : j ≢ n = same→≢ j n e in let m : j < n = omega arith in
-          List·getD-append (laid F n) (madeFor F n) noNode (start F j + q) (let a = inside n j q m h in let b = laid-length n in omega arith) ∙ r m
+          List·getD-append (laid F n) (madeFor F n) noNode (start F j + q)
+          (let a = inside n j q m h in let b = laid-length n in omega arith) ∙ r m
 
   part-at : (c at k i : ℕ) → i < k → F .master i ≡ c → getD (composed F c at k) (count F c i) noNode
-      ≡ record { kind = 1; a = at + count F c i; b = newName F (F .node i); x = F .chart c .feedback ∪ callsOf F c; y = ∅ }
+      ≡ record {
+        kind = 1;
+        a = at + count F c i;
+        b = newName F (F .node i);
+        x = F .chart c .feedback ∪ callsOf F c;
+        y = ∅;
+      }
   unfolding composed tally
   part-at c at zero i l e = absurd (omega arith)
   part-at c at (suc k) i l e = go (same (F .master k) c) refl (same i k) refl (λ h. part-at c at k i h e)
     where
       nd : ℕ → Node
-      nd i = record { kind = 1; a = at + count F c i; b = newName F (F .node i); x = F .chart c .feedback ∪ callsOf F c; y = ∅ }
+      nd i = record {
+        kind = 1;
+        a = at + count F c i;
+        b = newName F (F .node i);
+        x = F .chart c .feedback ∪ callsOf F c;
+        y = ∅;
+      }
 
       less : i < k → count F c i < count F c k
       less h = count-less F c i k h (ap (λ z. same z c) e ∙ same-refl c)
 
-      go : (d : Bool) → same (F .master k) c ≡ d → (f : Bool) → same i k ≡ f → (i < k → getD (composed F c at k) (count F c i) noNode ≡ nd i)
+      go : (d : Bool) → same (F .master k) c ≡ d → (f : Bool) → same i k ≡ f
+          → (i < k → getD (composed F c at k) (count F c i) noNode ≡ nd i)
           → getD (cond d (composed F c at k ++ (nd k ∷ [])) (composed F c at k)) (count F c i) noNode ≡ nd i
-      go true p true q r = rw (same→≡ i k q) (getD-at (composed F c at k) (nd k) [] noNode (count F c k) (parts-length c at k))
+      go true p true q r =
+          rw (same→≡ i k q) (getD-at (composed F c at k) (nd k) [] noNode (count F c k) (parts-length c at k))
       go true p false q r = let z : i ≢ k = same→≢ i k q in let h : i < k = omega arith in
-          List·getD-append (composed F c at k) (nd k ∷ []) noNode (count F c i) (let a = parts-length c at k in let b = less h in omega arith) ∙ r h
-      go false p true q r = absurd (false≢true (sym p ∙ ap (λ z. same (F .master z) c) (sym (same→≡ i k q)) ∙ ap (λ z. same z c) e ∙ same-refl c))
+          List·getD-append (composed F c at k) (nd k ∷ []) noNode (count F c i)
+          (let a = parts-length c at k in let b = less h in omega arith) ∙ r h
+      go false p true q r = absurd (false≢true (sym p ∙ ap (λ z. same (F .master z) c) (sym (same→≡ i k q))
+          ∙ ap (λ z. same z c) e ∙ same-refl c))
       go false p false q r = let z : i ≢ k = same→≢ i k q in r (omega arith)
 
 module _ (F : File) where
@@ -144,10 +169,12 @@ module _ (F : File) where
   hide-node j l e = ap (newNode F) (ren-is j 2 (count F (F .a j) (F .slaves)) e refl)
       ∙ at-node j 0 2 (count F (F .a j) (F .slaves)) l e refl (omega arith)
 
-  pub base-node : (j : ℕ) → j < F .nodes → F .kind j ≡ 0 → newNode F (start F j) ≡ record { kind = 0; a = F .a j; b = 0; x = ∅; y = ∅ }
+  pub base-node : (j : ℕ) → j < F .nodes → F .kind j ≡ 0
+      → newNode F (start F j) ≡ record { kind = 0; a = F .a j; b = 0; x = ∅; y = ∅ }
   base-node j l e = ap (newNode F) (sym (add-zero (start F j))) ∙ go (count F (F .a j) (F .slaves)) refl
     where
-      go : (s : ℕ) → count F (F .a j) (F .slaves) ≡ s → newNode F (start F j + 0) ≡ record { kind = 0; a = F .a j; b = 0; x = ∅; y = ∅ }
+      go : (s : ℕ) → count F (F .a j) (F .slaves) ≡ s
+          → newNode F (start F j + 0) ≡ record { kind = 0; a = F .a j; b = 0; x = ∅; y = ∅ }
       go zero f = at-node j 0 0 0 l e f (omega arith)
       go (suc s) f = at-node j 0 0 (suc s) l e f (omega arith)
 
@@ -192,10 +219,12 @@ module _ (F : File) where
   whole-node j l e h = go (count F (F .a j) (F .slaves)) refl
     where
       go : (s : ℕ) → count F (F .a j) (F .slaves) ≡ s
-          → newNode F (newName F j) ≡ record { kind = 2; a = start F j + s; b = 0; x = callsOf F (F .a j); y = callsOf F (F .a j) }
+          → newNode F (newName F j)
+          ≡ record { kind = 2; a = start F j + s; b = 0; x = callsOf F (F .a j); y = callsOf F (F .a j) }
       go zero f = absurd (omega arith)
       go (suc s) f = ap (newNode F) (ren-is j 0 (suc s) e f) ∙ at-node j (suc (suc s)) 0 (suc s) l e f (omega arith)
-          ∙ getD-at (composed F (F .a j) (start F j) (F .slaves)) _ [] noNode (suc s) (parts-length F (F .a j) (start F j) (F .slaves) ∙ f)
+          ∙ getD-at (composed F (F .a j) (start F j) (F .slaves)) _ [] noNode (suc s)
+          (parts-length F (F .a j) (start F j) (F .slaves) ∙ f)
 
   pub nodesR : NodesR F (rewrite F)
   nodesR = record {
@@ -238,7 +267,8 @@ module _ (F : File) where
       y : Node → Set
       y n = n .y
 
-      at : (j : ℕ) → F .kind j ≡ 0 → 0 < count F (F .a j) (F .slaves) → (s : ℕ) → count F (F .a j) (F .slaves) ≡ s → newName F j ≡ start F j + suc s
+      at : (j : ℕ) → F .kind j ≡ 0 → 0 < count F (F .a j) (F .slaves) → (s : ℕ) → count F (F .a j) (F .slaves) ≡ s
+          → newName F j ≡ start F j + suc s
       at j e h zero f = absurd (omega arith)
       at j e h (suc s) f = ren-is j 0 (suc s) e f
 
@@ -253,17 +283,22 @@ AllLow p (n ∷ r) = Low p n × AllLow (suc p) r
 
 low-append : (p : ℕ) (r s : List Node) → AllLow p r → AllLow (p + length r) s → AllLow p (r ++ s)
 low-append p [] s h k = rw (add-zero p) at k
-low-append p (n ∷ r) s h k =
-    (h .0, low-append (suc p) r s (h .1) (subst (λ z. AllLow z s) (let e : p + suc (length r) ≡ suc p + length r = omega arith in e) k))
+low-append p (n ∷ r) s h k = (
+  h .0,
+  low-append (suc p) r s (h .1)
+      (subst (λ z. AllLow z s) (let e : p + suc (length r) ≡ suc p + length r = omega arith in e) k),
+)
 
 low-at : (p : ℕ) (r : List Node) (q : ℕ) → AllLow p r → q < length r → Low (p + q) (getD r q noNode)
 low-at p [] q h l = absurd (omega arith)
 low-at p (n ∷ r) zero h l = subst (λ z. Low z n) (sym (add-zero p)) (h .0)
 low-at p (n ∷ r) (suc q) h l =
-    subst (λ z. Low z (getD r q noNode)) (let e : suc p + q ≡ p + suc q = omega arith in e) (low-at (suc p) r q (h .1) (omega arith))
+    subst (λ z. Low z (getD r q noNode)) (let e : suc p + q ≡ p + suc q = omega arith in e)
+    (low-at (suc p) r q (h .1) (omega arith))
 
 module _ (F : File) (w : Ordered F) where
-  low-parts : (j : ℕ) → j < F .nodes → F .kind j ≡ 0 → (i : ℕ) → i ≤ F .slaves → AllLow (suc (start F j)) (composed F (F .a j) (start F j) i)
+  low-parts : (j : ℕ) → j < F .nodes → F .kind j ≡ 0 → (i : ℕ) → i ≤ F .slaves
+      → AllLow (suc (start F j)) (composed F (F .a j) (start F j) i)
   unfolding composed
   low-parts j l e zero m = tt
   low-parts j l e (suc i) m = go (same (F .master i) (F .a j)) refl (low-parts j l e i (omega arith))
@@ -272,15 +307,23 @@ module _ (F : File) (w : Ordered F) where
       c = F .a j
 
       nd : Node
-      nd = record { kind = 1; a = start F j + count F c i; b = newName F (F .node i); x = F .chart c .feedback ∪ callsOf F c; y = ∅ }
+      nd = record {
+        kind = 1;
+        a = start F j + count F c i;
+        b = newName F (F .node i);
+        x = F .chart c .feedback ∪ callsOf F c;
+        y = ∅;
+      }
 
       go : (d : Bool) → same (F .master i) c ≡ d → AllLow (suc (start F j)) (composed F c (start F j) i)
           → AllLow (suc (start F j)) (cond d (composed F c (start F j) i ++ (nd ∷ [])) (composed F c (start F j) i))
-      go true p h = low-append (suc (start F j)) (composed F c (start F j) i) (nd ∷ []) h ((λ z. low, λ z. absurd (omega arith), omega arith), tt)
+      go true p h = low-append (suc (start F j)) (composed F c (start F j) i) (nd ∷ []) h
+          ((λ z. low, λ z. absurd (omega arith), omega arith), tt)
         where
           low : (start F j + count F c i < suc (start F j) + length (composed F c (start F j) i))
               × (newName F (F .node i) < suc (start F j) + length (composed F c (start F j) i))
-          low = let a = parts-length F c (start F j) i in let b = ren-inside F j (F .node i) (w .lower₀ j l e i m (same→≡ (F .master i) c p)) in
+          low = let a = parts-length F c (start F j) i in
+              let b = ren-inside F j (F .node i) (w .lower₀ j l e i m (same→≡ (F .master i) c p)) in
               (omega arith, omega arith)
       go false p h = h
 
@@ -292,10 +335,18 @@ module _ (F : File) (w : Ordered F) where
       go zero zero e f = ((λ z. absurd (omega arith), λ z. absurd (omega arith), omega arith), tt)
       go zero (suc s) e f = (
         (λ z. absurd (omega arith), λ z. absurd (omega arith), omega arith),
-        low-append (suc (start F j)) (composed F (F .a j) (start F j) (F .slaves)) _ (low-parts j l e (F .slaves) (omega arith))
-            ((λ z. absurd (omega arith), λ z. (let a = parts-length F (F .a j) (start F j) (F .slaves) in omega arith), omega arith), tt),
+        low-append (suc (start F j)) (composed F (F .a j) (start F j) (F .slaves)) _
+            (low-parts j l e (F .slaves) (omega arith)) (
+              (
+                λ z. absurd (omega arith),
+                λ z. (let a = parts-length F (F .a j) (start F j) (F .slaves) in omega arith),
+                omega arith,
+              ),
+              tt,
+            ),
       )
-      go (suc zero) s e f = let h = w .lower₁ j l e in let p = ren-inside F j (F .a j) (h .0) in let q = ren-inside F j (F .b j) (h .1) in
+      go (suc zero) s e f = let h = w .lower₁ j l e in let p = ren-inside F j (F .a j) (h .0) in
+          let q = ren-inside F j (F .b j) (h .1) in
           ((λ z. (p, q), λ z. absurd (omega arith), omega arith), tt)
       go (suc (suc k)) s e f = let e₂ : F .kind j ≡ 2 = (let h = w .kinds j l in omega arith) in
           ((λ z. absurd (omega arith), λ z. ren-inside F j (F .a j) (w .lower₂ j l e₂), omega arith), tt)
@@ -308,7 +359,8 @@ module _ (F : File) (w : Ordered F) where
 
   low-node : (p : ℕ) → p < start F (F .nodes) → Low p (newNode F p)
   low-node p l = subst (λ z. Low z (newNode F p)) (zero-add p)
-      (low-at 0 (laid F (F .nodes)) p (low-laid (F .nodes) (omega arith)) (let e = laid-length F (F .nodes) in omega arith))
+      (low-at 0 (laid F (F .nodes)) p (low-laid (F .nodes) (omega arith))
+      (let e = laid-length F (F .nodes) in omega arith))
 
   pub orderedR : Ordered (rewrite F)
   orderedR = record {

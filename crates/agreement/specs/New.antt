@@ -1,5 +1,5 @@
--- What the records of a rewritten file are, if F passes 1 to 11 and 40 does not apply: sets of 64 signals, transitions between states, nodes with
--- unused fields zero. In this order: calls; the nearest slave; charts; nodes.
+-- What the records of a rewritten file are, if F passes 1 to 11 and 40 does not apply: sets of 64 signals, transitions
+-- between states, nodes with unused fields zero. In this order: calls; the nearest slave; charts; nodes.
 use mathlib.Core.Path.{_≡_, refl, sym}
 use mathlib.Core.Bool.{Bool, true, false, _&&_, cond}
 use mathlib.Core.Option.{Option, none, some}
@@ -17,7 +17,9 @@ use Rattle.layout.specs.declared.record.Node.{Node}
 use Rattle.meaning.specs.Numbers.{mostCharts, mostStates}
 use Rattle.meaning.specs.Meaning.{Set, ∅, same}
 use Rattle.meaning.specs.File.{File}
-use Rattle.meaning.specs.Rewriting.{free, call, callIn, called, idle, idles, chartWith, nearestSlave, isOf, touches, callsBy, callsOf, rewrittenChart, noFree?, count, start, newName, composed, madeBy, madeFor, laid, newNode, rewrite}
+use Rattle.meaning.specs.Rewriting.{free, call, callIn, called, idle, idles, chartWith, nearestSlave, isOf, touches}
+use Rattle.meaning.specs.Rewriting.{callsBy, callsOf, rewrittenChart, noFree?, count, start, newName, composed, madeBy}
+use Rattle.meaning.specs.Rewriting.{madeFor, laid, newNode, rewrite}
 use Rattle.meaning.specs.Laws.Names.{up, find, find-some, bySlave, byNode, nearest, enc, kap}
 use Rattle.agreement.specs.Every.{Every, every-append, every-map}
 use Rattle.agreement.specs.Encoded.{Small}
@@ -34,7 +36,8 @@ pub record Regular (F : File) : Type 0 where
   pub initials : (c : ℕ) → c < F .charts → F .chart c .initial < F .chart c .states
   pub feedbacks : (c : ℕ) → c < F .charts → (F .chart c .feedback < 2 ^ 64) × (F .chart c .extra < 2 ^ 64)
   pub lists : (c : ℕ) → c < F .charts → Every Small (F .chart c .transitions)
-  pub states : (c : ℕ) → c < F .charts → Every (λ t. (t .from < F .chart c .states) × (t .to < F .chart c .states)) (F .chart c .transitions)
+  pub states : (c : ℕ) → c < F .charts
+      → Every (λ t. (t .from < F .chart c .states) × (t .to < F .chart c .states)) (F .chart c .transitions)
   pub sets : (j : ℕ) → j < F .nodes → (F .x j < 2 ^ 64) × (F .y j < 2 ^ 64)
 
 -- ── the nearest slave ──
@@ -44,9 +47,11 @@ unfolding nearest
 nearest-below F zero j i e = absurd (let z : _≡_ {A = ℕ} 0 1 = cc in omega arith)
 nearest-below F (suc f) j i e = go (bySlave F j) refl (byNode F j) e (λ k q. nearest-below F f k i q)
   where
-    go : (a : Option ℕ) → bySlave F j ≡ a → (b : Option ℕ) → up a b (nearest F f) ≡ some i → ((k : ℕ) → nearest F f k ≡ some i → i < F .slaves)
+    go : (a : Option ℕ) → bySlave F j ≡ a → (b : Option ℕ) → up a b (nearest F f) ≡ some i
+        → ((k : ℕ) → nearest F f k ≡ some i → i < F .slaves)
         → i < F .slaves
-    go (some i′) p b e ih = let z : i′ ≡ i = cc in let u = find-some (F .slaves) (λ i. same (F .node i) j) i′ p in let v = u .0 in omega arith
+    go (some i′) p b e ih = let z : i′ ≡ i = cc in let u = find-some (F .slaves) (λ i. same (F .node i) j) i′ p in
+        let v = u .0 in omega arith
     go none p (some k) e ih = ih k e
     go none p none e ih = absurd (let z : _≡_ {A = ℕ} 0 1 = cc in omega arith)
 
@@ -68,7 +73,8 @@ module _ (F : File) (rg : Regular F) (room : noFree? F ≡ false) where
 
   pub call-lt : (i : ℕ) → i < F .slaves → single (call F i) < 2 ^ 64
   unfolding noFree?
-  call-lt i l = single-lt 64 (call F i) (call-small F i (let h = ltb-false (length (free F)) (F .slaves) room in omega arith))
+  call-lt i l =
+      single-lt 64 (call F i) (call-small F i (let h = ltb-false (length (free F)) (F .slaves) room in omega arith))
 
   pub inside : (c : ℕ) → c < F .charts → Inside (nearestSlave F c)
   inside c l = go (nearestSlave F c) (sym (nearest-is F (rg .ready) c l))
@@ -102,12 +108,15 @@ module _ (F : File) (rg : Regular F) (room : noFree? F ≡ false) where
   unfolding idles
   every-idle P none k s n h = tt
   every-idle P (some i) k s zero h = tt
-  every-idle P (some i) k s (suc n) h =
-      (h i s k (omega arith) (omega arith), every-idle P (some i) k (suc s) n (λ i q l a b. h i q l (omega arith) (omega arith)))
+  every-idle P (some i) k s (suc n) h = (
+    h i s k (omega arith) (omega arith),
+    every-idle P (some i) k (suc s) n (λ i q l a b. h i q l (omega arith) (omega arith)),
+  )
 
   pub new-smalls : (c : ℕ) → c < F .charts → Every Small (rewrittenChart F c .transitions)
   unfolding rewrittenChart chartWith called idle
-  new-smalls c l = every-append Small (map (called (call F) κ (callsBy F c)) (F .chart c .transitions)) (idles (call F) κ 0 (F .chart c .states))
+  new-smalls c l = every-append Small (map (called (call F) κ (callsBy F c)) (F .chart c .transitions))
+      (idles (call F) κ 0 (F .chart c .states))
       (every-map Small Small (called (call F) κ (callsBy F c))
       (λ t h. (
         union-lt 64 (t .needed) (callIn (call F) κ) (h .0) (in-lt κ (inside c l)),
@@ -123,7 +132,8 @@ module _ (F : File) (rg : Regular F) (room : noFree? F ≡ false) where
   pub new-states : (c : ℕ) → c < F .charts
       → Every (λ t. (t .from < F .chart c .states) × (t .to < F .chart c .states)) (rewrittenChart F c .transitions)
   unfolding rewrittenChart chartWith called idle
-  new-states c l = every-append P (map (called (call F) κ (callsBy F c)) (F .chart c .transitions)) (idles (call F) κ 0 (F .chart c .states))
+  new-states c l = every-append P (map (called (call F) κ (callsBy F c)) (F .chart c .transitions))
+      (idles (call F) κ 0 (F .chart c .states))
       (every-map P P (called (call F) κ (callsBy F c)) (λ t h. h) (F .chart c .transitions) (rg .states c l))
       (every-idle P κ (inside c l) 0 (F .chart c .states) (λ i q m a b. (omega arith, omega arith)))
     where
@@ -216,8 +226,10 @@ module _ (F : File) (rg : Regular F) (room : noFree? F ≡ false) where
       go zero (suc s) e = (
         chart-node (F .a j) (rg .ready .sound .chart-there j l e),
         formed-append (composed F (F .a j) (start F j) (F .slaves)) _
-            (formed-composed (F .a j) (start F j) (F .slaves) (rg .ready .sound .chart-there j l e))
-            (hide-node (start F j + suc s) (callsOf F (F .a j)) (callsOf F (F .a j)) (of-lt (F .a j)) (of-lt (F .a j)), tt),
+            (formed-composed (F .a j) (start F j) (F .slaves) (rg .ready .sound .chart-there j l e)) (
+              hide-node (start F j + suc s) (callsOf F (F .a j)) (callsOf F (F .a j)) (of-lt (F .a j)) (of-lt (F .a j)),
+              tt,
+            ),
       )
       go (suc zero) s e = (comp-node (newName F (F .a j)) (newName F (F .b j)) (F .x j) (rg .sets j l .0), tt)
       go (suc (suc k)) s e = (hide-node (newName F (F .a j)) (F .x j) (F .y j) (rg .sets j l .0) (rg .sets j l .1), tt)
@@ -228,4 +240,5 @@ module _ (F : File) (rg : Regular F) (room : noFree? F ≡ false) where
   formed-laid (suc n) l = formed-append (laid F n) (madeFor F n) (formed-laid n (omega arith)) (formed-made n l)
 
   pub formed : (p : ℕ) → p < rewrite F .nodes → Formed (newNode F p)
-  formed p l = formed-at (laid F (F .nodes)) p (let e = laid-length F (F .nodes) in omega arith) (formed-laid (F .nodes) (omega arith))
+  formed p l = formed-at (laid F (F .nodes)) p (let e = laid-length F (F .nodes) in omega arith)
+      (formed-laid (F .nodes) (omega arith))

@@ -1,5 +1,5 @@
--- The rewritten tree has the outcomes of the tree, in the same order, with their places turned: so a step has the same refusal, output, next
--- configuration and mark.
+-- The rewritten tree has the outcomes of the tree, in the same order, with their places turned: so a step has the same
+-- refusal, output, next configuration and mark.
 use mathlib.Core.Path.{_≡_, refl, sym, _∙_, ap, ap₂, subst, subst₂}
 use mathlib.Core.Bool.{Bool, true, false, true≢false, false≢true}
 use mathlib.Core.Option.{Option, none, some}
@@ -12,7 +12,9 @@ use lib.ListN.{length}
 use Rattle.signals.specs.Mask.{_∩_}
 use Rattle.signals.specs.Decide.{sets, A, B, ∅ₑ, _∪ₑ_, _∩ₑ_, _≐_}
 use Rattle.layout.specs.declared.record.Transition.{Transition}
-use Rattle.meaning.specs.Meaning.{Set, same, Chart, Tree, Slaves, leaf, comp, hide, dec, nil, snoc, Move, noMove, takes, stay, nth, behind, pick, lastPlace, after, inFaceChart, inFace, out, ok, permitted, upd, moves, nexts, Outcome, upto, outcomeOf, outcome, search, outcomes}
+use Rattle.meaning.specs.Meaning.{Set, same, Chart, Tree, Slaves, leaf, comp, hide, dec, nil, snoc, Move, noMove, takes}
+use Rattle.meaning.specs.Meaning.{stay, nth, behind, pick, lastPlace, after, inFaceChart, inFace, out, ok, permitted}
+use Rattle.meaning.specs.Meaning.{upd, moves, nexts, Outcome, upto, outcomeOf, outcome, search, outcomes}
 use Rattle.meaning.specs.Numbers.{noPlace}
 use Rattle.meaning.specs.File.{Has}
 use Rattle.meaning.specs.Rewriting.{callIn, idle, called, chartWith}
@@ -25,11 +27,13 @@ use Rattle.agreement.specs.Tree.{on, tree, touch, moveR}
 use Rattle.agreement.specs.Same.{At, Rw, Rws, old-cut, ok-t, out-t, face-t, face-old}
 use Rattle.agreement.specs.Active.{active-agree, Live, live}
 use Rattle.agreement.specs.Upto.{merge}
-use Rattle.agreement.specs.Charts.{place, idle-at, pick-moved, places, places-none, face-is, OldChart, old-pick, old-faceChart}
+use Rattle.agreement.specs.Charts.{place, idle-at, pick-moved, places, places-none, face-is, OldChart, old-pick}
+use Rattle.agreement.specs.Charts.{old-faceChart}
 use Rattle.agreement.specs.Fit.{Fit, FitS}
 use Rattle.agreement.specs.Places.{turned, Stands, places-turned, map-cond, map-upto}
 
-after-moved : (sig : ℕ → ℕ) (κ : Option ℕ) (T : Transition → Set) (s : ℕ) (m : Move) → after s (moveR sig κ T s m) ≡ after s m
+after-moved : (sig : ℕ → ℕ) (κ : Option ℕ) (T : Transition → Set) (s : ℕ) (m : Move)
+    → after s (moveR sig κ T s m) ≡ after s m
 unfolding after moveR called idle
 after-moved sig κ T s (takes t) = refl
 after-moved sig κ T s stay = refl
@@ -42,9 +46,11 @@ some-nth d [] k l = absurd (omega arith)
 some-nth d (t ∷ ts) zero l = refl
 some-nth d (t ∷ ts) (suc k) l = some-nth d ts k (omega arith)
 
-module _ (sig state : ℕ → ℕ) (inj : (i j : ℕ) → sig i ≡ sig j → i ≡ j) (kap : ℕ → Option ℕ) (slv : ℕ → Slaves) (N : ℕ) (E E′ : ℕ → Chart)
+module _ (sig state : ℕ → ℕ) (inj : (i j : ℕ) → sig i ≡ sig j → i ≡ j) (kap : ℕ → Option ℕ) (slv : ℕ → Slaves) (N : ℕ)
+    (E E′ : ℕ → Chart)
     (cfg : ℕ → ℕ) (t : Tree) (inp : Set)
-    (same-chart : (c : ℕ) → c < N → E′ c ≡ chartWith sig (kap c) (touch sig state (slv c)) (E c)) (fit : Fit sig kap slv N t none) (above : Above t)
+    (same-chart : (c : ℕ) → c < N
+    → E′ c ≡ chartWith sig (kap c) (touch sig state (slv c)) (E c)) (fit : Fit sig kap slv N t none) (above : Above t)
     (has : (c : ℕ) → c < N → Has t c ≡ true)
     (old : (c : ℕ) → c < N → OldChart sig (E c)) (sound : (c : ℕ) → c < N → cfg c < E c .states)
     (few : (c : ℕ) → c < N → length (E c .transitions) ≤ noPlace) where
@@ -53,9 +59,11 @@ module _ (sig state : ℕ → ℕ) (inj : (i j : ℕ) → sig i ≡ sig j → i 
 
   -- choices of the charts below c, in range, and their rewriting
   abbrev Good : ℕ → (ℕ → ℕ) → (ℕ → ℕ) → Type 0
-  Good c ch ch′ = (i : ℕ) → i < c → (ch i ≤ length (E i .transitions)) × (ch′ i ≡ place (kap i) (length (E i .transitions)) (cfg i) (ch i))
+  Good c ch ch′ = (i : ℕ) → i < c
+      → (ch i ≤ length (E i .transitions)) × (ch′ i ≡ place (kap i) (length (E i .transitions)) (cfg i) (ch i))
 
-  moved-is : (ch ch′ : ℕ → ℕ) → Good N ch ch′ → (c : ℕ) → c < N → moves E′ ch′ c ≡ moveR sig (kap c) (touch sig state (slv c)) (cfg c) (moves E ch c)
+  moved-is : (ch ch′ : ℕ → ℕ) → Good N ch ch′ → (c : ℕ) → c < N
+      → moves E′ ch′ c ≡ moveR sig (kap c) (touch sig state (slv c)) (cfg c) (moves E ch c)
   unfolding moves
   moved-is ch ch′ g c l = ap₂ pick (same-chart c l) (g c l .1)
       ∙ (pick-moved sig (kap c) (touch sig state (slv c)) (E c) (cfg c) (ch c) (g c l .0) (sound c l))
@@ -66,7 +74,8 @@ module _ (sig state : ℕ → ℕ) (inj : (i j : ℕ) → sig i ≡ sig j → i 
   one′ c l = ap (λ C. C .stays) (same-chart c l) ∙ old c l .one
 
   -- its list has the place that stands for a place
-  new-there : (c v : ℕ) → c < N → v ≤ length (E c .transitions) → (w : ℕ) → place (kap c) (length (E c .transitions)) (cfg c) v ≡ suc w
+  new-there : (c v : ℕ) → c < N → v ≤ length (E c .transitions) → (w : ℕ)
+      → place (kap c) (length (E c .transitions)) (cfg c) v ≡ suc w
       → w < length (E′ c .transitions)
   unfolding place
   new-there c v l b w e = subst (λ C. w < length (C .transitions)) (sym (same-chart c l)) (go (kap c) v b e)
@@ -77,7 +86,8 @@ module _ (sig state : ℕ → ℕ) (inj : (i j : ℕ) → sig i ≡ sig j → i 
       T : Transition → Set
       T = touch sig state (slv c)
 
-      go : (κ : Option ℕ) (v : ℕ) → v ≤ m → place κ m (cfg c) v ≡ suc w → w < length (chartWith sig κ T (E c) .transitions)
+      go : (κ : Option ℕ) (v : ℕ) → v ≤ m → place κ m (cfg c) v ≡ suc w
+          → w < length (chartWith sig κ T (E c) .transitions)
       go none v b e = let n = places-none sig T (E c) in omega arith
       go (some i) zero b e = let n = places sig i T (E c) in let s = sound c l in omega arith
       go (some i) (suc k) b e = let n = places sig i T (E c) in omega arith
@@ -89,7 +99,8 @@ module _ (sig state : ℕ → ℕ) (inj : (i j : ℕ) → sig i ≡ sig j → i 
       (record {
         moved = moved-is ch ch′ g c l;
         fed = ap (λ C. C .feedback) (same-chart c l);
-        faced = ap inFaceChart (same-chart c l) ∙ face-is sig (kap c) (touch sig state (slv c)) (E c) (let h = sound c l in omega arith);
+        faced = ap inFaceChart (same-chart c l)
+            ∙ face-is sig (kap c) (touch sig state (slv c)) (E c) (let h = sound c l in omega arith);
         old-feedback = old c l .old-feedback;
         old-face = old-faceChart sig (E c) (old c l);
         old-move = old-pick sig (E c) (ch c) (old c l .one) (old c l .old-transitions);
@@ -105,7 +116,8 @@ module _ (sig state : ℕ → ℕ) (inj : (i j : ℕ) → sig i ≡ sig j → i 
       rw-t (hide p x y) κ f = (f .0, rw-t p κ (f .1))
       rw-t (dec c ss) κ f = (at-is ch ch′ g c κ ss (f .0) (f .1) (f .2), f .3, rw-s ss κ (f .4))
 
-      rw-s : (ss : Slaves) (κ : Option ℕ) → FitS sig kap slv N ss κ → Rws sig state cfg E E′ (moves E ch) (moves E′ ch′) ss κ
+      rw-s : (ss : Slaves) (κ : Option ℕ) → FitS sig kap slv N ss κ
+          → Rws sig state cfg E E′ (moves E ch) (moves E′ ch′) ss κ
       rw-s nil κ f = tt
       rw-s (snoc ss i t) κ f = (rw-s ss κ (f .0), f .1, rw-t t (some i) (f .2))
 
@@ -122,18 +134,21 @@ module _ (sig state : ℕ → ℕ) (inj : (i j : ℕ) → sig i ≡ sig j → i 
       r : Rw sig state cfg E E′ (moves E ch) (moves E′ ch′) t none
       r = rw-t ch ch′ g t none fit
 
-  same-nexts : (ch ch′ : ℕ → ℕ) → Good N ch ch′ → (c n : ℕ) → c + n ≤ N → nexts cfg (moves E′ ch′) c n ≡ nexts cfg (moves E ch) c n
+  same-nexts : (ch ch′ : ℕ → ℕ) → Good N ch ch′ → (c n : ℕ) → c + n ≤ N
+      → nexts cfg (moves E′ ch′) c n ≡ nexts cfg (moves E ch) c n
   unfolding nexts
   same-nexts ch ch′ g c zero l = refl
   same-nexts ch ch′ g c (suc n) l =
-      ap₂ _∷_ (rw (moved-is ch ch′ g c (omega arith)) (after-moved sig (kap c) (touch sig state (slv c)) (cfg c) (moves E ch c)))
+      ap₂ _∷_ (rw (moved-is ch ch′ g c (omega arith))
+      (after-moved sig (kap c) (touch sig state (slv c)) (cfg c) (moves E ch c)))
       (same-nexts ch ch′ g (suc c) n (omega arith))
 
   -- an outcome with its places turned
   abbrev turn : Outcome → Outcome
   turn = turned kap (λ c. length (E c .transitions)) cfg
 
-  same-outcome : (ch ch′ : ℕ → ℕ) → Good N ch ch′ → outcome E′ state cfg (tree sig fbs t) inp N ch′ ≡ map turn (outcome E state cfg t inp N ch)
+  same-outcome : (ch ch′ : ℕ → ℕ) → Good N ch ch′
+      → outcome E′ state cfg (tree sig fbs t) inp N ch′ ≡ map turn (outcome E state cfg t inp N ch)
   unfolding outcome outcomeOf turned
   same-outcome ch ch′ g =
       rw (
@@ -145,7 +160,8 @@ module _ (sig state : ℕ → ℕ) (inj : (i j : ℕ) → sig i ≡ sig j → i 
       (sym (map-cond turn (permitted E state cfg (moves E ch) t inp) (outcomeOf E cfg t N ch)))
     where
       stands : (i : ℕ) → i < N → Stands kap E E′ cfg ch ch′ i
-      stands i l = record { place-there = g i l .0; few = few i l; is = g i l .1; new-there = new-there i (ch i) l (g i l .0) }
+      stands i l =
+          record { place-there = g i l .0; few = few i l; is = g i l .1; new-there = new-there i (ch i) l (g i l .0) }
 
       same-out : out (moves E′ ch′) (tree sig fbs t) ≡ out (moves E ch) t
       same-out = out-t sig state inj cfg E E′ (moves E ch) (moves E′ ch′) t none (rw-t ch ch′ g t none fit)
@@ -159,7 +175,8 @@ module _ (sig state : ℕ → ℕ) (inj : (i j : ℕ) → sig i ≡ sig j → i 
       p = place (kap c) (length (E c .transitions)) (cfg c) v
 
       go : (d : Bool) → same i c ≡ d
-          → (upd ch c v i ≤ length (E i .transitions)) × (upd ch′ c p i ≡ place (kap i) (length (E i .transitions)) (cfg i) (upd ch c v i))
+          → (upd ch c v i ≤ length (E i .transitions))
+          × (upd ch′ c p i ≡ place (kap i) (length (E i .transitions)) (cfg i) (upd ch c v i))
       go true e = let q : i ≡ c = same→≡ i c e in
           rw q (
             subst (λ w. w ≤ length (E c .transitions)) (sym (upd-at ch c v)) l,
@@ -183,7 +200,8 @@ module _ (sig state : ℕ → ℕ) (inj : (i j : ℕ) → sig i ≡ sig j → i 
       → search E state cfg t inp N n (suc c) (upd ch c v) ≡ []
   unfolding permitted moves
   settled n c v ch l h = search-empty E state cfg t inp N n (suc c) (upd ch c v) (λ ch₂ b. not-true (λ k.
-      h (subst (λ u. some? (pick (E c) u) ≡ activeBy state cfg (moves E ch₂) t true c) (b c (omega arith) ∙ upd-at ch c v)
+      h
+      (subst (λ u. some? (pick (E c) u) ≡ activeBy state cfg (moves E ch₂) t true c) (b c (omega arith) ∙ upd-at ch c v)
       (ok-active E state cfg (moves E ch₂) t true (inp ∩ inFace E t) c (has c l) k)
       ∙ active-agree state cfg (moves E ch₂) (moves E ch) c
       (λ d e. ap (pick (E d)) (b d (omega arith) ∙ upd-off ch c v d e)) t true above (has c l))))
@@ -194,7 +212,8 @@ module _ (sig state : ℕ → ℕ) (inj : (i j : ℕ) → sig i ≡ sig j → i 
   same-search zero c ch ch′ e g = same-outcome ch ch′ (λ i l. g i (omega arith))
   same-search (suc n) c ch ch′ e g =
       ap (λ z. upto z f′) (places-one (E′ c) (one′ c (omega arith)))
-      ∙ go (kap c) refl (λ v l. same-search n (suc c) (upd ch c v) (upd ch′ c (place (kap c) (length (E c .transitions)) (cfg c) v)) (omega arith)
+      ∙ go (kap c) refl (λ v l. same-search n (suc c) (upd ch c v)
+      (upd ch′ c (place (kap c) (length (E c .transitions)) (cfg c) v)) (omega arith)
       (good-step ch ch′ c v g l))
       ∙ sym (map-upto turn m old-from)
       ∙ ap (λ z. map turn (upto z old-from)) (sym (places-one (E c) (old c (omega arith) .one)))
@@ -211,7 +230,8 @@ module _ (sig state : ℕ → ℕ) (inj : (i j : ℕ) → sig i ≡ sig j → i 
       f′ : ℕ → List Outcome
       f′ v = search E′ state cfg (tree sig fbs t) inp N n (suc c) (upd ch′ c v)
 
-      go : (κ : Option ℕ) → kap c ≡ κ → ((v : ℕ) → v ≤ m → f′ (place (kap c) m (cfg c) v) ≡ f v) → upto (length (E′ c .transitions)) f′ ≡ upto m f
+      go : (κ : Option ℕ) → kap c ≡ κ → ((v : ℕ) → v ≤ m → f′ (place (kap c) m (cfg c) v) ≡ f v)
+          → upto (length (E′ c .transitions)) f′ ≡ upto m f
       go none p ih = rw (same-chart c (omega arith), p, places-none sig (touch sig state (slv c)) (E c))
           (upto-cong m f′ f (λ v l. subst (λ κ. f′ (place κ m (cfg c) v) ≡ f v) p (ih v l)))
       go (some i) p ih = rw (len) (merge m (E c .states) (cfg c) f f′ (sound c l)
@@ -221,7 +241,8 @@ module _ (sig state : ℕ → ℕ) (inj : (i j : ℕ) → sig i ≡ sig j → i 
           (λ q h ne. dead n c (suc (m + q)) ch′ l (λ lv. ne (subst (Live (cfg c)) (at q h) lv)))
           (activeBy state cfg (moves E ch) t true c)
           (λ b. ap (map turn) (settled n c zero ch l (λ q. false≢true (q ∙ b))))
-          (λ b j h. ap (map turn) (settled n c (suc j) ch l (λ q. true≢false (sym (some-nth (behind (E c)) (E c .transitions) j h) ∙ q ∙ b)))))
+          (λ b j h. ap (map turn)
+          (settled n c (suc j) ch l (λ q. true≢false (sym (some-nth (behind (E c)) (E c .transitions) j h) ∙ q ∙ b)))))
         where
           l : c < N
           l = omega arith
@@ -230,7 +251,8 @@ module _ (sig state : ℕ → ℕ) (inj : (i j : ℕ) → sig i ≡ sig j → i 
           len = ap (λ C. length (C .transitions)) (same-chart c l) ∙ rw p (places sig i (touch sig state (slv c)) (E c))
 
           at : (q : ℕ) → q < E c .states → pick (E′ c) (suc (m + q)) ≡ takes (idle sig i q)
-          at q h = ap (λ C. pick C (suc (m + q))) (same-chart c l) ∙ rw p (idle-at sig i (touch sig state (slv c)) (E c) q h)
+          at q h =
+              ap (λ C. pick C (suc (m + q))) (same-chart c l) ∙ rw p (idle-at sig i (touch sig state (slv c)) (E c) q h)
 
   -- the theorem: the same outcomes in the same order, but for the places of idle transitions
   pub same-outcomes : outcomes E′ state cfg (tree sig fbs t) inp N ≡ map turn (outcomes E state cfg t inp N)

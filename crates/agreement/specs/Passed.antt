@@ -1,5 +1,5 @@
--- What a file is that passes 1 to 11, as far as the rewriting assumes it: that it passes (`passes`); transitions between states;
--- sets of 64 signals; all that the theorem on steps assumes (`ready`).
+-- What a file is that passes 1 to 11, as far as the rewriting assumes it: that it passes (`passes`); transitions
+-- between states; sets of 64 signals; all that the theorem on steps assumes (`ready`).
 use mathlib.Core.Path.{_≡_, sym, subst}
 use mathlib.Core.Bool.{false}
 use mathlib.Core.List.{List, [], _∷_}
@@ -38,7 +38,13 @@ pub passes : (f : List ℕ) → Passed f → refusalOf f ≡ 0
 unfolding refusalOf fileTests fileOf
 passes f p = all-pass (fileTests f) (
   le-ltb (length f) 12 (p .long),
-  (p .edition, (p .counts, (p .distance, (p .zeros, (p .charts, (p .transitions, (p .slaves, (p .nodes, (p .naming, (p .inside, tt)))))))))),
+  (
+    p .edition,
+    (
+      p .counts,
+      (p .distance, (p .zeros, (p .charts, (p .transitions, (p .slaves, (p .nodes, (p .naming, (p .inside, tt)))))))),
+    ),
+  ),
 )
 
 module _ (f : List ℕ) (p : Passed f) where
@@ -51,12 +57,16 @@ module _ (f : List ℕ) (p : Passed f) where
   -- ── transitions ──
 
   -- from and to are the chart's states
-  pub ended : (c : ℕ) → c < n .charts → Every (λ t. (t .from < headAt n b c .states) × (t .to < headAt n b c .states)) (transitionsOf n b c)
+  pub ended : (c : ℕ) → c < n .charts
+      → Every (λ t. (t .from < headAt n b c .states) × (t .to < headAt n b c .states)) (transitionsOf n b c)
   unfolding transitions? ends? transitionsOf
-  ended c l = every-from (λ t. (t .from < headAt n b c .states) × (t .to < headAt n b c .states)) (transitionAt n b) (startOf n b c)
+  ended c l = every-from (λ t. (t .from < headAt n b c .states) × (t .to < headAt n b c .states)) (transitionAt n b)
+      (startOf n b c)
       (headAt n b c .transitions)
-      (λ k m. let q = any-never (headAt n b c .transitions) (ends? n b c) all k m in
-      (below _ _ (or-left _ _ q), below _ _ (or-right (notBelow (transitionAt n b (startOf n b c + k) .from) (headAt n b c .states)) _ q)))
+      (λ k m. let q = any-never (headAt n b c .transitions) (ends? n b c) all k m in (
+        below _ _ (or-left _ _ q),
+        below _ _ (or-right (notBelow (transitionAt n b (startOf n b c + k) .from) (headAt n b c .states)) _ q),
+      ))
     where
       all : anyUpTo (headAt n b c .transitions) (ends? n b c) ≡ false
       all = or-left (anyUpTo (headAt n b c .transitions) (ends? n b c)) _ (any-never (n .charts) _ (p .transitions) c l)
@@ -69,7 +79,8 @@ module _ (f : List ℕ) (p : Passed f) where
       where
         go : Dec (i < k) → getD (take k s) i 0 < 256
         go (yes l) = subst (λ z. z < 256) (sym (getD-take k s i 0 l)) (h i)
-        go (no l) = subst (λ z. z < 256) (sym (List·getD-eq-default (take k s) 0 {n = i} (let e = length-take k s in omega arith))) (lit< tt)
+        go (no l) = subst (λ z. z < 256)
+            (sym (List·getD-eq-default (take k s) 0 {n = i} (let e = length-take k s in omega arith))) (lit< tt)
 
     pub body-bytes : AllBytes (bodyOf f)
     unfolding bodyOf
@@ -84,7 +95,8 @@ module _ (f : List ℕ) (p : Passed f) where
     unfolding guards
     guards-small [] h = lit< tt
     guards-small (t ∷ ts) h =
-        union-lt 64 (t .needed ∪ t .barred) (guards ts) (union-lt 64 (t .needed) (t .barred) (h .0 .0) (h .0 .1)) (guards-small ts (h .1))
+        union-lt 64 (t .needed ∪ t .barred) (guards ts) (union-lt 64 (t .needed) (t .barred) (h .0 .0) (h .0 .1))
+        (guards-small ts (h .1))
 
     actions-small : (ts : List Transition) → Every Small ts → actions ts < 2 ^ 64
     unfolding actions
@@ -95,7 +107,8 @@ module _ (f : List ℕ) (p : Passed f) where
     unfolding used fileOf fileAt chartOf
     used-small = union-lt 64 _ _
         (union-small (n .charts) _ (λ c l. let h = headAt-fits n b body-bytes c in
-        union-lt 64 _ _ (union-lt 64 _ _ (union-lt 64 _ _ (guards-small _ (smalls c)) (actions-small _ (smalls c))) (h .feedback)) (h .extra)))
+        union-lt 64 _ _ (union-lt 64 _ _ (union-lt 64 _ _ (guards-small _ (smalls c)) (actions-small _ (smalls c)))
+        (h .feedback)) (h .extra)))
         (union-small (n .nodes) _ (λ j l. let h = nodeAt-fits n b body-bytes j in union-lt 64 _ _ (h .x) (h .y)))
 
     -- ── all of it ──
@@ -107,7 +120,8 @@ module _ (f : List ℕ) (p : Passed f) where
       sound = sound (fileOf f) (p .slaves) (p .nodes) (p .naming) (p .inside);
       some-node = counted (trailer f) (p .counts) .some-node;
       some-state = λ c l. charted n b (p .charts) c l .some-state;
-      ends = λ c l. every-imp (λ t. (t .from < headAt n b c .states) × (t .to < headAt n b c .states)) (λ t. t .to < headAt n b c .states)
+      ends = λ c l. every-imp (λ t. (t .from < headAt n b c .states) × (t .to < headAt n b c .states))
+          (λ t. t .to < headAt n b c .states)
           (λ t h. h .1) (transitionsOf n b c) (ended c l);
       few = λ c l. let h = charted n b (p .charts) c l .transitions in
           let g = charted n b (p .charts) c l .states in

@@ -1,6 +1,6 @@
--- Places after the rewriting (RULES 9.8): a transition keeps its place, and a chart that takes none has the place of an idle transition, if it has
--- any. So an outcome is turned into one of the rewritten file, and the answer is the same. In this order: one place; the places of a choice;
--- outcomes.
+-- Places after the rewriting (RULES 9.8): a transition keeps its place, and a chart that takes none has the place of an
+-- idle transition, if it has any. So an outcome is turned into one of the rewritten file, and the answer is the same.
+-- In this order: one place; the places of a choice; outcomes.
 use mathlib.Core.Path.{_≡_, refl, sym, _∙_, ap, ap₂}
 use mathlib.Core.Bool.{Bool, true, false, _&&_, cond}
 use mathlib.Core.Logic.{_⊎_, inl, inr}
@@ -10,7 +10,8 @@ use Prim.Native.Nat.{ℕ, zero, suc, _+_, _≤_, _<_}
 use native.Mathlib.Omega.{arith}
 use lib.ListN.{length}
 use Rattle.meaning.specs.Numbers.{noPlace}
-use Rattle.meaning.specs.Meaning.{same, Chart, pick, Outcome, eqList, agree, answer, given, upto, placeOf, placesFrom, firstPlaces}
+use Rattle.meaning.specs.Meaning.{same, Chart, pick, Outcome, eqList, agree, answer, given, upto, placeOf, placesFrom}
+use Rattle.meaning.specs.Meaning.{firstPlaces}
 use Rattle.meaning.specs.Laws.Bools.{same-refl, same→≡, same-≢}
 use Rattle.meaning.specs.Laws.Choices.{place-own}
 use Rattle.agreement.specs.Charts.{place}
@@ -23,7 +24,8 @@ turnedPlace none m s p = p
 turnedPlace (some i) m s p = cond (same p noPlace) (m + s) p
 
 -- a chart's list is too short for 255 to be a place
-pub place-turned : (κ : Option ℕ) (C C′ : Chart) (s v : ℕ) → v ≤ length (C .transitions) → length (C .transitions) ≤ noPlace
+pub place-turned : (κ : Option ℕ) (C C′ : Chart) (s v : ℕ) → v ≤ length (C .transitions)
+    → length (C .transitions) ≤ noPlace
     → ((w : ℕ) → place κ (length (C .transitions)) s v ≡ suc w → w < length (C′ .transitions))
     → placeOf (pick C′ (place κ (length (C .transitions)) s v)) (place κ (length (C .transitions)) s v)
     ≡ turnedPlace κ (length (C .transitions)) s (placeOf (pick C v) v)
@@ -37,12 +39,14 @@ place-turned (some i) C C′ s (suc k) l b h =
     place-own C′ k (h k refl) ∙ rw (place-own C k (omega arith), same-≢ k noPlace (λ e. omega arith))
 
 -- it stays, or an idle transition's stands where there was none
-pub turned-or-idle : (κ : Option ℕ) (m s p : ℕ) → (turnedPlace κ m s p ≡ p) ⊎ ((i : ℕ) × (κ ≡ some i) × (p ≡ noPlace) × (turnedPlace κ m s p ≡ m + s))
+pub turned-or-idle : (κ : Option ℕ) (m s p : ℕ)
+    → (turnedPlace κ m s p ≡ p) ⊎ ((i : ℕ) × (κ ≡ some i) × (p ≡ noPlace) × (turnedPlace κ m s p ≡ m + s))
 unfolding turnedPlace
 turned-or-idle none m s p = inl refl
 turned-or-idle (some i) m s p = go (same p noPlace) refl
   where
-    go : (b : Bool) → same p noPlace ≡ b → (cond b (m + s) p ≡ p) ⊎ ((j : ℕ) × (some i ≡ some j) × (p ≡ noPlace) × (cond b (m + s) p ≡ m + s))
+    go : (b : Bool) → same p noPlace ≡ b
+        → (cond b (m + s) p ≡ p) ⊎ ((j : ℕ) × (some i ≡ some j) × (p ≡ noPlace) × (cond b (m + s) p ≡ m + s))
     go true e = inr (i, refl, same→≡ p noPlace e, refl)
     go false e = inl refl
 
@@ -67,7 +71,8 @@ module _ (kap : ℕ → Option ℕ) (own : ℕ → ℕ) (cfg : ℕ → ℕ) wher
   agree-turned : (a : Outcome) (os : List Outcome) → agree (turned a) (map turned os) ≡ agree a os
   unfolding agree turned
   agree-turned a [] = refl
-  agree-turned a (o ∷ os) = ap (λ b. (same (a .output) (o .output) && eqList (a .next) (o .next)) && b) (agree-turned a os)
+  agree-turned a (o ∷ os) =
+      ap (λ b. (same (a .output) (o .output) && eqList (a .next) (o .next)) && b) (agree-turned a os)
 
   -- what is turned answers as before
   pub answer-turned : (os : List Outcome) → answer (map turned os) ≡ answer os
@@ -97,7 +102,8 @@ module _ (kap : ℕ → Option ℕ) (E E′ : ℕ → Chart) (cfg : ℕ → ℕ)
   places-turned ch ch′ c zero h = refl
   places-turned ch ch′ c (suc n) h =
       let g = h c (omega arith) (omega arith) in
-      ap₂ _∷_ (ap (λ v. placeOf (pick (E′ c) v) v) (g .is) ∙ place-turned (kap c) (E c) (E′ c) (cfg c) (ch c) (g .place-there) (g .few) (g .new-there))
+      ap₂ _∷_ (ap (λ v. placeOf (pick (E′ c) v) v) (g .is)
+      ∙ place-turned (kap c) (E c) (E′ c) (cfg c) (ch c) (g .place-there) (g .few) (g .new-there))
       (places-turned ch ch′ (suc c) n (λ i l m. h i (omega arith) (omega arith)))
 
 module _ {A B : Type 0} (g : A → B) where

@@ -31,15 +31,18 @@ reads-back F ft = record {
   node = node-is F ft;
 }
 
-gather-same : (m m′ : ℕ → ℕ) (g g′ : ℕ → Tree) (c k : ℕ) → ((i : ℕ) → i < k → m′ i ≡ m i) → ((i : ℕ) → i < k → m i ≡ c → g′ i ≡ g i)
+gather-same : (m m′ : ℕ → ℕ) (g g′ : ℕ → Tree) (c k : ℕ) → ((i : ℕ) → i < k → m′ i ≡ m i)
+    → ((i : ℕ) → i < k → m i ≡ c → g′ i ≡ g i)
     → gather m′ g′ c k ≡ gather m g c k
 unfolding gather
 gather-same m m′ g g′ c zero p e = refl
-gather-same m m′ g g′ c (suc k) p e = ap (λ z. cond (same z c) (snoc (gather m′ g′ c k) k (g′ k)) (gather m′ g′ c k)) (p k (omega arith))
+gather-same m m′ g g′ c (suc k) p e =
+    ap (λ z. cond (same z c) (snoc (gather m′ g′ c k) k (g′ k)) (gather m′ g′ c k)) (p k (omega arith))
     ∙ go (same (m k) c) refl (gather-same m m′ g g′ c k (λ i l. p i (omega arith)) (λ i l. e i (omega arith)))
   where
     go : (b : Bool) → same (m k) c ≡ b → gather m′ g′ c k ≡ gather m g c k
-        → cond b (snoc (gather m′ g′ c k) k (g′ k)) (gather m′ g′ c k) ≡ cond b (snoc (gather m g c k) k (g k)) (gather m g c k)
+        → cond b (snoc (gather m′ g′ c k) k (g′ k)) (gather m′ g′ c k)
+        ≡ cond b (snoc (gather m g c k) k (g k)) (gather m g c k)
     go true q r = ap₂ (λ s t. snoc s k t) r (e k (omega arith) (same→≡ (m k) c q))
     go false q r = r
 
@@ -60,11 +63,14 @@ module _ (F G : File) (rd : Reads F G) (w : Ordered F) where
           ≡ byKind k (whole (F .a j) (gather (F .master) (λ i. build F f (F .node i)) (F .a j) (F .slaves)))
           (comp (build F f (F .a j)) (build F f (F .b j)) (F .x j)) (hide (build F f (F .a j)) (F .x j) (F .y j))
       go zero e ih = ap (λ n. whole (F .a j) (gather (G .master) (λ i. build G f (G .node i)) (F .a j) n)) (rd .slaves)
-          ∙ ap (whole (F .a j)) (gather-same (F .master) (G .master) (λ i. build F f (F .node i)) (λ i. build G f (G .node i)) (F .a j) (F .slaves)
+          ∙ ap (whole (F .a j)) (gather-same (F .master) (G .master) (λ i. build F f (F .node i))
+          (λ i. build G f (G .node i)) (F .a j) (F .slaves)
           (λ i m. ap (λ s. s .chart) (rd .slave i m))
           (λ i m q. ap (λ s. build G f (s .node)) (rd .slave i m) ∙ ih (F .node i) (w .lower₀ j l e i m q)))
-      go (suc zero) e ih = let h = w .lower₁ j l e in ap₂ (λ p q. comp p q (F .x j)) (ih (F .a j) (h .0)) (ih (F .b j) (h .1))
-      go (suc (suc k)) e ih = ap (λ p. hide p (F .x j) (F .y j)) (ih (F .a j) (w .lower₂ j l (let h = w .kinds j l in omega arith)))
+      go (suc zero) e ih = let h = w .lower₁ j l e in
+          ap₂ (λ p q. comp p q (F .x j)) (ih (F .a j) (h .0)) (ih (F .b j) (h .1))
+      go (suc (suc k)) e ih =
+          ap (λ p. hide p (F .x j) (F .y j)) (ih (F .a j) (w .lower₂ j l (let h = w .kinds j l in omega arith)))
 
   pub tree-same : (j : ℕ) → j < F .nodes → treeOf G j ≡ treeOf F j
   unfolding treeOf

@@ -1,5 +1,5 @@
--- The rewritten file passes test 10 (RULES 3.2): each chart is held once, each node has one name except the last. The names of all new nodes are
--- summed node by node.
+-- The rewritten file passes test 10 (RULES 3.2): each chart is held once, each node has one name except the last. The
+-- names of all new nodes are summed node by node.
 use mathlib.Core.Path.{_≡_, refl, sym, _∙_, ap, ap₂, subst}
 use mathlib.Core.Bool.{Bool, true, false, _&&_, cond}
 use mathlib.Core.Option.{none}
@@ -19,7 +19,8 @@ use Rattle.meaning.specs.Count.{one, tally}
 use Rattle.meaning.specs.Count.Laws.{tally-cong, tally-zero, tally-add, tally-swap, tally-front, tally-only, tally-ge}
 use Rattle.meaning.specs.Laws.Names.{Rule10}
 use Rattle.meaning.specs.Check.{names, named, held}
-use Rattle.meaning.specs.Rewriting.{callsOf, count, before, start, newName, composed, madeBy, madeFor, laid, newNode, rewrite}
+use Rattle.meaning.specs.Rewriting.{callsOf, count, before, start, newName, composed, madeBy, madeFor, laid, newNode}
+use Rattle.meaning.specs.Rewriting.{rewrite}
 use Rattle.agreement.specs.Renamed.{count-less}
 use Rattle.agreement.specs.Laid.{noNode, widthOf, width, start-suc, start-mono, last-width, laid-length}
 use Rattle.layout.specs.declared.record.Node.{Node}
@@ -66,15 +67,19 @@ s21 = refl
 
 -- ── how often a node names p, and whether it holds c ──
 nm : ℕ → Node → ℕ
-nm p n = one (same (n .kind) 1 && same (n .a) p) + one (same (n .kind) 1 && same (n .b) p) + one (same (n .kind) 2 && same (n .a) p)
+nm p n = one (same (n .kind) 1 && same (n .a) p) + one (same (n .kind) 1 && same (n .b) p)
+    + one (same (n .kind) 2 && same (n .a) p)
 
 hd : ℕ → Node → ℕ
 hd c n = one (same (n .kind) 0 && same (n .a) c)
 
-module _ (F : File) (w : Ordered F) (r : Rule10 F) (there : (i : ℕ) → i < F .slaves → (F .node i < F .nodes) × (F .master i < F .charts)) where
-  total : (g : Node → ℕ) → tally (start F (F .nodes)) (λ q. g (newNode F q)) ≡ tally (F .nodes) (λ j. sumL g (madeFor F j))
+module _ (F : File) (w : Ordered F) (r : Rule10 F)
+    (there : (i : ℕ) → i < F .slaves → (F .node i < F .nodes) × (F .master i < F .charts)) where
+  total : (g : Node → ℕ)
+      → tally (start F (F .nodes)) (λ q. g (newNode F q)) ≡ tally (F .nodes) (λ j. sumL g (madeFor F j))
   unfolding laid sumL tally
-  total g = subst (λ z. tally z (λ q. g (newNode F q)) ≡ sumL g (laid F (F .nodes))) (laid-length F (F .nodes)) (tally-list g (laid F (F .nodes)))
+  total g = subst (λ z. tally z (λ q. g (newNode F q)) ≡ sumL g (laid F (F .nodes))) (laid-length F (F .nodes))
+      (tally-list g (laid F (F .nodes)))
       ∙ blocks (F .nodes)
     where
       blocks : (n : ℕ) → sumL g (laid F n) ≡ tally n (λ j. sumL g (madeFor F j))
@@ -88,9 +93,16 @@ module _ (F : File) (w : Ordered F) (r : Rule10 F) (there : (i : ℕ) → i < F 
   held-parts c d at (suc i) = go (same (F .master i) c) (held-parts c d at i)
     where
       nd : Node
-      nd = record { kind = 1; a = at + count F c i; b = newName F (F .node i); x = F .chart c .feedback ∪ callsOf F c; y = ∅ }
+      nd = record {
+        kind = 1;
+        a = at + count F c i;
+        b = newName F (F .node i);
+        x = F .chart c .feedback ∪ callsOf F c;
+        y = ∅;
+      }
 
-      go : (b : Bool) → sumL (hd d) (composed F c at i) ≡ 0 → sumL (hd d) (cond b (composed F c at i ++ (nd ∷ [])) (composed F c at i)) ≡ 0
+      go : (b : Bool) → sumL (hd d) (composed F c at i) ≡ 0
+          → sumL (hd d) (cond b (composed F c at i ++ (nd ∷ [])) (composed F c at i)) ≡ 0
       go true e = sumL-append (hd d) (composed F c at i) (nd ∷ []) ∙ ap (λ z. z + 0) e
       go false e = e
 
@@ -101,10 +113,17 @@ module _ (F : File) (w : Ordered F) (r : Rule10 F) (there : (i : ℕ) → i < F 
       go : (k s : ℕ) → F .kind j ≡ k → sumL (hd d) (madeBy F k s j) ≡ one (same k 0 && same (F .a j) d)
       go zero zero e = add-zero (one (same 0 0 && same (F .a j) d))
       go zero (suc s) e = ap (λ z. one (same 0 0 && same (F .a j) d) + z)
-          (sumL-append (hd d) (composed F (F .a j) (start F j) (F .slaves)) _ ∙ ap₂ _+_ (held-parts (F .a j) d (start F j) (F .slaves)) tail0)
+          (sumL-append (hd d) (composed F (F .a j) (start F j) (F .slaves)) _
+          ∙ ap₂ _+_ (held-parts (F .a j) d (start F j) (F .slaves)) tail0)
           ∙ add-zero (one (same 0 0 && same (F .a j) d))
         where
-          tail0 : hd d (record { kind = 2; a = start F j + suc s; b = 0; x = callsOf F (F .a j); y = callsOf F (F .a j) }) + 0 ≡ 0
+          tail0 : hd d (record {
+            kind = 2;
+            a = start F j + suc s;
+            b = 0;
+            x = callsOf F (F .a j);
+            y = callsOf F (F .a j);
+          }) + 0 ≡ 0
           tail0 = rw s20
       go (suc zero) s e = rw s10
       go (suc (suc k)) s e = rw (s20, same-≢ (suc (suc k)) 0 (λ w. omega arith))
@@ -112,7 +131,8 @@ module _ (F : File) (w : Ordered F) (r : Rule10 F) (there : (i : ℕ) → i < F 
   held-new : (c : ℕ) → held (rewrite F) c ≡ held F c
   unfolding held hd
   held-new c = total (hd c)
-      ∙ tally-cong (F .nodes) (λ j. sumL (hd c) (madeFor F j)) (λ j. one (same (F .kind j) 0 && same (F .a j) c)) (λ j l. held-block c j)
+      ∙ tally-cong (F .nodes) (λ j. sumL (hd c) (madeFor F j)) (λ j. one (same (F .kind j) 0 && same (F .a j) c))
+      (λ j l. held-block c j)
 
   -- ── names ──
   block-unique : (j q j′ q′ : ℕ) → q < width F j → q′ < width F j′ → start F j + q ≡ start F j′ + q′ → j ≡ j′
@@ -135,7 +155,8 @@ module _ (F : File) (w : Ordered F) (r : Rule10 F) (there : (i : ℕ) → i < F 
   ren-inj x y e = block-unique x (end x) y (end y) (ren-end x .1) (ren-end y .1) (sym (ren-end x .0) ∙ e ∙ ren-end y .0)
 
   same-ren : (x y : ℕ) → same (newName F x) (newName F y) ≡ same x y
-  same-ren x y = bool-eq (same (newName F x) (newName F y)) (same x y) (λ e. rw (ren-inj x y (same→≡ _ _ e)) (same-refl y))
+  same-ren x y =
+      bool-eq (same (newName F x) (newName F y)) (same x y) (λ e. rw (ren-inj x y (same→≡ _ _ e)) (same-refl y))
       (λ e. rw (same→≡ x y e) (same-refl (newName F y)))
 
   -- a node inside a madeFor that is not its end is no node's new name
@@ -149,7 +170,8 @@ module _ (F : File) (w : Ordered F) (r : Rule10 F) (there : (i : ℕ) → i < F 
   end-is j s e f = ap₂ (before F) e f
 
   nm-parts : (j j₀ s i : ℕ) → F .kind j ≡ 0 → count F (F .a j) (F .slaves) ≡ suc s → i ≤ F .slaves
-      → sumL (nm (newName F j₀)) (composed F (F .a j) (start F j) i) ≡ tally i (λ i. one (same (F .master i) (F .a j) && same (F .node i) j₀))
+      → sumL (nm (newName F j₀)) (composed F (F .a j) (start F j) i)
+      ≡ tally i (λ i. one (same (F .master i) (F .a j) && same (F .node i) j₀))
   unfolding composed sumL tally nm
   nm-parts j j₀ s zero e f m = refl
   nm-parts j j₀ s (suc i) e f m = go (same (F .master i) (F .a j)) refl (nm-parts j j₀ s i e f (omega arith))
@@ -158,30 +180,41 @@ module _ (F : File) (w : Ordered F) (r : Rule10 F) (there : (i : ℕ) → i < F 
       c = F .a j
 
       nd : Node
-      nd = record { kind = 1; a = start F j + count F c i; b = newName F (F .node i); x = F .chart c .feedback ∪ callsOf F c; y = ∅ }
+      nd = record {
+        kind = 1;
+        a = start F j + count F c i;
+        b = newName F (F .node i);
+        x = F .chart c .feedback ∪ callsOf F c;
+        y = ∅;
+      }
 
       nm-one : (a b : ℕ) → same a (newName F j₀) ≡ false
-          → one (same 1 1 && same a (newName F j₀)) + one (same 1 1 && same b (newName F j₀)) + one (same 1 2 && same a (newName F j₀))
+          → one (same 1 1 && same a (newName F j₀)) + one (same 1 1 && same b (newName F j₀))
+          + one (same 1 2 && same a (newName F j₀))
           ≡ one (same b (newName F j₀))
       nm-one a b x = rw (same-refl 1, s12, x) (omega arith)
 
       names-slave : same (F .master i) c ≡ true → nm (newName F j₀) nd ≡ one (same (F .node i) j₀)
       names-slave p = let l = count-less F c i (F .slaves) m p in let u = end-is j s e f in
-          let x : same (start F j + count F c i) (newName F j₀) ≡ false = same-≢ _ _ (not-end j (count F c i) j₀ (omega arith)) in
+          let x : same (start F j + count F c i) (newName F j₀) ≡ false =
+          same-≢ _ _ (not-end j (count F c i) j₀ (omega arith)) in
           nm-one (start F j + count F c i) (newName F (F .node i)) x ∙ ap one (same-ren (F .node i) j₀)
 
       go : (d : Bool) → same (F .master i) c ≡ d
-          → sumL (nm (newName F j₀)) (composed F c (start F j) i) ≡ tally i (λ i. one (same (F .master i) c && same (F .node i) j₀))
+          → sumL (nm (newName F j₀)) (composed F c (start F j) i)
+          ≡ tally i (λ i. one (same (F .master i) c && same (F .node i) j₀))
           → sumL (nm (newName F j₀)) (cond d (composed F c (start F j) i ++ (nd ∷ [])) (composed F c (start F j) i))
           ≡ one (d && same (F .node i) j₀) + tally i (λ i. one (same (F .master i) c && same (F .node i) j₀))
-      go true p h = let a = sumL-append (nm (newName F j₀)) (composed F c (start F j) i) (nd ∷ []) in let b = names-slave p in omega arith
+      go true p h = let a = sumL-append (nm (newName F j₀)) (composed F c (start F j) i) (nd ∷ []) in
+          let b = names-slave p in omega arith
       go false p h = h ∙ sym (zero-add _)
 
   nm-base : (p c : ℕ) → nm p (record { kind = 0; a = c; b = 0; x = ∅; y = ∅ }) ≡ 0
   unfolding nm
   nm-base p c = rw (s01, s02)
 
-  nm-1 : (p a b : ℕ) (x y : Set) → nm p (record { kind = 1; a = a; b = b; x = x; y = y }) ≡ one (same a p) + one (same b p)
+  nm-1 : (p a b : ℕ) (x y : Set)
+      → nm p (record { kind = 1; a = a; b = b; x = x; y = y }) ≡ one (same a p) + one (same b p)
   unfolding nm
   nm-1 p a b x y = rw (same-refl 1, s12) (omega arith)
 
@@ -196,7 +229,8 @@ module _ (F : File) (w : Ordered F) (r : Rule10 F) (there : (i : ℕ) → i < F 
   all-more X = tally-cong (F .slaves) _ _ (λ i l. ap (λ b. one (b && X i)) (same-refl 0))
 
   nm-block : (j j₀ : ℕ) → j < F .nodes → sumL (nm (newName F j₀)) (madeFor F j)
-      ≡ names F j j₀ + tally (F .slaves) (λ i. one (same (F .kind j) 0 && (same (F .master i) (F .a j) && same (F .node i) j₀)))
+      ≡ names F j j₀
+      + tally (F .slaves) (λ i. one (same (F .kind j) 0 && (same (F .master i) (F .a j) && same (F .node i) j₀)))
   unfolding madeFor sumL names
   nm-block j j₀ l = go (F .kind j) (count F (F .a j) (F .slaves)) refl refl
     where
@@ -210,7 +244,8 @@ module _ (F : File) (w : Ordered F) (r : Rule10 F) (there : (i : ℕ) → i < F 
           ≡ one (same k 1 && same (F .a j) j₀) + one (same k 1 && same (F .b j) j₀) + one (same k 2 && same (F .a j) j₀)
           + tally (F .slaves) (λ i. one (same k 0 && (same (F .master i) (F .a j) && same (F .node i) j₀)))
       go zero zero e f = rw (nm-base P (F .a j), s01, s02)
-          (let z = tally-zero (F .slaves) (λ i. one (same 0 0 && (same (F .master i) (F .a j) && same (F .node i) j₀))) none in omega arith)
+          (let z = tally-zero (F .slaves)
+          (λ i. one (same 0 0 && (same (F .master i) (F .a j) && same (F .node i) j₀))) none in omega arith)
         where
           none : (i : ℕ) → i < F .slaves → one (same 0 0 && (same (F .master i) (F .a j) && same (F .node i) j₀)) ≡ 0
           none i m = let a = tally-ge (F .slaves) (λ i. one (same (F .master i) (F .a j))) i m in
@@ -226,16 +261,20 @@ module _ (F : File) (w : Ordered F) (r : Rule10 F) (there : (i : ℕ) → i < F 
           let c = nm-2 P (start F j + suc s) 0 (callsOf F (F .a j)) (callsOf F (F .a j)) in
           let d = all-more (λ i. same (F .master i) (F .a j) && same (F .node i) j₀) in
           let u = end-is j s e f in
-          let g : one (same (start F j + suc s) P) ≡ 0 = ap one (same-≢ (start F j + suc s) P (not-end j (suc s) j₀ (omega arith))) in omega arith)
+          let g : one (same (start F j + suc s) P) ≡ 0 =
+          ap one (same-≢ (start F j + suc s) P (not-end j (suc s) j₀ (omega arith))) in omega arith)
       go (suc zero) s e f = let a = nm-1 P (newName F (F .a j)) (newName F (F .b j)) (F .x j) ∅ in
           let b = no-more 1 (λ i. same (F .master i) (F .a j) && same (F .node i) j₀) s10 in
           let c : one (same (newName F (F .a j)) P) ≡ one (same (F .a j) j₀) = ap one (same-ren (F .a j) j₀) in
           let d : one (same (newName F (F .b j)) P) ≡ one (same (F .b j) j₀) = ap one (same-ren (F .b j) j₀) in
-          let g : one (same 1 1 && same (F .a j) j₀) ≡ one (same (F .a j) j₀) = ap (λ z. one (z && same (F .a j) j₀)) (same-refl 1) in
-          let h : one (same 1 1 && same (F .b j) j₀) ≡ one (same (F .b j) j₀) = ap (λ z. one (z && same (F .b j) j₀)) (same-refl 1) in
+          let g : one (same 1 1 && same (F .a j) j₀) ≡ one (same (F .a j) j₀) =
+          ap (λ z. one (z && same (F .a j) j₀)) (same-refl 1) in
+          let h : one (same 1 1 && same (F .b j) j₀) ≡ one (same (F .b j) j₀) =
+          ap (λ z. one (z && same (F .b j) j₀)) (same-refl 1) in
           let i : one (same 1 2 && same (F .a j) j₀) ≡ 0 = ap (λ z. one (z && same (F .a j) j₀)) s12 in omega arith
       go (suc (suc k)) s e f = let a = nm-2 P (newName F (F .a j)) 0 (F .x j) (F .y j) in
-          let b = no-more (suc (suc k)) (λ i. same (F .master i) (F .a j) && same (F .node i) j₀) (same-≢ _ _ (λ z. omega arith)) in
+          let b = no-more (suc (suc k))
+          (λ i. same (F .master i) (F .a j) && same (F .node i) j₀) (same-≢ _ _ (λ z. omega arith)) in
           let c : one (same (newName F (F .a j)) P) ≡ one (same (F .a j) j₀) = ap one (same-ren (F .a j) j₀) in
           let two : suc (suc k) ≡ 2 = (let z = w .kinds j l in omega arith) in
           let g : one (same (suc (suc k)) 1 && same (F .a j) j₀) ≡ 0 =
@@ -250,7 +289,8 @@ module _ (F : File) (w : Ordered F) (r : Rule10 F) (there : (i : ℕ) → i < F 
   unfolding named names nm held
   named-ren j₀ = ap₂ _+_ (tally-zero 0 (λ i. one (same 0 (newName F j₀))) (λ i l. absurd (omega arith)))
       (total (nm (newName F j₀))
-      ∙ tally-cong (F .nodes) (λ j. sumL (nm (newName F j₀)) (madeFor F j)) (λ j. names F j j₀ + tally (F .slaves) (λ i. B i j))
+      ∙ tally-cong (F .nodes) (λ j. sumL (nm (newName F j₀)) (madeFor F j))
+      (λ j. names F j j₀ + tally (F .slaves) (λ i. B i j))
       (λ j l. nm-block j j₀ l)
       ∙ tally-add (F .nodes) (λ j. names F j j₀) (λ j. tally (F .slaves) (λ i. B i j))
       ∙ ap (λ z. tally (F .nodes) (λ j. names F j j₀) + z) (tally-swap (F .nodes) (F .slaves) B
@@ -277,11 +317,14 @@ module _ (F : File) (w : Ordered F) (r : Rule10 F) (there : (i : ℕ) → i < F 
       held-is : (c : ℕ) → c < F .charts → tally (F .nodes) (λ k. one (same (F .kind k) 0 && same (F .a k) c)) ≡ 1
       held-is c l = r .once c l
 
-      single-holder : (i : ℕ) → i < F .slaves → (x : Bool) → same (F .node i) j₀ ≡ x → tally (F .nodes) (λ j. B i j) ≡ one x
-      single-holder i l true e = tally-cong (F .nodes) (λ j. B i j) (λ j. one (same (F .kind j) 0 && same (F .a j) (F .master i)))
+      single-holder : (i : ℕ) → i < F .slaves → (x : Bool) → same (F .node i) j₀ ≡ x
+          → tally (F .nodes) (λ j. B i j) ≡ one x
+      single-holder i l true e =
+          tally-cong (F .nodes) (λ j. B i j) (λ j. one (same (F .kind j) 0 && same (F .a j) (F .master i)))
           (λ j m. rw (e, same-comm (F .master i) (F .a j)) (law (same (F .kind j) 0) (same (F .a j) (F .master i))))
           ∙ held-is (F .master i) (there i l .1)
-      single-holder i l false e = tally-zero (F .nodes) (λ j. B i j) (λ j m. rw e (law0 (same (F .kind j) 0) (same (F .master i) (F .a j))))
+      single-holder i l false e =
+          tally-zero (F .nodes) (λ j. B i j) (λ j m. rw e (law0 (same (F .kind j) 0) (same (F .master i) (F .a j))))
 
   -- ── the nodes before the last that is made for a node ──
   both-zero : (a b : Bool) → (a ≡ true → b ≡ false) → one (a && b) ≡ 0
@@ -305,9 +348,11 @@ module _ (F : File) (w : Ordered F) (r : Rule10 F) (there : (i : ℕ) → i < F 
           → (q < count F c k → tally k (λ i. one (same (F .master i) c && same (count F c i) q)) ≡ 1)
           → one (d && x) + tally k (λ i. one (same (F .master i) c && same (count F c i) q)) ≡ 1
       go true p true z r = let a = same→≡ (count F c k) q z in let b = none-with c q k (omega arith) in omega arith
-      go true p false z r = let a : count F c k ≢ q = same→≢ (count F c k) q z in let b : one (same (F .master k) c) ≡ 1 = ap one p in let d = bits in
+      go true p false z r = let a : count F c k ≢ q = same→≢ (count F c k) q z in
+          let b : one (same (F .master k) c) ≡ 1 = ap one p in let d = bits in
           let f = r (omega arith) in omega arith
-      go false p x z r = let b : one (same (F .master k) c) ≡ 0 = ap one p in let d = bits in let f = r (omega arith) in omega arith
+      go false p x z r = let b : one (same (F .master k) c) ≡ 0 = ap one p in let d = bits in
+          let f = r (omega arith) in omega arith
 
   nm-parts-in : (p c at k : ℕ) → ((x : ℕ) → p ≢ newName F x)
       → sumL (nm p) (composed F c at k) ≡ tally k (λ i. one (same (F .master i) c && same (at + count F c i) p))
@@ -316,14 +361,23 @@ module _ (F : File) (w : Ordered F) (r : Rule10 F) (there : (i : ℕ) → i < F 
   nm-parts-in p c at (suc i) h = go (same (F .master i) c) (nm-parts-in p c at i h)
     where
       nd : Node
-      nd = record { kind = 1; a = at + count F c i; b = newName F (F .node i); x = F .chart c .feedback ∪ callsOf F c; y = ∅ }
+      nd = record {
+        kind = 1;
+        a = at + count F c i;
+        b = newName F (F .node i);
+        x = F .chart c .feedback ∪ callsOf F c;
+        y = ∅;
+      }
 
-      go : (d : Bool) → sumL (nm p) (composed F c at i) ≡ tally i (λ i. one (same (F .master i) c && same (at + count F c i) p))
+      go : (d : Bool)
+          → sumL (nm p) (composed F c at i) ≡ tally i (λ i. one (same (F .master i) c && same (at + count F c i) p))
           → sumL (nm p) (cond d (composed F c at i ++ (nd ∷ [])) (composed F c at i))
-          ≡ one (d && same (at + count F c i) p) + tally i (λ i. one (same (F .master i) c && same (at + count F c i) p))
+          ≡ one (d && same (at + count F c i) p)
+          + tally i (λ i. one (same (F .master i) c && same (at + count F c i) p))
       go true e = let a = sumL-append (nm p) (composed F c at i) (nd ∷ []) in
           let b = nm-1 p (at + count F c i) (newName F (F .node i)) (F .chart c .feedback ∪ callsOf F c) ∅ in
-          let z : one (same (newName F (F .node i)) p) ≡ 0 = ap one (same-≢ (newName F (F .node i)) p (λ u. h (F .node i) (sym u))) in omega arith
+          let z : one (same (newName F (F .node i)) p) ≡ 0 =
+          ap one (same-≢ (newName F (F .node i)) p (λ u. h (F .node i) (sym u))) in omega arith
       go false e = e ∙ sym (zero-add _)
 
   module _ (j₀ q : ℕ) (l₀ : j₀ < F .nodes) (lq : q < end j₀) where
@@ -352,15 +406,18 @@ module _ (F : File) (w : Ordered F) (r : Rule10 F) (there : (i : ℕ) → i < F 
             let a = sumL-append (nm P) (composed F (F .a j) (start F j) (F .slaves)) (hidden s ∷ []) in
             let b = nm-parts-in P (F .a j) (start F j) (F .slaves) no-ren in
             let c = nm-2 P (start F j + suc s) 0 (callsOf F (F .a j)) (callsOf F (F .a j)) in
-            let d = tally-zero (F .slaves) (λ i. one (same (F .master i) (F .a j) && same (start F j + count F (F .a j) i) P))
+            let d =
+            tally-zero (F .slaves) (λ i. one (same (F .master i) (F .a j) && same (start F j + count F (F .a j) i) P))
             (λ i m. both-zero (same (F .master i) (F .a j)) (same (start F j + count F (F .a j) i) P)
-            (λ z. same-≢ _ _ (elsewhere j (count F (F .a j) i) h (let y = count-less F (F .a j) i (F .slaves) m z in omega arith)))) in
+            (λ z. same-≢ _ _
+            (elsewhere j (count F (F .a j) i) h (let y = count-less F (F .a j) i (F .slaves) m z in omega arith)))) in
             let g = no (start F j + suc s) (elsewhere j (suc s) h (omega arith)) in omega arith)
           where
             hidden : ℕ → Node
             hidden s = record { kind = 2; a = start F j + suc s; b = 0; x = callsOf F (F .a j); y = callsOf F (F .a j) }
         go (suc zero) s e f = let a = nm-1 P (newName F (F .a j)) (newName F (F .b j)) (F .x j) ∅ in
-            let b = no (newName F (F .a j)) (λ u. no-ren (F .a j) (sym u)) in let c = no (newName F (F .b j)) (λ u. no-ren (F .b j) (sym u)) in
+            let b = no (newName F (F .a j)) (λ u. no-ren (F .a j) (sym u)) in
+            let c = no (newName F (F .b j)) (λ u. no-ren (F .b j) (sym u)) in
             omega arith
         go (suc (suc k)) s e f = let a = nm-2 P (newName F (F .a j)) 0 (F .x j) (F .y j) in
             let b = no (newName F (F .a j)) (λ u. no-ren (F .a j) (sym u)) in omega arith
@@ -369,27 +426,31 @@ module _ (F : File) (w : Ordered F) (r : Rule10 F) (there : (i : ℕ) → i < F 
     unfolding madeFor sumL end P
     in-block = go (F .kind j₀) (count F (F .a j₀) (F .slaves)) refl refl lq
       where
-        go : (k s : ℕ) → F .kind j₀ ≡ k → count F (F .a j₀) (F .slaves) ≡ s → q < before F k s → sumL (nm P) (madeBy F k s j₀) ≡ 1
+        go : (k s : ℕ) → F .kind j₀ ≡ k → count F (F .a j₀) (F .slaves) ≡ s → q < before F k s
+            → sumL (nm P) (madeBy F k s j₀) ≡ 1
         go zero zero e f l = absurd (omega arith)
         go zero (suc s) e f l = rw (nm-base P (F .a j₀))
             (let a = sumL-append (nm P) (composed F (F .a j₀) (start F j₀) (F .slaves)) (hidden s ∷ []) in
             let b = nm-parts-in P (F .a j₀) (start F j₀) (F .slaves) no-ren in
             let c = nm-2 P (start F j₀ + suc s) 0 (callsOf F (F .a j₀)) (callsOf F (F .a j₀)) in
-            let d = tally-cong (F .slaves) (λ i. one (same (F .master i) (F .a j₀) && same (start F j₀ + count F (F .a j₀) i) P))
+            let d = tally-cong (F .slaves)
+            (λ i. one (same (F .master i) (F .a j₀) && same (start F j₀ + count F (F .a j₀) i) P))
             (λ i. one (same (F .master i) (F .a j₀) && same (count F (F .a j₀) i) q))
             (λ i m. ap (λ z. one (same (F .master i) (F .a j₀) && z)) (shift (count F (F .a j₀) i))) in
             let g : one (same (start F j₀ + suc s) P) ≡ one (same (suc s) q) = ap one (shift (suc s)) in
             let x = cases (decLt q (suc s)) in omega arith)
           where
             hidden : ℕ → Node
-            hidden s = record { kind = 2; a = start F j₀ + suc s; b = 0; x = callsOf F (F .a j₀); y = callsOf F (F .a j₀) }
+            hidden s =
+                record { kind = 2; a = start F j₀ + suc s; b = 0; x = callsOf F (F .a j₀); y = callsOf F (F .a j₀) }
 
             shift : (z : ℕ) → same (start F j₀ + z) P ≡ same z q
             shift z = bool-eq (same (start F j₀ + z) P) (same z q)
                 (λ u. let v = same→≡ (start F j₀ + z) P u in let y : z ≡ q = omega arith in rw y (same-refl q))
                 (λ u. rw (same→≡ z q u) (same-refl (start F j₀ + q)))
 
-            cases : Dec (q < suc s) → tally (F .slaves) (λ i. one (same (F .master i) (F .a j₀) && same (count F (F .a j₀) i) q))
+            cases : Dec (q < suc s)
+                → tally (F .slaves) (λ i. one (same (F .master i) (F .a j₀) && same (count F (F .a j₀) i) q))
                 + one (same (suc s) q) ≡ 1
             cases (yes v) = let y = one-with (F .a j₀) q (F .slaves) (omega arith) in
                 let z : one (same (suc s) q) ≡ 0 = ap one (same-≢ (suc s) q (λ u. omega arith)) in omega arith
@@ -424,7 +485,8 @@ module _ (F : File) (w : Ordered F) (r : Rule10 F) (there : (i : ℕ) → i < F 
   }
     where
       top : (j : ℕ) → suc (newName F j) ≡ start F (suc j)
-      top j = let a = ren-end j in let b = last-width F (F .kind j) (count F (F .a j) (F .slaves)) in let c = start-suc F j in omega arith
+      top j = let a = ren-end j in let b = last-width F (F .kind j) (count F (F .a j) (F .slaves)) in
+          let c = start-suc F j in omega arith
 
       -- a new node is a block's end, or inside it
       place : (p : ℕ) → p < start F (F .nodes) → (j : ℕ) × (q : ℕ) × (j < F .nodes) × (q ≤ end j) × (p ≡ start F j + q)
@@ -438,12 +500,14 @@ module _ (F : File) (w : Ordered F) (r : Rule10 F) (there : (i : ℕ) → i < F 
         where
           go : (j q : ℕ) → j < F .nodes → q ≤ end j → p ≡ start F j + q → Dec (q < end j) → named (rewrite F) p ≡ 1
           go j q m h e (yes k) = ap (named (rewrite F)) e ∙ named-in j q m k
-          go j q m h e (no k) = let a = ren-end j in let b = top j in let z : p ≡ newName F j = omega arith in ap (named (rewrite F)) z ∙ named-ren j
+          go j q m h e (no k) = let a = ren-end j in let b = top j in let z : p ≡ newName F j = omega arith in
+              ap (named (rewrite F)) z ∙ named-ren j
               ∙ r .named-once j (inner (decLt (suc j) (F .nodes)))
             where
               inner : Dec (suc j < F .nodes) → suc j < F .nodes
               inner (yes d) = d
-              inner (no d) = absurd (let x : suc j ≡ F .nodes = omega arith in let y = ap (start F) x in let a = ren-end j in let b = top j in
+              inner (no d) = absurd (let x : suc j ≡ F .nodes = omega arith in let y = ap (start F) x in
+                  let a = ren-end j in let b = top j in
                   omega arith)
 
       last′ : (p : ℕ) → suc p ≡ start F (F .nodes) → named (rewrite F) p ≡ 0
@@ -451,5 +515,6 @@ module _ (F : File) (w : Ordered F) (r : Rule10 F) (there : (i : ℕ) → i < F 
         where
           go : (n : ℕ) → F .nodes ≡ n → named (rewrite F) p ≡ 0
           go zero x = absurd (let y : start F (F .nodes) ≡ 0 = ap (start F) x in omega arith)
-          go (suc j) x = let y : start F (F .nodes) ≡ start F (suc j) = ap (start F) x in let b = top j in let z : p ≡ newName F j = omega arith in
+          go (suc j) x = let y : start F (F .nodes) ≡ start F (suc j) = ap (start F) x in let b = top j in
+              let z : p ≡ newName F j = omega arith in
               ap (named (rewrite F)) z ∙ named-ren j ∙ r .named-last j (sym x)

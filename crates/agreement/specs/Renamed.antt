@@ -1,5 +1,5 @@
--- The nodes of the rewritten file give the rewritten tree (`tree-ren`), whatever file holds them: what is asked of it is in NodesR. That those laid
--- down are such is in Laid.
+-- The nodes of the rewritten file give the rewritten tree (`tree-ren`), whatever file holds them: what is asked of it
+-- is in NodesR. That those laid down are such is in Laid.
 use mathlib.Core.Path.{_≡_, refl, sym, _∙_, ap}
 use mathlib.Core.Bool.{Bool, true, false, _&&_, cond}
 use mathlib.Core.List.{[], _∷_}
@@ -32,14 +32,16 @@ module _ (F : File) where
   unfolding callsOf unionUpTo gather calls
   calls-of c = up (F .slaves)
     where
-      up : (k : ℕ) → calls (call F) (gather (F .master) (λ i. treeOf F (F .node i)) c k) ≡ unionUpTo k (λ i. cond (isOf F c i) (single (call F i)) ∅)
+      up : (k : ℕ) → calls (call F) (gather (F .master) (λ i. treeOf F (F .node i)) c k)
+          ≡ unionUpTo k (λ i. cond (isOf F c i) (single (call F i)) ∅)
       up zero = refl
       up (suc k) = split (isOf F c k) ∙ ap (λ z. z ∪ cond (isOf F c k) (single (call F k)) ∅) (up k)
         where
           ss : Slaves
           ss = gather (F .master) (λ i. treeOf F (F .node i)) c k
 
-          split : (b : Bool) → calls (call F) (cond b (snoc ss k (treeOf F (F .node k))) ss) ≡ calls (call F) ss ∪ cond b (single (call F k)) ∅
+          split : (b : Bool) → calls (call F) (cond b (snoc ss k (treeOf F (F .node k))) ss)
+              ≡ calls (call F) ss ∪ cond b (single (call F k)) ∅
           split true = refl
           split false = sets (calls (call F) ss ∷ []) [] (A ≐ A ∪ₑ ∅ₑ) tt
 
@@ -87,23 +89,28 @@ pub record NodesR (F F′ : File) : Type 0 where
       → F′ .x (start F j + suc (count F (F .a j) i)) ≡ F .chart (F .a j) .feedback ∪ callsOf F (F .a j)
   pub whole-at : (j : ℕ) → j < F .nodes → F .kind j ≡ 0 → 0 < count F (F .a j) (F .slaves)
       → newName F j ≡ start F j + suc (count F (F .a j) (F .slaves))
-  pub whole-kind : (j : ℕ) → j < F .nodes → F .kind j ≡ 0 → 0 < count F (F .a j) (F .slaves) → F′ .kind (newName F j) ≡ 2
+  pub whole-kind : (j : ℕ) → j < F .nodes → F .kind j ≡ 0 → 0 < count F (F .a j) (F .slaves)
+      → F′ .kind (newName F j) ≡ 2
   pub whole-a : (j : ℕ) → j < F .nodes → F .kind j ≡ 0 → 0 < count F (F .a j) (F .slaves)
       → F′ .a (newName F j) ≡ start F j + count F (F .a j) (F .slaves)
-  pub whole-x : (j : ℕ) → j < F .nodes → F .kind j ≡ 0 → 0 < count F (F .a j) (F .slaves) → F′ .x (newName F j) ≡ callsOf F (F .a j)
-  pub whole-y : (j : ℕ) → j < F .nodes → F .kind j ≡ 0 → 0 < count F (F .a j) (F .slaves) → F′ .y (newName F j) ≡ callsOf F (F .a j)
+  pub whole-x : (j : ℕ) → j < F .nodes → F .kind j ≡ 0 → 0 < count F (F .a j) (F .slaves)
+      → F′ .x (newName F j) ≡ callsOf F (F .a j)
+  pub whole-y : (j : ℕ) → j < F .nodes → F .kind j ≡ 0 → 0 < count F (F .a j) (F .slaves)
+      → F′ .y (newName F j) ≡ callsOf F (F .a j)
 
 gather-nil : (sc : ℕ → ℕ) (g : ℕ → Tree) (c k : ℕ) → tally k (λ i. one (same (sc i) c)) ≡ 0 → gather sc g c k ≡ nil
 unfolding gather tally
 gather-nil sc g c zero e = refl
 gather-nil sc g c (suc k) e = go (same (sc k) c) e (λ h. gather-nil sc g c k h)
   where
-    go : (b : Bool) → one b + tally k (λ i. one (same (sc i) c)) ≡ 0 → (tally k (λ i. one (same (sc i) c)) ≡ 0 → gather sc g c k ≡ nil)
+    go : (b : Bool) → one b + tally k (λ i. one (same (sc i) c)) ≡ 0
+        → (tally k (λ i. one (same (sc i) c)) ≡ 0 → gather sc g c k ≡ nil)
         → cond b (snoc (gather sc g c k) k (g k)) (gather sc g c k) ≡ nil
     go true e r = absurd (omega arith)
     go false e r = r (omega arith)
 
-gather-some : (sc : ℕ → ℕ) (g : ℕ → Tree) (c k : ℕ) → 0 < tally k (λ i. one (same (sc i) c)) → whole c (gather sc g c k) ≡ dec c (gather sc g c k)
+gather-some : (sc : ℕ → ℕ) (g : ℕ → Tree) (c k : ℕ) → 0 < tally k (λ i. one (same (sc i) c))
+    → whole c (gather sc g c k) ≡ dec c (gather sc g c k)
 unfolding gather tally
 gather-some sc g c zero e = absurd (omega arith)
 gather-some sc g c (suc k) e = go (same (sc k) c) e (λ h. gather-some sc g c k h)
@@ -111,7 +118,8 @@ gather-some sc g c (suc k) e = go (same (sc k) c) e (λ h. gather-some sc g c k 
     rest : Slaves
     rest = gather sc g c k
 
-    go : (b : Bool) → 0 < one b + tally k (λ i. one (same (sc i) c)) → (0 < tally k (λ i. one (same (sc i) c)) → whole c rest ≡ dec c rest)
+    go : (b : Bool) → 0 < one b + tally k (λ i. one (same (sc i) c))
+        → (0 < tally k (λ i. one (same (sc i) c)) → whole c rest ≡ dec c rest)
         → whole c (cond b (snoc rest k (g k)) rest) ≡ dec c (cond b (snoc rest k (g k)) rest)
     go true e r = refl
     go false e r = r (omega arith)
@@ -126,14 +134,17 @@ module _ (F F′ : File) (w : Ordered F) (w′ : Ordered F′) (nr : NodesR F F�
 
   leaf-at : (p : ℕ) → p < F′ .nodes → F′ .kind p ≡ 0 → treeOf F′ p ≡ leaf (F′ .a p)
   unfolding gather
-  leaf-at p l e = tree₀ F′ w′ p l e ∙ ap (λ k. whole (F′ .a p) (gather (F′ .master) (λ i. treeOf F′ (F′ .node i)) (F′ .a p) k)) (nr .no-slaves)
+  leaf-at p l e = tree₀ F′ w′ p l e
+      ∙ ap (λ k. whole (F′ .a p) (gather (F′ .master) (λ i. treeOf F′ (F′ .node i)) (F′ .a p) k)) (nr .no-slaves)
 
   -- the nodes made for a master, up to the first k slaves
   nest-at : (j : ℕ) → j < F .nodes → F .kind j ≡ 0 → start F j + count F (F .a j) (F .slaves) < F′ .nodes
       → ((i : ℕ) → i < j → treeOf F′ (newName F i) ≡ tree (call F) fbs (treeOf F i)) → (k : ℕ) → k ≤ F .slaves
-      → treeOf F′ (start F j + count F (F .a j) k) ≡ nest (call F) fbs (gather (F .master) (λ i. treeOf F (F .node i)) (F .a j) k) (F .a j) (X j)
+      → treeOf F′ (start F j + count F (F .a j) k)
+      ≡ nest (call F) fbs (gather (F .master) (λ i. treeOf F (F .node i)) (F .a j) k) (F .a j) (X j)
   unfolding gather tally tree
-  nest-at j l e b ih zero m = ap (treeOf F′) (add-zero (start F j)) ∙ leaf-at (start F j) (omega arith) (nr .base-kind j l e)
+  nest-at j l e b ih zero m =
+      ap (treeOf F′) (add-zero (start F j)) ∙ leaf-at (start F j) (omega arith) (nr .base-kind j l e)
       ∙ ap leaf (nr .base-a j l e)
   nest-at j l e b ih (suc k) m = go (same (F .master k) (F .a j)) refl (nest-at j l e b ih k (omega arith))
     where
@@ -144,12 +155,19 @@ module _ (F F′ : File) (w : Ordered F) (w′ : Ordered F′) (nr : NodesR F F�
       rest = gather (F .master) (λ i. treeOf F (F .node i)) c k
 
       go : (d : Bool) → same (F .master k) c ≡ d → treeOf F′ (start F j + count F c k) ≡ nest (call F) fbs rest c (X j)
-          → treeOf F′ (start F j + (one d + count F c k)) ≡ nest (call F) fbs (cond d (snoc rest k (treeOf F (F .node k))) rest) c (X j)
+          → treeOf F′ (start F j + (one d + count F c k))
+          ≡ nest (call F) fbs (cond d (snoc rest k (treeOf F (F .node k))) rest) c (X j)
       go true p r = let q = same→≡ (F .master k) c p in
           let h = count-less F c k (F .slaves) m p in
           ap (λ z. treeOf F′ (start F j + z)) step
           ∙ tree₁ F′ w′ (start F j + suc (count F c k)) (omega arith) (nr .part-kind j k l e m q)
-          ∙ rw (nr .part-a j k l e m q, nr .part-b j k l e m q, nr .part-x j k l e m q, r, ih (F .node k) (w .lower₀ j l e k m q))
+          ∙ rw (
+            nr .part-a j k l e m q,
+            nr .part-b j k l e m q,
+            nr .part-x j k l e m q,
+            r,
+            ih (F .node k) (w .lower₀ j l e k m q),
+          )
         where
           step : 1 + count F c k ≡ suc (count F c k)
           step = omega arith
@@ -164,17 +182,36 @@ module _ (F F′ : File) (w : Ordered F) (w′ : Ordered F′) (nr : NodesR F F�
           → treeOf F′ (newName F j) ≡ tree (call F) fbs (treeOf F j)
       go zero e ih = rw (tree₀ F w j l e) (cases (count F (F .a j) (F .slaves)) refl)
         where
-          cases : (x : ℕ) → count F (F .a j) (F .slaves) ≡ x → treeOf F′ (newName F j) ≡ tree (call F) fbs (whole (F .a j) (slavesOf F (F .a j)))
-          cases zero z = ap (treeOf F′) (nr .plain j l e z) ∙ leaf-at (start F j) (rw (nr .plain j l e z) at (nr .there j l)) (nr .base-kind j l e)
+          cases : (x : ℕ) → count F (F .a j) (F .slaves) ≡ x
+              → treeOf F′ (newName F j) ≡ tree (call F) fbs (whole (F .a j) (slavesOf F (F .a j)))
+          cases zero z = ap (treeOf F′) (nr .plain j l e z)
+              ∙ leaf-at (start F j) (rw (nr .plain j l e z) at (nr .there j l)) (nr .base-kind j l e)
               ∙ ap leaf (nr .base-a j l e)
-              ∙ sym (ap (λ ss. tree (call F) fbs (whole (F .a j) ss)) (gather-nil (F .master) (λ i. treeOf F (F .node i)) (F .a j) (F .slaves) z))
-          cases (suc x) z = let h : 0 < count F (F .a j) (F .slaves) = omega arith in let b = rw (nr .whole-at j l e h) at (nr .there j l) in
+              ∙ sym (ap (λ ss. tree (call F) fbs (whole (F .a j) ss))
+              (gather-nil (F .master) (λ i. treeOf F (F .node i)) (F .a j) (F .slaves) z))
+          cases (suc x) z = let h : 0 < count F (F .a j) (F .slaves) = omega arith in
+              let b = rw (nr .whole-at j l e h) at (nr .there j l) in
               tree₂ F′ w′ (newName F j) (nr .there j l) (nr .whole-kind j l e h)
-              ∙ rw (nr .whole-a j l e h, nr .whole-x j l e h, nr .whole-y j l e h, nest-at j l e (omega arith) ih (F .slaves) (omega arith))
-              (ap (λ k. hide (nest (call F) fbs (slavesOf F (F .a j)) (F .a j) (F .chart (F .a j) .feedback ∪ k)) k k) (sym (calls-of F (F .a j)))
-              ∙ sym (ap (tree (call F) fbs) (gather-some (F .master) (λ i. treeOf F (F .node i)) (F .a j) (F .slaves) h)))
+              ∙ rw (
+                nr .whole-a j l e h,
+                nr .whole-x j l e h,
+                nr .whole-y j l e h,
+                nest-at j l e (omega arith) ih (F .slaves) (omega arith),
+              )
+              (ap (λ k. hide (nest (call F) fbs (slavesOf F (F .a j)) (F .a j) (F .chart (F .a j) .feedback ∪ k)) k k)
+              (sym (calls-of F (F .a j)))
+              ∙ sym
+              (ap (tree (call F) fbs) (gather-some (F .master) (λ i. treeOf F (F .node i)) (F .a j) (F .slaves) h)))
       go (suc zero) e ih = let h = w .lower₁ j l e in tree₁ F′ w′ (newName F j) (nr .there j l) (nr .comp-kind j l e)
-          ∙ rw (nr .comp-a j l e, nr .comp-b j l e, nr .comp-x j l e, ih (F .a j) (h .0), ih (F .b j) (h .1), tree₁ F w j l e)
+          ∙ rw (
+            nr .comp-a j l e,
+            nr .comp-b j l e,
+            nr .comp-x j l e,
+            ih (F .a j) (h .0),
+            ih (F .b j) (h .1),
+            tree₁ F w j l e,
+          )
       go (suc (suc k)) e ih = let e₂ : F .kind j ≡ 2 = (let h = w .kinds j l in omega arith) in
           tree₂ F′ w′ (newName F j) (nr .there j l) (nr .hide-kind j l e₂)
-          ∙ rw (nr .hide-a j l e₂, nr .hide-x j l e₂, nr .hide-y j l e₂, ih (F .a j) (w .lower₂ j l e₂), tree₂ F w j l e₂)
+          ∙ rw
+          (nr .hide-a j l e₂, nr .hide-x j l e₂, nr .hide-y j l e₂, ih (F .a j) (w .lower₂ j l e₂), tree₂ F w j l e₂)

@@ -17,7 +17,9 @@ use Rattle.meaning.specs.Count.Laws.{or-left, or-right, any-never, tally-cong}
 use Rattle.meaning.specs.Meaning.{Set, ∅}
 use Rattle.meaning.specs.File.{File}
 use Rattle.meaning.specs.Check.{nodeOfKind?, nodes?, notBelow, differ}
-use Rattle.meaning.specs.Rewriting.{unionUpTo, call, callIn, called, idles, chartWith, nearestSlave, isOf, touches, callsBy, rewrittenChart, count, before, start, newName, newNode, rewrite, inTurn, headFor, transitionsBytes, transitionsIn, shapeIn, bodyBytes, encode}
+use Rattle.meaning.specs.Rewriting.{unionUpTo, call, callIn, called, idles, chartWith, nearestSlave, isOf, touches}
+use Rattle.meaning.specs.Rewriting.{callsBy, rewrittenChart, count, before, start, newName, newNode, rewrite, inTurn}
+use Rattle.meaning.specs.Rewriting.{headFor, transitionsBytes, transitionsIn, shapeIn, bodyBytes, encode}
 use Rattle.meaning.specs.Laws.Names.{kap}
 use Rattle.agreement.specs.Encoded.{slaveIn, nodeIn}
 use Rattle.agreement.specs.Laid.{comp-node, hide-node, base-node}
@@ -40,11 +42,13 @@ module _ (F : File) (rd : Ready F) (none-there : F .slaves ≡ 0) where
   unfolding callsBy unionUpTo
   no-calls c t = ap (λ n. unionUpTo n (λ i. cond (isOf F c i && touches F t i) (single (call F i)) ∅)) none-there
 
-  stays : (sig : ℕ → ℕ) (T : Transition → Set) → ((t : Transition) → T t ≡ ∅) → (ts : List Transition) → map (called sig none T) ts ≡ ts
+  stays : (sig : ℕ → ℕ) (T : Transition → Set) → ((t : Transition) → T t ≡ ∅) → (ts : List Transition)
+      → map (called sig none T) ts ≡ ts
   unfolding called callIn
   stays sig T h [] = refl
   stays sig T h (t ∷ ts) = ap₂ _∷_
-      (ap₂ (λ n a. record { from = t .from; to = t .to; needed = n; barred = t .barred; action = a }) (sets (t .needed ∷ []) [] (A ∪ₑ ∅ₑ ≐ A) tt)
+      (ap₂ (λ n a. record { from = t .from; to = t .to; needed = n; barred = t .barred; action = a })
+      (sets (t .needed ∷ []) [] (A ∪ₑ ∅ₑ ≐ A) tt)
       (ap (λ z. t .action ∪ z) (h t) ∙ sets (t .action ∷ []) [] (A ∪ₑ ∅ₑ ≐ A) tt))
       (stays sig T h ts)
 
@@ -76,13 +80,15 @@ module _ (F : File) (rd : Ready F) (none-there : F .slaves ≡ 0) where
   unfolding start
   start-stays zero = refl
   start-stays (suc j) = let a = start-stays j in
-      let b : before F (F .kind j) (count F (F .a j) (F .slaves)) ≡ 0 = ap (before F (F .kind j)) (no-count (F .a j)) ∙ alone (F .kind j) in
+      let b : before F (F .kind j) (count F (F .a j) (F .slaves)) ≡ 0 =
+      ap (before F (F .kind j)) (no-count (F .a j)) ∙ alone (F .kind j) in
       omega arith
 
   name-stays : (j : ℕ) → newName F j ≡ j
   unfolding newName
   name-stays j = let a = start-stays j in
-      let b : before F (F .kind j) (count F (F .a j) (F .slaves)) ≡ 0 = ap (before F (F .kind j)) (no-count (F .a j)) ∙ alone (F .kind j) in
+      let b : before F (F .kind j) (count F (F .a j) (F .slaves)) ≡ 0 =
+      ap (before F (F .kind j)) (no-count (F .a j)) ∙ alone (F .kind j) in
       omega arith
 
   node-stays : nodes? F ≡ false → (j : ℕ) → j < F .nodes → newNode F j ≡ nodeIn F j
@@ -91,17 +97,21 @@ module _ (F : File) (rd : Ready F) (none-there : F .slaves ≡ 0) where
     where
       go : (k : ℕ) → F .kind j ≡ k → nodeOfKind? F k j ≡ false → newNode F j ≡ nodeIn F j
       go zero e q =
-          let q1 = or-left ((notBelow (F .a j) (F .charts) || differ (F .b j) 0) || differ (F .x j) 0) (differ (F .y j) 0) q in
+          let q1 =
+          or-left ((notBelow (F .a j) (F .charts) || differ (F .b j) 0) || differ (F .x j) 0) (differ (F .y j) 0) q in
           let q2 = or-left (notBelow (F .a j) (F .charts) || differ (F .b j) 0) (differ (F .x j) 0) q1 in
           let b0 = alike (F .b j) 0 (or-right (notBelow (F .a j) (F .charts)) (differ (F .b j) 0) q2) in
-          let x0 = alike (F .x j) 0 (or-right (notBelow (F .a j) (F .charts) || differ (F .b j) 0) (differ (F .x j) 0) q1) in
-          let y0 = alike (F .y j) 0 (or-right ((notBelow (F .a j) (F .charts) || differ (F .b j) 0) || differ (F .x j) 0) (differ (F .y j) 0) q) in
+          let x0 =
+          alike (F .x j) 0 (or-right (notBelow (F .a j) (F .charts) || differ (F .b j) 0) (differ (F .x j) 0) q1) in
+          let y0 = alike (F .y j) 0 (or-right ((notBelow (F .a j) (F .charts) || differ (F .b j) 0)
+          || differ (F .x j) 0) (differ (F .y j) 0) q) in
           ap (newNode F) (sym (start-stays j)) ∙ base-node F j l e
           ∙ (λ i. record { kind = sym e i; a = F .a j; b = sym b0 i; x = sym x0 i; y = sym y0 i })
       go (suc zero) e q =
           let y0 = alike (F .y j) 0 (or-right (notBelow (F .a j) j || notBelow (F .b j) j) (differ (F .y j) 0) q) in
           ap (newNode F) (sym (name-stays j)) ∙ comp-node F j l e
-          ∙ (λ i. record { kind = sym e i; a = name-stays (F .a j) i; b = name-stays (F .b j) i; x = F .x j; y = sym y0 i })
+          ∙ (λ i.
+          record { kind = sym e i; a = name-stays (F .a j) i; b = name-stays (F .b j) i; x = F .x j; y = sym y0 i })
       go (suc (suc zero)) e q =
           let b0 = alike (F .b j) 0 (or-right (notBelow (F .a j) j) (differ (F .b j) 0) q) in
           ap (newNode F) (sym (name-stays j)) ∙ hide-node F j l e
@@ -136,7 +146,13 @@ module _ (F G : File) (r : Reads F G) where
 
   shape-same : shapeIn G ≡ shapeIn F
   unfolding shapeIn
-  shape-same = λ i. record { charts = r .charts i; transitions = total-same i; slaves = r .slaves i; nodes = r .nodes i; edition = firstEdition }
+  shape-same = λ i. record {
+    charts = r .charts i;
+    transitions = total-same i;
+    slaves = r .slaves i;
+    nodes = r .nodes i;
+    edition = firstEdition;
+  }
 
   body-same : bodyBytes G ≡ bodyBytes F
   unfolding bodyBytes
@@ -145,8 +161,10 @@ module _ (F G : File) (r : Reads F G) where
       ∙ turn-same (F .charts) _ _ (λ c l. ap (λ C. headBytes (headFor C)) (r .chart c l)))
       (ap (λ n. inTurn n (λ c. transitionsBytes (G .chart c .transitions))) (r .charts)
       ∙ turn-same (F .charts) _ _ (λ c l. ap (λ C. transitionsBytes (C .transitions)) (r .chart c l))))
-      (ap (λ n. inTurn n (λ i. slaveBytes (slaveIn G i))) (r .slaves) ∙ turn-same (F .slaves) _ _ (λ i l. ap slaveBytes (r .slave i l))))
-      (ap (λ n. inTurn n (λ j. nodeBytes (nodeIn G j))) (r .nodes) ∙ turn-same (F .nodes) _ _ (λ j l. ap nodeBytes (r .node j l)))
+      (ap (λ n. inTurn n (λ i. slaveBytes (slaveIn G i))) (r .slaves)
+      ∙ turn-same (F .slaves) _ _ (λ i l. ap slaveBytes (r .slave i l))))
+      (ap (λ n. inTurn n (λ j. nodeBytes (nodeIn G j))) (r .nodes)
+      ∙ turn-same (F .nodes) _ _ (λ j l. ap nodeBytes (r .node j l)))
 
   pub encode-same : encode G ≡ encode F
   unfolding encode shapeIn

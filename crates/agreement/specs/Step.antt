@@ -9,7 +9,9 @@ use Prim.Native.Nat.{ℕ, zero, suc, _+_, _-_, _^_, _≤_, _<_}
 use native.Mathlib.Omega.{arith}
 use lib.ListN.{length, getD}
 use Rattle.signals.specs.Mask.{_∪_, _∩_, _∖_}
-use Rattle.meaning.specs.Meaning.{Set, Chart, Move, Tree, Slaves, leaf, comp, hide, dec, nil, snoc, lastPlace, inFace, ok, permitted, moves, upd, upto, Outcome, outcome, search, outcomes, answer, firstPlaces}
+use Rattle.meaning.specs.Meaning.{Set, Chart, Move, Tree, Slaves, leaf, comp, hide, dec, nil, snoc, lastPlace, inFace}
+use Rattle.meaning.specs.Meaning.{ok, permitted, moves, upd, upto, Outcome, outcome, search, outcomes, answer}
+use Rattle.meaning.specs.Meaning.{firstPlaces}
 use Rattle.meaning.specs.File.{File, treeOf, wholeOf, Has}
 use Rattle.meaning.specs.Numbers.{noPlace, manyOpen}
 use Rattle.meaning.specs.Calls.{outcomesIn, foundIn, manyOpen?, stepIn}
@@ -40,7 +42,8 @@ module _ (sig : ℕ → ℕ) (fb : ℕ → Set) (E : ℕ → Chart) (s₁ s₂ :
     free-t (hide p x y) o = free-t p (o ∖ x)
     free-t (dec c ss) o = free-s ss c (fb c ∪ calls sig ss) (o ∖ calls sig ss)
 
-    free-s : (ss : Slaves) (c : ℕ) (x o : Set) → ok E s₁ cfg M (nest sig fb ss c x) true o ≡ ok E s₂ cfg M (nest sig fb ss c x) true o
+    free-s : (ss : Slaves) (c : ℕ) (x o : Set)
+        → ok E s₁ cfg M (nest sig fb ss c x) true o ≡ ok E s₂ cfg M (nest sig fb ss c x) true o
     free-s nil c x o = refl
     free-s (snoc ss i t) c x o = ap₂ _&&_ (free-s ss c x _) (free-t t _)
 
@@ -92,13 +95,16 @@ module _ (F : File) (rd : Ready F) where
 
   pub fits : Fit (call F) (kap F) (slavesOf F) (F .charts) (wholeOf F) none
   fits = let s = rd .sound in
-      subst (λ κ. Fit (call F) (kap F) (slavesOf F) (F .charts) (wholeOf F) κ) (enc-last F (s .ordered) (s .rule10) last is-last)
-      (fit-node F (s .ordered) (enc F) (kap F) (placed F (s .ordered) (s .rule10) (s .chart-there) (s .node-there)) (call F)
+      subst (λ κ. Fit (call F) (kap F) (slavesOf F) (F .charts) (wholeOf F) κ)
+      (enc-last F (s .ordered) (s .rule10) last is-last)
+      (fit-node F (s .ordered) (enc F) (kap F)
+      (placed F (s .ordered) (s .rule10) (s .chart-there) (s .node-there)) (call F)
       (λ j l e. old-x F (rd .small) j l)
       (F .nodes) last (let h = is-last in omega arith) (let h = is-last in omega arith))
 
   pub has : (c : ℕ) → c < F .charts → Has (wholeOf F) c ≡ true
-  has c l = let s = rd .sound in all-there F (s .ordered) (joined F (s .ordered) (s .rule10) (s .chart-there) (s .node-there)) last c is-last l
+  has c l = let s = rd .sound in
+      all-there F (s .ordered) (joined F (s .ordered) (s .rule10) (s .chart-there) (s .node-there)) last c is-last l
 
   -- the nearest slave, from the whole down, is the nearest from the chart up
   pub nearest-is : (c : ℕ) → c < F .charts → nearestSlave F c ≡ kap F c
@@ -109,12 +115,15 @@ module _ (F : File) (rd : Ready F) where
     -- the tree of the rewritten file is the rewriting of the tree
     pub whole-is : wholeOf F′ ≡ tree (call F) (λ c. F .chart c .feedback) (wholeOf F)
     whole-is = rw′ .whole ∙ ap (treeOf (rewrite F)) (let h = new-last F last is-last in omega arith)
-        ∙ tree-ren F (rewrite F) (rd .sound .ordered) (orderedR F (rd .sound .ordered)) (nodesR F) (F .nodes) last (let h = is-last in omega arith)
+        ∙ tree-ren F (rewrite F) (rd .sound .ordered) (orderedR F (rd .sound .ordered)) (nodesR F) (F .nodes) last
+        (let h = is-last in omega arith)
         (let h = is-last in omega arith)
 
-    pub chart-is : (c : ℕ) → c < F .charts → F′ .chart c ≡ chartWith (call F) (kap F c) (touch (call F) (F .state) (slavesOf F c)) (F .chart c)
+    pub chart-is : (c : ℕ) → c < F .charts
+        → F′ .chart c ≡ chartWith (call F) (kap F c) (touch (call F) (F .state) (slavesOf F c)) (F .chart c)
     unfolding rewrittenChart
-    chart-is c l = rw′ .chart c l ∙ ap₂ (λ κ T. chartWith (call F) κ T (F .chart c)) (nearest-is c l) (fun-ext (λ t. sym (touch-of F c t)))
+    chart-is c l = rw′ .chart c l
+        ∙ ap₂ (λ κ T. chartWith (call F) κ T (F .chart c)) (nearest-is c l) (fun-ext (λ t. sym (touch-of F c t)))
 
     -- ── the step ──
 
@@ -122,13 +131,17 @@ module _ (F : File) (rd : Ready F) where
     abbrev turn : List ℕ → Outcome → Outcome
     turn config = turned (kap F) (λ c. length (F .chart c .transitions)) (λ c. getD config c 0)
 
-    outcomes-are : (config : List ℕ) → Valid F config → (inp : Set) → outcomesIn F′ config inp ≡ map (turn config) (outcomesIn F config inp)
+    outcomes-are : (config : List ℕ) → Valid F config → (inp : Set)
+        → outcomesIn F′ config inp ≡ map (turn config) (outcomesIn F config inp)
     unfolding outcomes permitted
     outcomes-are config v inp = let s = rd .sound in rw (whole-is, rw′ .charts)
         (free-search (F′ .chart) (F′ .state) (F .state) cfg T inp (F .charts)
-        (λ M. free-t (call F) fbs (F′ .chart) (F′ .state) (F .state) cfg M (wholeOf F) (inp ∩ inFace (F′ .chart) T)) (F .charts) zero (λ c. zero)
-        ∙ same-outcomes (call F) (F .state) (call-inj F) (kap F) (slavesOf F) (F .charts) (F .chart) (F′ .chart) cfg (wholeOf F) inp chart-is fits
-        (above-node F (s .ordered) (s .rule11) (F .nodes) last (let h = is-last in omega arith) (let h = is-last in omega arith)) has
+        (λ M. free-t (call F) fbs (F′ .chart) (F′ .state) (F .state) cfg M (wholeOf F) (inp ∩ inFace (F′ .chart) T))
+        (F .charts) zero (λ c. zero)
+        ∙ same-outcomes (call F) (F .state) (call-inj F) (kap F) (slavesOf F) (F .charts) (F .chart) (F′ .chart) cfg
+        (wholeOf F) inp chart-is fits
+        (above-node F (s .ordered) (s .rule11) (F .nodes) last (let h = is-last in omega arith)
+        (let h = is-last in omega arith)) has
         (old-chart F (rd .small) (rd .one)) (v .states) (λ c l. let h = rd .few c l in omega arith))
       where
         cfg : ℕ → ℕ
@@ -153,6 +166,7 @@ module _ (F : File) (rd : Ready F) where
 
     -- the places of the first permitted choice
     pub places-are : (config : List ℕ) → Valid F config → (inp : Set) → firstPlaces (outcomesIn F′ config inp)
-        ≡ turnedPlaces (kap F) (λ c. length (F .chart c .transitions)) (λ c. getD config c 0) zero (firstPlaces (outcomesIn F config inp))
+        ≡ turnedPlaces (kap F) (λ c. length (F .chart c .transitions))
+        (λ c. getD config c 0) zero (firstPlaces (outcomesIn F config inp))
     places-are config v inp = ap firstPlaces (outcomes-are config v inp)
         ∙ first-turned (kap F) (λ c. length (F .chart c .transitions)) (λ c. getD config c 0) (outcomesIn F config inp)

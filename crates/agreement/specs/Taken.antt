@@ -46,12 +46,15 @@ module _ (F F′ : File) (rd : Ready F) (rw′ : Rewritten F F′) (config : Lis
   cfg c = getD config c 0
 
   getD-turned : (k : ℕ) (ps : List ℕ) (c : ℕ) → c < length ps
-      → getD (turnedPlaces (kap F) own cfg k ps) c noPlace ≡ turnedPlace (kap F (k + c)) (own (k + c)) (cfg (k + c)) (getD ps c noPlace)
+      → getD (turnedPlaces (kap F) own cfg k ps) c noPlace
+      ≡ turnedPlace (kap F (k + c)) (own (k + c)) (cfg (k + c)) (getD ps c noPlace)
   unfolding turnedPlaces
   getD-turned k [] c l = absurd (omega arith)
-  getD-turned k (p ∷ ps) zero l = ap (λ z. turnedPlace (kap F z) (own z) (cfg z) p) (let e : k ≡ k + 0 = omega arith in e)
+  getD-turned k (p ∷ ps) zero l =
+      ap (λ z. turnedPlace (kap F z) (own z) (cfg z) p) (let e : k ≡ k + 0 = omega arith in e)
   getD-turned k (p ∷ ps) (suc c) l = getD-turned (suc k) ps c (omega arith)
-      ∙ ap (λ z. turnedPlace (kap F z) (own z) (cfg z) (getD ps c noPlace)) (let e : suc k + c ≡ k + suc c = omega arith in e)
+      ∙ ap (λ z. turnedPlace (kap F z) (own z) (cfg z) (getD ps c noPlace))
+      (let e : suc k + c ≡ k + suc c = omega arith in e)
 
   -- places are there only where a step is given, one for each chart
   some-given : (c : ℕ) → c < length (firstPlaces os) → (refusalIn (foundIn F config inp) ≡ 0) × (c < F .charts)
@@ -62,8 +65,10 @@ module _ (F F′ : File) (rd : Ready F) (rw′ : Rewritten F F′) (config : Lis
       go [] e b = absurd (omega arith)
       go (x ∷ xs) e b = (
         ap (λ l. refusalIn (answer l)) e,
-        let g = given-first (F .chart) (F .state) cfg (wholeOf F) inp (F .charts) (x .output) (x .next) (agree x xs) (ap answer e) in
-            let z : length (firstPlaces os) ≡ F .charts = ap length (g .places) ∙ length-places (F .chart) (g .choice) zero (F .charts) in
+        let g = given-first (F .chart) (F .state) cfg (wholeOf F) inp (F .charts) (x .output) (x .next) (agree x xs)
+            (ap answer e) in
+            let z : length (firstPlaces os) ≡ F .charts =
+            ap length (g .places) ∙ length-places (F .chart) (g .choice) zero (F .charts) in
             let y : length (firstPlaces os) ≡ length (x .places) = ap (λ l. length (firstPlaces l)) e in
             omega arith,
       )
@@ -84,17 +89,21 @@ module _ (F F′ : File) (rd : Ready F) (rw′ : Rewritten F F′) (config : Lis
   old-place c = getD-all (firstPlaces os) c
 
   -- chart c's idle transition for its present state
-  idle-there : (c i : ℕ) → c < F .charts → kap F c ≡ some i → nth noMove (F′ .chart c .transitions) (own c + cfg c) ≡ takes (idle (call F) i (cfg c))
+  idle-there : (c i : ℕ) → c < F .charts → kap F c ≡ some i
+      → nth noMove (F′ .chart c .transitions) (own c + cfg c) ≡ takes (idle (call F) i (cfg c))
   idle-there c i l e = ap (λ C. nth noMove (C .transitions) (own c + cfg c)) (chart-is F rd F′ rw′ c l)
-      ∙ subst (λ κ. nth noMove (chartWith (call F) κ (touch (call F) (F .state) (slavesOf F c)) (F .chart c) .transitions) (own c + cfg c) ≡ takes (idle (call F) i (cfg c)))
-      (sym e) (nth-idle (call F) noMove i (touch (call F) (F .state) (slavesOf F c)) (F .chart c) (cfg c) (v .states c l))
+      ∙ subst (λ κ. nth noMove (chartWith (call F) κ (touch (call F) (F .state) (slavesOf F c))
+      (F .chart c) .transitions) (own c + cfg c) ≡ takes (idle (call F) i (cfg c)))
+      (sym e)
+      (nth-idle (call F) noMove i (touch (call F) (F .state) (slavesOf F c)) (F .chart c) (cfg c) (v .states c l))
 
   abbrev Idles : ℕ → Type 0
   Idles c = IdleStands F F′ config (foundIn F config inp) (placesFound F config inp) (placesFound F′ config inp) c
 
   one-place : (c : ℕ) → Dec (c < length (firstPlaces os))
       → (getD (placesFound F′ config inp) c noPlace ≡ getD (placesFound F config inp) c noPlace) ⊎ Idles c
-  one-place c (no l) = inl (new-place c ∙ none-there turns (length-turned (kap F) own cfg zero (firstPlaces os)) ∙ sym (none-there (firstPlaces os) refl)
+  one-place c (no l) = inl (new-place c ∙ none-there turns (length-turned (kap F) own cfg zero (firstPlaces os))
+      ∙ sym (none-there (firstPlaces os) refl)
       ∙ sym (old-place c))
     where
       none-there : (ps : List ℕ) → length ps ≡ length (firstPlaces os) → getD ps c noPlace ≡ noPlace
@@ -105,7 +114,8 @@ module _ (F F′ : File) (rd : Ready F) (rw′ : Rewritten F F′) (config : Lis
         one-of-its = some-given c l .1;
         none-taken = old-place c ∙ w .2;
         slave = w .0;
-        is-idle = ap (nth noMove (F′ .chart c .transitions)) (new-place c ∙ there ∙ w .3) ∙ idle-there c (w .0) (some-given c l .1) (w .1);
+        is-idle = ap (nth noMove (F′ .chart c .transitions)) (new-place c ∙ there ∙ w .3)
+            ∙ idle-there c (w .0) (some-given c l .1) (w .1);
       }))
       (turned-or-idle (kap F c) (own c) (cfg c) (getD (firstPlaces os) c noPlace))
     where
@@ -116,7 +126,8 @@ module _ (F F′ : File) (rd : Ready F) (rw′ : Rewritten F F′) (config : Lis
   -- ── a chart of the rewritten file takes a transition in each step given ──
 
   new-length : (c : ℕ) → c < F .charts → length (F′ .chart c .transitions) ≤ own c + F .chart c .states
-  new-length c l = subst (λ C. length (C .transitions) ≤ own c + F .chart c .states) (sym (chart-is F rd F′ rw′ c l)) (go (kap F c))
+  new-length c l =
+      subst (λ C. length (C .transitions) ≤ own c + F .chart c .states) (sym (chart-is F rd F′ rw′ c l)) (go (kap F c))
     where
       T : Transition → Set
       T = touch (call F) (F .state) (slavesOf F c)
@@ -130,7 +141,8 @@ module _ (F F′ : File) (rd : Ready F) (rw′ : Rewritten F F′) (config : Lis
   one′ c l = ap (λ C. C .stays) (chart-is F rd F′ rw′ c l) ∙ rd .one c l
 
   -- a choice that gives a chart a transition from its state has its place
-  has-place : (c w : ℕ) → w ≤ lastPlace (F′ .chart c) → c < F .charts → Live (cfg c) (pick (F′ .chart c) w) → placeOf (pick (F′ .chart c) w) w ≢ noPlace
+  has-place : (c w : ℕ) → w ≤ lastPlace (F′ .chart c) → c < F .charts → Live (cfg c) (pick (F′ .chart c) w)
+      → placeOf (pick (F′ .chart c) w) w ≢ noPlace
   has-place c zero b l h e = unfold pick in h
   has-place c (suc k) b l h e =
       let n = places-one (F′ .chart c) (one′ c l) in
@@ -145,12 +157,15 @@ module _ (F F′ : File) (rd : Ready F) (rw′ : Rewritten F F′) (config : Lis
       go : (os′ : List Outcome) → outcomesIn F′ config inp ≡ os′ → refusalIn (answer (outcomesIn F′ config inp)) ≡ 0 → ⊥
       go [] e r = absurd (let y : _≡_ {A = ℕ} 23 0 = sym (ap (λ os. refusalIn (answer os)) e) ∙ r in omega arith)
       go (x ∷ xs) e r =
-          let g = given-first (F′ .chart) (F′ .state) cfg (wholeOf F′) inp (F′ .charts) (x .output) (x .next) (agree x xs) (ap answer e) in
+          let g = given-first (F′ .chart) (F′ .state) cfg (wholeOf F′) inp (F′ .charts) (x .output) (x .next)
+          (agree x xs) (ap answer e) in
           let l′ : c < F′ .charts = subst (λ n. c < n) (sym (rw′ .charts)) l in
-          let k = subst (λ t. ok (F′ .chart) (F′ .state) cfg (moves (F′ .chart) (g .choice)) t true (inp ∩ inFace (F′ .chart) t) ≡ true)
+          let k = subst (λ t.
+          ok (F′ .chart) (F′ .state) cfg (moves (F′ .chart) (g .choice)) t true (inp ∩ inFace (F′ .chart) t) ≡ true)
           (whole-is F rd F′ rw′) (g .permits) in
           has-place c (g .choice c) (g .chosen .places c l′) l
-          (live (call F) (λ c. F .chart c .feedback) (F′ .chart) (F′ .state) cfg (moves (F′ .chart) (g .choice)) c (wholeOf F) _ (has F rd c l) k)
+          (live (call F) (λ c. F .chart c .feedback) (F′ .chart) (F′ .state) cfg (moves (F′ .chart) (g .choice)) c
+          (wholeOf F) _ (has F rd c l) k)
           (sym (getD-all (firstPlaces (outcomesIn F′ config inp)) c ∙ ap (λ ps. getD ps c noPlace) (g .places)
           ∙ getD-places (F′ .chart) (g .choice) zero (F′ .charts) c l′
           ∙ ap (λ z. placeOf (pick (F′ .chart z) (g .choice z)) (g .choice z)) (zero-add c)) ∙ q)

@@ -1,11 +1,12 @@
--- The rewriting over a tree: what a decomposed chart becomes, the call signals that its transitions output, what a move becomes. That the nodes of a
--- rewritten file make this tree is in Renamed and Laid.
+-- The rewriting over a tree: what a decomposed chart becomes, the call signals that its transitions output, what a move
+-- becomes. That the nodes of a rewritten file make this tree is in Renamed and Laid.
 use mathlib.Core.Bool.{Bool, _||_, cond}
 use mathlib.Core.Option.{Option, none, some}
 use Prim.Native.Nat.{ℕ}
 use Rattle.signals.specs.Mask.{_∪_, single}
 use Rattle.layout.specs.declared.record.Transition.{Transition}
-use Rattle.meaning.specs.Meaning.{Set, ∅, same, Tree, Slaves, leaf, comp, hide, dec, nil, snoc, Move, noMove, takes, stay}
+use Rattle.meaning.specs.Meaning.{Set, ∅, same, Tree, Slaves, leaf, comp, hide, dec, nil, snoc, Move, noMove, takes}
+use Rattle.meaning.specs.Meaning.{stay}
 use Rattle.meaning.specs.Rewriting.{callIn, called, idle}
 
 -- sig: the call signal of each slave; state: its state
@@ -34,7 +35,8 @@ module _ (sig : ℕ → ℕ) where
   -- the call signals that a master's transition outputs
   unfoldable pub touch : (ℕ → ℕ) → Slaves → Transition → Set
   touch state nil t = ∅
-  touch state (snoc ss i u) t = touch state ss t ∪ cond (same (t .from) (state i) || same (t .to) (state i)) (single (sig i)) ∅
+  touch state (snoc ss i u) t =
+      touch state ss t ∪ cond (same (t .from) (state i) || same (t .to) (state i)) (single (sig i)) ∅
 
   -- what a move becomes
   unfoldable pub moveR : Option ℕ → (Transition → Set) → ℕ → Move → Move

@@ -1,4 +1,5 @@
-// Call signals: the signals that a file uses, for each slave the lowest that is left, and which a chart needs and outputs.
+// Call signals: the signals that a file uses, for each slave the lowest that is left, and which a chart needs and
+// outputs.
 ghost use mathlib.Core.Path.{_≡_};
 ghost use mathlib.Core.Bool.{cond};
 ghost use Prim.Native.Nat.{_+_, _≤_};
@@ -56,7 +57,8 @@ fn used_by_charts(n: Shape, body: &[u8]) -> u64
 // The signals in the sets of nodes.
 fn used_by_nodes(n: Shape, body: &[u8]) -> u64
     requires { ⌜ Checked n (now body) ⌝ }
-    ensures { λ r. ⌜ r ≡ unionUpTo (n .nodes) (λ j. fileAt n (now (body .entry)) .x j ∪ fileAt n (now (body .entry)) .y j) ⌝ }
+    ensures { λ r. ⌜ r ≡ unionUpTo (n .nodes)
+        (λ j. fileAt n (now (body .entry)) .x j ∪ fileAt n (now (body .entry)) .y j) ⌝ }
 {
     let mut all: u64 = 0;
     let mut j: usize = 0;

@@ -1,5 +1,5 @@
--- What is known where records of the rewritten file are written: of a chart, of the nodes that are made and their names,
--- and that the file is within the limits.
+-- What is known where records of the rewritten file are written: of a chart, of the nodes that are made and their
+-- names, and that the file is within the limits.
 use mathlib.Core.Path.{_≡_}
 use mathlib.Core.List.{List}
 use Prim.Native.Nat.{ℕ, _+_, _≤_, _<_}

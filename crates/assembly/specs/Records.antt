@@ -42,7 +42,8 @@ partBytes F c at x i = cond (isOf F c i) (nodeBytes (composing (at + count F c i
 unfoldable pub masterBytes : File → ℕ → ℕ → ℕ → List ℕ
 masterBytes F c at slaves =
     nodeBytes (holding c)
-    ++ (inTurn (F .slaves) (partBytes F c at (F .chart c .feedback ∪ callsOf F c)) ++ nodeBytes (hiding (at + slaves) (callsOf F c) (callsOf F c)))
+    ++ (inTurn (F .slaves) (partBytes F c at (F .chart c .feedback ∪ callsOf F c))
+    ++ nodeBytes (hiding (at + slaves) (callsOf F c) (callsOf F c)))
 
 -- the bytes of the nodes for a node that holds chart c, by the chart's number of slaves
 unfoldable pub heldBytes : File → ℕ → ℕ → ℕ → List ℕ

@@ -1,4 +1,5 @@
-// The rewritten file in bytes, record behind record. Each function writes from a place on and gives the place behind what it wrote.
+// The rewritten file in bytes, record behind record. Each function writes from a place on and gives the place behind
+// what it wrote.
 ghost use mathlib.Core.Path.{_≡_};
 ghost use Prim.Native.Nat.{_+_, _≤_, _<_};
 ghost use lib.ListN.{length};
@@ -7,7 +8,8 @@ ghost use Rattle.meaning.specs.Numbers.{firstEdition, mostNodes};
 ghost use Rattle.meaning.specs.Calls.{laidOver};
 ghost use Rattle.layout.specs.Body.{transitionAt};
 ghost use Rattle.meaning.specs.File.{fileAt};
-ghost use Rattle.meaning.specs.Rewriting.{callsBy, count, madeFor, rewrite, rewrittenChart, headFor, inTurn, transitionsBytes, shapeIn, encode};
+ghost use Rattle.meaning.specs.Rewriting.{callsBy, count, madeFor, rewrite, rewrittenChart, headFor, inTurn};
+ghost use Rattle.meaning.specs.Rewriting.{transitionsBytes, shapeIn, encode};
 ghost use Rattle.allocation.specs.Known.{Checked, CallsIn, InnerIn, Takes};
 ghost use Rattle.assembly.specs.Known.{NamesIn, Fits, Stands, Master, Holder, Begins};
 ghost use Rattle.layout.specs.Put.{Room, Put};
@@ -23,7 +25,8 @@ use layout::record::Transition;
 fn heads(n: Shape, body: &[u8], inner: &[u64; CHARTS], out: &mut [u8], at: usize) -> usize
     requires { ⌜ Checked n (now body) × InnerIn (fileAt n (now body)) (now inner) × Fits (fileAt n (now body))
         × Room (now out) at (inTurn (n .charts) (λ c. headBytes (headFor (rewrittenChart (fileAt n (now body)) c)))) ⌝ }
-    ensures { λ r. ⌜ Put (now (out .entry)) at (inTurn (n .charts) (λ c. headBytes (headFor (rewrittenChart (fileAt n (now (body .entry))) c))))
+    ensures { λ r. ⌜ Put (now (out .entry)) at
+        (inTurn (n .charts) (λ c. headBytes (headFor (rewrittenChart (fileAt n (now (body .entry))) c))))
         (now (out .exit)) r ⌝ }
 {
     let charts = n.charts;
@@ -71,10 +74,12 @@ fn own(
 ) -> usize
     requires { ⌜ Checked n (now body) × CallsIn (fileAt n (now body)) (now calls) × (start + count ≤ n .transitions)
         × Room (now out) at (inTurn count
-        (λ k. transitionBytes (calledWith inner (callsBy (fileAt n (now body)) c (transitionAt n (now body) (start + k)))
+        (λ k.
+        transitionBytes (calledWith inner (callsBy (fileAt n (now body)) c (transitionAt n (now body) (start + k)))
         (transitionAt n (now body) (start + k))))) ⌝ }
     ensures { λ r. ⌜ Put (now (out .entry)) at (inTurn count
-        (λ k. transitionBytes (calledWith inner (callsBy (fileAt n (now (body .entry))) c (transitionAt n (now (body .entry)) (start + k)))
+        (λ k. transitionBytes
+        (calledWith inner (callsBy (fileAt n (now (body .entry))) c (transitionAt n (now (body .entry)) (start + k)))
         (transitionAt n (now (body .entry)) (start + k))))) (now (out .exit)) r ⌝ }
 {
     let mut p = at;
@@ -91,7 +96,8 @@ fn own(
 // The idle transitions of `count` states, from 0 up, that bar the call signal `inner` (RULES 9.3).
 fn idles(inner: u64, count: u8, out: &mut [u8], at: usize) -> usize
     requires { ⌜ Room (now out) at (inTurn count (λ s. transitionBytes (idleWith inner s))) ⌝ }
-    ensures { λ r. ⌜ Put (now (out .entry)) at (inTurn count (λ s. transitionBytes (idleWith inner s))) (now (out .exit)) r ⌝ }
+    ensures { λ r. ⌜ Put (now (out .entry)) at (inTurn count (λ s. transitionBytes (idleWith inner s)))
+        (now (out .exit)) r ⌝ }
 {
     let mut p = at;
     let mut s: u8 = 0;
@@ -122,8 +128,10 @@ fn chart(
     at: usize,
 ) -> usize
     requires { ⌜ Checked n (now body) × CallsIn (fileAt n (now body)) (now calls) × Takes (fileAt n (now body)) c inner
-        × Stands n (now body) c h start × Room (now out) at (transitionsBytes (rewrittenChart (fileAt n (now body)) c .transitions)) ⌝ }
-    ensures { λ r. ⌜ Put (now (out .entry)) at (transitionsBytes (rewrittenChart (fileAt n (now (body .entry))) c .transitions))
+        × Stands n (now body) c h start
+        × Room (now out) at (transitionsBytes (rewrittenChart (fileAt n (now body)) c .transitions)) ⌝ }
+    ensures { λ r. ⌜ Put (now (out .entry)) at
+        (transitionsBytes (rewrittenChart (fileAt n (now (body .entry))) c .transitions))
         (now (out .exit)) r ⌝ }
 {
     let idle = growth::idle_count(inner, h.states as usize);
@@ -150,10 +158,13 @@ fn transitions(
     out: &mut [u8],
     at: usize,
 ) -> usize
-    requires { ⌜ Checked n (now body) × CallsIn (fileAt n (now body)) (now calls) × InnerIn (fileAt n (now body)) (now inner)
-        × Room (now out) at (inTurn (n .charts) (λ c. transitionsBytes (rewrittenChart (fileAt n (now body)) c .transitions))) ⌝ }
+    requires { ⌜ Checked n (now body) × CallsIn (fileAt n (now body)) (now calls)
+        × InnerIn (fileAt n (now body)) (now inner)
+        × Room (now out) at
+        (inTurn (n .charts) (λ c. transitionsBytes (rewrittenChart (fileAt n (now body)) c .transitions))) ⌝ }
     ensures { λ r. ⌜ Put (now (out .entry)) at
-        (inTurn (n .charts) (λ c. transitionsBytes (rewrittenChart (fileAt n (now (body .entry))) c .transitions))) (now (out .exit)) r ⌝ }
+        (inTurn (n .charts)
+        (λ c. transitionsBytes (rewrittenChart (fileAt n (now (body .entry))) c .transitions))) (now (out .exit)) r ⌝ }
 {
     let charts = n.charts;
     let mut p = at;
@@ -199,7 +210,8 @@ fn parts(
 ) -> usize
     requires { ⌜ Checked n (now body) × NamesIn (fileAt n (now body)) (now names) × (first ≤ mostNodes)
         × Room (now out) at (inTurn (n .slaves) (partBytes (fileAt n (now body)) c first x)) ⌝ }
-    ensures { λ r. ⌜ Put (now (out .entry)) at (inTurn (n .slaves) (partBytes (fileAt n (now (body .entry))) c first x)) (now (out .exit)) r ⌝ }
+    ensures { λ r. ⌜ Put (now (out .entry)) at (inTurn (n .slaves) (partBytes (fileAt n (now (body .entry))) c first x))
+        (now (out .exit)) r ⌝ }
 {
     let slaves = n.slaves;
     let mut p = at;
@@ -236,9 +248,12 @@ fn master(
     out: &mut [u8],
     at: usize,
 ) -> usize
-    requires { ⌜ Checked n (now body) × CallsIn (fileAt n (now body)) (now calls) × NamesIn (fileAt n (now body)) (now names)
-        × Master (fileAt n (now body)) c slaves first × Room (now out) at (masterBytes (fileAt n (now body)) c first slaves) ⌝ }
-    ensures { λ r. ⌜ Put (now (out .entry)) at (masterBytes (fileAt n (now (body .entry))) c first slaves) (now (out .exit)) r ⌝ }
+    requires { ⌜ Checked n (now body) × CallsIn (fileAt n (now body)) (now calls)
+        × NamesIn (fileAt n (now body)) (now names)
+        × Master (fileAt n (now body)) c slaves first
+        × Room (now out) at (masterBytes (fileAt n (now body)) c first slaves) ⌝ }
+    ensures { λ r. ⌜ Put (now (out .entry)) at (masterBytes (fileAt n (now (body .entry))) c first slaves)
+        (now (out .exit)) r ⌝ }
 {
     let hidden = allocation::calls_of(n, body, calls, c);
     let h = layout::body::head_at(n, body, c);
@@ -272,10 +287,12 @@ fn holder(
     out: &mut [u8],
     at: usize,
 ) -> usize
-    requires { ⌜ Checked n (now body) × CallsIn (fileAt n (now body)) (now calls) × NamesIn (fileAt n (now body)) (now names)
+    requires { ⌜ Checked n (now body) × CallsIn (fileAt n (now body)) (now calls)
+        × NamesIn (fileAt n (now body)) (now names)
         × Holder (fileAt n (now body)) c first
         × Room (now out) at (heldBytes (fileAt n (now body)) c first (count (fileAt n (now body)) c (n .slaves))) ⌝ }
-    ensures { λ r. ⌜ Put (now (out .entry)) at (heldBytes (fileAt n (now (body .entry))) c first (count (fileAt n (now (body .entry))) c (n .slaves)))
+    ensures { λ r. ⌜ Put (now (out .entry)) at
+        (heldBytes (fileAt n (now (body .entry))) c first (count (fileAt n (now (body .entry))) c (n .slaves)))
         (now (out .exit)) r ⌝ }
 {
     let slaves = growth::slaves_of(n, body, c);
@@ -303,9 +320,11 @@ fn node(
     out: &mut [u8],
     at: usize,
 ) -> usize
-    requires { ⌜ Checked n (now body) × CallsIn (fileAt n (now body)) (now calls) × NamesIn (fileAt n (now body)) (now names)
+    requires { ⌜ Checked n (now body) × CallsIn (fileAt n (now body)) (now calls)
+        × NamesIn (fileAt n (now body)) (now names)
         × Begins (fileAt n (now body)) j first × Room (now out) at (nodesBytes (madeFor (fileAt n (now body)) j)) ⌝ }
-    ensures { λ r. ⌜ Put (now (out .entry)) at (nodesBytes (madeFor (fileAt n (now (body .entry))) j)) (now (out .exit)) r ⌝ }
+    ensures { λ r. ⌜ Put (now (out .entry)) at (nodesBytes (madeFor (fileAt n (now (body .entry))) j))
+        (now (out .exit)) r ⌝ }
 {
     let r = layout::body::node_at(n, body, j);
     let kind = r.kind;
@@ -343,9 +362,12 @@ fn nodes(
     out: &mut [u8],
     at: usize,
 ) -> usize
-    requires { ⌜ Checked n (now body) × CallsIn (fileAt n (now body)) (now calls) × NamesIn (fileAt n (now body)) (now names)
-        × Fits (fileAt n (now body)) × Room (now out) at (inTurn (n .nodes) (λ j. nodesBytes (madeFor (fileAt n (now body)) j))) ⌝ }
-    ensures { λ r. ⌜ Put (now (out .entry)) at (inTurn (n .nodes) (λ j. nodesBytes (madeFor (fileAt n (now (body .entry))) j)))
+    requires { ⌜ Checked n (now body) × CallsIn (fileAt n (now body)) (now calls)
+        × NamesIn (fileAt n (now body)) (now names)
+        × Fits (fileAt n (now body))
+        × Room (now out) at (inTurn (n .nodes) (λ j. nodesBytes (madeFor (fileAt n (now body)) j))) ⌝ }
+    ensures { λ r. ⌜ Put (now (out .entry)) at
+        (inTurn (n .nodes) (λ j. nodesBytes (madeFor (fileAt n (now (body .entry))) j)))
         (now (out .exit)) r ⌝ }
 {
     let nodes = n.nodes;
@@ -370,7 +392,8 @@ pub fn lay(
     edition: u8,
     out: &mut [u8],
 )
-    requires { ⌜ Checked n (now body) × CallsIn (fileAt n (now body)) (now calls) × InnerIn (fileAt n (now body)) (now inner)
+    requires { ⌜ Checked n (now body) × CallsIn (fileAt n (now body)) (now calls)
+        × InnerIn (fileAt n (now body)) (now inner)
         × Fits (fileAt n (now body)) × (m ≡ shapeIn (rewrite (fileAt n (now body)))) × (edition ≡ firstEdition)
         × (length (encode (rewrite (fileAt n (now body)))) ≤ length (now out)) ⌝ }
     ensures { λ _. ⌜ now (out .exit) ≡ laidOver (encode (rewrite (fileAt n (now (body .entry))))) (now (out .entry)) ⌝ }

@@ -42,7 +42,8 @@ fn leaving(n: Shape, body: &[u8], start: usize, count: usize, s: u8) -> usize
 fn over_from_states(n: Shape, body: &[u8], start: usize, h: Head, idle: usize, most: usize) -> bool
     requires { ⌜ Holds n (now body) × (start + h .transitions ≤ n .transitions) × (idle ≤ 1) ⌝ }
     ensures { λ r. ⌜ r
-        ≡ anyUpTo (h .states) (λ s. ltb most (leavingIn (from (transitionAt n (now (body .entry))) start (h .transitions)) s + idle)) ⌝ }
+        ≡ anyUpTo (h .states)
+        (λ s. ltb most (leavingIn (from (transitionAt n (now (body .entry))) start (h .transitions)) s + idle)) ⌝ }
 {
     let states = h.states;
     let count = h.transitions as usize;
@@ -86,7 +87,8 @@ pub fn in_chart(h: Head, inner: u64) -> usize
 // 42: more than `most` transitions would be in one chart.
 pub fn over_in_chart(n: Shape, body: &[u8], inner: &[u64; CHARTS], most: usize) -> bool
     requires { ⌜ Checked n (now body) × InnerIn (fileAt n (now body)) (now inner) ⌝ }
-    ensures { λ r. ⌜ r ≡ anyUpTo (n .charts) (λ c. ltb most (length (rewrite (fileAt n (now (body .entry))) .chart c .transitions))) ⌝ }
+    ensures { λ r. ⌜ r ≡ anyUpTo (n .charts)
+        (λ c. ltb most (length (rewrite (fileAt n (now (body .entry))) .chart c .transitions))) ⌝ }
 {
     let charts = n.charts;
     let mut c: usize = 0;

@@ -11,4 +11,11 @@ Small m = (m .charts < 256) × (m .transitions < 65536) × (m .slaves < 256) × 
 -- the trailer of a body of the shape m
 unfoldable pub trailerWith : Shape → ℕ → Trailer
 trailerWith m edition =
-    record { distance = sizeOf m; charts = m .charts; slaves = m .slaves; nodes = m .nodes; edition = edition; transitions = m .transitions }
+    record {
+      distance = sizeOf m;
+      charts = m .charts;
+      slaves = m .slaves;
+      nodes = m .nodes;
+      edition = edition;
+      transitions = m .transitions;
+    }

@@ -1,4 +1,5 @@
--- What the rewriting of a file that passed 1 to 11 answers: what the list of RULES 3.6 goes on with. Laws are in Rewriting/Laws.antt.
+-- What the rewriting of a file that passed 1 to 11 answers: what the list of RULES 3.6 goes on with. Laws are in
+-- Rewriting/Laws.antt.
 use mathlib.Core.Path.{_≡_}
 use mathlib.Core.Bool.{cond}
 use mathlib.Core.List.{List, [], _∷_, _++_}
@@ -24,7 +25,8 @@ limitTests F =
 
 -- 40 to 45
 unfoldable pub rewriteAfter : File → ℕ → ℕ
-rewriteAfter F room = firstOf (rewriteTests F ++ (record { number = shortOut; applies = ltb room (length (encode (rewrite F))) } ∷ []))
+rewriteAfter F room =
+    firstOf (rewriteTests F ++ (record { number = shortOut; applies = ltb room (length (encode (rewrite F))) } ∷ []))
 
 unfoldable pub lengthAfter : File → ℕ → ℕ
 lengthAfter F room = cond (same (rewriteAfter F room) 0) (length (encode (rewrite F))) 0

@@ -26,9 +26,11 @@ fn refused(r: u8) -> Rewritten
     }
 }
 
-// 41 to 44: a state or a chart would have too many transitions, or there would be too many nodes. The result has the shape m.
+// 41 to 44: a state or a chart would have too many transitions, or there would be too many nodes. The result has the
+// shape m.
 fn limit_refusal(n: Shape, body: &[u8], inner: &[u64; CHARTS], m: Shape) -> u8
-    requires { ⌜ Checked n (now body) × InnerIn (fileAt n (now body)) (now inner) × (m ≡ shapeIn (rewrite (fileAt n (now body)))) ⌝ }
+    requires { ⌜ Checked n (now body) × InnerIn (fileAt n (now body)) (now inner)
+        × (m ≡ shapeIn (rewrite (fileAt n (now body)))) ⌝ }
     ensures { λ r. ⌜ r ≡ firstOf (limitTests (fileAt n (now (body .entry)))) ⌝ }
 {
     if growth::over_from(n, body, inner, limits::MOST_FROM_STATE as usize) {

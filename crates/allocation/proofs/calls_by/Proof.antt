@@ -26,7 +26,8 @@ part F c t i = cond (isOf F c i && touches F t i) (single (call F i)) ∅
 
 -- r is slave i
 test-is : (n : Shape) (b : List ℕ) (c i : ℕ) (t : Transition) (r : Slave) → r ≡ slaveAt n b i
-    → (eqb (r .chart) c && (eqb (t .from) (r .state) || eqb (t .to) (r .state))) ≡ (isOf (fileAt n b) c i && touches (fileAt n b) t i)
+    → (eqb (r .chart) c && (eqb (t .from) (r .state) || eqb (t .to) (r .state)))
+    ≡ (isOf (fileAt n b) c i && touches (fileAt n b) t i)
 unfolding fileAt same
 test-is n b c i t r e = rw e
 
@@ -44,13 +45,15 @@ unfolding fileAt
 loop-again c =
     let i = c .before .before .before .before .before .before .before .before .loop in
     let a = c .before .before .before .before .before .before .before .before .before .before .args in
-    let e = test-is (a .n) (a .body .now) (a .c) (i .i) (a .t) _ (c .before .before .before .before .before .before .slave-at .ensures) in
+    let e = test-is (a .n) (a .body .now) (a .c) (i .i) (a .t) _
+    (c .before .before .before .before .before .before .slave-at .ensures) in
     let given : (b : Bool) → Set = λ b. cond b (single (call (fileAt (a .n) (a .body .now)) (i .i))) ∅ in (
       omega arith,
       ⊎-elim
           (λ w. w .2 ∙ union-taken (i .i) _ (i .inv .1)
           (c .before .before .before .before .before .before .before .before .before .before .pre .1 (i .i)
-          (c .before .before .before .before .before .before .before .loop-test .taken) ∙ sym (ap given (sym e ∙ w .0 .taken))))
+          (c .before .before .before .before .before .before .before .loop-test .taken)
+          ∙ sym (ap given (sym e ∙ w .0 .taken))))
           (λ w. w .1 ∙ union-left (i .i) _ (i .inv .1) (ap given (sym e ∙ w .0 .left)))
           (c .if1 .came),
     )
@@ -72,7 +75,9 @@ calls-by-spec =
     (λ c κs. (c .before .before .before .pre .0 .sized .holds, c .loop-test .taken))
     (λ c. search needs)
     (λ c. search needs)
-    (λ c. let h = c .before .before .before .before .before .before .before .before .before .before .pre .0 .sized .slaves in omega arith)
+    (λ c.
+    let h = c .before .before .before .before .before .before .before .before .before .before .pre .0 .sized .slaves in
+    omega arith)
     (λ c. omega arith)
     (λ c. omega arith)
     loop-again

@@ -39,7 +39,8 @@ loop-again c =
       omega arith,
       ⊎-elim
           (λ w. w .2 ∙ union-taken (i .i) _ (i .inv .1)
-          (c .before .before .before .before .before .before .pre .1 (i .i) (c .before .before .before .loop-test .taken)
+          (c .before .before .before .before .before .before .pre .1 (i .i)
+          (c .before .before .before .loop-test .taken)
           ∙ sym (ap given (is-of _ _ _ _ e (w .0 .taken)))))
           (λ w. w .1 ∙ union-left (i .i) _ (i .inv .1) (ap given (is-not _ _ _ _ e (w .0 .left))))
           (c .if1 .came),

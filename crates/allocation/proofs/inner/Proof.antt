@@ -38,11 +38,13 @@ module _ (F : File) (s : Sound F) where
   unfolding numberOf callIn
   call-is calls h m j i e = go (enc F j) refl e
     where
-      go : (κ : Option ℕ) → enc F j ≡ κ → i ≡ numberOf κ → cond (ltb i (F .slaves)) (getD calls i 0) 0 ≡ callIn (call F) κ
+      go : (κ : Option ℕ) → enc F j ≡ κ → i ≡ numberOf κ
+          → cond (ltb i (F .slaves)) (getD calls i 0) 0 ≡ callIn (call F) κ
       go none q z = rw (le-ltb i (F .slaves) (omega arith))
       go (some k) q z = let b = enc-below F j k q in rw (z, lt-ltb k (F .slaves) b) (h k b)
 
-  module _ (j : ℕ) (p : j < F .nodes) (k : F .kind j ≡ 0) (l : List ℕ) (v : ℕ) (e : v ≡ callIn (call F) (enc F j)) (m : F .a j < length l) where
+  module _ (j : ℕ) (p : j < F .nodes) (k : F .kind j ≡ 0) (l : List ℕ) (v : ℕ) (e : v ≡ callIn (call F) (enc F j))
+      (m : F .a j < length l) where
     has-here : Has F (set l (F .a j) v) (F .a j)
     has-here =
         getD-set-same l (F .a j) v 0 m ∙ e
@@ -58,7 +60,8 @@ record Filled (F : File) (j : ℕ) (l : List ℕ) : Type 0 where
   pub has : (k : ℕ) → k < j → F .kind k ≡ 0 → Has F l (F .a k)
 
 -- r is node j
-module _ (n : Shape) (b : List ℕ) (w : Checked n b) (j : ℕ) (p : j < n .nodes) (r : Node) (e : r ≡ nodeAt n b j) (l : List ℕ)
+module _ (n : Shape) (b : List ℕ) (w : Checked n b) (j : ℕ) (p : j < n .nodes) (r : Node) (e : r ≡ nodeAt n b j)
+    (l : List ℕ)
     (h : Filled (fileAt n b) j l) where
   abbrev F : File
   F = fileAt n b
@@ -73,7 +76,8 @@ module _ (n : Shape) (b : List ℕ) (w : Checked n b) (j : ℕ) (p : j < n .node
 
   there : r .kind ≡ 0 → r .a < mostCharts
   unfolding fileAt
-  there k = let c = w .sound .chart-there j p (sym kind-is ∙ k) in let q = a-is in let m = w .sized .charts in omega arith
+  there k = let c = w .sound .chart-there j p (sym kind-is ∙ k) in let q = a-is in
+      let m = w .sized .charts in omega arith
 
   filled-own : (v : ℕ) → v ≡ callIn (call F) (enc F j) → r .kind ≡ 0 → Filled F (j + 1) (set l (r .a) v)
   unfolding fileAt
@@ -83,7 +87,8 @@ module _ (n : Shape) (b : List ℕ) (w : Checked n b) (j : ℕ) (p : j < n .node
       rw a-is (record {
         long = simp length-set (h .long);
         has = below-more (λ (i : ℕ). F .kind i ≡ 0 → Has F (set l (F .a j) v) (F .a i)) j
-            (λ i z y. has-set F (w .sound) j p u l v q m (F .a i) (h .has i z y)) (λ y. has-here F (w .sound) j p u l v q m);
+            (λ i z y. has-set F (w .sound) j p u l v q m (F .a i) (h .has i z y))
+            (λ y. has-here F (w .sound) j p u l v q m);
       })
 
   filled-other : (r .kind ≡ 0 → ⊥) → Filled F (j + 1) l
@@ -93,7 +98,8 @@ module _ (n : Shape) (b : List ℕ) (w : Checked n b) (j : ℕ) (p : j < n .node
   }
 
 -- every chart is held by a node
-filled-all : (n : Shape) (b : List ℕ) → Checked n b → Upward (fileAt n b) → (j : ℕ) (l : List ℕ) → j ≡ n .nodes → Filled (fileAt n b) j l
+filled-all : (n : Shape) (b : List ℕ) → Checked n b → Upward (fileAt n b) → (j : ℕ) (l : List ℕ) → j ≡ n .nodes
+    → Filled (fileAt n b) j l
     → InnerIn (fileAt n b) l
 unfolding fileAt
 filled-all n b w up j l e h c p =
@@ -122,14 +128,17 @@ loop-again c =
       omega arith,
       ⊎-elim
           (λ w. rw (w .2) (filled-own _ _ (p .0) (i .j) t _ e (i .inner) (i .inv .1) _
-          (w .1 .ensures ∙ call-is _ (p .0 .sound) (c .before .before .before .before .before .before .before .before .args .calls .now) (p .1)
-          (p .0 .sized .slaves) (i .j) _ (c .before .before .before .before .before .before .enclosers .ensures (i .j) t)) (w .0 .taken)))
+          (w .1 .ensures ∙ call-is _ (p .0 .sound)
+          (c .before .before .before .before .before .before .before .before .args .calls .now) (p .1)
+          (p .0 .sized .slaves) (i .j) _
+          (c .before .before .before .before .before .before .enclosers .ensures (i .j) t)) (w .0 .taken)))
           (λ w. rw (w .1) (filled-other _ _ (p .0) (i .j) t _ e (i .inner) (i .inv .1) (w .0 .left)))
           (c .if1 .came),
     )
 
 returns : tie.Need-returns Inv-loop μ-loop
-returns c = filled-all _ _ (c .before .before .before .before .pre .0) (c .before .before .before .before .pre .2) (c .before .loop .j)
+returns c = filled-all _ _ (c .before .before .before .before .pre .0) (c .before .before .before .before .pre .2)
+    (c .before .loop .j)
     (c .before .loop .inner) (omega arith) (c .before .loop .inv .1)
 
 pub inner-spec : {M : Type 1} → statement M
@@ -142,12 +151,15 @@ inner-spec =
     loop-holds
     (λ c κs. (c .before .before .before .before .pre .0 .sized .holds, c .loop-test .taken))
     (λ c. search needs)
-    (λ c. let h = c .before .before .before .before .before .before .before .before .pre .0 .sized .nodes in omega arith)
+    (λ c. let h = c .before .before .before .before .before .before .before .before .pre .0 .sized .nodes in
+    omega arith)
     (λ c κs. c .before .before .before .before .before .before .before .before .pre .0 .sized .slaves)
     (λ c. search needs)
     (λ c. there _ _ (c .before .before .before .before .before .before .before .before .before .pre .0)
-    (c .before .before .before .before .before .before .loop .j) (c .before .before .before .before .before .loop-test .taken) _
-    (c .before .before .before .before .node-at .ensures) (c .before .before .before .before .before .before .loop .inner)
+    (c .before .before .before .before .before .before .loop .j)
+    (c .before .before .before .before .before .loop-test .taken) _
+    (c .before .before .before .before .node-at .ensures)
+    (c .before .before .before .before .before .before .loop .inner)
     (c .before .before .before .before .before .before .loop .inv .1) (c .before .if1 .taken))
     (λ c. omega arith)
     (λ c. omega arith)

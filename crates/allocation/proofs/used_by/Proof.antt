@@ -19,11 +19,13 @@ use Rattle.allocation.proofs.used_by.Tie as tie
 abbrev passed : Shape → List ℕ → ℕ → ℕ → Set
 passed n b start k = guards (from (transitionAt n b) start k) ∪ actions (from (transitionAt n b) start k)
 
-more : (n : Shape) (b : List ℕ) (start k all : ℕ) (t : Transition) → all ≡ passed n b start k → t ≡ transitionAt n b (start + k)
+more : (n : Shape) (b : List ℕ) (start k all : ℕ) (t : Transition) → all ≡ passed n b start k
+    → t ≡ transitionAt n b (start + k)
     → all ∪ (t .needed ∪ t .barred ∪ t .action) ≡ passed n b start (k + 1)
 more n b start k all t h e =
     ap₂ (λ (a : ℕ) (t : Transition). a ∪ (t .needed ∪ t .barred ∪ t .action)) h e
-    ∙ sets (guards (from (transitionAt n b) start k) ∷ actions (from (transitionAt n b) start k) ∷ u .needed ∷ u .barred ∷ u .action ∷ []) []
+    ∙ sets (guards (from (transitionAt n b) start k) ∷ actions (from (transitionAt n b) start k) ∷ u .needed ∷ u .barred
+    ∷ u .action ∷ []) []
     (A ∪ₑ B ∪ₑ (C ∪ₑ D ∪ₑ E) ≐ A ∪ₑ (C ∪ₑ D) ∪ₑ (B ∪ₑ E)) tt
     ∙ ap₂ _∪_ (sym (guards-more (transitionAt n b) start k)) (sym (actions-more (transitionAt n b) start k))
   where
@@ -43,8 +45,11 @@ loop-again : tie.Need-loop-again Inv-loop μ-loop
 loop-again c =
     let t = c .before .before in
     let i = c .before .before .before .before .loop in
-    let a = c .before .before .before .before .before .before .args in
-    (omega arith, more (a .n) (a .body .now) (a .start) (i .k) (i .all) (t .transition-at .result) (i .inv .1) (t .transition-at .ensures))
+    let a = c .before .before .before .before .before .before .args in (
+      omega arith,
+      more (a .n) (a .body .now) (a .start) (i .k) (i .all) (t .transition-at .result) (i .inv .1)
+          (t .transition-at .ensures),
+    )
 
 returns : tie.Need-returns Inv-loop μ-loop
 returns c =

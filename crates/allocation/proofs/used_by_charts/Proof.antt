@@ -22,7 +22,8 @@ use Rattle.allocation.proofs.used_by_charts.Tie as tie
 -- the sets of chart c
 abbrev ofChart : Shape → List ℕ → ℕ → Set
 ofChart n b c =
-    guards (fileAt n b .chart c .transitions) ∪ actions (fileAt n b .chart c .transitions) ∪ fileAt n b .chart c .feedback
+    guards (fileAt n b .chart c .transitions) ∪ actions (fileAt n b .chart c .transitions)
+    ∪ fileAt n b .chart c .feedback
     ∪ fileAt n b .chart c .extra
 
 -- h is the head of chart c, whose transitions begin at s
@@ -31,11 +32,13 @@ of-chart : (n : Shape) (b : List ℕ) (c s : ℕ) (h : Head) (own : Set) → h �
     → own ∪ h .feedback ∪ h .extra ≡ ofChart n b c
 unfolding fileAt chartOf
 of-chart n b c s h own eh es eo =
-    ap₂ _∪_ (ap₂ _∪_ (eo ∙ ap (λ (ts : List Transition). guards ts ∪ actions ts) (sym (own-are n b c s eh es))) (ap (λ (h : Head). h .feedback) eh))
+    ap₂ _∪_ (ap₂ _∪_ (eo ∙ ap (λ (ts : List Transition). guards ts ∪ actions ts) (sym (own-are n b c s eh es)))
+    (ap (λ (h : Head). h .feedback) eh))
     (ap (λ (h : Head). h .extra) eh)
 
 abbrev Inv-loop : tie.InvT-loop
-Inv-loop n body all₀ start₀ c₀ all start c = (c ≤ n .charts) × (start ≡ startOf n body c) × (all ≡ unionUpTo c (ofChart n body))
+Inv-loop n body all₀ start₀ c₀ all start c =
+    (c ≤ n .charts) × (start ≡ startOf n body c) × (all ≡ unionUpTo c (ofChart n body))
 
 abbrev μ-loop : tie.MeasureT-loop
 μ-loop n body all₀ start₀ c₀ all start c = n .charts - c
@@ -55,7 +58,8 @@ loop-again c =
     let e = c .before .before .before .before .head-at .ensures in (
       omega arith,
       start-next _ _ _ _ e (i .inv .1),
-      ap₂ _∪_ (i .inv .2) (of-chart _ _ (i .c) (i .start) _ _ e (i .inv .1) (c .before .before .used-by .ensures)) ∙ union-more (i .c) _,
+      ap₂ _∪_ (i .inv .2) (of-chart _ _ (i .c) (i .start) _ _ e (i .inv .1) (c .before .before .used-by .ensures))
+          ∙ union-more (i .c) _,
     )
 
 returns : tie.Need-returns Inv-loop μ-loop
@@ -75,7 +79,8 @@ used-by-charts-spec =
     (λ c. search needs)
     (λ c κs. (c .before .before .before .before .before .before .pre .sized .holds, room c))
     (λ c. let r = room (c .before .before .before) in
-    let t = c .before .before .before .before .before .before .before .before .before .pre .sized .transitions in omega arith)
+    let t = c .before .before .before .before .before .before .before .before .before .pre .sized .transitions in
+    omega arith)
     (λ c. omega arith)
     (λ c. omega arith)
     loop-again

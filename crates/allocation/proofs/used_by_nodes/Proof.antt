@@ -22,8 +22,10 @@ loop-holds c = (omega arith, union-none _)
 loop-again : tie.Need-loop-again Inv-loop μ-loop
 unfolding fileAt
 loop-again c =
-    let i = c .before .before .before .before .loop in
-    (omega arith, ap₂ (λ (a : ℕ) (r : Node). a ∪ (r .x ∪ r .y)) (i .inv .1) (c .before .node-at .ensures) ∙ union-more (i .j) _)
+    let i = c .before .before .before .before .loop in (
+      omega arith,
+      ap₂ (λ (a : ℕ) (r : Node). a ∪ (r .x ∪ r .y)) (i .inv .1) (c .before .node-at .ensures) ∙ union-more (i .j) _,
+    )
 
 returns : tie.Need-returns Inv-loop μ-loop
 returns c =

@@ -35,11 +35,13 @@ rests κ idle = inTurn idle (λ s. transitionBytes (idleWith κ s))
 
 module _ (n : Shape) (b : List ℕ) (c : ℕ) (h : Head) (s κ idle : ℕ) (t : Takes (fileAt n b) c κ) (w : Stands n b c h s)
     (e : idle ≡ idleCount κ (h .states)) where
-  bytes-are : transitionsBytes (rewrittenChart (fileAt n b) c .transitions) ≡ owns n b κ c s (h .transitions) ++ rests κ idle
+  bytes-are : transitionsBytes (rewrittenChart (fileAt n b) c .transitions)
+      ≡ owns n b κ c s (h .transitions) ++ rests κ idle
   unfolding fileAt chartOf
   bytes-are =
       chart-bytes (fileAt n b) c κ t (transitionAt n b) s (h .transitions) (own-are n b c s (w .head) (w .start))
-      ∙ ap (λ (k : ℕ). owns n b κ c s (h .transitions) ++ rests κ k) (sym (e ∙ ap (λ (h : Head). idleCount κ (h .states)) (w .head)))
+      ∙ ap (λ (k : ℕ). owns n b κ c s (h .transitions) ++ rests κ k)
+      (sym (e ∙ ap (λ (h : Head). idleCount κ (h .states)) (w .head)))
 
   room-are : (at : ℕ) (l : List ℕ) → Room l at (transitionsBytes (rewrittenChart (fileAt n b) c .transitions))
       → Room l at (owns n b κ c s (h .transitions) ++ rests κ idle)
@@ -63,12 +65,14 @@ idles-requires c κs =
     let p = c .before .before .before .before .before .before .before .before .before .before .pre in
     let a = c .before .before .before .before .before .before .before .before .before .before .args in
     room-next _ _ _ (rests (a .inner) (c .before .before .before .before .before .before .idle-count .result))
-    (room-are _ _ _ _ _ _ _ (p .2) (p .3) (c .before .before .before .before .before .before .idle-count .ensures) (a .at) (a .out .now) (p .4))
+    (room-are _ _ _ _ _ _ _ (p .2) (p .3) (c .before .before .before .before .before .before .idle-count .ensures)
+    (a .at) (a .out .now) (p .4))
     (c .before .before .before .own .ensures)
 
 returns : tie.Need-returns
 returns c =
-    let p = c .before .before .before .before .before .before .before .before .before .before .before .before .before .pre in
+    let p =
+    c .before .before .before .before .before .before .before .before .before .before .before .before .before .pre in
     put-is (sym (bytes-are _ _ _ _ _ _ _ (p .2) (p .3)
     (c .before .before .before .before .before .before .before .before .before .idle-count .ensures)))
     (put-append (c .before .before .before .before .before .before .own .ensures) (c .before .before .idles .ensures))
@@ -82,7 +86,8 @@ chart-spec =
     (λ c. search needs)
     own-requires
     (λ c.
-    let s : c .before .before .before .before .before .before .before .before .before .args .h .states < 256 = search needs in
+    let s : c .before .before .before .before .before .before .before .before .before .args .h .states < 256 =
+    search needs in
     omega (
       arith,
       c .before .before .before .before .before .idle-count .ensures,

@@ -52,7 +52,8 @@ room c =
 is : (c : tie.After-in-chart Inv-loop μ-loop)
     → c .in-chart .result ≡ length (rewrittenChart
     (fileAt (c .before .before .before .before .before .before .before .args .n)
-    (c .before .before .before .before .before .before .before .args .body .now)) (c .before .before .before .before .loop .c)
+    (c .before .before .before .before .before .before .before .args .body .now))
+    (c .before .before .before .before .loop .c)
     .transitions)
 unfolding fileAt
 is c =

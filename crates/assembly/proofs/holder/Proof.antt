@@ -50,7 +50,8 @@ master-requires c κs =
       p .1,
       p .2,
       record { there = p .3 .there; some = omega arith; number = e; named = omega arith },
-      room-some (fileAt (a .n) (a .body .now)) (a .c) (a .first) _ (count (fileAt (a .n) (a .body .now)) (a .c) (a .n .slaves)) e z (a .at)
+      room-some (fileAt (a .n) (a .body .now)) (a .c) (a .first) _
+          (count (fileAt (a .n) (a .body .now)) (a .c) (a .n .slaves)) e z (a .at)
           (a .out .now) (p .4),
     )
 
@@ -64,7 +65,8 @@ holder-spec =
     tie.close
     (tie.spec
     (λ c κs. c .before .before .pre .0)
-    (λ c. let h = c .before .before .before .before .pre .0 .sized .charts in let t = c .before .before .before .before .pre .3 .there in omega arith)
+    (λ c. let h = c .before .before .before .before .pre .0 .sized .charts in
+    let t = c .before .before .before .before .pre .3 .there in omega arith)
     put-node-requires
     (λ c. put-length (returns c))
     returns

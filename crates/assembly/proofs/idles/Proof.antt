@@ -27,7 +27,8 @@ abbrev μ-loop : tie.MeasureT-loop
 room : (c : tie.In-loop Inv-loop μ-loop) → c .before .loop .p + 28 ≤ length (c .before .loop .out)
 room c =
     let s = c .before .before .before in
-    room-record (written (s .args .inner)) 28 (length-transition _) (s .pre) (c .loop-test .taken) (c .before .loop .inv .1)
+    room-record (written (s .args .inner)) 28 (length-transition _) (s .pre) (c .loop-test .taken)
+    (c .before .loop .inv .1)
 
 loop-again : tie.Need-loop-again Inv-loop μ-loop
 unfolding idleWith

@@ -12,7 +12,8 @@ use Rattle.layout.specs.declared.body.Shape.{Shape}
 use Rattle.meaning.specs.Numbers.{firstEdition}
 use Rattle.meaning.specs.Calls.{laidOver}
 use Rattle.meaning.specs.File.{File, fileAt}
-use Rattle.meaning.specs.Rewriting.{rewrittenChart, madeFor, rewrite, inTurn, headFor, transitionsBytes, shapeIn, encode}
+use Rattle.meaning.specs.Rewriting.{rewrittenChart, madeFor, rewrite, inTurn, headFor, transitionsBytes, shapeIn}
+use Rattle.meaning.specs.Rewriting.{encode}
 use Rattle.laying.specs.Trailer.{Small, trailerWith}
 use Rattle.layout.specs.Put.{Room, Put}
 use Rattle.layout.specs.Put.Laws.{put-append, put-over, put-length, room-first, room-next}
@@ -38,7 +39,8 @@ abbrev end : Shape → ℕ → List ℕ
 end m edition = trailerBytes (trailerWith m edition)
 
 -- m is the rewritten file's shape
-module _ (n : Shape) (b : List ℕ) (m : Shape) (edition : ℕ) (em : m ≡ shapeIn (rewrite (fileAt n b))) (ee : edition ≡ firstEdition) where
+module _ (n : Shape) (b : List ℕ) (m : Shape) (edition : ℕ) (em : m ≡ shapeIn (rewrite (fileAt n b)))
+    (ee : edition ≡ firstEdition) where
   abbrev F : File
   F = fileAt n b
 
@@ -68,7 +70,8 @@ module _ (n : Shape) (b : List ℕ) (m : Shape) (edition : ℕ) (em : m ≡ shap
           laid : (m₄ : List ℕ) → m₄ ≡ sets m₃ p₃ (end m edition) → m₄ ≡ laidOver (encode (rewrite F)) out
           laid m₄ h₄ =
               put-over (put-is (sym all-is) (put-append h₁
-              (put-append h₂ (put-append h₃ (put-one (end m edition) 12 p₃ m₃ m₄ (length-trailer (trailerWith m edition)) h₄))))) r .1
+              (put-append h₂
+              (put-append h₃ (put-one (end m edition) 12 p₃ m₃ m₄ (length-trailer (trailerWith m edition)) h₄))))) r .1
 
           same : (m₄ : List ℕ) → m₄ ≡ sets m₃ p₃ (end m edition) → length m₄ ≡ length out
           same m₄ h₄ = ap length h₄ ∙ length-sets m₃ p₃ (end m edition) ∙ put-length h₃ ∙ put-length h₂ ∙ put-length h₁
@@ -96,36 +99,45 @@ transitions-requires c κs =
       p .1,
       p .2,
       room-first (c .before .before .before .heads .last .1 .1 .1 .0) _ (ts F) (ns F ++ end (a .m) (a .edition))
-          (room₁ (a .n) (a .body .now) (a .m) (a .edition) (p .4) (p .5) (a .out .now) (p .6) (c .before .before .before .heads .last .1 .1 .1 .0) _
+          (room₁ (a .n) (a .body .now) (a .m) (a .edition) (p .4) (p .5) (a .out .now) (p .6)
+          (c .before .before .before .heads .last .1 .1 .1 .0) _
           (c .before .before .before .heads .ensures)),
     )
 
 nodes-requires : tie.Need-nodes-requires
 unfolding fileAt
 nodes-requires c κs =
-    let p = c .before .before .before .before .before .before .before .before .before .before .before .before .before .pre in
-    let a = c .before .before .before .before .before .before .before .before .before .before .before .before .before .args in
+    let p =
+    c .before .before .before .before .before .before .before .before .before .before .before .before .before .pre in
+    let a =
+    c .before .before .before .before .before .before .before .before .before .before .before .before .before .args in
     let F = fileAt (a .n) (a .body .now) in (
       p .0,
       p .1,
       c .before .before .before .before .before .before .before .before .before .before .names .ensures,
       p .3,
-      room-first (c .before .before .before .before .transitions .last .1 .1 .1 .1 .0) _ (ns F) (end (a .m) (a .edition))
+      room-first (c .before .before .before .before .transitions .last .1 .1 .1 .1 .0) _ (ns F)
+          (end (a .m) (a .edition))
           (room₂ (a .n) (a .body .now) (a .m) (a .edition) (p .4) (p .5) (a .out .now) (p .6)
           (c .before .before .before .before .before .before .before .before .heads .last .1 .1 .1 .0) _
           (c .before .before .before .before .before .before .before .before .heads .ensures)
-          (c .before .before .before .before .transitions .last .1 .1 .1 .1 .0) _ (c .before .before .before .before .transitions .ensures)),
+          (c .before .before .before .before .transitions .last .1 .1 .1 .1 .0) _
+          (c .before .before .before .before .transitions .ensures)),
     )
 
 trailer-requires : tie.Need-trailer-requires
 unfolding fileAt
 trailer-requires c κs =
-    let p = c .before .before .before .before .before .before .before .before .before .before .before .before .before .before .before .before .before .pre in
-    let a = c .before .before .before .before .before .before .before .before .before .before .before .before .before .before .before .before .before .args in (
+    let p = c .before .before .before .before .before .before .before .before .before .before .before .before .before
+    .before .before .before .before .pre in
+    let a = c .before .before .before .before .before .before .before .before .before .before .before .before .before
+    .before .before .before .before .args in (
       small (a .n) (a .body .now) (a .m) (a .edition) (p .4) (p .5) (p .0) (p .3),
       room₃ (a .n) (a .body .now) (a .m) (a .edition) (p .4) (p .5) (a .out .now) (p .6)
-          (c .before .before .before .before .before .before .before .before .before .before .before .before .heads .last .1 .1 .1 .0) _
-          (c .before .before .before .before .before .before .before .before .before .before .before .before .heads .ensures)
+          (c .before .before .before .before .before .before .before .before .before .before .before .before .heads
+          .last .1 .1 .1 .0) _
+          (c .before .before .before .before .before .before .before .before .before .before .before .before
+          .heads .ensures)
           (c .before .before .before .before .before .before .before .before .transitions .last .1 .1 .1 .1 .0) _
           (c .before .before .before .before .before .before .before .before .transitions .ensures)
           (c .before .before .before .nodes .last .1 .1 .1 .1 .0) _ (c .before .before .before .nodes .ensures),
@@ -134,10 +146,16 @@ trailer-requires c κs =
 returns : tie.Need-returns
 unfolding fileAt
 returns c =
-    let p = c .before .before .before .before .before .before .before .before .before .before .before .before .before .before .before .before .before .before .before .before .pre in
-    let a = c .before .before .before .before .before .before .before .before .before .before .before .before .before .before .before .before .before .before .before .before .args in
-    laid (a .n) (a .body .now) (a .m) (a .edition) (p .4) (p .5) (a .out .now) (p .6) (c .before .before .before .before .before .before .before .before .before .before .before .before .before .before .before .heads .last .1 .1 .1 .0) _ (c .before .before .before .before .before .before .before .before .before .before .before .before .before .before .before .heads .ensures)
-    (c .before .before .before .before .before .before .before .before .before .before .before .transitions .last .1 .1 .1 .1 .0) _
+    let p = c .before .before .before .before .before .before .before .before .before .before .before .before .before
+    .before .before .before .before .before .before .before .pre in
+    let a = c .before .before .before .before .before .before .before .before .before .before .before .before .before
+    .before .before .before .before .before .before .before .args in
+    laid (a .n) (a .body .now) (a .m) (a .edition) (p .4) (p .5) (a .out .now) (p .6) (c .before .before .before .before
+    .before .before .before .before .before .before .before .before .before .before .before .heads .last .1 .1 .1 .0) _
+    (c .before .before .before .before .before .before .before .before .before .before .before .before .before .before
+    .before .heads .ensures)
+    (c .before .before .before .before .before .before .before .before .before .before .before .transitions .last .1
+    .1 .1 .1 .0) _
     (c .before .before .before .before .before .before .before .before .before .before .before .transitions .ensures)
     (c .before .before .before .before .before .before .nodes .last .1 .1 .1 .1 .0) _
     (c .before .before .before .before .before .before .nodes .ensures) _ (c .before .before .trailer .ensures)
@@ -145,10 +163,16 @@ returns c =
 same-length : tie.Need-same-length
 unfolding fileAt
 same-length c =
-    let p = c .before .before .before .before .before .before .before .before .before .before .before .before .before .before .before .before .before .before .before .before .pre in
-    let a = c .before .before .before .before .before .before .before .before .before .before .before .before .before .before .before .before .before .before .before .before .args in
-    same (a .n) (a .body .now) (a .m) (a .edition) (p .4) (p .5) (a .out .now) (p .6) (c .before .before .before .before .before .before .before .before .before .before .before .before .before .before .before .heads .last .1 .1 .1 .0) _ (c .before .before .before .before .before .before .before .before .before .before .before .before .before .before .before .heads .ensures)
-    (c .before .before .before .before .before .before .before .before .before .before .before .transitions .last .1 .1 .1 .1 .0) _
+    let p = c .before .before .before .before .before .before .before .before .before .before .before .before .before
+    .before .before .before .before .before .before .before .pre in
+    let a = c .before .before .before .before .before .before .before .before .before .before .before .before .before
+    .before .before .before .before .before .before .before .args in
+    same (a .n) (a .body .now) (a .m) (a .edition) (p .4) (p .5) (a .out .now) (p .6) (c .before .before .before .before
+    .before .before .before .before .before .before .before .before .before .before .before .heads .last .1 .1 .1 .0) _
+    (c .before .before .before .before .before .before .before .before .before .before .before .before .before .before
+    .before .heads .ensures)
+    (c .before .before .before .before .before .before .before .before .before .before .before .transitions .last .1
+    .1 .1 .1 .0) _
     (c .before .before .before .before .before .before .before .before .before .before .before .transitions .ensures)
     (c .before .before .before .before .before .before .nodes .last .1 .1 .1 .1 .0) _
     (c .before .before .before .before .before .before .nodes .ensures) (c .before .before .trailer .last .1 .1 .0)

@@ -26,14 +26,16 @@ middle F c first x = inTurn (F .slaves) (partBytes F c first x)
 abbrev last : ℕ → Set → List ℕ
 last at hidden = nodeBytes (hiding at hidden hidden)
 
-module _ (n : Shape) (b : List ℕ) (c slaves first : ℕ) (h : Head) (hidden : Set) (eh : h ≡ headAt n b c) (es : hidden ≡ callsOf (fileAt n b) c) where
+module _ (n : Shape) (b : List ℕ) (c slaves first : ℕ) (h : Head) (hidden : Set) (eh : h ≡ headAt n b c)
+    (es : hidden ≡ callsOf (fileAt n b) c) where
   bytes-are : masterBytes (fileAt n b) c first slaves
       ≡ nodeBytes (holding c) ++ (middle (fileAt n b) c first (h .feedback ∪ hidden) ++ last (first + slaves) hidden)
   unfolding masterBytes fileAt chartOf
   bytes-are = rw (eh, es)
 
   room-are : (at : ℕ) (l : List ℕ) → Room l at (masterBytes (fileAt n b) c first slaves)
-      → Room l at (nodeBytes (holding c) ++ (middle (fileAt n b) c first (h .feedback ∪ hidden) ++ last (first + slaves) hidden))
+      → Room l at
+      (nodeBytes (holding c) ++ (middle (fileAt n b) c first (h .feedback ∪ hidden) ++ last (first + slaves) hidden))
   room-are at l r = rw bytes-are at r
 
 put-node-requires : tie.Need-put-node-requires
@@ -41,7 +43,8 @@ put-node-requires c κs =
     let p = c .before .before .before .before .before .pre in
     let a = c .before .before .before .before .before .args in
     room-one (nodeBytes (holding (a .c))) _ 20 (length-node (holding (a .c))) (a .at) (a .out .now)
-    (room-are (a .n) (a .body .now) (a .c) (a .slaves) (a .first) _ _ (c .before .head-at .ensures) (c .before .before .calls-of .ensures) (a .at)
+    (room-are (a .n) (a .body .now) (a .c) (a .slaves) (a .first) _ _ (c .before .head-at .ensures)
+    (c .before .before .calls-of .ensures) (a .at)
     (a .out .now) (p .4))
 
 parts-requires : tie.Need-parts-requires
@@ -55,11 +58,13 @@ parts-requires c κs =
       p .0,
       p .2,
       omega arith,
-      room-first (c .before .before .before .before .put-node .last .0) _ (middle (fileAt (a .n) (a .body .now)) (a .c) (a .first) x)
+      room-first (c .before .before .before .before .put-node .last .0) _
+          (middle (fileAt (a .n) (a .body .now)) (a .c) (a .first) x)
           (last (a .first + a .slaves) (c .before .before .before .before .before .before .before .calls-of .result))
           (room-next _ _ _ (middle (fileAt (a .n) (a .body .now)) (a .c) (a .first) x
           ++ last (a .first + a .slaves) (c .before .before .before .before .before .before .before .calls-of .result))
-          (room-are (a .n) (a .body .now) (a .c) (a .slaves) (a .first) _ _ (c .before .before .before .before .before .before .head-at .ensures)
+          (room-are (a .n) (a .body .now) (a .c) (a .slaves) (a .first) _ _
+          (c .before .before .before .before .before .before .head-at .ensures)
           (c .before .before .before .before .before .before .before .calls-of .ensures) (a .at) (a .out .now) (p .4))
           (c .before .before .before .before .put-node .ensures)),
     )
@@ -67,27 +72,38 @@ parts-requires c κs =
 put-node-requires-2 : tie.Need-put-node-requires-2
 unfolding fileAt
 put-node-requires-2 c κs =
-    let p = c .before .before .before .before .before .before .before .before .before .before .before .before .before .before .pre in
-    let a = c .before .before .before .before .before .before .before .before .before .before .before .before .before .before .args in
+    let p = c .before .before .before .before .before .before .before .before .before .before .before .before .before
+    .before .pre in
+    let a = c .before .before .before .before .before .before .before .before .before .before .before .before .before
+    .before .args in
     let x = c .before .before .before .before .before .before .before .before .before .before .head-at .result .feedback
     ∪ c .before .before .before .before .before .before .before .before .before .before .before .calls-of .result in
-    room-last (last (a .first + a .slaves) (c .before .before .before .before .before .before .before .before .before .before .before .calls-of .result)) 20 (length-node _) (c .before .before .before .parts .ensures)
+    room-last (last (a .first + a .slaves)
+    (c .before .before .before .before .before .before .before .before .before .before .before .calls-of .result)) 20
+    (length-node _) (c .before .before .before .parts .ensures)
     (room-next _ _ _ (middle (fileAt (a .n) (a .body .now)) (a .c) (a .first) x
-    ++ last (a .first + a .slaves) (c .before .before .before .before .before .before .before .before .before .before .before .calls-of .result))
+    ++ last (a .first + a .slaves)
+    (c .before .before .before .before .before .before .before .before .before .before .before .calls-of .result))
     (room-are (a .n) (a .body .now) (a .c) (a .slaves) (a .first) _ _
     (c .before .before .before .before .before .before .before .before .before .before .head-at .ensures)
-    (c .before .before .before .before .before .before .before .before .before .before .before .calls-of .ensures) (a .at) (a .out .now) (p .4))
+    (c .before .before .before .before .before .before .before .before .before .before .before .calls-of .ensures)
+    (a .at) (a .out .now) (p .4))
     (c .before .before .before .before .before .before .before .before .put-node .ensures))
 
 returns : tie.Need-returns
 unfolding fileAt
 returns c =
-    let a = c .before .before .before .before .before .before .before .before .before .before .before .before .before .before .before .before .before .args in
+    let a = c .before .before .before .before .before .before .before .before .before .before .before .before .before
+    .before .before .before .before .args in
     put-is (sym (bytes-are (a .n) (a .body .now) (a .c) (a .slaves) (a .first) _ _
-    (c .before .before .before .before .before .before .before .before .before .before .before .before .before .head-at .ensures)
-    (c .before .before .before .before .before .before .before .before .before .before .before .before .before .before .calls-of .ensures)))
-    (put-append (c .before .before .before .before .before .before .before .before .before .before .before .put-node .ensures)
-    (put-append (c .before .before .before .before .before .before .parts .ensures) (c .before .before .put-node2 .ensures)))
+    (c .before .before .before .before .before .before .before .before .before .before .before .before .before
+    .head-at .ensures)
+    (c .before .before .before .before .before .before .before .before .before .before .before .before .before .before
+    .calls-of .ensures)))
+    (put-append
+    (c .before .before .before .before .before .before .before .before .before .before .before .put-node .ensures)
+    (put-append (c .before .before .before .before .before .before .parts .ensures)
+    (c .before .before .put-node2 .ensures)))
 
 pub master-spec : {M : Type 1} → statement M
 unfolding fileAt
@@ -96,13 +112,17 @@ master-spec =
     (tie.spec
     (λ c κs. (c .before .before .pre .0, c .before .before .pre .1))
     (λ c κs. (c .before .before .before .pre .0 .sized .holds, c .before .before .before .pre .3 .there))
-    (λ c. let h = c .before .before .before .before .pre .0 .sized .charts in let t = c .before .before .before .before .pre .3 .there in omega arith)
+    (λ c. let h = c .before .before .before .before .pre .0 .sized .charts in
+    let t = c .before .before .before .before .pre .3 .there in omega arith)
     put-node-requires
-    (λ c. let m = c .before .before .before .before .before .before .before .before .before .pre .3 .named in omega arith)
-    parts-requires
-    (λ c. let m = c .before .before .before .before .before .before .before .before .before .before .before .before .before .pre .3 .named in
+    (λ c. let m = c .before .before .before .before .before .before .before .before .before .pre .3 .named in
     omega arith)
-    (λ c. let m = c .before .before .before .before .before .before .before .before .before .before .before .before .before .pre .3 .named in
+    parts-requires
+    (λ c. let m = c .before .before .before .before .before .before .before .before .before .before .before .before
+    .before .pre .3 .named in
+    omega arith)
+    (λ c. let m = c .before .before .before .before .before .before .before .before .before .before .before .before
+    .before .pre .3 .named in
     omega arith)
     put-node-requires-2
     (λ c. put-length (returns c))

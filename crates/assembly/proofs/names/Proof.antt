@@ -50,7 +50,8 @@ unfolding fileAt
 small c =
     let a = c .before .before .before .before .args in
     let F = fileAt (a .n) (a .body .now) in
-    let e = name-is F (c .before .before .loop .j) _ _ (c .before .before .loop .inv .1 .next) (c .before-last .ensures .0) in
+    let e =
+    name-is F (c .before .before .loop .j) _ _ (c .before .before .loop .inv .1 .next) (c .before-last .ensures .0) in
     let h = c .before .before .before .before .pre .1 .nodes in
     omega (arith, ren-inside F (a .n .nodes) (c .before .before .loop .j) (c .before .loop-test .taken))
 

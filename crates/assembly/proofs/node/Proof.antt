@@ -51,7 +51,8 @@ module _ (n : Shape) (b : List ℕ) (j : ℕ) (r : Node) (e : r ≡ nodeAt n b j
       unfolding fileAt
       held-bytes = held-are F j (kind-is 0 k) ∙ rw (a-is, h .is)
 
-      room-held : (at : ℕ) (s : List ℕ) → Room s at (nodesBytes (madeFor F j)) → Room s at (heldBytes F (r .a) first (count F (r .a) (n .slaves)))
+      room-held : (at : ℕ) (s : List ℕ) → Room s at (nodesBytes (madeFor F j))
+          → Room s at (heldBytes F (r .a) first (count F (r .a) (n .slaves)))
       room-held at s m = rw held-bytes at m
 
       holder : Holder F (r .a) first
@@ -67,7 +68,8 @@ module _ (n : Shape) (b : List ℕ) (j : ℕ) (r : Node) (e : r ≡ nodeAt n b j
           record { there = rw a-is c; named = rw a-is (omega arith) }
 
     both-there : r .kind ≡ 1 → (r .a < F .nodes) × (r .b < F .nodes)
-    both-there k = let m = w .sound .ordered .lower₁ j l (kind-is 1 k) in let p = a-is in let q = b-is in (omega arith, omega arith)
+    both-there k = let m = w .sound .ordered .lower₁ j l (kind-is 1 k) in let p = a-is in let q = b-is in
+        (omega arith, omega arith)
 
     both-bytes : r .kind ≡ 1 → (names : List ℕ) → NamesIn F names
         → nodesBytes (madeFor F j) ≡ nodeBytes (composing (getD names (r .a) 0) (getD names (r .b) 0) (r .x))
@@ -75,7 +77,8 @@ module _ (n : Shape) (b : List ℕ) (j : ℕ) (r : Node) (e : r ≡ nodeAt n b j
     both-bytes k names h =
         let t = both-there k in
         comp-are F j (kind-is 1 k)
-        ∙ ap nodeBytes (λ i. composing ((ap (newName F) (sym a-is) ∙ sym (h (r .a) (t .0))) i) ((ap (newName F) (sym b-is) ∙ sym (h (r .b) (t .1))) i)
+        ∙ ap nodeBytes (λ i. composing ((ap (newName F) (sym a-is) ∙ sym (h (r .a) (t .0))) i)
+        ((ap (newName F) (sym b-is) ∙ sym (h (r .b) (t .1))) i)
         (sym (ap (λ (x : Node). x .x) e) i))
 
     module _ (k₀ : r .kind ≡ 0 → ⊥) (k₁ : r .kind ≡ 1 → ⊥) where
@@ -85,11 +88,13 @@ module _ (n : Shape) (b : List ℕ) (j : ℕ) (r : Node) (e : r ≡ nodeAt n b j
       hidden-there : r .a < F .nodes
       hidden-there = let m = w .sound .ordered .lower₂ j l last-kind in let p = a-is in omega arith
 
-      hidden-bytes : (names : List ℕ) → NamesIn F names → nodesBytes (madeFor F j) ≡ nodeBytes (hiding (getD names (r .a) 0) (r .x) (r .y))
+      hidden-bytes : (names : List ℕ) → NamesIn F names
+          → nodesBytes (madeFor F j) ≡ nodeBytes (hiding (getD names (r .a) 0) (r .x) (r .y))
       unfolding fileAt
       hidden-bytes names h =
           hide-are F j last-kind
-          ∙ ap nodeBytes (λ i. hiding ((ap (newName F) (sym a-is) ∙ sym (h (r .a) hidden-there)) i) (sym (ap (λ (x : Node). x .x) e) i)
+          ∙ ap nodeBytes
+          (λ i. hiding ((ap (newName F) (sym a-is) ∙ sym (h (r .a) hidden-there)) i) (sym (ap (λ (x : Node). x .x) e) i)
           (sym (ap (λ (x : Node). x .y) e) i))
 
 holder-requires : tie.Need-holder-requires
@@ -107,7 +112,8 @@ holder-requires c κs =
 
 returns : tie.Need-returns
 returns c = let p = c .before .before .before .before .before .before .before .before .before .before .pre in
-    put-is (sym (held-bytes _ _ _ _ (c .before .before .before .before .before .before .before .node-at .ensures) (p .0) (p .3 .there) _ (p .3)
+    put-is (sym (held-bytes _ _ _ _ (c .before .before .before .before .before .before .before .node-at .ensures) (p .0)
+    (p .3 .there) _ (p .3)
     (c .before .before .before .before .if1 .taken))) (c .before .before .holder .ensures)
 
 element-copy-out-t20 : tie.Need-element-copy-out-t20
@@ -115,45 +121,56 @@ unfolding fileAt
 element-copy-out-t20 c =
     let p = c .before .before .before .before .before .before .before .pre in
     let h = p .0 .sized .nodes in
-    let t = both-there _ _ _ _ (c .before .before .before .before .node-at .ensures) (p .0) (p .3 .there) (c .if2 .taken) in omega arith
+    let t = both-there _ _ _ _ (c .before .before .before .before .node-at .ensures) (p .0) (p .3 .there)
+    (c .if2 .taken) in omega arith
 
 element-copy-out-t23 : tie.Need-element-copy-out-t23
 unfolding fileAt
 element-copy-out-t23 c =
     let p = c .before .before .before .before .before .before .before .before .pre in
     let h = p .0 .sized .nodes in
-    let t = both-there _ _ _ _ (c .before .before .before .before .before .node-at .ensures) (p .0) (p .3 .there) (c .before .if2 .taken) in
+    let t = both-there _ _ _ _ (c .before .before .before .before .before .node-at .ensures) (p .0) (p .3 .there)
+    (c .before .if2 .taken) in
     omega arith
 
 put-node-requires : tie.Need-put-node-requires
 put-node-requires c κs =
     let p = c .before .before .before .before .before .before .before .before .before .before .pre in
     let a = c .before .before .before .before .before .before .before .before .before .before .args in
-    room-all _ _ 20 (both-bytes (a .n) (a .body .now) (a .j) _ (c .before .before .before .before .before .before .before .node-at .ensures) (p .0)
-    (p .3 .there) (c .before .before .before .if2 .taken) (a .names .now) (p .2)) (length-node _) (a .at) (a .out .now) (p .4)
+    room-all _ _ 20 (both-bytes (a .n) (a .body .now) (a .j) _
+    (c .before .before .before .before .before .before .before .node-at .ensures) (p .0)
+    (p .3 .there) (c .before .before .before .if2 .taken) (a .names .now) (p .2)) (length-node _) (a .at)
+    (a .out .now) (p .4)
 
 returns-2 : tie.Need-returns-2
 returns-2 c =
-    let p = c .before .before .before .before .before .before .before .before .before .before .before .before .before .pre in
-    let a = c .before .before .before .before .before .before .before .before .before .before .before .before .before .args in
+    let p =
+    c .before .before .before .before .before .before .before .before .before .before .before .before .before .pre in
+    let a =
+    c .before .before .before .before .before .before .before .before .before .before .before .before .before .args in
     put-is (sym (both-bytes (a .n) (a .body .now) (a .j) _
-    (c .before .before .before .before .before .before .before .before .before .before .node-at .ensures) (p .0) (p .3 .there)
-    (c .before .before .before .before .before .before .if2 .taken) (a .names .now) (p .2))) (c .before .before .put-node .ensures)
+    (c .before .before .before .before .before .before .before .before .before .before .node-at .ensures) (p .0)
+    (p .3 .there)
+    (c .before .before .before .before .before .before .if2 .taken) (a .names .now) (p .2)))
+    (c .before .before .put-node .ensures)
 
 element-copy-out-t28 : tie.Need-element-copy-out-t28
 unfolding fileAt
 element-copy-out-t28 c =
     let p = c .before .before .before .before .before .before .before .pre in
     let h = p .0 .sized .nodes in
-    let t = hidden-there _ _ _ _ (c .before .before .before .before .node-at .ensures) (p .0) (p .3 .there) (c .before .if1 .left) (c .if2 .left) in
+    let t = hidden-there _ _ _ _ (c .before .before .before .before .node-at .ensures) (p .0) (p .3 .there)
+    (c .before .if1 .left) (c .if2 .left) in
     omega arith
 
 put-node-requires-2 : tie.Need-put-node-requires-2
 put-node-requires-2 c κs =
     let p = c .before .before .before .before .before .before .before .before .before .pre in
     let a = c .before .before .before .before .before .before .before .before .before .args in
-    room-all _ _ 20 (hidden-bytes (a .n) (a .body .now) (a .j) _ (c .before .before .before .before .before .before .node-at .ensures) (p .0)
-    (p .3 .there) (c .before .before .before .if1 .left) (c .before .before .if2 .left) (a .names .now) (p .2)) (length-node _) (a .at) (a .out .now)
+    room-all _ _ 20 (hidden-bytes (a .n) (a .body .now) (a .j) _
+    (c .before .before .before .before .before .before .node-at .ensures) (p .0)
+    (p .3 .there) (c .before .before .before .if1 .left) (c .before .before .if2 .left) (a .names .now) (p .2))
+    (length-node _) (a .at) (a .out .now)
     (p .4)
 
 returns-3 : tie.Need-returns-3
@@ -162,7 +179,8 @@ returns-3 c =
     let a = c .before .before .before .before .before .before .before .before .before .before .before .before .args in
     put-is (sym (hidden-bytes (a .n) (a .body .now) (a .j) _
     (c .before .before .before .before .before .before .before .before .before .node-at .ensures) (p .0) (p .3 .there)
-    (c .before .before .before .before .before .before .if1 .left) (c .before .before .before .before .before .if2 .left) (a .names .now) (p .2)))
+    (c .before .before .before .before .before .before .if1 .left)
+    (c .before .before .before .before .before .if2 .left) (a .names .now) (p .2)))
     (c .before .before .put-node2 .ensures)
 
 pub node-spec : {M : Type 1} → statement M

@@ -43,8 +43,13 @@ node-requires c κs =
     let p = c .before .before .before .before .before .pre in
     let a = c .before .before .before .before .before .args in
     let i = c .before .before .loop in
-    let t = c .before .loop-test .taken in
-    (p .0, p .1, p .2, record { there = t; is = i .inv .1; named = p .3 .nodes }, room-turn (written (a .n) (a .body .now)) (p .4) t (i .inv .2))
+    let t = c .before .loop-test .taken in (
+      p .0,
+      p .1,
+      p .2,
+      record { there = t; is = i .inv .1; named = p .3 .nodes },
+      room-turn (written (a .n) (a .body .now)) (p .4) t (i .inv .2),
+    )
 
 -- a name is below the limit
 small : (c : tie.After-first Inv-loop μ-loop)
@@ -79,7 +84,8 @@ nodes-spec =
     μ-loop
     loop-holds
     node-requires
-    (λ c. let h = c .before .before .before .before .before .before .before .before .pre .0 .sized .nodes in omega arith)
+    (λ c. let h = c .before .before .before .before .before .before .before .before .pre .0 .sized .nodes in
+    omega arith)
     (λ c. let s = small c in omega arith)
     (λ c. let s = small c in omega arith)
     (λ c. omega arith)

@@ -62,7 +62,8 @@ own-spec =
     Inv-loop
     μ-loop
     (λ c. (omega arith, put-start _))
-    (λ c. let s = c .before .before .before .before .pre in let h = s .0 .sized .transitions in let l = s .2 in omega arith)
+    (λ c. let s = c .before .before .before .before .pre in let h = s .0 .sized .transitions in let l = s .2 in
+    omega arith)
     (λ c κs. let s = c .before .before .before .before .pre in (s .0 .sized .holds, (let l = s .2 in omega arith)))
     (λ c κs. (c .before .before .before .before .before .pre .0, c .before .before .before .before .before .pre .1))
     (λ c κs. search needs)

@@ -43,7 +43,8 @@ module _ (n : Shape) (b : List ℕ) (c x first i : ℕ) (r : Slave) (e : r ≡ s
   abbrev F : File
   F = fileAt n b
 
-  part-own : r .chart ≡ c → partBytes F c first x i ≡ nodeBytes (composing (first + count F c i) (newName F (F .node i)) x)
+  part-own : r .chart ≡ c
+      → partBytes F c first x i ≡ nodeBytes (composing (first + count F c i) (newName F (F .node i)) x)
   unfolding partBytes
   part-own h = rw (is-of n b c i e h)
 
@@ -61,7 +62,8 @@ module _ (n : Shape) (b : List ℕ) (c x first i : ℕ) (r : Slave) (e : r ≡ s
     name names h = h (r .node) there ∙ ap (λ (s : Slave). newName (fileAt n b) (s .node)) e
 
   module _ (at : ℕ) (l m : List ℕ) (p made : ℕ) (h : Parted F c x first at i l m p made) where
-    parted-own : r .chart ≡ c → (d : Node) (o : List ℕ) (q : ℕ) → d ≡ composing (first + count F c i) (newName F (F .node i)) x
+    parted-own : r .chart ≡ c → (d : Node) (o : List ℕ) (q : ℕ)
+        → d ≡ composing (first + count F c i) (newName F (F .node i)) x
         → Put m p (nodeBytes d) o q
         → Parted F c x first at (i + 1) l o q (made + 1)
     parted-own g d o q z u =
@@ -85,7 +87,8 @@ module _ (n : Shape) (b : List ℕ) (c x first i : ℕ) (r : Slave) (e : r ≡ s
         }
 
 abbrev Inv-loop : tie.InvT-loop
-Inv-loop n body names c x first out₀ at slaves p₀ made₀ i₀ out p made i = (i ≤ slaves) × Parted (fileAt n body) c x first at i out₀ out p made
+Inv-loop n body names c x first out₀ at slaves p₀ made₀ i₀ out p made i =
+    (i ≤ slaves) × Parted (fileAt n body) c x first at i out₀ out p made
 
 abbrev μ-loop : tie.MeasureT-loop
 μ-loop n body names c x first out₀ at slaves p₀ made₀ i₀ out p made i = slaves - i
@@ -102,13 +105,16 @@ loop-holds c =
     )
 
 room : (c : tie.Then1 Inv-loop μ-loop)
-    → c .before .before .before .before .before .loop .p + 20 ≤ length (c .before .before .before .before .before .loop .out)
+    → c .before .before .before .before .before .loop .p + 20
+    ≤ length (c .before .before .before .before .before .loop .out)
 room c =
     let a = c .before .before .before .before .before .before .before .before .args in
-    let e = part-own (a .n) (a .body .now) (a .c) (a .x) (a .first) (c .before .before .before .before .before .loop .i) _
+    let e =
+    part-own (a .n) (a .body .now) (a .c) (a .x) (a .first) (c .before .before .before .before .before .loop .i) _
     (c .before .before .before .slave-at .ensures) (c .if1 .taken) in
     room-record (partBytes (fileAt (a .n) (a .body .now)) (a .c) (a .first) (a .x)) 20 (ap length e ∙ length-node _)
-    (c .before .before .before .before .before .before .before .before .pre .3) (c .before .before .before .before .loop-test .taken)
+    (c .before .before .before .before .before .before .before .before .pre .3)
+    (c .before .before .before .before .loop-test .taken)
     (c .before .before .before .before .before .loop .inv .1 .puts)
 
 loop-again : tie.Need-loop-again Inv-loop μ-loop
@@ -121,7 +127,8 @@ loop-again c =
       ⊎-elim
           (λ w.
           moved _ _ _ _ _ _ _ _ _ _ _ _ _ (w .6) (w .7) (w .8)
-          (parted-own (a .n) (a .body .now) (a .c) (a .x) (a .first) (i .i) _ e (a .at) _ _ _ _ (i .inv .1) (w .0 .taken) _ _ _
+          (parted-own (a .n) (a .body .now) (a .c) (a .x) (a .first) (i .i) _ e (a .at) _ _ _ _ (i .inv .1)
+          (w .0 .taken) _ _ _
           (λ j. record {
             kind = 1;
             a = i .inv .1 .last j;
@@ -132,7 +139,8 @@ loop-again c =
             y = 0;
           })
           (w .3 .ensures)))
-          (λ w. moved _ _ _ _ _ _ _ _ _ _ _ _ _ (w .1) (w .2) (w .3) (parted-other _ _ _ _ _ _ _ e _ _ _ _ _ (i .inv .1) (w .0 .left)))
+          (λ w. moved _ _ _ _ _ _ _ _ _ _ _ _ _ (w .1) (w .2) (w .3)
+          (parted-other _ _ _ _ _ _ _ e _ _ _ _ _ (i .inv .1) (w .0 .left)))
           (c .if1 .came),
     )
 
@@ -153,13 +161,18 @@ parts-spec =
     omega (
       arith,
       there _ _ 0 0 0 _ _ (c .before .before .before .slave-at .ensures)
-          (c .before .before .before .before .before .before .before .before .pre .0) (c .before .before .before .before .loop-test .taken),
+          (c .before .before .before .before .before .before .before .before .pre .0)
+          (c .before .before .before .before .loop-test .taken),
     ))
     (λ c κs. room (c .before .before))
-    (λ c. let i = c .before .before .before .before .before .before .before .before .before .before .loop in let e = i .inv .1 .last in
+    (λ c. let i = c .before .before .before .before .before .before .before .before .before .before .loop in
+    let e = i .inv .1 .last in
     let m = i .inv .1 .most in
-    let h = c .before .before .before .before .before .before .before .before .before .before .before .before .before .pre .0 .sized .slaves in
-    let g = c .before .before .before .before .before .before .before .before .before .before .before .before .before .pre .2 in omega arith)
+    let h = c .before .before .before .before .before .before .before .before .before .before .before .before .before
+    .pre .0 .sized .slaves in
+    let g =
+    c .before .before .before .before .before .before .before .before .before .before .before .before .before .pre .2 in
+    omega arith)
     (λ c. omega arith)
     (λ c. omega arith)
     loop-again

@@ -68,7 +68,8 @@ transitions-spec =
     chart-requires
     (λ c. search needs)
     (λ c.
-    let h = c .before .before .before .before .before .before .before .before .before .before .before .pre .0 .sized .transitions in
+    let h = c .before .before .before .before .before .before .before .before .before .before .before .pre .0 .sized
+    .transitions in
     let r = in-all _ _ _ _ (c .before .before .before .before .before .before .head-at .ensures)
     (c .before .before .before .before .before .before .before .before .loop .inv .1)
     (c .before .before .before .before .before .before .before .before .before .before .before .pre .0 .summed)

@@ -50,7 +50,8 @@ returns-3 : tie.Need-returns-3
 returns-3 c =
     let m = c .before .slaves-of .ensures .1 in
     let h = c .before .before .before .before .before .before .before .pre .0 .sized .slaves in (
-      some _ _ _ _ (c .before .before .before .before .before .node-at .ensures) (c .before .before .before .if1 .left) _
+      some _ _ _ _ (c .before .before .before .before .before .node-at .ensures)
+          (c .before .before .before .if1 .left) _
           (c .before .slaves-of .ensures .0) (c .if2 .left),
       omega arith,
     )
@@ -63,7 +64,8 @@ before-last-spec =
     returns
     (λ c. search needs)
     (λ c κs. c .before .before .before .before .before .pre .0)
-    (λ c. let m = c .before .slaves-of .ensures .1 in let h = c .before .before .before .before .before .before .before .pre .0 .sized .slaves in
+    (λ c. let m = c .before .slaves-of .ensures .1 in
+    let h = c .before .before .before .before .before .before .before .pre .0 .sized .slaves in
     omega arith)
     returns-2
     returns-3)

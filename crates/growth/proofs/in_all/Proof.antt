@@ -25,18 +25,24 @@ loop-holds c = (omega arith, omega arith, sym (tally-none _))
 -- what was counted is the chart's number
 is : (c : tie.After-in-chart Inv-loop μ-loop)
     → c .in-chart .result ≡ length (rewrittenChart
-    (fileAt (c .before .before .before .before .before .before .args .n) (c .before .before .before .before .before .before .args .body .now))
+    (fileAt (c .before .before .before .before .before .before .args .n)
+    (c .before .before .before .before .before .before .args .body .now))
     (c .before .before .before .before .loop .c) .transitions)
 unfolding fileAt
 is c = c .in-chart .ensures .0
-    ∙ sym (length-rewritten _ _ _ (c .before .before .head-at .ensures) (c .before .before .before .before .before .before .pre .1 _ (omega arith)))
+    ∙ sym (length-rewritten _ _ _ (c .before .before .head-at .ensures)
+    (c .before .before .before .before .before .before .pre .1 _ (omega arith)))
 
 loop-again : tie.Need-loop-again Inv-loop μ-loop
 loop-again c =
     let i = c .before .before .before .before .loop in
     let a = c .before .before .before .before .before .before .args in
-    let m = c .in-chart .ensures .1 in
-    (omega arith, omega arith, omega (arith, is c, tally-more (i .c) (λ d. length (rewrittenChart (fileAt (a .n) (a .body .now)) d .transitions))))
+    let m = c .in-chart .ensures .1 in (
+      omega arith,
+      omega arith,
+      omega
+          (arith, is c, tally-more (i .c) (λ d. length (rewrittenChart (fileAt (a .n) (a .body .now)) d .transitions))),
+    )
 
 returns : tie.Need-returns Inv-loop μ-loop
 unfolding transitionsIn fileAt
@@ -53,7 +59,8 @@ in-all-spec =
     (λ c. search needs)
     (λ c. let h = c .before .before .before .before .pre .0 .sized .charts in omega arith)
     (λ c κs. search needs)
-    (λ c. let h = c .before .before .before .before .before .before .pre .0 .sized .charts in let m = c .in-chart .ensures .1 in omega arith)
+    (λ c. let h = c .before .before .before .before .before .before .pre .0 .sized .charts in
+    let m = c .in-chart .ensures .1 in omega arith)
     (λ c. omega arith)
     (λ c. omega arith)
     loop-again

@@ -22,5 +22,9 @@ in-chart-spec =
     (λ c. search needs)
     (λ c. search needs)
     (λ c κs. search needs)
-    (λ c. omega (arith, c .idle-count .ensures, count-most (c .before .before .before .args .inner) (c .before .before .before .args .h .states)))
+    (λ c. omega (
+      arith,
+      c .idle-count .ensures,
+      count-most (c .before .before .before .args .inner) (c .before .before .before .args .h .states),
+    ))
     returns)

@@ -38,7 +38,8 @@ nodes-spec =
     loop-holds
     (λ c κs. (c .before .before .before .before .pre, omega arith))
     (λ c. let m = c .before-last .ensures .1 in omega arith)
-    (λ c. let m = c .before-last .ensures .1 in let h = c .before .before .before .before .before .pre .sized .nodes in omega arith)
+    (λ c. let m = c .before-last .ensures .1 in let h = c .before .before .before .before .before .pre .sized .nodes in
+    omega arith)
     (λ c. omega arith)
     (λ c. omega arith)
     loop-again

@@ -24,20 +24,23 @@ use Rattle.growth.proofs.over_from.Tie as tie
 
 -- chart c has a state with over m out
 abbrev over : Shape → List ℕ → ℕ → ℕ → Bool
-over n b m c = anyUpTo (rewrittenChart (fileAt n b) c .states) (λ s. ltb m (leavingIn (rewrittenChart (fileAt n b) c .transitions) s))
+over n b m c = anyUpTo (rewrittenChart (fileAt n b) c .states)
+    (λ s. ltb m (leavingIn (rewrittenChart (fileAt n b) c .transitions) s))
 
 over-is : (n : Shape) (b : List ℕ) (m c s : ℕ) (h : Head) (κ idle : ℕ) → h ≡ headAt n b c → s ≡ startOf n b c
     → κ ≡ callIn (call (fileAt n b)) (nearestSlave (fileAt n b) c) → idle ≡ idleCount κ 1
     → anyUpTo (h .states) (λ x. ltb m (leavingIn (from (transitionAt n b) s (h .transitions)) x + idle)) ≡ over n b m c
 unfolding rewrittenChart chartWith fileAt chartOf
 over-is n b m c s h κ idle eh es ek ei =
-    ap (λ (k : ℕ). anyUpTo k (λ x. ltb m (leavingIn (from (transitionAt n b) s (h .transitions)) x + idle))) (ap (λ (h : Head). h .states) eh)
+    ap (λ (k : ℕ). anyUpTo k (λ x. ltb m (leavingIn (from (transitionAt n b) s (h .transitions)) x + idle)))
+    (ap (λ (h : Head). h .states) eh)
     ∙ any-cong (headAt n b c .states) _ _
     (λ x l. ap (ltb m) (ap₂ (λ (ts : List Transition) (i : ℕ). leavingIn ts x + i) (sym (own-are n b c s eh es)) ei
     ∙ sym (leaving-is (fileAt n b) c κ ek x l)))
 
 abbrev Inv-loop : tie.InvT-loop
-Inv-loop n body inner most charts start₀ c₀ start c = (c ≤ charts) × (start ≡ startOf n body c) × (anyUpTo c (over n body most) ≡ false)
+Inv-loop n body inner most charts start₀ c₀ start c =
+    (c ≤ charts) × (start ≡ startOf n body c) × (anyUpTo c (over n body most) ≡ false)
 
 abbrev μ-loop : tie.MeasureT-loop
 μ-loop n body inner most charts start₀ c₀ start c = charts - c
@@ -46,21 +49,26 @@ loop-holds : tie.Need-loop-holds Inv-loop μ-loop
 loop-holds c = (omega arith, sym (startOf-none _ _), any-none _)
 
 room : (c : tie.After-head-at Inv-loop μ-loop)
-    → c .before .before .loop .start + c .head-at .result .transitions ≤ c .before .before .before .before .args .n .transitions
-room c = in-all _ _ _ _ (c .head-at .ensures) (c .before .before .loop .inv .1) (c .before .before .before .before .pre .0 .summed)
+    → c .before .before .loop .start + c .head-at .result .transitions
+    ≤ c .before .before .before .before .args .n .transitions
+room c = in-all _ _ _ _ (c .head-at .ensures) (c .before .before .loop .inv .1)
+    (c .before .before .before .before .pre .0 .summed)
     (c .before .loop-test .taken)
 
 -- what was asked of the chart
 asked : (c : tie.After-over-from-states Inv-loop μ-loop)
     → c .over-from-states .result ≡ over (c .before .before .before .before .before .before .before .args .n)
     (c .before .before .before .before .before .before .before .args .body .now)
-    (c .before .before .before .before .before .before .before .args .most) (c .before .before .before .before .before .loop .c)
+    (c .before .before .before .before .before .before .before .args .most)
+    (c .before .before .before .before .before .loop .c)
 unfolding fileAt
 asked c =
     c .over-from-states .ensures
-    ∙ over-is _ _ _ (c .before .before .before .before .before .loop .c) _ _ _ _ (c .before .before .before .head-at .ensures)
+    ∙ over-is _ _ _ (c .before .before .before .before .before .loop .c) _ _ _ _
+    (c .before .before .before .head-at .ensures)
     (c .before .before .before .before .before .loop .inv .1)
-    (c .before .before .before .before .before .before .before .pre .1 _ (c .before .before .before .before .loop-test .taken))
+    (c .before .before .before .before .before .before .before .pre .1 _
+    (c .before .before .before .before .loop-test .taken))
     (c .before .idle-count .ensures)
 
 returns : tie.Need-returns Inv-loop μ-loop
@@ -97,7 +105,8 @@ over-from-spec =
     returns
     (λ c. search needs)
     (λ c. let r = room (c .before .before .before .before .before) in
-    let h = c .before .before .before .before .before .before .before .before .before .pre .0 .sized .transitions in omega arith)
+    let h = c .before .before .before .before .before .before .before .before .before .pre .0 .sized .transitions in
+    omega arith)
     (λ c. omega arith)
     (λ c. omega arith)
     loop-again

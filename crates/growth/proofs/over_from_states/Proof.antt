@@ -30,7 +30,8 @@ returns c = sym (any-at _ _ (c .before .before .before .loop .s) (c .before .bef
 loop-again : tie.Need-loop-again Inv-loop μ-loop
 loop-again c = (
   omega arith,
-  any-more _ _ (c .before .before .before .loop .inv .1) (le-ltb _ _ (rw (c .before .leaving .ensures .0) at (c .if1 .left))),
+  any-more _ _ (c .before .before .before .loop .inv .1)
+      (le-ltb _ _ (rw (c .before .leaving .ensures .0) at (c .if1 .left))),
 )
 
 returns-2 : tie.Need-returns-2 Inv-loop μ-loop

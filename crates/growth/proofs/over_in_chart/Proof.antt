@@ -16,7 +16,8 @@ use Rattle.growth.proofs.over_in_chart.Statement.{statement}
 use Rattle.growth.proofs.over_in_chart.Tie as tie
 
 abbrev Inv-loop : tie.InvT-loop
-Inv-loop n body inner most charts c₀ c = (c ≤ charts) × (anyUpTo c (λ c. ltb most (length (rewrittenChart (fileAt n body) c .transitions))) ≡ false)
+Inv-loop n body inner most charts c₀ c =
+    (c ≤ charts) × (anyUpTo c (λ c. ltb most (length (rewrittenChart (fileAt n body) c .transitions))) ≡ false)
 
 abbrev μ-loop : tie.MeasureT-loop
 μ-loop n body inner most charts c₀ c = charts - c
@@ -27,19 +28,23 @@ loop-holds c = (omega arith, any-none _)
 -- what was counted is the chart's number
 is : (c : tie.After-in-chart Inv-loop μ-loop)
     → c .in-chart .result ≡ length (rewrittenChart
-    (fileAt (c .before .before .before .before .before .before .args .n) (c .before .before .before .before .before .before .args .body .now))
+    (fileAt (c .before .before .before .before .before .before .args .n)
+    (c .before .before .before .before .before .before .args .body .now))
     (c .before .before .before .before .loop .c) .transitions)
 unfolding fileAt
 is c = c .in-chart .ensures .0
-    ∙ sym (length-rewritten _ _ _ (c .before .before .head-at .ensures) (c .before .before .before .before .before .before .pre .1 _ (omega arith)))
+    ∙ sym (length-rewritten _ _ _ (c .before .before .head-at .ensures)
+    (c .before .before .before .before .before .before .pre .1 _ (omega arith)))
 
 returns : tie.Need-returns Inv-loop μ-loop
-returns c = sym (any-at _ _ (c .before .before .before .before .before .loop .c) (omega arith) (lt-ltb _ _ (rw (is (c .before)) at (c .if1 .taken))))
+returns c = sym (any-at _ _ (c .before .before .before .before .before .loop .c) (omega arith)
+    (lt-ltb _ _ (rw (is (c .before)) at (c .if1 .taken))))
 
 loop-again : tie.Need-loop-again Inv-loop μ-loop
 loop-again c = (
   omega arith,
-  any-more _ _ (c .before .before .before .before .before .loop .inv .1) (le-ltb _ _ (rw (is (c .before)) at (c .if1 .left))),
+  any-more _ _ (c .before .before .before .before .before .loop .inv .1)
+      (le-ltb _ _ (rw (is (c .before)) at (c .if1 .left))),
 )
 
 returns-2 : tie.Need-returns-2 Inv-loop μ-loop

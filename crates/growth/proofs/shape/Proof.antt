@@ -12,7 +12,8 @@ returns : tie.Need-returns
 unfolding shapeIn fileAt
 returns c =
     let charts = c .before .before .before .args .n .charts in
-    ap₂ (λ (t j : ℕ). let s : Shape = record { charts = charts; transitions = t; slaves = 0; nodes = j; edition = 1 } in s) (c .before .in-all .ensures)
+    ap₂ (λ (t j : ℕ). let s : Shape = record { charts = charts; transitions = t; slaves = 0; nodes = j; edition = 1 } in
+    s) (c .before .in-all .ensures)
     (c .nodes .ensures)
 
 pub shape-spec : {M : Type 1} → statement M

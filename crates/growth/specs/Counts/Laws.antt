@@ -59,14 +59,16 @@ module _ (sig : ℕ → ℕ) where
   idles-before : (i b n s : ℕ) → s < b → leavingIn (idles sig (some i) b n) s ≡ 0
   unfolding idles leavingIn idle
   idles-before i b zero s h = refl
-  idles-before i b (suc n) s h = ap₂ _+_ (ap one (same-≢ b s (λ e. omega arith))) (idles-before i (suc b) n s (omega arith))
+  idles-before i b (suc n) s h =
+      ap₂ _+_ (ap one (same-≢ b s (λ e. omega arith))) (idles-before i (suc b) n s (omega arith))
 
   idles-once : (i b n s : ℕ) → b ≤ s → s < b + n → leavingIn (idles sig (some i) b n) s ≡ 1
   unfolding idles leavingIn idle
   idles-once i b zero s h l = absurd (omega arith)
   idles-once i b (suc n) s h l =
       ⊎-elim
-      (λ e. ap₂ _+_ (ap one (ap (λ (k : ℕ). same b k) (sym e) ∙ same-refl b)) (idles-before i (suc b) n s (omega arith)))
+      (λ e. ap₂ _+_ (ap one (ap (λ (k : ℕ). same b k) (sym e) ∙ same-refl b))
+      (idles-before i (suc b) n s (omega arith)))
       (λ e. ap₂ _+_ (ap one (same-≢ b s e)) (idles-once i (suc b) n s (omega arith) (omega arith)))
       (eq-or-not b s)
 
@@ -81,10 +83,12 @@ module _ (sig : ℕ → ℕ) where
   leaving-with : (κ : Option ℕ) (T : Transition → Set) (C : Chart) (s : ℕ) → s < C .states
       → leavingIn (chartWith sig κ T C .transitions) s ≡ leavingIn (C .transitions) s + idleCount (callIn sig κ) 1
   unfolding chartWith idles leavingIn
-  leaving-with none T C s l = leaving-own none T (C .transitions) [] s ∙ ap (λ (k : ℕ). leavingIn (C .transitions) s + k) (sym (count-none 1))
+  leaving-with none T C s l =
+      leaving-own none T (C .transitions) [] s ∙ ap (λ (k : ℕ). leavingIn (C .transitions) s + k) (sym (count-none 1))
   leaving-with (some i) T C s l =
       leaving-own (some i) T (C .transitions) (idles sig (some i) 0 (C .states)) s
-      ∙ ap (λ (k : ℕ). leavingIn (C .transitions) s + k) (idles-once i 0 (C .states) s (omega arith) (omega arith) ∙ sym (count-some i 1))
+      ∙ ap (λ (k : ℕ). leavingIn (C .transitions) s + k)
+      (idles-once i 0 (C .states) s (omega arith) (omega arith) ∙ sym (count-some i 1))
 
   length-with : (κ : Option ℕ) (T : Transition → Set) (C : Chart)
       → length (chartWith sig κ T C .transitions) ≡ length (C .transitions) + idleCount (callIn sig κ) (C .states)
@@ -99,7 +103,8 @@ module _ (F : File) (c : ℕ) (κ : Set) (is : κ ≡ callIn (call F) (nearestSl
   leaving-is s l = leaving-with (call F) (nearestSlave F c) (callsBy F c) (F .chart c) s l
       ∙ ap (λ (k : Set). leavingIn (F .chart c .transitions) s + idleCount k 1) (sym is)
 
-  length-is : length (rewrittenChart F c .transitions) ≡ length (F .chart c .transitions) + idleCount κ (F .chart c .states)
+  length-is : length (rewrittenChart F c .transitions)
+      ≡ length (F .chart c .transitions) + idleCount κ (F .chart c .states)
   unfolding rewrittenChart
   length-is = length-with (call F) (nearestSlave F c) (callsBy F c) (F .chart c)
       ∙ ap (λ (k : Set). length (F .chart c .transitions) + idleCount k (F .chart c .states)) (sym is)

@@ -1,5 +1,5 @@
--- Laws of the rewriting behind 1 to 11, in this order: a file that is refused, one whose charts may stay, and one that passed; a refusal of 40 to 45; what 41 to 44 give; the
--- result's size; what the call answers.
+-- Laws of the rewriting behind 1 to 11, in this order: a file that is refused, one whose charts may stay, and one that
+-- passed; a refusal of 40 to 45; what 41 to 44 give; the result's size; what the call answers.
 use mathlib.Core.Path.{_≡_, refl, sym, ap, _∙_}
 use mathlib.Core.Bool.{true, false}
 use mathlib.Core.List.{List, [], _∷_, _++_, append-assoc}
@@ -19,9 +19,11 @@ use Rattle.meaning.specs.Meaning.{same}
 use Rattle.meaning.specs.Laws.Bools.{same-refl, same-≢}
 use Rattle.meaning.specs.File.{File, trailer, fileOf}
 use Rattle.meaning.specs.Check.{Test, firstOf, fileTests, refusalOf}
-use Rattle.meaning.specs.Check.Laws.{firstOf-here, firstOf-next, firstOf-[], firstOf-++, firstOf-before, Passes, firstOf-passes, call-refused, call-passed}
+use Rattle.meaning.specs.Check.Laws.{firstOf-here, firstOf-next, firstOf-[], firstOf-++, firstOf-before, Passes}
+use Rattle.meaning.specs.Check.Laws.{firstOf-passes, call-refused, call-passed}
 use Rattle.meaning.specs.Calls.{laidOver}
-use Rattle.meaning.specs.Rewriting.{free, start, rewrite, noFree?, transitionsIn, rewriteTests, shapeIn, bodyBytes, encode, rewriteBytes, stayTest, rewriteRefusal, rewriteLength, rewriteOut}
+use Rattle.meaning.specs.Rewriting.{free, start, rewrite, noFree?, transitionsIn, rewriteTests, shapeIn, bodyBytes}
+use Rattle.meaning.specs.Rewriting.{encode, rewriteBytes, stayTest, rewriteRefusal, rewriteLength, rewriteOut}
 use Rattle.meaning.specs.Rewriting.Laws.{list-most}
 use Rattle.agreement.specs.Encoded.{length-body}
 use Rattle.assembly.specs.Known.{Fits}
@@ -32,7 +34,10 @@ use Rattle.transforms.specs.Rewriting.{limitTests, rewriteAfter, lengthA
 
 module _ (f : List ℕ) where
   behind : (room : ℕ) → rewriteRefusal f room ≡ firstOf
-      (fileTests f ++ (stayTest f ∷ rewriteTests (fileOf f) ++ (record { number = shortOut; applies = ltb room (length (rewriteBytes f)) } ∷ [])))
+      (fileTests f ++ (stayTest f ∷ rewriteTests (fileOf f) ++ (record {
+        number = shortOut;
+        applies = ltb room (length (rewriteBytes f));
+      } ∷ [])))
   unfolding rewriteRefusal
   behind room = ap firstOf (append-assoc (fileTests f) (stayTest f ∷ rewriteTests (fileOf f)) _)
 
@@ -41,12 +46,14 @@ module _ (f : List ℕ) where
 
   -- 46
   pub stay-refused : refusalOf f ≡ 0 → trailer f .edition ≡ stayEdition → (room : ℕ) → rewriteRefusal f room ≡ mayStay
-  stay-refused h two room = behind room ∙ call-passed f _ h ∙ firstOf-here (stayTest f) _ (rw two (same-refl stayEdition))
+  stay-refused h two room =
+      behind room ∙ call-passed f _ h ∙ firstOf-here (stayTest f) _ (rw two (same-refl stayEdition))
 
   module _ (h : refusalOf f ≡ 0) (one : trailer f .edition ≢ stayEdition) where
     pub refusal-is : (room : ℕ) → rewriteRefusal f room ≡ rewriteAfter (fileOf f) room
     unfolding rewriteAfter rewriteBytes
-    refusal-is room = behind room ∙ call-passed f _ h ∙ firstOf-next (stayTest f) _ (same-≢ (trailer f .edition) stayEdition one)
+    refusal-is room =
+        behind room ∙ call-passed f _ h ∙ firstOf-next (stayTest f) _ (same-≢ (trailer f .edition) stayEdition one)
 
     pub length-is : (room : ℕ) → rewriteLength f room ≡ lengthAfter (fileOf f) room
     unfolding rewriteLength lengthAfter rewriteBytes
@@ -124,7 +131,8 @@ abbrev answerAfter : File → ℕ → Rewritten
 answerAfter F room = record { refusal = rewriteAfter F room; length = lengthAfter F room }
 
 module _ (F : File) (buffer : List ℕ) where
-  pub refuses : (r : ℕ) (s : Rewritten) → rewriteAfter F (length buffer) ≡ r → (r ≡ 0 → ⊥) → s ≡ record { refusal = r; length = 0 }
+  pub refuses : (r : ℕ) (s : Rewritten) → rewriteAfter F (length buffer) ≡ r → (r ≡ 0 → ⊥)
+      → s ≡ record { refusal = r; length = 0 }
       → (s ≡ answerAfter F (length buffer)) × (buffer ≡ outAfter F buffer)
   unfolding lengthAfter outAfter same
   refuses r s e h q = rw (e, ne-eqb r 0 h) (q, refl)

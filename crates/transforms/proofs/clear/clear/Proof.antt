@@ -23,7 +23,8 @@ module _ (f : List ℕ) (n : Shape) (en : n ≡ shapeOf (trailer f)) where
   unfolding shapeOf
   edition-is = sym (ap (λ (s : Shape). s .edition) en)
 
-  by-body : refusalOf f ≡ 0 → n .edition ≢ stayEdition → (b : List ℕ) → b ≡ bodyOf f → (out after : List ℕ) (r : Cleared)
+  by-body : refusalOf f ≡ 0 → n .edition ≢ stayEdition → (b : List ℕ) → b ≡ bodyOf f
+      → (out after : List ℕ) (r : Cleared)
       → ClearsBody (fileAt n b) out r after → ClearSays f out r after
   unfolding fileOf
   by-body h one b eb out after r q =
@@ -58,7 +59,8 @@ returns-3 c =
     let d = b .before .before .before in
     let e = d .before .before .before in
     let w = stands e in
-    by-body _ _ (w .shape) (accepted e) (d .if2 .left) _ (w .body) (e .before .before .before .before .args .out .now) _ _
+    by-body _ _ (w .shape) (accepted e) (d .if2 .left) _ (w .body)
+    (e .before .before .before .before .args .out .now) _ _
     (b .of-body .ensures)
 
 pub clear-spec : {M : Type 1} → statement M

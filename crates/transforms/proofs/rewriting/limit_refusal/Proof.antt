@@ -38,16 +38,20 @@ returns-2 c = sym (firstOf-next _ _ (sym (c .before .before .before .over-from .
 returns-3 : tie.Need-returns-3
 unfolding limitTests fromState? inChart? fileAt
 returns-3 c =
-    sym (firstOf-next _ _ (sym (c .before .before .before .before .before .over-from .ensures) ∙ c .before .before .before .before .if1 .left)
+    sym (firstOf-next _ _
+    (sym (c .before .before .before .before .before .over-from .ensures) ∙ c .before .before .before .before .if1 .left)
     ∙ firstOf-next _ _ (sym (c .before .before .before .over-in-chart .ensures) ∙ c .before .before .if2 .left)
-    ∙ firstOf-here _ _ (nodes-over _ _ (c .before .before .before .before .before .before .before .pre .2) (c .if3 .taken)))
+    ∙ firstOf-here _ _
+    (nodes-over _ _ (c .before .before .before .before .before .before .before .pre .2) (c .if3 .taken)))
 
 returns-4 : tie.Need-returns-4
 unfolding limitTests fromState? inChart? fileAt
 returns-4 c =
-    sym (firstOf-next _ _ (sym (c .before .before .before .before .before .over-from .ensures) ∙ c .before .before .before .before .if1 .left)
+    sym (firstOf-next _ _
+    (sym (c .before .before .before .before .before .over-from .ensures) ∙ c .before .before .before .before .if1 .left)
     ∙ firstOf-next _ _ (sym (c .before .before .before .over-in-chart .ensures) ∙ c .before .before .if2 .left)
-    ∙ firstOf-next _ _ (nodes-fit _ _ (c .before .before .before .before .before .before .before .pre .2) (c .if3 .left))
+    ∙ firstOf-next _ _
+    (nodes-fit _ _ (c .before .before .before .before .before .before .before .pre .2) (c .if3 .left))
     ∙ firstOf-[])
 
 pub limit-refusal-spec : {M : Type 1} → statement M

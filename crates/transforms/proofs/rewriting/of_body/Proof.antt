@@ -1,4 +1,5 @@
--- `rewriting::of_body` meets its contract: 40 to 45 in order, then the rewritten file over the front of the buffer. Assumes nothing.
+-- `rewriting::of_body` meets its contract: 40 to 45 in order, then the rewritten file over the front of the buffer.
+-- Assumes nothing.
 use mathlib.Core.Path.{_≡_, refl, sym, ap, _∙_}
 use mathlib.Core.Bool.{true, false, not}
 use Prim.Native.Nat.{ℕ, _+_}
@@ -16,7 +17,8 @@ use Rattle.allocation.specs.declared.Calls.{Calls}
 use Rattle.assembly.specs.Known.{Fits}
 use Rattle.assembly.specs.Records.Laws.{shape-small}
 use Rattle.transforms.specs.Rewriting.{limitTests}
-use Rattle.transforms.specs.Rewriting.Laws.{after-calls, after-limits, after-room, after-all, fits, size-is, refuses, gives}
+use Rattle.transforms.specs.Rewriting.Laws.{after-calls, after-limits, after-room, after-all, fits, size-is}
+use Rattle.transforms.specs.Rewriting.Laws.{refuses, gives}
 use Rattle.transforms.proofs.rewriting.of_body.Statement.{statement}
 use Rattle.transforms.proofs.rewriting.of_body.Tie as tie
 
@@ -43,24 +45,29 @@ returns c =
     let a = c .before .before .before .before .before .before .before .args in
     refuses (fileAt (a .n) (a .body .now)) (a .out .now) 40 _
     (after-calls (fileAt (a .n) (a .body .now)) _
-    (too-few (fileAt (a .n) (a .body .now)) _ _ (c .before .before .before .before .used .ensures) (c .before .before .before .given .ensures)
+    (too-few (fileAt (a .n) (a .body .now)) _ _ (c .before .before .before .before .used .ensures)
+    (c .before .before .before .given .ensures)
     (not-true _ (c .before .if1 .taken)))) (λ z. omega (arith, z)) (c .refused .ensures)
 
 -- the file that was read
 abbrev at : tie.Else1 → File
-at c = fileAt (c .before .before .before .before .before .before .args .n) (c .before .before .before .before .before .before .args .body .now)
+at c = fileAt (c .before .before .before .before .before .before .args .n)
+    (c .before .before .before .before .before .before .args .body .now)
 
 -- 40 does not apply, and slaves have their calls
 free-left : (c : tie.Else1) → ltb (length (free (at c))) (at c .slaves) ≡ false
 unfolding fileAt
-free-left c = enough (at c) _ _ (c .before .before .before .used .ensures) (c .before .before .given .ensures) (not-false _ (c .if1 .left))
+free-left c = enough (at c) _ _ (c .before .before .before .used .ensures) (c .before .before .given .ensures)
+    (not-false _ (c .if1 .left))
 
 have-calls : (c : tie.Else1) → CallsIn (at c) (c .before .before .given .result .sets)
 unfolding fileAt
-have-calls c = calls-in (at c) _ _ (c .before .before .before .used .ensures) (c .before .before .given .ensures) (not-false _ (c .if1 .left))
+have-calls c = calls-in (at c) _ _ (c .before .before .before .used .ensures) (c .before .before .given .ensures)
+    (not-false _ (c .if1 .left))
 
 -- 41 to 44 do not apply
-in-limits : (c : tie.Else2) → firstOf (limitTests (at (c .before .before .before .before .before .before .before .before))) ≡ 0
+in-limits : (c : tie.Else2)
+    → firstOf (limitTests (at (c .before .before .before .before .before .before .before .before))) ≡ 0
 in-limits c = sym (c .before .limit-refusal .ensures) ∙ c .if2 .left
 
 fitting : (c : tie.Else2) → Fits (at (c .before .before .before .before .before .before .before .before))
@@ -85,19 +92,26 @@ returns-2 : tie.Need-returns-2
 returns-2 c =
     let e = c .before .before .before .before .before .before .before .before .before in
     let r = c .before .before .limit-refusal .ensures in
-    refuses (at e) (c .before .before .before .before .before .before .before .before .before .before .before .before .before .before .before .args .out .now) _ _ (after-limits (at e) _ (free-left e) (λ z. c .before .if2 .taken (r ∙ z)) ∙ sym r) (c .before .if2 .taken) (c .refused2 .ensures)
+    refuses (at e) (c .before .before .before .before .before .before .before .before .before .before .before .before
+    .before .before .before .args .out .now) _ _
+    (after-limits (at e) _ (free-left e) (λ z. c .before .if2 .taken (r ∙ z)) ∙ sym r) (c .before .if2 .taken)
+    (c .refused2 .ensures)
 
 -- the result's counts and its size
 counts : (c : tie.Else2) → Small (c .before .before .before .shape .result)
 unfolding fileAt
 counts c = shape-small (at (c .before .before .before .before .before .before .before .before)) (fitting c)
-    (c .before .before .before .before .before .before .before .before .before .before .before .before .before .before .pre .0 .sized .charts) _
+    (c .before .before .before .before .before .before .before .before .before .before .before .before .before .before
+    .pre .0 .sized .charts) _
     (c .before .before .before .shape .ensures)
 
 length-is : (c : tie.After-size)
-    → c .size .result + 12 ≡ length (encode (rewrite (at (c .before .before .before .before .before .before .before .before .before))))
+    → c .size .result + 12
+    ≡ length (encode (rewrite (at (c .before .before .before .before .before .before .before .before .before))))
 unfolding fileAt
-length-is c = ap (λ (k : ℕ). k + 12) (c .size .ensures) ∙ size-is (at (c .before .before .before .before .before .before .before .before .before)) _ (c .before .before .before .before .shape .ensures)
+length-is c = ap (λ (k : ℕ). k + 12) (c .size .ensures)
+    ∙ size-is (at (c .before .before .before .before .before .before .before .before .before)) _
+    (c .before .before .before .before .shape .ensures)
 
 add-size : tie.Need-add-size
 add-size c = let e = c .size .ensures in let k = counts (c .before) in omega arith
@@ -106,15 +120,19 @@ returns-3 : tie.Need-returns-3
 returns-3 c =
     let e = c .before .before .before .before .before .before .before .before .before .before .before in
     let l = length-is (c .before .before) in
-    let r = c .before .before .before .before .before .before .before .before .before .before .before .before .before .before .before .before .before .args .out .now in
-    refuses (at e) r 45 _ (after-room (at e) (length r) (free-left e) (in-limits (c .before .before .before)) (rw l at (c .before .if3 .taken)))
+    let r = c .before .before .before .before .before .before .before .before .before .before .before .before .before
+    .before .before .before .before .args .out .now in
+    refuses (at e) r 45 _ (after-room (at e) (length r) (free-left e) (in-limits (c .before .before .before))
+    (rw l at (c .before .if3 .taken)))
     (λ z. omega (arith, z)) (c .refused3 .ensures)
 
 lay-requires : tie.Need-lay-requires
 lay-requires c κs =
-    let p = c .before .before .before .before .before .before .before .before .before .before .before .before .before .before .before .before .before .before .before .pre in (
+    let p = c .before .before .before .before .before .before .before .before .before .before .before .before .before
+    .before .before .before .before .before .before .pre in (
       p .0,
-      have-calls (c .before .before .before .before .before .before .before .before .before .before .before .before .before),
+      have-calls
+          (c .before .before .before .before .before .before .before .before .before .before .before .before .before),
       c .before .before .before .before .before .before .before .before .before .before .inner .ensures,
       fitting (c .before .before .before .before .before),
       c .before .before .before .before .before .before .before .before .shape .ensures,
@@ -124,10 +142,13 @@ lay-requires c κs =
 
 returns-4 : tie.Need-returns-4
 returns-4 c =
-    let e = c .before .before .before .before .before .before .before .before .before .before .before .before .before .before .before .before in
+    let e = c .before .before .before .before .before .before .before .before .before .before .before .before .before
+    .before .before .before in
     let l = length-is (c .before .before .before .before .before .before .before) in
-    let r = c .before .before .before .before .before .before .before .before .before .before .before .before .before .before .before .before .before .before .before .before .before .before .args .out .now in
-    gives (at e) r _ _ (after-all (at e) (length r) (free-left e) (in-limits (c .before .before .before .before .before .before .before .before))
+    let r = c .before .before .before .before .before .before .before .before .before .before .before .before .before
+    .before .before .before .before .before .before .before .before .before .args .out .now in
+    gives (at e) r _ _ (after-all (at e) (length r) (free-left e)
+    (in-limits (c .before .before .before .before .before .before .before .before))
     (rw l at (c .before .before .before .before .before .before .if3 .left))) l (c .before .before .lay .ensures)
 
 pub of-body-spec : {M : Type 1} → statement M
@@ -139,7 +160,10 @@ of-body-spec =
     (λ c κs. search needs)
     returns
     inner-requires
-    (λ c κs. (c .before .before .before .before .before .before .before .before .before .before .pre .0, c .before .inner .ensures))
+    (λ c κs. (
+      c .before .before .before .before .before .before .before .before .before .before .pre .0,
+      c .before .inner .ensures,
+    ))
     limit-refusal-requires
     (λ c κs. search needs)
     returns-2

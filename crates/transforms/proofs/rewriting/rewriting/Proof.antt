@@ -1,4 +1,5 @@
--- `rewriting::rewriting` meets its contract: the file's refusal, 46 where charts may stay, or the rewriting of its body.
+-- `rewriting::rewriting` meets its contract: the file's refusal, 46 where charts may stay, or the rewriting of its
+-- body.
 use mathlib.Core.Path.{_≡_, refl, sym, ap, _∙_}
 use mathlib.Core.List.{List}
 use mathlib.Core.Logic.{_≢_}
@@ -31,7 +32,8 @@ use Rattle.transforms.proofs.rewriting.rewriting.Statement.{statement}
 use Rattle.transforms.proofs.rewriting.rewriting.Tie as tie
 
 -- a file that is refused leaves the buffer as it was
-by-file : (f out : List ℕ) (r : ℕ) (s : Rewritten) → r ≡ refusalOf f → (r ≡ 0 → ⊥) → s ≡ record { refusal = r; length = 0 }
+by-file : (f out : List ℕ) (r : ℕ) (s : Rewritten) → r ≡ refusalOf f → (r ≡ 0 → ⊥)
+    → s ≡ record { refusal = r; length = 0 }
     → RewritingSays f out s out
 unfolding rewriteLength rewriteOut same
 by-file f out r s e h q = rw (file-refused f (λ z. h (e ∙ z)) (length out), ← e, ne-eqb r 0 h) (q, refl)
@@ -41,13 +43,15 @@ unfolding shapeOf
 edition-is f n en = sym (ap (λ (s : Shape). s .edition) en)
 
 -- so does one whose charts may stay
-by-edition : (f out : List ℕ) (s : Rewritten) → refusalOf f ≡ 0 → trailer f .edition ≡ stayEdition → s ≡ record { refusal = mayStay; length = 0 }
+by-edition : (f out : List ℕ) (s : Rewritten) → refusalOf f ≡ 0 → trailer f .edition ≡ stayEdition
+    → s ≡ record { refusal = mayStay; length = 0 }
     → RewritingSays f out s out
 unfolding rewriteLength rewriteOut same
 by-edition f out s h two q = rw (stay-refused f h two (length out)) (q, refl)
 
 -- the body that the file is opened to
-module _ (f : List ℕ) (h : refusalOf f ≡ 0) (n : Shape) (en : n ≡ shapeOf (trailer f)) (one : n .edition ≢ stayEdition) (b : List ℕ) (eb : b ≡ bodyOf f) where
+module _ (f : List ℕ) (h : refusalOf f ≡ 0) (n : Shape) (en : n ≡ shapeOf (trailer f)) (one : n .edition ≢ stayEdition)
+    (b : List ℕ) (eb : b ≡ bodyOf f) where
   not-two : trailer f .edition ≢ stayEdition
   not-two e = one (sym (edition-is f n en) ∙ e)
 
@@ -82,7 +86,8 @@ stands : (c : tie.Else1) → Stands (c .before .before .before .before .args .fi
 stands c = c .before .opened .ensures .stands (c .if1 .left)
 
 returns : tie.Need-returns
-returns c = by-file _ (c .before .before .before .before .before .args .out .now) _ _ (c .before .before .opened .ensures .refusal)
+returns c = by-file _ (c .before .before .before .before .before .args .out .now) _ _
+    (c .before .before .opened .ensures .refusal)
     (c .before .if1 .taken) (c .refused .ensures)
 
 of-body-requires : tie.Need-of-body-requires
@@ -90,21 +95,25 @@ of-body-requires c κs =
     let d = c .before .before in
     let e = d .before .before .before in
     let w = stands e in (
-      body-checked _ (accepted e) _ (w .shape) (d .if2 .left) _ (w .body) (rw (w .body) (w .sized)) (rw (w .body) (w .summed)),
-      upward _ (accepted e) _ (w .shape) (d .if2 .left) _ (w .body) (λ i. e .before .before .before .shared-slice-known .given i .fits),
+      body-checked _ (accepted e) _ (w .shape) (d .if2 .left) _ (w .body) (rw (w .body) (w .sized))
+          (rw (w .body) (w .summed)),
+      upward _ (accepted e) _ (w .shape) (d .if2 .left) _ (w .body)
+          (λ i. e .before .before .before .shared-slice-known .given i .fits),
     )
 
 returns-2 : tie.Need-returns-2
 returns-2 c =
     let e = c .before .before .before .before in
-    by-edition _ (e .before .before .before .before .args .out .now) _ (accepted e) (edition-is _ _ (stands e .shape) ∙ c .before .if2 .taken) (c .refused2 .ensures)
+    by-edition _ (e .before .before .before .before .args .out .now) _ (accepted e)
+    (edition-is _ _ (stands e .shape) ∙ c .before .if2 .taken) (c .refused2 .ensures)
 
 returns-3 : tie.Need-returns-3
 returns-3 c =
     let d = c .before .before .before .before .before in
     let e = d .before .before .before in
     let w = stands e in
-    by-body _ (accepted e) _ (w .shape) (d .if2 .left) _ (w .body) (e .before .before .before .before .args .out .now) _ _ (c .before .before .of-body .ensures)
+    by-body _ (accepted e) _ (w .shape) (d .if2 .left) _ (w .body)
+    (e .before .before .before .before .args .out .now) _ _ (c .before .before .of-body .ensures)
 
 pub rewriting-spec : {M : Type 1} → statement M
 rewriting-spec =
