@@ -29,7 +29,8 @@ use Rattle.meaning.specs.Calls.{runCarried}
 use Rattle.meaning.specs.Calls.Laws.{places-by, step-open, behind-is}
 use Rattle.meaning.specs.Words.{Until}
 use Rattle.meaning.specs.Rewriting.{stayTest, shapeIn, encode}
-use Rattle.clearing.specs.Clearing.{clearedChart, clear, newPlace, newPlaces, clearBytes, clearRefusal, clearLength}
+use Rattle.clearing.specs.Clearing.{clearedChart, clear, newPlace, newPlaces, clearBytes, clearRefusal}
+use Rattle.clearing.specs.Clearing.{clearLength}
 use Rattle.meaning.specs.Laws.Bools.{same-refl, same-≢}
 use Rattle.meaning.specs.Laws.Editions.{edition-left}
 use Rattle.meaning.specs.Check.Laws.{in-front}

@@ -15,7 +15,8 @@ use Rattle.meaning.specs.Count.Laws.{any-cong}
 use Rattle.meaning.specs.Meaning.{Set, ∅, Chart, Tree, comp, hide, guards, inFace, outFace, outcomes, refused, answer}
 use Rattle.meaning.specs.Meaning.{firstPlaces}
 use Rattle.meaning.specs.File.{File, byKind, whole, gather, build, treeOf, wholeOf, Has}
-use Rattle.meaning.specs.Check.{notBelow, rising, inOrder, slave?, slaves?, nodeOfKind?, nodes?, names, named, held, naming?, inside?}
+use Rattle.meaning.specs.Check.{notBelow, rising, inOrder, slave?, slaves?, nodeOfKind?, nodes?, names, named, held}
+use Rattle.meaning.specs.Check.{naming?, inside?}
 use Rattle.meaning.specs.Open.{openChoices, openIn}
 use Rattle.meaning.specs.Calls.{outcomesIn, foundIn, manyOpen?, stepIn, allPlaces, placesFound}
 use Rattle.meaning.specs.Calls.Laws.{step-by}

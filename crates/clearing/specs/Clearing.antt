@@ -1,6 +1,6 @@
--- Clearing (RULES 12): a file of edition 1 without its dead transitions, which no step can take. In this order: which are
--- dead; a list, a chart and a file without them; the places of a step in the new lists; what the call answers. That the
--- cleared file steps as the file does is in Calls.
+-- Clearing (RULES 12): a file of edition 1 without its dead transitions, which no step can take. In this order: which
+-- are dead; a list, a chart and a file without them; the places of a step in the new lists; what the call answers. That
+-- the cleared file steps as the file does is in Calls.
 use mathlib.Core.Bool.{Bool, _||_, cond}
 use mathlib.Core.List.{List, [], _∷_, _++_}
 use Prim.Native.Nat.{ℕ, zero, suc}

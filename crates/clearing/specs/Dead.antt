@@ -7,7 +7,8 @@ use borrow.Author.Tests.{eqb-true}
 use Rattle.signals.specs.Mask.{_∪_, _∩_, _∖_, within, apart}
 use Rattle.signals.specs.Decide.{sets, A, B, C, _∪ₑ_, _⊑_, _⊥ₑ_}
 use Rattle.layout.specs.declared.record.Transition.{Transition}
-use Rattle.meaning.specs.Meaning.{Set, ∅, same, Chart, Tree, Slaves, leaf, comp, hide, dec, nil, snoc, Move, takes, met?, actionOf, inFaceChart, inFace, out, outs, okChart, ok, oks, permitted}
+use Rattle.meaning.specs.Meaning.{Set, ∅, same, Chart, Tree, Slaves, leaf, comp, hide, dec, nil, snoc, Move, takes}
+use Rattle.meaning.specs.Meaning.{met?, actionOf, inFaceChart, inFace, out, outs, okChart, ok, oks, permitted}
 use Rattle.meaning.specs.File.{Has, HasS}
 use Rattle.meaning.specs.Check.{differ}
 use Rattle.clearing.specs.Clearing.{dead}

@@ -16,21 +16,28 @@ use Rattle.layout.specs.declared.body.Shape.{Shape}
 use Rattle.layout.specs.declared.record.Trailer.{Trailer}
 use Rattle.layout.specs.declared.record.Head.{Head}
 use Rattle.layout.specs.declared.record.Slave.{Slave}
-use Rattle.meaning.specs.Numbers.{firstEdition, mostCharts, mostSlaves, mostNodes, mostTransitions, mostStates, mostInChart, mostFromState}
+use Rattle.meaning.specs.Numbers.{firstEdition, mostCharts, mostSlaves, mostNodes, mostTransitions, mostStates}
+use Rattle.meaning.specs.Numbers.{mostInChart, mostFromState}
 use Rattle.meaning.specs.Count.{tally, one}
 use Rattle.meaning.specs.Count.Laws.{or-right, or-four, any-all, any-never, tally-cong}
 use Rattle.meaning.specs.Meaning.{same}
 use Rattle.meaning.specs.File.{File, endOf, trailer, bodyOf, shapeOf, fileOf}
-use Rattle.meaning.specs.Check.{edition?, differ, notBelow, counts?, distance?, nonzero, zeros?, chart?, charts?, ends?, leaving, transitions?, inOrder, slave?, slaves?, nodeOfKind?, nodes?, naming?, inside?, refusalOf}
+use Rattle.meaning.specs.Check.{edition?, differ, notBelow, counts?, distance?, nonzero, zeros?, chart?, charts?, ends?}
+use Rattle.meaning.specs.Check.{leaving, transitions?, inOrder, slave?, slaves?, nodeOfKind?, nodes?, naming?, inside?}
+use Rattle.meaning.specs.Check.{refusalOf}
 use Rattle.meaning.specs.Check.Laws.{Passed, below, alike}
 use Rattle.meaning.specs.Check.Nodes.{kind-at-most, kind₀, kind₁, kind₂, node-passes, treed}
 use Rattle.meaning.specs.Rewriting.{leavingIn, transitionsIn, headFor, transitionsBytes, shapeIn, bodyBytes, encode}
 use Rattle.agreement.specs.Every.{Every, every-at, every-imp}
-use Rattle.agreement.specs.Encoded.{noTransition, Fits, slaveIn, nodeIn, head-there, some-transition-there, slave-there, node-there, head-is, start-is, transition-is, trailerFor, length-encode, end-is, trailer-there, trailer-is, body-is, shape-is, file-is}
+use Rattle.agreement.specs.Encoded.{noTransition, Fits, slaveIn, nodeIn, head-there, some-transition-there, slave-there}
+use Rattle.agreement.specs.Encoded.{node-there, head-is, start-is, transition-is, trailerFor, length-encode, end-is}
+use Rattle.agreement.specs.Encoded.{trailer-there, trailer-is, body-is, shape-is, file-is}
 use Rattle.agreement.specs.Reads.{Reads, reads-back}
 use Rattle.agreement.specs.Passed.{passes}
-use Rattle.agreement.specs.Again.{neither, equal, lower, there, head-zero, transition-zero, slave-zero, node-zero, trailer-zero, zeros-at, leaving-list}
-use Rattle.agreement.specs.Bytes.{Bytes, end, byte, all-bytes, and, nought, in-turn, head-bytes, transitions-bytes, node-bytes, trailer-bytes}
+use Rattle.agreement.specs.Again.{neither, equal, lower, there, head-zero, transition-zero, slave-zero, node-zero}
+use Rattle.agreement.specs.Again.{trailer-zero, zeros-at, leaving-list}
+use Rattle.agreement.specs.Bytes.{Bytes, end, byte, all-bytes, and, nought, in-turn, head-bytes, transitions-bytes}
+use Rattle.agreement.specs.Bytes.{node-bytes, trailer-bytes}
 use Rattle.propositions.specs.Exchange.Records.{Turned, kept, slaves-turned, nodes-turned, naming-turned, inside-turned}
 
 pub record InOrder (R : File) : Type 0 where

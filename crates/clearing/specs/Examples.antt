@@ -8,18 +8,28 @@ use Prim.Native.Nat.{ℕ, _-_, _^_, _%_}
 use lib.ListN.{length}
 use Rattle.signals.specs.Mask.{bit, single}
 use Rattle.layout.specs.Le.{le, bytes}
-use Rattle.layout.specs.Record.{trailerOf, trailerBytes, headOf, headBytes, transitionOf, transitionBytes, slaveOf, slaveBytes, nodeOf, nodeBytes}
+use Rattle.layout.specs.Record.{trailerOf, trailerBytes, headOf, headBytes, transitionOf, transitionBytes, slaveOf}
+use Rattle.layout.specs.Record.{slaveBytes, nodeOf, nodeBytes}
 use Rattle.layout.specs.Body.{headAt, transitionAt, slaveAt, nodeAt, startOf, from, transitionsOf}
 use Rattle.layout.specs.declared.record.Transition.{Transition}
 use Rattle.meaning.specs.Numbers.{mostFromState, mostInChart, noFreeSignal, manyFromState, manyInChart}
 use Rattle.meaning.specs.Count.{anyUpTo, tally}
 use Rattle.signals.specs.Guard.{guard}
-use Rattle.meaning.specs.Meaning.{Set, ∅, same, Chart, actions, stay, untriggered, nth, pick, lastPlace, actionOf, after, met?, guards, inFaceChart, inFace, out, okChart, meets, ok, permitted, upd, moves, nexts, placeOf, placesFrom, outcomeOf, upto, outcome, search, outcomes, firstPlaces}
+use Rattle.meaning.specs.Meaning.{Set, ∅, same, Chart, actions, stay, untriggered, nth, pick, lastPlace, actionOf}
+use Rattle.meaning.specs.Meaning.{after, met?, guards, inFaceChart, inFace, out, okChart, meets, ok, permitted, upd}
+use Rattle.meaning.specs.Meaning.{moves, nexts, placeOf, placesFrom, outcomeOf, upto, outcome, search, outcomes}
+use Rattle.meaning.specs.Meaning.{firstPlaces}
 use Rattle.meaning.specs.File.{gather, build, treeOf, Has, trailer, bodyOf, shapeOf, chartOf, fileAt, fileOf}
-use Rattle.meaning.specs.Check.{firstOf, edition?, counts?, distance?, nonzero, zeros?, chart?, charts?, ends?, leaving, transitions?, rising, slave?, slaves?, nodeOfKind?, nodes?, names, named, held, naming?, inside?, fileTests}
+use Rattle.meaning.specs.Check.{firstOf, edition?, counts?, distance?, nonzero, zeros?, chart?, charts?, ends?, leaving}
+use Rattle.meaning.specs.Check.{transitions?, rising, slave?, slaves?, nodeOfKind?, nodes?, names, named, held, naming?}
+use Rattle.meaning.specs.Check.{inside?, fileTests}
 use Rattle.meaning.specs.Open.{openChart, openTree, isOpen, choices, howMany, openChoices}
 use Rattle.meaning.specs.Calls.{configTests, stepRefusal, manyOpen?, placesFound, placesIn, placesOf}
-use Rattle.meaning.specs.Rewriting.{unionUpTo, lacking, used, free, call, callsBy, callIn, called, idle, idles, chartWith, nearestIn, nearestSlave, rewrittenChart, start, newName, callsOf, composed, madeFor, laid, rewrite, leavingIn, noFree?, fromState?, inChart?, rewriteTests, inTurn, headFor, transitionsBytes, transitionsIn, shapeIn, bodyBytes, encode, rewriteBytes, rewriteRefusal}
+use Rattle.meaning.specs.Rewriting.{unionUpTo, lacking, used, free, call, callsBy, callIn, called, idle, idles}
+use Rattle.meaning.specs.Rewriting.{chartWith, nearestIn, nearestSlave, rewrittenChart, start, newName, callsOf}
+use Rattle.meaning.specs.Rewriting.{composed, madeFor, laid, rewrite, leavingIn, noFree?, fromState?, inChart?}
+use Rattle.meaning.specs.Rewriting.{rewriteTests, inTurn, headFor, transitionsBytes, transitionsIn, shapeIn, bodyBytes}
+use Rattle.meaning.specs.Rewriting.{encode, rewriteBytes, rewriteRefusal}
 use Rattle.clearing.specs.Clearing.{dead, alive, lost, clearedChart, clearBytes, clearRefusal}
 
 -- ── a file cleared ──
@@ -46,12 +56,20 @@ sample′ =
     ∷ []
 
 sample-cleared : clearBytes sample ≡ sample′
-unfolding le bytes trailerOf trailerBytes headOf headBytes transitionOf transitionBytes slaveOf slaveBytes nodeOf nodeBytes headAt transitionAt slaveAt nodeAt startOf from transitionsOf trailer bodyOf shapeOf chartOf fileAt fileOf same tally guards inTurn headFor transitionsBytes shapeIn bodyBytes encode transitionsIn dead alive lost clearedChart clearBytes
+unfolding le bytes trailerOf trailerBytes headOf headBytes transitionOf transitionBytes slaveOf slaveBytes nodeOf
+    nodeBytes headAt transitionAt slaveAt nodeAt startOf from transitionsOf trailer bodyOf shapeOf chartOf fileAt fileOf
+    same tally guards inTurn headFor transitionsBytes shapeIn bodyBytes encode transitionsIn dead alive lost
+    clearedChart clearBytes
 sample-cleared = refl
 
 -- there is room in 112 bytes, and not in 111
 sample-passes : (clearRefusal sample 112 ≡ 0) × (clearRefusal sample 111 ≡ 45)
-unfolding le bytes trailerOf trailerBytes headOf headBytes transitionOf transitionBytes slaveOf slaveBytes nodeOf nodeBytes headAt transitionAt slaveAt nodeAt startOf from transitionsOf trailer bodyOf shapeOf chartOf fileAt fileOf same gather build treeOf Has tally guards inTurn headFor transitionsBytes shapeIn bodyBytes encode transitionsIn dead alive lost clearedChart clearBytes clearRefusal anyUpTo firstOf edition? counts? distance? nonzero zeros? chart? charts? ends? leaving transitions? rising slave? slaves? nodeOfKind? nodes? names named held naming? inside? fileTests
+unfolding le bytes trailerOf trailerBytes headOf headBytes transitionOf transitionBytes slaveOf slaveBytes nodeOf
+    nodeBytes headAt transitionAt slaveAt nodeAt startOf from transitionsOf trailer bodyOf shapeOf chartOf fileAt fileOf
+    same gather build treeOf Has tally guards inTurn headFor transitionsBytes shapeIn bodyBytes encode transitionsIn
+    dead alive lost clearedChart clearBytes clearRefusal anyUpTo firstOf edition? counts? distance? nonzero zeros?
+    chart? charts? ends? leaving transitions? rising slave? slaves? nodeOfKind? nodes? names named held naming?
+    inside? fileTests
 sample-passes = (refl, refl)
 
 -- from state 0 with signal 0 the second transition is taken, now the first; from state 1 the fourth, now the second
@@ -61,7 +79,12 @@ chart0 (p ∷ ps) = p ∷ []
 
 sample-places : (chart0 (placesOf sample (0 ∷ []) 1 1) ≡ 1 ∷ []) × (chart0 (placesOf sample′ (0 ∷ []) 1 1) ≡ 0 ∷ [])
     × (chart0 (placesOf sample (1 ∷ []) 0 1) ≡ 3 ∷ []) × (chart0 (placesOf sample′ (1 ∷ []) 0 1) ≡ 1 ∷ [])
-unfolding le trailerOf headOf transitionOf slaveOf nodeOf headAt transitionAt slaveAt nodeAt startOf from transitionsOf trailer bodyOf shapeOf chartOf fileAt fileOf same gather build treeOf Has tally guards anyUpTo firstOf edition? counts? distance? nonzero zeros? chart? charts? ends? leaving transitions? rising slave? slaves? nodeOfKind? nodes? names named held naming? inside? fileTests configTests stepRefusal openChart openTree isOpen choices howMany openChoices manyOpen? placesFound placesIn placesOf nth pick lastPlace actionOf after guard met? inFaceChart inFace out okChart meets ok permitted upd moves nexts placeOf placesFrom outcomeOf upto outcome search outcomes firstPlaces
+unfolding le trailerOf headOf transitionOf slaveOf nodeOf headAt transitionAt slaveAt nodeAt startOf from transitionsOf
+    trailer bodyOf shapeOf chartOf fileAt fileOf same gather build treeOf Has tally guards anyUpTo firstOf edition?
+    counts? distance? nonzero zeros? chart? charts? ends? leaving transitions? rising slave? slaves? nodeOfKind? nodes?
+    names named held naming? inside? fileTests configTests stepRefusal openChart openTree isOpen choices howMany
+    openChoices manyOpen? placesFound placesIn placesOf nth pick lastPlace actionOf after guard met? inFaceChart inFace
+    out okChart meets ok permitted upd moves nexts placeOf placesFrom outcomeOf upto outcome search outcomes firstPlaces
 sample-places = (refl, refl, refl, refl)
 
 -- ── edition 2 ──
@@ -131,12 +154,23 @@ abbrev Freed : ℕ → List ℕ → ℕ → Type 0
 Freed number f room = (rewriteRefusal f room ≡ number) × (rewriteRefusal (clearBytes f) room ≡ 0)
 
 crowded-rewrites : Freed noFreeSignal full 168 × Freed manyFromState crowded 364 × Freed manyInChart long 1932
-unfolding le bytes trailerOf trailerBytes headOf headBytes transitionOf transitionBytes slaveOf slaveBytes nodeOf nodeBytes headAt transitionAt slaveAt nodeAt startOf from transitionsOf trailer bodyOf shapeOf chartOf fileAt fileOf same gather build treeOf Has tally guards actions inTurn headFor transitionsBytes shapeIn bodyBytes encode transitionsIn dead alive lost clearedChart clearBytes unionUpTo lacking used free callsBy callIn called idle idles chartWith nearestIn nearestSlave rewrittenChart leavingIn bit single call start newName callsOf composed madeFor laid anyUpTo firstOf edition? counts? distance? nonzero zeros? chart? charts? ends? leaving transitions? rising slave? slaves? nodeOfKind? nodes? names named held naming? inside? fileTests noFree? fromState? inChart? rewriteTests rewriteBytes rewriteRefusal
+unfolding le bytes trailerOf trailerBytes headOf headBytes transitionOf transitionBytes slaveOf slaveBytes nodeOf
+    nodeBytes headAt transitionAt slaveAt nodeAt startOf from transitionsOf trailer bodyOf shapeOf chartOf fileAt fileOf
+    same gather build treeOf Has tally guards actions inTurn headFor transitionsBytes shapeIn bodyBytes encode
+    transitionsIn dead alive lost clearedChart clearBytes unionUpTo lacking used free callsBy callIn called idle idles
+    chartWith nearestIn nearestSlave rewrittenChart leavingIn bit single call start newName callsOf composed madeFor
+    laid anyUpTo firstOf edition? counts? distance? nonzero zeros? chart? charts? ends? leaving transitions? rising
+    slave? slaves? nodeOfKind? nodes? names named held naming? inside? fileTests noFree? fromState? inChart?
+    rewriteTests rewriteBytes rewriteRefusal
 crowded-rewrites = ((refl, refl), (refl, refl), (refl, refl))
 
 -- what is rewritten is at its limit: one free signal for one slave; 8 transitions out of the state; 64 in the chart
 crowded-limits : (length (free (fileOf (clearBytes full))) ≡ fileOf (clearBytes full) .slaves)
     × (leavingIn (rewrite (fileOf (clearBytes crowded)) .chart 1 .transitions) 0 ≡ mostFromState)
     × (length (rewrite (fileOf (clearBytes long)) .chart 1 .transitions) ≡ mostInChart)
-unfolding le bytes trailerOf trailerBytes headOf headBytes transitionOf transitionBytes slaveOf slaveBytes nodeOf nodeBytes headAt transitionAt slaveAt nodeAt startOf from transitionsOf trailer bodyOf shapeOf chartOf fileAt fileOf same gather build treeOf Has tally guards actions inTurn headFor transitionsBytes shapeIn bodyBytes encode transitionsIn dead alive lost clearedChart clearBytes unionUpTo lacking used free callsBy callIn called idle idles chartWith nearestIn nearestSlave rewrittenChart leavingIn bit single
+unfolding le bytes trailerOf trailerBytes headOf headBytes transitionOf transitionBytes slaveOf slaveBytes nodeOf
+    nodeBytes headAt transitionAt slaveAt nodeAt startOf from transitionsOf trailer bodyOf shapeOf chartOf fileAt fileOf
+    same gather build treeOf Has tally guards actions inTurn headFor transitionsBytes shapeIn bodyBytes encode
+    transitionsIn dead alive lost clearedChart clearBytes unionUpTo lacking used free callsBy callIn called idle idles
+    chartWith nearestIn nearestSlave rewrittenChart leavingIn bit single
 crowded-limits = (refl, refl, refl)

@@ -10,7 +10,11 @@ use lib.ListN.{length}
 use Rattle.signals.specs.Mask.{_∪_, _∩_, _∖_}
 use Rattle.signals.specs.Decide.{sets, A, B, C, D, ∅ₑ, _∪ₑ_, _∖ₑ_, _≐_, _⊑_}
 use Rattle.meaning.specs.Numbers.{noPlace}
-use Rattle.meaning.specs.Meaning.{Set, ∅, same, Chart, Tree, Slaves, leaf, comp, hide, dec, nil, snoc, Move, noMove, takes, stay, behind, pick, lastPlace, actionOf, guards, actions, inFaceChart, inFace, inFaces, outFace, outFaces, out, outs, okChart, meets, ok, oks, permitted, untriggered, upd, moves, placeOf, placesFrom, Outcome, outcomeOf, upto, outcome, search, outcomes, eqList, agree, answer, given, firstPlaces}
+use Rattle.meaning.specs.Meaning.{Set, ∅, same, Chart, Tree, Slaves, leaf, comp, hide, dec, nil, snoc, Move, noMove}
+use Rattle.meaning.specs.Meaning.{takes, stay, behind, pick, lastPlace, actionOf, guards, actions, inFaceChart, inFace}
+use Rattle.meaning.specs.Meaning.{inFaces, outFace, outFaces, out, outs, okChart, meets, ok, oks, permitted}
+use Rattle.meaning.specs.Meaning.{untriggered, upd, moves, placeOf, placesFrom, Outcome, outcomeOf, upto, outcome}
+use Rattle.meaning.specs.Meaning.{search, outcomes, eqList, agree, answer, given, firstPlaces}
 use Rattle.meaning.specs.Count.{one as ones}
 use Rattle.meaning.specs.File.{Has}
 use Rattle.meaning.specs.Open.{openChart, openTree, openSlaves, isOpen, choices, howMany, openChoices}

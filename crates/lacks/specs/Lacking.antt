@@ -89,4 +89,5 @@ pub record Answers (f : List ℕ) (chart place : ℕ) (o : Set) (r : Tested) : T
   pub permits : isMet r ≡ okChart (fileOf f .chart chart) true o (transition .from) (takes transition)
   -- otherwise it names the signal that is to blame
   pub shows : Shows (transition .needed) (transition .barred)
-      (o ∪ (transition .action ∩ fileOf f .chart chart .feedback)) (o ∪ (transition .action ∩ fileOf f .chart chart .feedback)) r
+      (o ∪ (transition .action ∩ fileOf f .chart chart .feedback))
+      (o ∪ (transition .action ∩ fileOf f .chart chart .feedback)) r

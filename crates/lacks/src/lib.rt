@@ -41,7 +41,8 @@ fn start_of(n: Shape, body: &[u8], c: usize) -> usize
 
 // The transition at a place of chart c's list.
 pub fn at_place(n: Shape, body: &[u8], c: usize, place: usize) -> Transition
-    requires { ⌜ Sized n (now body) × Summed n (now body) × (c < n .charts) × (place < headAt n (now body) c .transitions) ⌝ }
+    requires { ⌜ Sized n (now body) × Summed n (now body) × (c < n .charts)
+        × (place < headAt n (now body) c .transitions) ⌝ }
     ensures { λ r. ⌜ r ≡ transitionAt n (now (body .entry)) (startOf n (now (body .entry)) c + place) ⌝ }
 {
     let start = start_of(n, body, c);

@@ -1,5 +1,5 @@
--- Two permitted choices of a tree take the same moves, if no two transitions of its charts are doubtful. In this order: such trees
--- (PlainTree); the moves of all charts (`alike`, `one-choice`); so that the mark is never no (`never-no`).
+-- Two permitted choices of a tree take the same moves, if no two transitions of its charts are doubtful. In this order:
+-- such trees (PlainTree); the moves of all charts (`alike`, `one-choice`); so that the mark is never no (`never-no`).
 use mathlib.Core.Path.{_≡_, refl, sym, _∙_, ap, fun-ext}
 use mathlib.Core.Bool.{Bool, true, false, _&&_, false≢true}
 use mathlib.Core.List.{List, [], _∷_}
@@ -8,7 +8,9 @@ use native.Mathlib.Decide.{decLt}
 use native.Mathlib.Omega.{arith}
 use Rattle.signals.specs.Mask.{_∪_, _∩_, _∖_, Within}
 use Rattle.signals.specs.Decide.{sets, A, B, C, D, _∩ₑ_, _∖ₑ_, _≐_}
-use Rattle.meaning.specs.Meaning.{Set, same, Chart, Tree, Slaves, leaf, comp, hide, dec, nil, snoc, actionOf, inFaceChart, inFace, out, outs, okChart, meets, ok, oks, permitted, moves, pick, nexts, outcomes, given, answer}
+use Rattle.meaning.specs.Meaning.{Set, same, Chart, Tree, Slaves, leaf, comp, hide, dec, nil, snoc, actionOf}
+use Rattle.meaning.specs.Meaning.{inFaceChart, inFace, out, outs, okChart, meets, ok, oks, permitted, moves, pick}
+use Rattle.meaning.specs.Meaning.{nexts, outcomes, given, answer}
 use Rattle.meaning.specs.File.{Has, HasS}
 use Rattle.meaning.specs.Plain.{anyDoubtful}
 use Rattle.meaning.specs.Laws.Bools.{or-elim, and-l, and-r, same→≡}
@@ -48,17 +50,20 @@ module _ (E : ℕ → Chart) (state : ℕ → ℕ) (cfg : ℕ → ℕ) (f : Set)
   abbrev Alike : ℕ → Type 0
   Alike c = moves E ch c ≡ moves E ch₂ c
 
-  alike-chart : (d : ℕ) (a : Bool) (o p : Set) → PlainChart E f d → o ∖ f ≡ p ∖ f → okChart (E d) a o (cfg d) (moves E ch d) ≡ true
+  alike-chart : (d : ℕ) (a : Bool) (o p : Set) → PlainChart E f d → o ∖ f ≡ p ∖ f
+      → okChart (E d) a o (cfg d) (moves E ch d) ≡ true
       → okChart (E d) a p (cfg d) (moves E ch₂ d) ≡ true → Alike d
   unfolding moves
   alike-chart d a o p w e h k = one-move f (E d .feedback) (w .0) (cfg d) (E d) (w .2) (w .1) a (ch d) (ch₂ d) o p e
-      (sym (ok-one (E d) (w .2) a o (cfg d) (pick (E d) (ch d))) ∙ h) (sym (ok-one (E d) (w .2) a p (cfg d) (pick (E d) (ch₂ d))) ∙ k)
+      (sym (ok-one (E d) (w .2) a o (cfg d) (pick (E d) (ch d))) ∙ h)
+      (sym (ok-one (E d) (w .2) a p (cfg d) (pick (E d) (ch₂ d))) ∙ k)
 
   mutual
     unfolding ok Has
 
     -- offered sets that differ by feedback alone
-    pub alike : (t : Tree) (a : Bool) (o p : Set) → PlainTree E f t → o ∖ f ≡ p ∖ f → ok E state cfg (moves E ch) t a o ≡ true
+    pub alike : (t : Tree) (a : Bool) (o p : Set) → PlainTree E f t → o ∖ f ≡ p ∖ f
+        → ok E state cfg (moves E ch) t a o ≡ true
         → ok E state cfg (moves E ch₂) t a p ≡ true → (c : ℕ) → Has t c ≡ true → Alike c
     alike (leaf d) a o p w e h k c q = rw (same→≡ c d q) (alike-chart d a o p w e h k)
     alike (comp l r x) a o p w e h k c q = or-elim (Has l c) (Has r c) (Alike c)
@@ -73,10 +78,12 @@ module _ (E : ℕ → Chart) (state : ℕ → ℕ) (cfg : ℕ → ℕ) (f : Set)
         z₂ = p ∪ (out (moves E ch₂) l ∪ out (moves E ch₂) r) ∩ x
 
         fed : z ∖ f ≡ z₂ ∖ f
-        fed = same-fed f o p e (out (moves E ch) l ∪ out (moves E ch) r) (out (moves E ch₂) l ∪ out (moves E ch₂) r) x (w .2)
+        fed = same-fed f o p e (out (moves E ch) l ∪ out (moves E ch) r)
+            (out (moves E ch₂) l ∪ out (moves E ch₂) r) x (w .2)
     alike (hide l x y) a o p w e h k c q = alike l a (o ∖ x) (p ∖ x) w (same-less f o p e x) h k c q
     alike (dec d ss) a o p w e h k c q = or-elim (same c d) (HasS ss c) (Alike c) (λ i. rw (same→≡ c d i) master)
-        (λ i. alike-slaves ss (λ s. a && meets (cfg d) (moves E ch d) s) z z₂ (w .1) fed (and-r (okChart (E d) a _ (cfg d) (moves E ch d)) _ h)
+        (λ i. alike-slaves ss (λ s. a && meets (cfg d) (moves E ch d) s) z z₂ (w .1) fed
+        (and-r (okChart (E d) a _ (cfg d) (moves E ch d)) _ h)
         (ap (λ m. oks E state cfg (moves E ch₂) ss (λ s. a && meets (cfg d) m s) z₂) master
         ∙ and-r (okChart (E d) a _ (cfg d) (moves E ch₂ d)) _ k) c i) q
       where
@@ -87,18 +94,22 @@ module _ (E : ℕ → Chart) (state : ℕ → ℕ) (cfg : ℕ → ℕ) (f : Set)
         z₂ = p ∪ (actionOf (moves E ch₂ d) ∪ outs (moves E ch₂) ss) ∩ E d .feedback
 
         fed : z ∖ f ≡ z₂ ∖ f
-        fed = same-fed f o p e (actionOf (moves E ch d) ∪ outs (moves E ch) ss) (actionOf (moves E ch₂ d) ∪ outs (moves E ch₂) ss) (E d .feedback)
+        fed = same-fed f o p e (actionOf (moves E ch d) ∪ outs (moves E ch) ss)
+            (actionOf (moves E ch₂ d) ∪ outs (moves E ch₂) ss) (E d .feedback)
             (w .0 .0)
 
         master : Alike d
-        master = alike-chart d a (z ∩ inFaceChart (E d)) (z₂ ∩ inFaceChart (E d)) (w .0) (same-cut f z z₂ fed (inFaceChart (E d))) (and-l _ _ h)
+        master = alike-chart d a (z ∩ inFaceChart (E d)) (z₂ ∩ inFaceChart (E d)) (w .0)
+            (same-cut f z z₂ fed (inFaceChart (E d))) (and-l _ _ h)
             (and-l _ _ k)
 
-    alike-slaves : (ss : Slaves) (on : ℕ → Bool) (o p : Set) → PlainSlaves E f ss → o ∖ f ≡ p ∖ f → oks E state cfg (moves E ch) ss on o ≡ true
+    alike-slaves : (ss : Slaves) (on : ℕ → Bool) (o p : Set) → PlainSlaves E f ss → o ∖ f ≡ p ∖ f
+        → oks E state cfg (moves E ch) ss on o ≡ true
         → oks E state cfg (moves E ch₂) ss on p ≡ true → (c : ℕ) → HasS ss c ≡ true → Alike c
     alike-slaves nil on o p w e h k c q = absurd (false≢true q)
     alike-slaves (snoc ss i t) on o p w e h k c q = or-elim (Has t c) (HasS ss c) (Alike c)
-        (λ g. alike t (on (state i)) _ _ (w .1) (same-cut f o p e (inFace E t)) (and-r (oks E state cfg (moves E ch) ss on o) _ h)
+        (λ g. alike t (on (state i)) _ _ (w .1) (same-cut f o p e (inFace E t))
+        (and-r (oks E state cfg (moves E ch) ss on o) _ h)
         (and-r (oks E state cfg (moves E ch₂) ss on p) _ k) c g)
         (λ g. alike-slaves ss on o p (w .0) e (and-l _ _ h) (and-l _ _ k) c g) q
 
@@ -108,7 +119,8 @@ module _ (E : ℕ → Chart) (state : ℕ → ℕ) (cfg : ℕ → ℕ) (f : Set)
 module _ (E : ℕ → Chart) (state : ℕ → ℕ) (cfg : ℕ → ℕ) (t : Tree) (inp : Set) (N : ℕ) (f : Set) (w : PlainTree E f t)
     (has : (c : ℕ) → c < N → Has t c ≡ true) where
   -- at most one choice is permitted (RULES 8.3): no two differ in a move
-  pub one-choice : (ch ch₂ : ℕ → ℕ) → Choice E state cfg t inp N ch → Choice E state cfg t inp N ch₂ → Permitted E state cfg t inp N ch
+  pub one-choice : (ch ch₂ : ℕ → ℕ) → Choice E state cfg t inp N ch → Choice E state cfg t inp N ch₂
+      → Permitted E state cfg t inp N ch
       → Permitted E state cfg t inp N ch₂ → moves E ch ≡ moves E ch₂
   unfolding permitted
   one-choice ch ch₂ q q₂ p p₂ = fun-ext (λ c. go c (decLt c N))
@@ -121,5 +133,6 @@ module _ (E : ℕ → Chart) (state : ℕ → ℕ) (cfg : ℕ → ℕ) (t : Tree
   never-no o n e =
       let g = given-first E state cfg t inp N o n false e in
       let u = mark-no E state cfg t inp N o n e in
-      let m : moves E (u .0) ≡ moves E (g .choice) = one-choice (u .0) (g .choice) (u .1) (g .chosen) (u .2) (g .permits) in
+      let m : moves E (u .0) ≡ moves E (g .choice) =
+      one-choice (u .0) (g .choice) (u .1) (g .chosen) (u .2) (g .permits) in
       u .3 (ap (λ M. out M t) m ∙ sym (g .output), ap (λ M. nexts cfg M zero N) m ∙ sym (g .next))

@@ -60,7 +60,8 @@ module _ (F : File) (p : plainIn F ≡ true) (one-edition : (c : ℕ) → c < F 
   chart-plain : (c : ℕ) → c < F .charts → PlainChart (F .chart) (fedBack F) c
   unfolding fedBack plainIn
   chart-plain c l = (
-    sets (F .chart c .feedback ∷ unionUpTo (F .charts) (λ c. F .chart c .feedback) ∷ unionUpTo (F .nodes) (λ j. cond (same (F .kind j) 1) (F .x j) ∅) ∷ [])
+    sets (F .chart c .feedback ∷ unionUpTo (F .charts) (λ c. F .chart c .feedback)
+        ∷ unionUpTo (F .nodes) (λ j. cond (same (F .kind j) 1) (F .x j) ∅) ∷ [])
         (A ⊑ B ∷ []) (A ⊑ B ∪ₑ C) tt (union-in (F .charts) (λ c. F .chart c .feedback) c l),
     any-never (F .charts) (λ c. anyDoubtful (fedBack F) (F .chart c .transitions)) (not-true _ p) c l,
     one-edition c l,
@@ -69,7 +70,8 @@ module _ (F : File) (p : plainIn F ≡ true) (one-edition : (c : ℕ) → c < F 
   x-plain : (j : ℕ) → j < F .nodes → F .kind j ≡ 1 → Within (F .x j) (fedBack F)
   unfolding fedBack
   x-plain j l e =
-      sets (F .x j ∷ unionUpTo (F .charts) (λ c. F .chart c .feedback) ∷ unionUpTo (F .nodes) (λ j. cond (same (F .kind j) 1) (F .x j) ∅) ∷ [])
+      sets (F .x j ∷ unionUpTo (F .charts) (λ c. F .chart c .feedback)
+      ∷ unionUpTo (F .nodes) (λ j. cond (same (F .kind j) 1) (F .x j) ∅) ∷ [])
       (A ⊑ C ∷ []) (A ⊑ B ∪ₑ C) tt
       (rw (ap (λ k. same k 1) e ∙ same-refl 1) at (union-in (F .nodes) (λ j. cond (same (F .kind j) 1) (F .x j) ∅) j l))
 
@@ -78,7 +80,8 @@ module _ (F : File) (p : plainIn F ≡ true) (one-edition : (c : ℕ) → c < F 
     plain-whole c nil l h = chart-plain c l
     plain-whole c (snoc ss i t) l h = (chart-plain c l, h)
 
-    plain-gather : (c k : ℕ) → k ≤ F .slaves → ((i : ℕ) → i < F .slaves → F .master i ≡ c → PlainIn (treeOf F (F .node i)))
+    plain-gather : (c k : ℕ) → k ≤ F .slaves
+        → ((i : ℕ) → i < F .slaves → F .master i ≡ c → PlainIn (treeOf F (F .node i)))
         → PlainsIn (gather (F .master) (λ i. treeOf F (F .node i)) c k)
     unfolding gather
     plain-gather c zero l h = tt
@@ -87,7 +90,8 @@ module _ (F : File) (p : plainIn F ≡ true) (one-edition : (c : ℕ) → c < F 
         rest : Slaves
         rest = gather (F .master) (λ i. treeOf F (F .node i)) c k
 
-        go : (b : Bool) → same (F .master k) c ≡ b → PlainsIn rest → PlainsIn (cond b (snoc rest k (treeOf F (F .node k))) rest)
+        go : (b : Bool) → same (F .master k) c ≡ b → PlainsIn rest
+            → PlainsIn (cond b (snoc rest k (treeOf F (F .node k))) rest)
         go true e r = (r, h k (omega arith) (same→≡ (F .master k) c e))
         go false e r = r
 
@@ -96,10 +100,13 @@ module _ (F : File) (p : plainIn F ≡ true) (one-edition : (c : ℕ) → c < F 
     plain-node (suc n) j q l = go (F .kind j) refl (λ i m. plain-node n i (omega arith) (omega arith))
       where
         go : (k : ℕ) → F .kind j ≡ k → ((i : ℕ) → i < j → PlainIn (treeOf F i)) → PlainIn (treeOf F j)
-        go zero e ih = rw (tree₀ F (s .ordered) j l e) (plain-whole (F .a j) (gather (F .master) (λ i. treeOf F (F .node i)) (F .a j) (F .slaves))
+        go zero e ih = rw (tree₀ F (s .ordered) j l e)
+            (plain-whole (F .a j) (gather (F .master) (λ i. treeOf F (F .node i)) (F .a j) (F .slaves))
             (s .chart-there j l e)
-            (plain-gather (F .a j) (F .slaves) (omega arith) (λ i a b. ih (F .node i) (s .ordered .lower₀ j l e i a b))))
-        go (suc zero) e ih = let h = s .ordered .lower₁ j l e in rw (tree₁ F (s .ordered) j l e) (ih (F .a j) (h .0), ih (F .b j) (h .1), x-plain j l e)
+            (plain-gather (F .a j) (F .slaves) (omega arith)
+            (λ i a b. ih (F .node i) (s .ordered .lower₀ j l e i a b))))
+        go (suc zero) e ih = let h = s .ordered .lower₁ j l e in
+            rw (tree₁ F (s .ordered) j l e) (ih (F .a j) (h .0), ih (F .b j) (h .1), x-plain j l e)
         go (suc (suc k)) e ih = let e₂ : F .kind j ≡ 2 = (let h = s .ordered .kinds j l in omega arith) in
             rw (tree₂ F (s .ordered) j l e₂) (ih (F .a j) (s .ordered .lower₂ j l e₂))
 
@@ -119,13 +126,16 @@ module _ (F : File) (p : plainIn F ≡ true) (one-edition : (c : ℕ) → c < F 
 -- ── bytes ──
 
 -- a plain file passes 1 to 11 (RULES 8.2)
-pub plain-passes : (f : List ℕ) → plainOf f ≡ true → (refusalOf f ≡ 0) × (plainIn (fileOf f) ≡ true) × (trailer f .edition ≡ firstEdition)
+pub plain-passes : (f : List ℕ) → plainOf f ≡ true
+    → (refusalOf f ≡ 0) × (plainIn (fileOf f) ≡ true) × (trailer f .edition ≡ firstEdition)
 unfolding plainOf
 plain-passes f p = go (same (refusalOf f) 0) refl p
   where
-    go : (b : Bool) → same (refusalOf f) 0 ≡ b → cond b (same (trailer f .edition) firstEdition && plainIn (fileOf f)) false ≡ true
+    go : (b : Bool) → same (refusalOf f) 0 ≡ b
+        → cond b (same (trailer f .edition) firstEdition && plainIn (fileOf f)) false ≡ true
         → (refusalOf f ≡ 0) × (plainIn (fileOf f) ≡ true) × (trailer f .edition ≡ firstEdition)
-    go true e h = (same→≡ (refusalOf f) 0 e, and-r (same (trailer f .edition) firstEdition) _ h, same→≡ _ _ (and-l _ _ h))
+    go true e h =
+        (same→≡ (refusalOf f) 0 e, and-r (same (trailer f .edition) firstEdition) _ h, same→≡ _ _ (and-l _ _ h))
     go false e h = absurd (false≢true h)
 
 module _ (f : List ℕ) (p : plainOf f ≡ true) where
@@ -134,15 +144,18 @@ module _ (f : List ℕ) (p : plainOf f ≡ true) where
   unfolding fileOf fileAt shapeOf
   every-sure =
       let h = passed f (plain-passes f p .0) in
-      step-sure (fileOf f) (plain-passes f p .1) (λ c l. one-stays f (plain-passes f p .2) c) (sound (fileOf f) (h .slaves) (h .nodes) (h .naming) (h .inside)) (counted (trailer f) (h .counts) .some-node)
+      step-sure (fileOf f) (plain-passes f p .1) (λ c l. one-stays f (plain-passes f p .2) c)
+      (sound (fileOf f) (h .slaves) (h .nodes) (h .naming) (h .inside)) (counted (trailer f) (h .counts) .some-node)
 
   -- a step that 1 to 11 and 20 to 22 do not refuse
-  pub unrefused-sure : (config : List ℕ) (i : Set) (room : ℕ) → stepRefusal f config room ≡ 0 → Sure (stepOf f config i room)
+  pub unrefused-sure : (config : List ℕ) (i : Set) (room : ℕ) → stepRefusal f config room ≡ 0
+      → Sure (stepOf f config i room)
   unfolding stepOf
   unrefused-sure config i room e = rw (ap (λ r. same r 0) e ∙ same-refl 0) (every-sure config i)
 
   -- from every valid configuration, with room for the next
-  pub plain-sure : (config : List ℕ) (i : Set) (room : ℕ) → Valid (fileOf f) config → fileOf f .charts ≤ room → Sure (stepOf f config i room)
+  pub plain-sure : (config : List ℕ) (i : Set) (room : ℕ) → Valid (fileOf f) config → fileOf f .charts ≤ room
+      → Sure (stepOf f config i room)
   plain-sure config i room v l = unrefused-sure config i room (step-open f config room (plain-passes f p .0) v l)
 
 -- ── the run ──

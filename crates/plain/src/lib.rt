@@ -1,4 +1,5 @@
-// Which files are plain (RULES 8): whether each two transitions of a chart that leave the same state are told apart by a signal that is not fed back.
+// Which files are plain (RULES 8): whether each two transitions of a chart that leave the same state are told apart by
+// a signal that is not fed back.
 ghost use mathlib.Core.Path.{_≡_};
 ghost use mathlib.Core.Bool.{cond};
 ghost use Prim.Native.Nat.{_+_, _≤_, _<_};

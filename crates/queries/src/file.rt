@@ -16,8 +16,8 @@ pub fn check(file: &[u8]) -> u8
     opening::opened(file).refusal
 }
 
-// What a configuration is compared with (RULES 3.3): 0 or the file's refusal, how many charts it has, and how many states each of them has; 0 past
-// the last chart. A refused file has none.
+// What a configuration is compared with (RULES 3.3): 0 or the file's refusal, how many charts it has, and how many
+// states each of them has; 0 past the last chart. A refused file has none.
 pub struct StateCounts {
     pub refusal: u8,
     pub charts: u8,
@@ -37,7 +37,8 @@ fn no_states(r: u8) -> StateCounts
 // Each chart's number of states, over the front of `states`.
 fn put_counts(n: Shape, body: &[u8], states: &mut [u8])
     requires { ⌜ Holds n (now body) × (n .charts ≤ length (now states)) ⌝ }
-    ensures { λ _. ⌜ now (states .exit) ≡ laidOver (made (n .charts) (λ c. headAt n (now (body .entry)) c .states)) (now (states .entry)) ⌝ }
+    ensures { λ _. ⌜ now (states .exit)
+        ≡ laidOver (made (n .charts) (λ c. headAt n (now (body .entry)) c .states)) (now (states .entry)) ⌝ }
 {
     let charts = n.charts;
     let mut k: usize = 0;
@@ -47,7 +48,8 @@ fn put_counts(n: Shape, body: &[u8], states: &mut [u8])
     }
 }
 
-// The states of each chart: a caller with many configurations of one file tests 20 and 21 by them, and opens the file once.
+// The states of each chart: a caller with many configurations of one file tests 20 and 21 by them, and opens the file
+// once.
 pub fn states(file: &[u8]) -> StateCounts
     ensures { λ r. ⌜ StatesSays (now (file .entry)) r ⌝ }
 {
@@ -72,7 +74,8 @@ pub fn states(file: &[u8]) -> StateCounts
 // Each chart's initial state, over the front of `config`.
 fn put_initials(n: Shape, body: &[u8], config: &mut [u8])
     requires { ⌜ Holds n (now body) × (n .charts ≤ length (now config)) ⌝ }
-    ensures { λ _. ⌜ now (config .exit) ≡ laidOver (made (n .charts) (λ c. headAt n (now (body .entry)) c .initial)) (now (config .entry)) ⌝ }
+    ensures { λ _. ⌜ now (config .exit)
+        ≡ laidOver (made (n .charts) (λ c. headAt n (now (body .entry)) c .initial)) (now (config .entry)) ⌝ }
 {
     let charts = n.charts;
     let mut c: usize = 0;

@@ -26,8 +26,8 @@ fn refused(r: u8) -> Written
     }
 }
 
-// Writes the text of a body that passed 1 to 11 and has edition 1. It is counted first, in a buffer of no bytes, so that
-// a buffer that is too short stays as it was.
+// Writes the text of a body that passed 1 to 11 and has edition 1. It is counted first, in a buffer of no bytes, so
+// that a buffer that is too short stays as it was.
 fn of_body(n: Shape, body: &[u8], out: &mut [u8]) -> Written
     requires { ⌜ Readable n (now body) ⌝ }
     ensures { λ r. ⌜ WritesBody (fileAt n (now (body .entry))) (now (out .entry)) r (now (out .exit)) ⌝ }

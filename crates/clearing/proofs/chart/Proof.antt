@@ -21,7 +21,8 @@ abbrev written : Shape → List ℕ → ℕ → Set → ℕ → List ℕ
 written n b start fed k = keptBytes fed (transitionAt n b (start + k))
 
 abbrev Inv-loop : tie.InvT-loop
-Inv-loop n body start count fed out₀ at p₀ k₀ out p k = (k ≤ count) × Put out₀ at (inTurn k (written n body start fed)) out p
+Inv-loop n body start count fed out₀ at p₀ k₀ out p k =
+    (k ≤ count) × Put out₀ at (inTurn k (written n body start fed)) out p
 
 abbrev μ-loop : tie.MeasureT-loop
 μ-loop n body start count fed out₀ at p₀ k₀ out p k = count - k
@@ -32,7 +33,8 @@ keep-requires c κs =
     let i = r .before in
     let s = i .before .before .before .before in
     rw (r .transition-at .ensures)
-    (room-turn (written (s .args .n) (s .args .body .now) (s .args .start) (s .args .fed)) (s .pre .2) (i .loop-test .taken)
+    (room-turn (written (s .args .n) (s .args .body .now) (s .args .start) (s .args .fed)) (s .pre .2)
+    (i .loop-test .taken)
     (i .before .loop .inv .1))
 
 loop-again : tie.Need-loop-again Inv-loop μ-loop

@@ -1,5 +1,5 @@
--- `heads` meets its contract. The loop's invariant: the heads of the charts passed are written, and `start` is where the
--- next one's transitions begin.
+-- `heads` meets its contract. The loop's invariant: the heads of the charts passed are written, and `start` is where
+-- the next one's transitions begin.
 use mathlib.Core.Path.{_≡_, sym, ap, _∙_}
 use mathlib.Core.List.{List}
 use Prim.Native.Nat.{ℕ, _+_, _-_, _≤_}
@@ -39,10 +39,12 @@ there : (c : tie.After-head-at Inv-loop μ-loop)
     ≤ c .before .before .before .before .before .args .n .transitions
 there c =
     let i = c .before .before in
-    in-all _ _ _ _ (c .head-at .ensures) (i .loop .inv .1) (i .before .before .before .pre .1) (c .before .loop-test .taken)
+    in-all _ _ _ _ (c .head-at .ensures) (i .loop .inv .1) (i .before .before .before .pre .1)
+    (c .before .loop-test .taken)
 
 -- of them at most all are left
-few : (c : tie.After-of-list Inv-loop μ-loop) → c .of-list .result .count ≤ c .before .before .head-at .result .transitions
+few : (c : tie.After-of-list Inv-loop μ-loop)
+    → c .of-list .result .count ≤ c .before .before .head-at .result .transitions
 unfolding leftOf
 few c =
     let h = c .before .before in

@@ -33,13 +33,15 @@ loop-holds c = (omega arith, sym (startOf-none _ _), omega arith, sym (tally-non
 
 -- the transitions of a chart are there
 there : (c : tie.After-head-at Inv-loop μ-loop)
-    → c .before .before .loop .start + c .head-at .result .transitions ≤ c .before .before .before .before .args .n .transitions
+    → c .before .before .loop .start + c .head-at .result .transitions
+    ≤ c .before .before .before .before .args .n .transitions
 there c =
     let i = c .before .before in
     in-all _ _ _ _ (c .head-at .ensures) (i .loop .inv .1) (i .before .before .pre .1) (c .before .loop-test .taken)
 
 -- of them at most all are left
-few : (c : tie.After-of-list Inv-loop μ-loop) → c .of-list .result .count ≤ c .before .before .head-at .result .transitions
+few : (c : tie.After-of-list Inv-loop μ-loop)
+    → c .of-list .result .count ≤ c .before .before .head-at .result .transitions
 unfolding leftOf
 few c =
     let h = c .before .before in
@@ -62,7 +64,13 @@ loop-again c =
       omega arith,
       start-next _ _ _ _ (h .head-at .ensures) (l .loop .inv .1),
       (let g = l .loop .inv .2 in omega arith),
-      omega (arith, e, q, tally-more (l .loop .c) (λ d. length (clearedChart (fileAt (s .args .n) (s .args .body .now) .chart d) .transitions))),
+      omega (
+        arith,
+        e,
+        q,
+        tally-more (l .loop .c)
+            (λ d. length (clearedChart (fileAt (s .args .n) (s .args .body .now) .chart d) .transitions)),
+      ),
     )
 
 returns : tie.Need-returns Inv-loop μ-loop

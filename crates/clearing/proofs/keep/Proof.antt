@@ -23,7 +23,8 @@ put-transition-requires c κs =
 returns-2 : tie.Need-returns-2
 returns-2 c =
     let e = c .before .before .before .before in
-    put-is (sym (bytes-left _ _ (sym (e .before .is-dead .ensures) ∙ e .if1 .left))) (c .before .before .put-transition .ensures)
+    put-is (sym (bytes-left _ _ (sym (e .before .is-dead .ensures) ∙ e .if1 .left)))
+    (c .before .before .put-transition .ensures)
 
 pub keep-spec : {M : Type 1} → statement M
 keep-spec =

@@ -143,7 +143,8 @@ trailer-requires c κs =
     let s = h .before .before .before .before in
     let a = s .args in (
       shape-small (a .n) (a .body .now) (a .m) (s .pre .2) (s .pre .0) (s .pre .1),
-      room₄ (a .n) (a .body .now) (a .m) (s .pre .2) (a .out .now) (s .pre .3) (h .heads .ensures) (t .transitions .ensures)
+      room₄ (a .n) (a .body .now) (a .m) (s .pre .2) (a .out .now) (s .pre .3) (h .heads .ensures)
+          (t .transitions .ensures)
           (v .slaves .ensures) (w .nodes .ensures),
     )
 
@@ -157,7 +158,8 @@ returns c =
     let h = t .before .before .before .before in
     let s = h .before .before .before .before in
     let a = s .args in
-    laid (a .n) (a .body .now) (a .m) (s .pre .2) (a .out .now) (s .pre .3) (h .heads .ensures) (t .transitions .ensures)
+    laid (a .n) (a .body .now) (a .m) (s .pre .2) (a .out .now) (s .pre .3) (h .heads .ensures)
+    (t .transitions .ensures)
     (v .slaves .ensures) (w .nodes .ensures) _ (z .trailer .ensures)
 
 same-length : tie.Need-same-length
@@ -170,7 +172,8 @@ same-length c =
     let h = t .before .before .before .before in
     let s = h .before .before .before .before in
     let a = s .args in
-    same (a .n) (a .body .now) (a .m) (s .pre .2) (a .out .now) (s .pre .3) (h .heads .ensures) (t .transitions .ensures)
+    same (a .n) (a .body .now) (a .m) (s .pre .2) (a .out .now) (s .pre .3) (h .heads .ensures)
+    (t .transitions .ensures)
     (v .slaves .ensures) (w .nodes .ensures) _ (z .trailer .ensures)
 
 pub lay-spec : {M : Type 1} → statement M

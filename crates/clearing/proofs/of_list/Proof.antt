@@ -26,17 +26,24 @@ abbrev μ-loop : tie.MeasureT-loop
 
 loop-holds : tie.Need-loop-holds Inv-loop μ-loop
 loop-holds c =
-    let e = left-none (c .before .args .fed) (transitionAt (c .before .args .n) (c .before .args .body .now)) (c .before .args .start) in
-    (omega arith, sym (ap (λ (l : Left). l .count) e), sym (ap (λ (l : Left). l .was) e), sym (ap (λ (l : Left). l .still) e))
+    let e = left-none (c .before .args .fed) (transitionAt (c .before .args .n) (c .before .args .body .now))
+    (c .before .args .start) in (
+      omega arith,
+      sym (ap (λ (l : Left). l .count) e),
+      sym (ap (λ (l : Left). l .was) e),
+      sym (ap (λ (l : Left). l .still) e),
+    )
 
 -- what is left of the one that was read
 one-is : (c : tie.After-of-one Inv-loop μ-loop)
     → c .of-one .result ≡ leftOf (c .before .before .before .before .before .args .fed)
-    (transitionAt (c .before .before .before .before .before .args .n) (c .before .before .before .before .before .args .body .now)
+    (transitionAt (c .before .before .before .before .before .args .n)
+    (c .before .before .before .before .before .args .body .now)
     (c .before .before .before .before .before .args .start + c .before .before .before .loop .k) ∷ [])
 one-is c =
     c .of-one .ensures
-    ∙ ap (λ (t : Transition). leftOf (c .before .before .before .before .before .args .fed) (t ∷ [])) (c .before .transition-at .ensures)
+    ∙ ap (λ (t : Transition). leftOf (c .before .before .before .before .before .args .fed) (t ∷ []))
+    (c .before .transition-at .ensures)
 
 -- so many more are at most the transitions passed
 few : (c : tie.After-of-one Inv-loop μ-loop)
@@ -44,7 +51,8 @@ few : (c : tie.After-of-one Inv-loop μ-loop)
 few c =
     let s = c .before .before .before .before .before in
     let i = c .before .before .before .loop in
-    let e = left-count (s .args .fed) (transitionAt (s .args .n) (s .args .body .now)) (s .args .start) (i .k) _ (one-is c) in
+    let e =
+    left-count (s .args .fed) (transitionAt (s .args .n) (s .args .body .now)) (s .args .start) (i .k) _ (one-is c) in
     let m = left-most (s .args .fed) (transitionAt (s .args .n) (s .args .body .now)) (s .args .start) (i .k + 1) in
     let q = i .inv .1 in
     omega arith
@@ -56,9 +64,12 @@ loop-again c =
     let i = o .before .before .before .loop in
     let f = transitionAt (s .args .n) (s .args .body .now) in (
       omega arith,
-      ap (λ (z : ℕ). z + o .of-one .result .count) (i .inv .1) ∙ left-count (s .args .fed) f (s .args .start) (i .k) _ (one-is o),
-      ap (λ (z : ℕ). z ∪ o .of-one .result .was) (i .inv .2) ∙ left-was (s .args .fed) f (s .args .start) (i .k) _ (one-is o),
-      ap (λ (z : ℕ). z ∪ o .of-one .result .still) (i .inv .3) ∙ left-still (s .args .fed) f (s .args .start) (i .k) _ (one-is o),
+      ap (λ (z : ℕ). z + o .of-one .result .count) (i .inv .1)
+          ∙ left-count (s .args .fed) f (s .args .start) (i .k) _ (one-is o),
+      ap (λ (z : ℕ). z ∪ o .of-one .result .was) (i .inv .2)
+          ∙ left-was (s .args .fed) f (s .args .start) (i .k) _ (one-is o),
+      ap (λ (z : ℕ). z ∪ o .of-one .result .still) (i .inv .3)
+          ∙ left-still (s .args .fed) f (s .args .start) (i .k) _ (one-is o),
     )
 
 returns : tie.Need-returns Inv-loop μ-loop

@@ -36,7 +36,8 @@ loop-again c =
     let r = c .before .before .before in
     let i = r .before .before .before in (
       omega arith,
-      put-next _ (i .loop .inv .1) (put-is (ap slaveBytes (r .slave-at .ensures)) (c .before .before .put-slave .ensures)),
+      put-next _ (i .loop .inv .1)
+          (put-is (ap slaveBytes (r .slave-at .ensures)) (c .before .before .put-slave .ensures)),
     )
 
 pub slaves-spec : {M : Type 1} → statement M

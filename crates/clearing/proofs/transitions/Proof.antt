@@ -37,20 +37,24 @@ there : (c : tie.After-head-at Inv-loop μ-loop)
     ≤ c .before .before .before .before .before .args .n .transitions
 there c =
     let i = c .before .before in
-    in-all _ _ _ _ (c .head-at .ensures) (i .loop .inv .1) (i .before .before .before .pre .1) (c .before .loop-test .taken)
+    in-all _ _ _ _ (c .head-at .ensures) (i .loop .inv .1) (i .before .before .before .pre .1)
+    (c .before .loop-test .taken)
 
 -- what is left of them, in turn
 turned : (c : tie.After-head-at Inv-loop μ-loop)
-    → written (c .before .before .before .before .before .args .n) (c .before .before .before .before .before .args .body .now)
+    → written (c .before .before .before .before .before .args .n)
+    (c .before .before .before .before .before .args .body .now)
     (c .before .before .loop .c)
     ≡ inTurn (c .head-at .result .transitions)
     (λ k. keptBytes (c .head-at .result .feedback)
-    (transitionAt (c .before .before .before .before .before .args .n) (c .before .before .before .before .before .args .body .now)
+    (transitionAt (c .before .before .before .before .before .args .n)
+    (c .before .before .before .before .before .args .body .now)
     (c .before .before .loop .start + k)))
 turned c =
     let i = c .before .before in
     let s = i .before .before .before in
-    ap transitionsBytes (list-cleared (s .args .n) (s .args .body .now) (i .loop .c) (i .loop .start) _ (c .head-at .ensures)
+    ap transitionsBytes
+    (list-cleared (s .args .n) (s .args .body .now) (i .loop .c) (i .loop .start) _ (c .head-at .ensures)
     (i .loop .inv .1))
     ∙ kept-turn (c .head-at .result .feedback) (transitionAt (s .args .n) (s .args .body .now)) (i .loop .start)
     (c .head-at .result .transitions)
@@ -63,7 +67,8 @@ chart-requires c κs =
       s .pre .0 .holds,
       there h,
       rw (← turned h)
-          (room-turn (written (s .args .n) (s .args .body .now)) (s .pre .2) (h .before .loop-test .taken) (i .loop .inv .2)),
+          (room-turn (written (s .args .n) (s .args .body .now)) (s .pre .2) (h .before .loop-test .taken)
+          (i .loop .inv .2)),
     )
 
 loop-again : tie.Need-loop-again Inv-loop μ-loop

@@ -19,7 +19,8 @@ is-there : (c : tie.After-start-of)
     → c .start-of .result + c .before .before .args .place < c .before .before .args .n .transitions
 is-there c =
     let a = c .before .before in
-    there (a .args .n) (a .args .body .now) (a .pre .1) (a .args .c) (a .args .place) _ (a .pre .2) (a .pre .3) (c .start-of .ensures)
+    there (a .args .n) (a .args .body .now) (a .pre .1) (a .args .c) (a .args .place) _ (a .pre .2) (a .pre .3)
+    (c .start-of .ensures)
 
 add-result : tie.Need-add-transition-at
 add-result c = let l = is-there c in let w = c .before .before .pre .0 .transitions in omega (arith, l, w)
@@ -28,7 +29,8 @@ returns : tie.Need-returns
 returns c =
     let s = c .before in
     let a = s .before .before in
-    c .transition-at .ensures ∙ ap (λ z. transitionAt (a .args .n) (a .args .body .now) (z + a .args .place)) (s .start-of .ensures)
+    c .transition-at .ensures
+    ∙ ap (λ z. transitionAt (a .args .n) (a .args .body .now) (z + a .args .place)) (s .start-of .ensures)
 
 pub at-place-spec : {M : Type 1} → statement M
 at-place-spec =

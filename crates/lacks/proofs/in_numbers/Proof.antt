@@ -22,12 +22,14 @@ returns-2 c =
 returns-3 : tie.Need-returns-3
 returns-3 c =
     let t = c .before .before in
-    c .numbered2 .ensures ∙ ap numbersOf (ap Shown (sym (t .t .given .1)) ∙ sym (t .before .before .before .a2 .given .1))
+    c .numbered2 .ensures
+    ∙ ap numbersOf (ap Shown (sym (t .t .given .1)) ∙ sym (t .before .before .before .a2 .given .1))
 
 returns-4 : tie.Need-returns-4
 returns-4 c =
     let t = c .before .before in
-    c .numbered3 .ensures ∙ ap numbersOf (ap Shown (sym (t .t2 .given .1)) ∙ sym (t .before .before .before .a2 .given .1))
+    c .numbered3 .ensures
+    ∙ ap numbersOf (ap Shown (sym (t .t2 .given .1)) ∙ sym (t .before .before .before .a2 .given .1))
 
 pub in-numbers-spec : {M : Type 1} → statement M
 in-numbers-spec =

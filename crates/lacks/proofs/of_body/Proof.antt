@@ -43,7 +43,8 @@ module _ (n : Shape) (b : List ℕ) (chart place : ℕ) (o : Set) where
         (no-place (fileAt n b) chart place l (let e = count in omega (arith, e)))
 
     module _ (k : place < h .transitions) where
-      here : nth noMove (fileAt n b .chart chart .transitions) place ≡ takes (transitionAt n b (startOf n b chart + place))
+      here : nth noMove (fileAt n b .chart chart .transitions) place
+          ≡ takes (transitionAt n b (startOf n b chart + place))
       unfolding fileAt chartOf transitionsOf
       here =
           nth-from noMove (transitionAt n b) (startOf n b chart) (headAt n b chart .transitions) place
@@ -67,7 +68,8 @@ returns-2 : tie.Need-returns-2
 returns-2 c =
     let h = c .before .before in
     let a = h .before .before .before .before in
-    placed _ _ (a .args .chart) (a .args .place) (a .args .offered) (omega arith) _ (h .head-at .ensures) (c .if2 .taken)
+    placed _ _ (a .args .chart) (a .args .place) (a .args .offered) (omega arith) _ (h .head-at .ensures)
+    (c .if2 .taken)
 
 at-place-requires : tie.Need-at-place-requires
 at-place-requires c κs =

@@ -23,7 +23,8 @@ loop-holds : tie.Need-loop-holds Inv-loop μ-loop
 loop-holds c = (omega arith, sym (startOf-none _ _))
 
 -- what is counted is within the limit
-within : (n : Shape) (b : List ℕ) → Sized n b → Summed n b → (k start : ℕ) (h : Head) → k < n .charts → start ≡ startOf n b k
+within : (n : Shape) (b : List ℕ) → Sized n b → Summed n b → (k start : ℕ) (h : Head) → k < n .charts
+    → start ≡ startOf n b k
     → h ≡ headAt n b k → start + h .transitions ≤ mostTransitions
 within n b s u k start h l e q =
     let m = startOf-mono n b k (n .charts) l in
@@ -34,7 +35,8 @@ add-start : tie.Need-add-start Inv-loop μ-loop
 add-start c =
     let l = c .before .before .before in
     let a = l .before .before in
-    let w = within (a .args .n) (a .args .body .now) (a .pre .0) (a .pre .1) (l .loop .k) (l .loop .start) (c .before .head-at .result)
+    let w = within (a .args .n) (a .args .body .now) (a .pre .0) (a .pre .1) (l .loop .k) (l .loop .start)
+    (c .before .head-at .result)
     (omega arith) (l .loop .inv .1) (c .before .head-at .ensures) in
     omega (arith, w)
 

@@ -49,7 +49,8 @@ module _ (F : File) (chart place : ℕ) where
       firstOf-next _ _ (is-below chart (F .charts) l)
       ∙ firstOf-here _ _ (not-below place (length (F .chart chart .transitions)) k)
 
-  pub both-there : chart < F .charts → place < length (F .chart chart .transitions) → firstOf (placeTests F chart place) ≡ 0
+  pub both-there : chart < F .charts → place < length (F .chart chart .transitions)
+      → firstOf (placeTests F chart place) ≡ 0
   unfolding placeTests
   both-there l k =
       firstOf-next _ _ (is-below chart (F .charts) l)
@@ -57,11 +58,13 @@ module _ (F : File) (chart place : ℕ) where
 
   -- the answer by the first test that applies
   module _ (o : Set) where
-    pub in-refused : (r : ℕ) → (r ≡ 0 → ⊥) → firstOf (placeTests F chart place) ≡ r → Refused r ≡ lackingIn F chart place o
+    pub in-refused : (r : ℕ) → (r ≡ 0 → ⊥) → firstOf (placeTests F chart place) ≡ r
+        → Refused r ≡ lackingIn F chart place o
     unfolding lackingIn same
     in-refused r h e = rw (e, ne-eqb r 0 h)
 
-    pub in-shown : firstOf (placeTests F chart place) ≡ 0 → Shown (testAt (F .chart chart) place o) ≡ lackingIn F chart place o
+    pub in-shown : firstOf (placeTests F chart place) ≡ 0
+        → Shown (testAt (F .chart chart) place o) ≡ lackingIn F chart place o
     unfolding lackingIn same
     in-shown e = rw e
 
@@ -78,12 +81,14 @@ module _ (f : List ℕ) (chart place : ℕ) (o : Set) where
     in-file = rw (call-passed f (placeTests (fileOf f) chart place) h)
 
     pub refused-chart : fileOf f .charts ≤ chart → lackingOf f chart place o ≡ Refused noSuchChart
-    refused-chart l = in-file ∙ sym (in-refused (fileOf f) chart place o _ (λ z. absurd (omega (arith, z))) (no-chart (fileOf f) chart place l))
+    refused-chart l = in-file ∙ sym (in-refused (fileOf f) chart place o _
+        (λ z. absurd (omega (arith, z))) (no-chart (fileOf f) chart place l))
 
     pub refused-place : chart < fileOf f .charts → length (fileOf f .chart chart .transitions) ≤ place
         → lackingOf f chart place o ≡ Refused noSuchPlace
     refused-place l k =
-        in-file ∙ sym (in-refused (fileOf f) chart place o _ (λ z. absurd (omega (arith, z))) (no-place (fileOf f) chart place l k))
+        in-file ∙ sym (in-refused (fileOf f) chart place o _
+        (λ z. absurd (omega (arith, z))) (no-place (fileOf f) chart place l k))
 
     pub shown : chart < fileOf f .charts → place < length (fileOf f .chart chart .transitions)
         → lackingOf f chart place o ≡ Shown (testAt (fileOf f .chart chart) place o)
@@ -104,9 +109,11 @@ pub met-exactly : (C : Chart) (t : Transition) (o : Set)
 unfolding testOf met?
 met-exactly C t o = refl
 
-pub met-permits : (C : Chart) (t : Transition) (o : Set) → isMet (testOf (C .feedback) t o) ≡ okChart C true o (t .from) (takes t)
+pub met-permits : (C : Chart) (t : Transition) (o : Set)
+    → isMet (testOf (C .feedback) t o) ≡ okChart C true o (t .from) (takes t)
 unfolding testOf met? okChart
-met-permits C t o = ap (λ b. b && met? t (o ∪ (t .action ∩ C .feedback)) (o ∪ (t .action ∩ C .feedback))) (sym (same-refl (t .from)))
+met-permits C t o =
+    ap (λ b. b && met? t (o ∪ (t .action ∩ C .feedback)) (o ∪ (t .action ∩ C .feedback))) (sym (same-refl (t .from)))
 
 -- in words: the named signal is lacking, none below it is, and a barred one is named only where no needed one is
 -- missing
@@ -116,7 +123,8 @@ unfolding testOf
 says fed t o n b = guard-shows (t .needed) (t .barred) (o ∪ (t .action ∩ fed)) (o ∪ (t .action ∩ fed)) n b
 
 -- the same of files, whose sets have no signals but 0 to 63
-some-at : (ts : List Transition) (place : ℕ) → place < length ts → Every Small ts → (t : Transition) × ((nth noMove ts place ≡ takes t) × Small t)
+some-at : (ts : List Transition) (place : ℕ) → place < length ts → Every Small ts
+    → (t : Transition) × ((nth noMove ts place ≡ takes t) × Small t)
 unfolding nth
 some-at [] place l h = absurd (omega arith)
 some-at (t ∷ ts) zero l h = (t, (refl, h .0))
@@ -126,7 +134,8 @@ sets-fit : (f : List ℕ) → AllBytes f → refusalOf f ≡ 0 → (chart : ℕ)
 unfolding fileOf fileAt chartOf
 sets-fit f ab e chart = smalls f (passed f e) ab chart
 
-pub answers : (f : List ℕ) → AllBytes f → refusalOf f ≡ 0 → (chart place : ℕ) (o : Set) → place < length (fileOf f .chart chart .transitions)
+pub answers : (f : List ℕ) → AllBytes f → refusalOf f ≡ 0 → (chart place : ℕ) (o : Set)
+    → place < length (fileOf f .chart chart .transitions)
     → Answers f chart place o (testAt (fileOf f .chart chart) place o)
 answers f ab e chart place o l = go (some-at (fileOf f .chart chart .transitions) place l (sets-fit f ab e chart))
   where
@@ -138,7 +147,8 @@ answers f ab e chart place o l = go (some-at (fileOf f .chart chart .transitions
           at = at;
           permits = ap isMet (at-place (fileOf f .chart chart) place t o at) ∙ met-permits (fileOf f .chart chart) t o;
           shows =
-              subst (Shows (t .needed) (t .barred) (o ∪ (t .action ∩ fileOf f .chart chart .feedback)) (o ∪ (t .action ∩ fileOf f .chart chart .feedback)))
+              subst (Shows (t .needed) (t .barred) (o ∪ (t .action ∩ fileOf f .chart chart .feedback))
+              (o ∪ (t .action ∩ fileOf f .chart chart .feedback)))
               (sym (at-place (fileOf f .chart chart) place t o at))
               (says (fileOf f .chart chart .feedback) t o (fits .0) (fits .1));
         }

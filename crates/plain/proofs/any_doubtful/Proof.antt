@@ -10,7 +10,8 @@ use Rattle.plain.proofs.any_doubtful.Tie as tie
 
 abbrev Inv-loop : tie.InvT-loop
 Inv-loop n body fed start count i₀ i =
-    anyDoubtful fed (from (transitionAt n body) start count) ≡ anyDoubtful fed (left (transitionAt n body) start count i)
+    anyDoubtful fed (from (transitionAt n body) start count)
+    ≡ anyDoubtful fed (left (transitionAt n body) start count i)
 
 abbrev μ-loop : tie.MeasureT-loop
 μ-loop n body fed start count i₀ i = count - i
@@ -30,14 +31,16 @@ returns : tie.Need-returns Inv-loop μ-loop
 unfolding anyDoubtful
 returns c =
     let l = c .before .before .before .before .loop in
-    sym (l .inv ∙ found _ _ _ (doubtfulWith _) (anyDoubtful _) (λ t ts. refl) (l .i) (c .before .before .before .loop-test .taken)
+    sym (l .inv ∙ found _ _ _ (doubtfulWith _) (anyDoubtful _)
+    (λ t ts. refl) (l .i) (c .before .before .before .loop-test .taken)
     (sym (asked (c .before)) ∙ c .if1 .taken))
 
 loop-again : tie.Need-loop-again Inv-loop μ-loop
 unfolding anyDoubtful
 loop-again c =
     let l = c .before .before .before .before .loop in
-    l .inv ∙ passed _ _ _ (doubtfulWith _) (anyDoubtful _) (λ t ts. refl) (l .i) (c .before .before .before .loop-test .taken)
+    l .inv ∙ passed _ _ _ (doubtfulWith _) (anyDoubtful _)
+    (λ t ts. refl) (l .i) (c .before .before .before .loop-test .taken)
     (sym (asked (c .before)) ∙ c .if1 .left)
 
 returns-2 : tie.Need-returns-2 Inv-loop μ-loop

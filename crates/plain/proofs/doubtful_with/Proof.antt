@@ -11,7 +11,8 @@ use Rattle.plain.proofs.doubtful_with.Tie as tie
 
 abbrev Inv-loop : tie.InvT-loop
 Inv-loop n body fed t start count k₀ k =
-    doubtfulWith fed t (from (transitionAt n body) start count) ≡ doubtfulWith fed t (left (transitionAt n body) start count k)
+    doubtfulWith fed t (from (transitionAt n body) start count)
+    ≡ doubtfulWith fed t (left (transitionAt n body) start count k)
 
 abbrev μ-loop : tie.MeasureT-loop
 μ-loop n body fed t start count k₀ k = count - k
@@ -22,21 +23,24 @@ loop-holds c = ap (doubtfulWith _ _) (left-all _ _ _)
 -- what was asked of the next one
 asked : (c : tie.After-is-doubtful Inv-loop μ-loop)
     → let a = c .before .before .before .before .before .args in
-    c .is-doubtful .result ≡ doubtful (a .fed) (a .t) (transitionAt (a .n) (a .body .now) (a .start + c .before .before .before .loop .k))
+    c .is-doubtful .result
+    ≡ doubtful (a .fed) (a .t) (transitionAt (a .n) (a .body .now) (a .start + c .before .before .before .loop .k))
 asked c = c .is-doubtful .ensures ∙ ap (doubtful _ _) (c .before .transition-at .ensures)
 
 returns : tie.Need-returns Inv-loop μ-loop
 unfolding doubtfulWith
 returns c =
     let i = c .before .before .before .before .loop in
-    sym (i .inv ∙ found _ _ _ (λ u us. doubtful _ _ u) (doubtfulWith _ _) (λ u us. refl) (i .k) (c .before .before .before .loop-test .taken)
+    sym (i .inv ∙ found _ _ _ (λ u us. doubtful _ _ u) (doubtfulWith _ _)
+    (λ u us. refl) (i .k) (c .before .before .before .loop-test .taken)
     (sym (asked (c .before)) ∙ c .if1 .taken))
 
 loop-again : tie.Need-loop-again Inv-loop μ-loop
 unfolding doubtfulWith
 loop-again c =
     let i = c .before .before .before .before .loop in
-    i .inv ∙ passed _ _ _ (λ u us. doubtful _ _ u) (doubtfulWith _ _) (λ u us. refl) (i .k) (c .before .before .before .loop-test .taken)
+    i .inv ∙ passed _ _ _ (λ u us. doubtful _ _ u) (doubtfulWith _ _)
+    (λ u us. refl) (i .k) (c .before .before .before .loop-test .taken)
     (sym (asked (c .before)) ∙ c .if1 .left)
 
 returns-2 : tie.Need-returns-2 Inv-loop μ-loop

@@ -1,4 +1,5 @@
--- `fed_by_nodes` meets its contract. The loop's invariant: the feedback sets of the nodes passed are joined. Assumes nothing.
+-- `fed_by_nodes` meets its contract. The loop's invariant: the feedback sets of the nodes passed are joined. Assumes
+-- nothing.
 use mathlib.Core.Path.{_≡_}
 use mathlib.Core.Bool.{cond}
 use Prim.Native.Nat.{_≤_, _-_}
@@ -11,7 +12,8 @@ use Rattle.plain.proofs.fed_by_nodes.Statement.{statement}
 use Rattle.plain.proofs.fed_by_nodes.Tie as tie
 
 abbrev Inv-loop : tie.InvT-loop
-Inv-loop n body all₀ j₀ all j = (j ≤ n .nodes) × (all ≡ unionUpTo j (λ j. cond (same (fileAt n body .kind j) 1) (fileAt n body .x j) ∅))
+Inv-loop n body all₀ j₀ all j =
+    (j ≤ n .nodes) × (all ≡ unionUpTo j (λ j. cond (same (fileAt n body .kind j) 1) (fileAt n body .x j) ∅))
 
 abbrev μ-loop : tie.MeasureT-loop
 μ-loop n body all₀ j₀ all j = n .nodes - j

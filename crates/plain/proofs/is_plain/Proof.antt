@@ -1,5 +1,5 @@
--- `is_plain` meets its contract. The loop's invariant: no chart passed has a doubtful pair, and `start` is where the next one's transitions begin.
--- Assumes nothing.
+-- `is_plain` meets its contract. The loop's invariant: no chart passed has a doubtful pair, and `start` is where the
+-- next one's transitions begin. Assumes nothing.
 use mathlib.Core.Path.{_≡_, sym, ap, ap₂, _∙_}
 use mathlib.Core.Bool.{Bool, false, not}
 use mathlib.Core.List.{List}
@@ -21,7 +21,8 @@ abbrev doubted : Shape → List ℕ → ℕ → Bool
 doubted n b c = anyDoubtful (fedBack (fileAt n b)) (fileAt n b .chart c .transitions)
 
 abbrev Inv-loop : tie.InvT-loop
-Inv-loop n body fed start₀ c₀ start c = (c ≤ n .charts) × (start ≡ startOf n body c) × (anyUpTo c (doubted n body) ≡ false)
+Inv-loop n body fed start₀ c₀ start c =
+    (c ≤ n .charts) × (start ≡ startOf n body c) × (anyUpTo c (doubted n body) ≡ false)
 
 abbrev μ-loop : tie.MeasureT-loop
 μ-loop n body fed start₀ c₀ start c = n .charts - c
@@ -46,19 +47,24 @@ asked c =
     let h = c .before .before in
     let l = h .before .before .before in
     c .any-doubtful .ensures
-    ∙ ap₂ anyDoubtful (l .before .fed-back .ensures) (sym (own-are _ _ (l .loop .c) _ (h .head-at .ensures) (l .loop .inv .1)))
+    ∙ ap₂ anyDoubtful (l .before .fed-back .ensures)
+    (sym (own-are _ _ (l .loop .c) _ (h .head-at .ensures) (l .loop .inv .1)))
 
 returns : tie.Need-returns Inv-loop μ-loop
 unfolding plainIn fileAt
 returns c =
     let t = c .before .before .before .before in
-    sym (ap not (any-at _ (doubted _ _) (t .before .before .loop .c) (t .if1 .taken) (sym (asked (c .before)) ∙ c .if2 .taken)))
+    sym (ap not
+    (any-at _ (doubted _ _) (t .before .before .loop .c) (t .if1 .taken) (sym (asked (c .before)) ∙ c .if2 .taken)))
 
 loop-again : tie.Need-loop-again Inv-loop μ-loop
 loop-again c =
     let h = c .before .before .before in
-    let i = h .before .before .before .loop in
-    (omega arith, start-next _ _ _ _ (h .head-at .ensures) (i .inv .1), any-more _ _ (i .inv .2) (sym (asked (c .before)) ∙ c .if2 .left))
+    let i = h .before .before .before .loop in (
+      omega arith,
+      start-next _ _ _ _ (h .head-at .ensures) (i .inv .1),
+      any-more _ _ (i .inv .2) (sym (asked (c .before)) ∙ c .if2 .left),
+    )
 
 returns-2 : tie.Need-returns-2 Inv-loop μ-loop
 unfolding plainIn fileAt
@@ -79,7 +85,8 @@ is-plain-spec =
     (λ c κs. (c .before .before .before .before .before .before .before .pre .0 .holds, fits (c .before)))
     returns
     (λ c. let r = fits (c .before .before .before) in
-    let t = c .before .before .before .before .before .before .before .before .before .pre .0 .transitions in omega arith)
+    let t = c .before .before .before .before .before .before .before .before .before .pre .0 .transitions in
+    omega arith)
     (λ c. omega arith)
     (λ c. omega arith)
     loop-again

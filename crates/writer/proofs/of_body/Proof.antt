@@ -1,5 +1,5 @@
--- `of_body` meets its contract: 51; 45, by the length that was counted in an empty buffer; or the text over the front of
--- the buffer.
+-- `of_body` meets its contract: 51; 45, by the length that was counted in an empty buffer; or the text over the front
+-- of the buffer.
 use mathlib.Core.Path.{_≡_, sym, _∙_}
 use mathlib.Core.Bool.{true, false}
 use borrow.Author.Needs.{needs}

@@ -23,7 +23,8 @@ module _ (f : List ℕ) (n : Shape) (en : n ≡ shapeOf (trailer f)) where
   unfolding shapeOf
   edition-is = sym (ap (λ (s : Shape). s .edition) en)
 
-  by-body : refusalOf f ≡ 0 → n .edition ≢ stayEdition → (b : List ℕ) → b ≡ bodyOf f → (out after : List ℕ) (r : Written)
+  by-body : refusalOf f ≡ 0 → n .edition ≢ stayEdition → (b : List ℕ) → b ≡ bodyOf f
+      → (out after : List ℕ) (r : Written)
       → WritesBody (fileAt n b) out r after → WriteSays f out r after
   unfolding fileOf
   by-body h one b eb out after r q =
@@ -60,7 +61,8 @@ returns-3 c =
     let d = b .before .before .before in
     let e = d .before .before .before in
     let w = stands e in
-    by-body _ _ (w .shape) (accepted e) (d .if2 .left) _ (w .body) (e .before .before .before .before .args .out .now) _ _
+    by-body _ _ (w .shape) (accepted e) (d .if2 .left) _ (w .body)
+    (e .before .before .before .before .args .out .now) _ _
     (b .of-body .ensures)
 
 pub write-spec : {M : Type 1} → statement M

@@ -1,6 +1,6 @@
 -- The tests of writing in their order: a file that is refused, one whose charts may stay, and one that passed
--- (`says-..`); 51, 45, and the text (`body-..`); that the promise determines the answer (`write-determined`); and that the
--- text is within the buffer (`write-within`).
+-- (`says-..`); 51, 45, and the text (`body-..`); that the promise determines the answer (`write-determined`); and that
+-- the text is within the buffer (`write-within`).
 use mathlib.Core.Path.{_≡_, refl, sym, _∙_}
 use mathlib.Core.Bool.{Bool, true, false, cond}
 use mathlib.Core.List.{List, [], _∷_}

@@ -22,23 +22,36 @@ module _ (f config : List ℕ) (carried : ℕ) (inputs rows : List ℕ) where
       → RunSays f config carried inputs rows a rows
   by-file r e h a q =
       let z : refusalOf f ≡ 0 → ⊥ = λ q. h (e ∙ q) in
-      rw (run-refused f config carried inputs rows z, none-carried f config carried inputs rows z, bytes-refused f config carried inputs rows z, ← e) (q, refl)
+      rw (
+        run-refused f config carried inputs rows z,
+        none-carried f config carried inputs rows z,
+        bytes-refused f config carried inputs rows z,
+        ← e,
+      ) (q, refl)
 
   -- the run of the body that the file is opened to is the file's
-  by-body : refusalOf f ≡ 0 → (n : Shape) → n ≡ shapeOf (trailer f) → (b : List ℕ) → b ≡ bodyOf f → (rows′ : List ℕ) (a : Ran)
+  by-body : refusalOf f ≡ 0 → (n : Shape) → n ≡ shapeOf (trailer f) → (b : List ℕ) → b ≡ bodyOf f
+      → (rows′ : List ℕ) (a : Ran)
       → BodyRuns (fileAt n b) config carried inputs rows a rows′ → RunSays f config carried inputs rows a rows′
   by-body h n en b eb rows′ a q =
-      rw (run-passed f config carried inputs rows h, carried-passed f config carried inputs rows h, bytes-passed f config carried inputs rows h, file-is f n b en eb) q
+      rw (
+        run-passed f config carried inputs rows h,
+        carried-passed f config carried inputs rows h,
+        bytes-passed f config carried inputs rows h,
+        file-is f n b en eb,
+      ) q
 
 -- a file that is not refused, and its body
 accepted : (c : tie.Else1) → refusalOf (c .before .before .before .before .before .before .args .file .now) ≡ 0
 accepted c = sym (c .before .opened .ensures .refusal) ∙ c .if1 .left
 
-stands : (c : tie.Else1) → Stands (c .before .before .before .before .before .before .args .file .now) (c .before .opened .result)
+stands : (c : tie.Else1)
+    → Stands (c .before .before .before .before .before .before .args .file .now) (c .before .opened .result)
 stands c = c .before .opened .ensures .stands (c .if1 .left)
 
 returns : tie.Need-returns
-returns c = let o = c .before in by-file _ _ _ _ _ _ (o .before .opened .ensures .refusal) (o .if1 .taken) _ (c .refused .ensures)
+returns c = let o = c .before in
+    by-file _ _ _ _ _ _ (o .before .opened .ensures .refusal) (o .if1 .taken) _ (c .refused .ensures)
 
 of-body-requires : tie.Need-of-body-requires
 of-body-requires c κs =
@@ -52,7 +65,8 @@ returns-2 c =
     let e = d .before .before .before .before in
     let w = stands e in
     let a = e .before .before .before .before .before .before .args in
-    by-body _ (a .config .now) (a .carried) (a .inputs .now) (a .rows .now) (accepted e) _ (w .shape) _ (w .body) _ _ (d .of-body .ensures)
+    by-body _ (a .config .now) (a .carried) (a .inputs .now) (a .rows .now) (accepted e) _ (w .shape) _ (w .body) _ _
+    (d .of-body .ensures)
 
 pub run-spec : {M : Type 1} → statement M
 run-spec =

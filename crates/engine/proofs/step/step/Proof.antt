@@ -15,31 +15,40 @@ use Rattle.meaning.specs.Calls.Laws.{of-refused}
 use Rattle.opening.specs.Open.{Stands}
 use Rattle.engine.specs.Contracts.{StepSays}
 use Rattle.stepping.specs.Step.{BodySteps}
-use Rattle.stepping.specs.Step.Laws.{step-refused, step-passed, places-passed, open-passed, file-under, checked, file-is, refuses, says-none}
+use Rattle.stepping.specs.Step.Laws.{step-refused, step-passed, places-passed, open-passed, file-under, checked}
+use Rattle.stepping.specs.Step.Laws.{file-is, refuses, says-none}
 use Rattle.stepping.specs.declared.step.Stepped.{Stepped}
 use Rattle.engine.proofs.step.step.Statement.{statement}
 use Rattle.engine.proofs.step.step.Tie as tie
 
-by-file : (f config : List ℕ) (i : Set) (room r : ℕ) → r ≡ refusalOf f → (r ≡ 0 → ⊥) → stepOf f config i room ≡ refused r
+by-file : (f config : List ℕ) (i : Set) (room r : ℕ) → r ≡ refusalOf f → (r ≡ 0 → ⊥)
+    → stepOf f config i room ≡ refused r
 by-file f config i room r e h = rw e (step-refused f config i room (λ z. h (e ∙ z)))
 
 by-under : (f : List ℕ) (r : ℕ) → r ≡ refusalOf f → r < manyOpen
 by-under f r e = let l = file-under f in omega (arith, e)
 
 -- the step of the body that the file is opened to is the file's
-module _ (f : List ℕ) (h : refusalOf f ≡ 0) (n : Shape) (en : n ≡ shapeOf (trailer f)) (b : List ℕ) (eb : b ≡ bodyOf f) (config : List ℕ)
+module _ (f : List ℕ) (h : refusalOf f ≡ 0) (n : Shape) (en : n ≡ shapeOf (trailer f)) (b : List ℕ) (eb : b ≡ bodyOf f)
+    (config : List ℕ)
     (i : Set) where
   by-body : (next next′ : List ℕ) (r : Stepped)
       → BodySteps (fileAt n b) config i next r next′ → StepSays f config i next r next′
   by-body next next′ r q =
       let room = length next in
-      rw (step-passed f config i room h, places-passed f config i room h, open-passed f config i room h, file-is f n b en eb) q
+      rw (
+        step-passed f config i room h,
+        places-passed f config i room h,
+        open-passed f config i room h,
+        file-is f n b en eb,
+      ) q
 
 -- a file that is not refused, and its body
 accepted : (c : tie.Else1) → refusalOf (c .before .before .before .before .before .args .file .now) ≡ 0
 accepted c = sym (c .before .opened .ensures .refusal) ∙ c .if1 .left
 
-stands : (c : tie.Else1) → Stands (c .before .before .before .before .before .args .file .now) (c .before .opened .result)
+stands : (c : tie.Else1)
+    → Stands (c .before .before .before .before .before .args .file .now) (c .before .opened .result)
 stands c = c .before .opened .ensures .stands (c .if1 .left)
 
 returns : tie.Need-returns
@@ -47,7 +56,8 @@ unfolding openOf
 returns c =
     let o = c .before .before in
     let q = by-file _ _ _ _ _ (o .opened .ensures .refusal) (c .before .if1 .taken) in
-    refuses _ _ _ _ _ _ _ q (of-refused _ _ _ _ _ q) (says-none _ _ (by-under _ _ (o .opened .ensures .refusal))) (c .refused .ensures)
+    refuses _ _ _ _ _ _ _ q (of-refused _ _ _ _ _ q) (says-none _ _ (by-under _ _ (o .opened .ensures .refusal)))
+    (c .refused .ensures)
 
 of-body-requires : tie.Need-of-body-requires
 of-body-requires c κs =

@@ -1,4 +1,5 @@
--- `file::put_initials` meets its contract. The charts passed have their initial states at the front of the buffer. Assumes nothing.
+-- `file::put_initials` meets its contract. The charts passed have their initial states at the front of the buffer.
+-- Assumes nothing.
 use mathlib.Core.Path.{_≡_, refl}
 use mathlib.Core.List.{_++_}
 use Prim.Native.Nat.{_-_, _≤_}
@@ -12,7 +13,8 @@ use Rattle.queries.proofs.file.put_initials.Tie as tie
 
 abbrev Inv-loop : tie.InvT-loop
 Inv-loop n body config₀ charts c₀ config c =
-    (c ≤ charts) × (length config ≡ length config₀) × (config ≡ made c (λ d. headAt n body d .initial) ++ drop c config₀)
+    (c ≤ charts) × (length config ≡ length config₀)
+    × (config ≡ made c (λ d. headAt n body d .initial) ++ drop c config₀)
 
 abbrev μ-loop : tie.MeasureT-loop
 μ-loop n body config₀ charts c₀ config c = charts - c

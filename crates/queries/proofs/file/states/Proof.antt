@@ -30,7 +30,8 @@ module _ (f : List ℕ) (h : refusalOf f ≡ 0) (n : Shape) (is : n ≡ shapeOf 
   unfolding shapeOf
   few = rw is (counted (trailer f) (passed f h .counts) .charts)
 
-  laid : (b states : List ℕ) → b ≡ bodyOf f → states ≡ laidOver (made (n .charts) (λ c. headAt n b c .states)) (replicate mostCharts 0)
+  laid : (b states : List ℕ) → b ≡ bodyOf f
+      → states ≡ laidOver (made (n .charts) (λ c. headAt n b c .states)) (replicate mostCharts 0)
       → record { refusal = 0; charts = n .charts; states = states } ≡ statesOf f
   unfolding statesOf chartStates fileOf fileAt chartOf same
   laid b states g e = rw (eq-eqb (refusalOf f) 0 h, e, g, is)
@@ -64,7 +65,8 @@ states-spec =
     (λ c κs. search needs)
     (λ c κs. search needs)
     returns
-    (λ c. let h = few _ (accepted (c .before .before)) _ (stands (c .before .before) .shape) in record { fits = omega (arith, h) })
+    (λ c. let h = few _ (accepted (c .before .before)) _ (stands (c .before .before) .shape) in
+    record { fits = omega (arith, h) })
     (λ c. stands (c .before .before) .order)
     (λ c. stands (c .before .before) .order)
     (λ c. let e = stands (c .before .before) .end in omega arith)

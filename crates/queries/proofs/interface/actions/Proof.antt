@@ -31,8 +31,11 @@ loop-again : tie.Need-loop-again Inv-loop μ-loop
 loop-again c =
     let t = c .before in
     let i = t .before .before .loop in
-    let a = t .before .before .before .before .args in
-    (omega arith, more (a .n) (a .body .now) (a .start) (i .k) (i .all) (t .transition-at .result) (i .inv .1) (t .transition-at .ensures))
+    let a = t .before .before .before .before .args in (
+      omega arith,
+      more (a .n) (a .body .now) (a .start) (i .k) (i .all) (t .transition-at .result) (i .inv .1)
+          (t .transition-at .ensures),
+    )
 
 returns : tie.Need-returns Inv-loop μ-loop
 returns c =

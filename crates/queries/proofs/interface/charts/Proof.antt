@@ -1,5 +1,5 @@
--- `interface::charts` meets its contract. The loop's invariant: the charts passed have their interfaces, and `start` is where the next one's
--- transitions begin. Assumes nothing.
+-- `interface::charts` meets its contract. The loop's invariant: the charts passed have their interfaces, and `start` is
+-- where the next one's transitions begin. Assumes nothing.
 use mathlib.Core.Path.{_≡_, refl, sym, ap₂, _∙_}
 use mathlib.Core.List.{List}
 use Prim.Native.Nat.{ℕ, _+_, _≤_, _-_}
@@ -22,28 +22,37 @@ use Rattle.queries.proofs.interface.charts.Tie as tie
 
 -- h is the head of chart c, whose transitions begin at s
 module _ (n : Shape) (b : List ℕ) (c s : ℕ) (h : Head) (eh : h ≡ headAt n b c) (es : s ≡ startOf n b c) where
-  input-is : (v : ℕ) → v ≡ guards (from (transitionAt n b) s (h .transitions)) ∪ h .extra → v ≡ inFaceChart (fileAt n b .chart c)
+  input-is : (v : ℕ) → v ≡ guards (from (transitionAt n b) s (h .transitions)) ∪ h .extra
+      → v ≡ inFaceChart (fileAt n b .chart c)
   unfolding inFaceChart fileAt chartOf transitionsOf
   input-is v e = e ∙ ap₂ (λ (s : ℕ) (h : Head). guards (from (transitionAt n b) s (h .transitions)) ∪ h .extra) es eh
 
-  output-is : (v : ℕ) → v ≡ actions (from (transitionAt n b) s (h .transitions)) → v ≡ actions (fileAt n b .chart c .transitions)
+  output-is : (v : ℕ) → v ≡ actions (from (transitionAt n b) s (h .transitions))
+      → v ≡ actions (fileAt n b .chart c .transitions)
   unfolding fileAt chartOf transitionsOf
   output-is v e = e ∙ ap₂ (λ (s : ℕ) (h : Head). actions (from (transitionAt n b) s (h .transitions))) es eh
 
 abbrev Inv-loop : tie.InvT-loop
 Inv-loop n body input₀ output₀ start₀ c₀ input output start c =
-    (c ≤ n .charts) × (length input ≡ mostCharts) × (length output ≡ mostCharts) × (start ≡ startOf n body c) × OwnOf (fileAt n body) input output c
+    (c ≤ n .charts) × (length input ≡ mostCharts) × (length output ≡ mostCharts) × (start ≡ startOf n body c)
+    × OwnOf (fileAt n body) input output c
 
 abbrev μ-loop : tie.MeasureT-loop
 μ-loop n body input₀ output₀ start₀ c₀ input output start c = n .charts - c
 
 loop-holds : tie.Need-loop-holds Inv-loop μ-loop
-loop-holds c =
-    (omega arith, refl, refl, sym (startOf-none _ _), record { input-at = λ k h. absurd (omega arith); output-at = λ k h. absurd (omega arith) })
+loop-holds c = (
+  omega arith,
+  refl,
+  refl,
+  sym (startOf-none _ _),
+  record { input-at = λ k h. absurd (omega arith); output-at = λ k h. absurd (omega arith) },
+)
 
 -- a chart's transitions are there
 fits : (c : tie.After-head-at Inv-loop μ-loop)
-    → c .before .before .before .loop .start + c .head-at .result .transitions ≤ c .before .before .before .before .before .args .n .transitions
+    → c .before .before .before .loop .start + c .head-at .result .transitions
+    ≤ c .before .before .before .before .before .args .n .transitions
 fits c =
     let l = c .before .before .before in
     in-all _ _ _ _ (c .head-at .ensures) (l .loop .inv .3) (l .before .before .pre .1) (c .before .if1 .taken)

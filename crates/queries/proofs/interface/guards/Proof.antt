@@ -20,11 +20,13 @@ more : (n : Shape) (b : List ℕ) (start k extra all : ℕ) (t : Transition)
 more n b start k extra all t h e =
     let f = transitionAt n b in
     ap₂ (λ (a : ℕ) (t : Transition). a ∪ t .needed ∪ t .barred) h e
-    ∙ sets (guards (from f start k) ∷ extra ∷ f (start + k) .needed ∷ f (start + k) .barred ∷ []) [] (A ∪ₑ B ∪ₑ C ∪ₑ D ≐ A ∪ₑ (C ∪ₑ D) ∪ₑ B) tt
+    ∙ sets (guards (from f start k) ∷ extra ∷ f (start + k) .needed ∷ f (start + k) .barred ∷ []) []
+    (A ∪ₑ B ∪ₑ C ∪ₑ D ≐ A ∪ₑ (C ∪ₑ D) ∪ₑ B) tt
     ∙ ap (λ (z : ℕ). z ∪ extra) (sym (guards-more f start k))
 
 abbrev Inv-loop : tie.InvT-loop
-Inv-loop n body start count extra all₀ k₀ all k = (k ≤ count) × (all ≡ guards (from (transitionAt n body) start k) ∪ extra)
+Inv-loop n body start count extra all₀ k₀ all k =
+    (k ≤ count) × (all ≡ guards (from (transitionAt n body) start k) ∪ extra)
 
 abbrev μ-loop : tie.MeasureT-loop
 μ-loop n body start count extra all₀ k₀ all k = count - k
@@ -36,8 +38,11 @@ loop-again : tie.Need-loop-again Inv-loop μ-loop
 loop-again c =
     let t = c .before .before in
     let i = t .before .before .loop in
-    let a = t .before .before .before .before .args in
-    (omega arith, more (a .n) (a .body .now) (a .start) (i .k) (a .extra) (i .all) (t .transition-at .result) (i .inv .1) (t .transition-at .ensures))
+    let a = t .before .before .before .before .args in (
+      omega arith,
+      more (a .n) (a .body .now) (a .start) (i .k) (a .extra) (i .all) (t .transition-at .result) (i .inv .1)
+          (t .transition-at .ensures),
+    )
 
 returns : tie.Need-returns Inv-loop μ-loop
 returns c =

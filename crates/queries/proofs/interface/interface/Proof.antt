@@ -1,4 +1,5 @@
--- `interface::interface` meets its contract: the file's refusal with empty sets, or the interfaces of its body. Assumes nothing.
+-- `interface::interface` meets its contract: the file's refusal with empty sets, or the interfaces of its body. Assumes
+-- nothing.
 use mathlib.Core.Path.{_≡_, sym, _∙_}
 use mathlib.Core.List.{List}
 use Prim.Native.Nat.{ℕ}
@@ -21,7 +22,8 @@ module _ (f : List ℕ) where
   abbrev answer : Faces
   answer = record { refusal = refusalOf f; input = inputOf f; output = outputOf f }
 
-  refused : (r : ℕ) → (r ≡ 0 → ⊥) → r ≡ refusalOf f → _≡_ {A = Faces} (record { refusal = r; input = 0; output = 0 }) answer
+  refused : (r : ℕ) → (r ≡ 0 → ⊥) → r ≡ refusalOf f
+      → _≡_ {A = Faces} (record { refusal = r; input = 0; output = 0 }) answer
   unfolding inputOf outputOf same
   refused r h e = rw (← e, ne-eqb r 0 h)
 

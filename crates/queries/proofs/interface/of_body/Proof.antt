@@ -1,4 +1,5 @@
--- `interface::of_body` meets its contract: the last entries of two tables that are filled with the charts' own interfaces. Assumes nothing.
+-- `interface::of_body` meets its contract: the last entries of two tables that are filled with the charts' own
+-- interfaces. Assumes nothing.
 use mathlib.Core.Path.{_≡_, sym, ap₂, _∙_}
 use mathlib.Core.List.{List}
 use Prim.Native.Nat.{ℕ, _<_, _-_}
@@ -20,7 +21,8 @@ use Rattle.queries.proofs.interface.of_body.Tie as tie
 module _ (F : File) (w : Treed F) (some : 0 < F .nodes) (i u : List ℕ) (o : OwnOf F i u (F .charts)) (t : List ℕ) where
   input-is : Filled F i Input t (F .nodes) → getD t (F .nodes - 1) 0 ≡ inFace (F .chart) (wholeOf F)
   input-is f =
-      filled F w i t Input (λ c. inFaceChart (F .chart c)) f (o .input-at) (F .nodes - 1) (omega arith) ∙ sym (in-fold (F .chart) (wholeOf F))
+      filled F w i t Input (λ c. inFaceChart (F .chart c)) f (o .input-at) (F .nodes - 1) (omega arith)
+      ∙ sym (in-fold (F .chart) (wholeOf F))
 
   output-is : Filled F u Output t (F .nodes) → getD t (F .nodes - 1) 0 ≡ outFace (F .chart) (wholeOf F)
   output-is f =

@@ -1,4 +1,5 @@
--- `plainness::plain` meets its contract: the file's refusal with no, no for another edition than the first, or what its body says.
+-- `plainness::plain` meets its contract: the file's refusal with no, no for another edition than the first, or what its
+-- body says.
 use mathlib.Core.Path.{_≡_, sym, ap, _∙_}
 use mathlib.Core.Bool.{Bool, false}
 use mathlib.Core.List.{List}
@@ -34,7 +35,8 @@ module _ (f : List ℕ) where
     unfolding plainOf same
     second d = rw (h, ne-eqb (trailer f .edition) firstEdition (λ e. d (edition-is ∙ e)))
 
-    given : n .edition ≡ firstEdition → (b : List ℕ) → b ≡ bodyOf f → _≡_ {A = Plainness} (record { refusal = 0; plain = plainIn (fileAt n b) }) answer
+    given : n .edition ≡ firstEdition → (b : List ℕ) → b ≡ bodyOf f
+        → _≡_ {A = Plainness} (record { refusal = 0; plain = plainIn (fileAt n b) }) answer
     unfolding plainOf same fileOf
     given d b eb = rw (h, eq-eqb (trailer f .edition) firstEdition (sym edition-is ∙ d), en, eb)
 
@@ -49,10 +51,12 @@ returns : tie.Need-returns
 returns c = c .not-plain .ensures ∙ refused _ _ (c .before .if1 .taken) (c .before .before .opened .ensures .refusal)
 
 is-plain-requires : tie.Need-is-plain-requires
-is-plain-requires c κs = let w = stands (c .before .before .before .before) in (rw (w .body) (w .sized), rw (w .body) (w .summed))
+is-plain-requires c κs = let w = stands (c .before .before .before .before) in
+    (rw (w .body) (w .sized), rw (w .body) (w .summed))
 
 returns-2 : tie.Need-returns-2
-returns-2 c = let e = c .before .before .before .before in c .not-plain2 .ensures ∙ second _ (accepted e) _ (stands e .shape) (c .before .if2 .taken)
+returns-2 c = let e = c .before .before .before .before in
+    c .not-plain2 .ensures ∙ second _ (accepted e) _ (stands e .shape) (c .before .if2 .taken)
 
 returns-3 : tie.Need-returns-3
 returns-3 c =
