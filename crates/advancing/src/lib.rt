@@ -85,7 +85,8 @@ pub fn post_one(file: &[u8], c: Case, d: Day, k: usize, charts: usize, rows: &mu
         × (k * (14 + charts) + (14 + charts) ≤ length (now rows)) ⌝ }
     ensures { λ r. ⌜ (r ≡ turnCase (now (file .entry)) c d k)
         × (now (rows .exit) ≡ take (k * (14 + charts)) (now (rows .entry))
-        ++ (turnRow charts (now (file .entry)) c d k ++ drop (k * (14 + charts) + (14 + charts)) (now (rows .entry)))) ⌝ }
+        ++ (turnRow charts (now (file .entry)) c d k
+        ++ drop (k * (14 + charts) + (14 + charts)) (now (rows .entry)))) ⌝ }
 {
     let sets = d.sets;
     let config = c.config;

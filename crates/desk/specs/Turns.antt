@@ -63,7 +63,8 @@ seenOf s c = record {
 
 -- what the file says, before any case is looked at
 unfoldable pub unseenOf : List ℕ → Seen
-unseenOf f = record { refusal = statesOf f .refusal; charts = statesOf f .charts; states = statesOf f .states; ended = false }
+unseenOf f =
+    record { refusal = statesOf f .refusal; charts = statesOf f .charts; states = statesOf f .states; ended = false }
 
 unfoldable pub allSeen : Seen → List Case → Seen
 allSeen s [] = s
@@ -113,7 +114,8 @@ turnCase f c d k = record {
 
 -- the bytes of a row, its number in front
 unfoldable pub rowBytes : ℕ → ℕ → Reply → List ℕ
-rowBytes charts number r = bytes 4 number ++ (bytes 8 (r .output) ++ (one (r .mark) ∷ r .refusal ∷ firstBytes charts (r .next)))
+rowBytes charts number r =
+    bytes 4 number ++ (bytes 8 (r .output) ++ (one (r .mark) ∷ r .refusal ∷ firstBytes charts (r .next)))
 
 unfoldable pub turnRow : ℕ → List ℕ → Case → Day → ℕ → List ℕ
 turnRow charts f c d k = rowBytes charts (c .last + 1) (replyTo f c d k)

@@ -1,5 +1,6 @@
--- What each call for C and Rust promises, one definition for each contract: what it returns and what it leaves behind each pointer. f has the bytes of
--- the file and r is what is returned; b is what a buffer holds before the call, and c what it holds after it. A mark and a yes are numbers: 1 for yes.
+-- What each call for C and Rust promises, one definition for each contract: what it returns and what it leaves behind
+-- each pointer. f has the bytes of the file and r is what is returned; b is what a buffer holds before the call, and c
+-- what it holds after it. A mark and a yes are numbers: 1 for yes.
 use mathlib.Core.Path.{_≡_}
 use mathlib.Core.List.{List}
 use Prim.Native.Nat.{ℕ}
@@ -7,7 +8,8 @@ use lib.ListN.{length}
 use Rattle.meaning.specs.Count.{one}
 use Rattle.meaning.specs.Meaning.{Set}
 use Rattle.meaning.specs.Check.{refusalOf}
-use Rattle.meaning.specs.Calls.{firstRefusal, firstBytes, inputOf, outputOf, stepOf, placesOf, openOf, nextIn, refusalIn, outputIn, markIn, runRefusal}
+use Rattle.meaning.specs.Calls.{firstRefusal, firstBytes, inputOf, outputOf, stepOf, placesOf, openOf, nextIn}
+use Rattle.meaning.specs.Calls.{refusalIn, outputIn, markIn, runRefusal}
 use Rattle.meaning.specs.Calls.{runBytes, runCarried}
 use Rattle.meaning.specs.Rewriting.{rewriteRefusal, rewriteLength, rewriteOut}
 use Rattle.meaning.specs.Plain.{plainOf}
@@ -57,7 +59,8 @@ LackingReturns f chart place o r answer signal =
 -- length of the file, and place of the first wrong byte (RULES 14)
 abbrev pub ReadReturns : List ℕ → List ℕ → ℕ → List ℕ → ℕ → ℕ → Type 0
 ReadReturns text b r c size place =
-    (r ≡ readRefusal text (length b)) × (c ≡ readOut text b) × (size ≡ readLength text (length b)) × (place ≡ readPlace text)
+    (r ≡ readRefusal text (length b)) × (c ≡ readOut text b) × (size ≡ readLength text (length b))
+    × (place ≡ readPlace text)
 
 -- length of the text (RULES 15)
 abbrev pub WriteReturns : List ℕ → List ℕ → ℕ → List ℕ → ℕ → Type 0

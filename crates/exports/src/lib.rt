@@ -1,9 +1,10 @@
-// The engine, the posting and the typed notation for programs in C and Rust (include/mestecur.h). A slice passes as a pointer and a length. Each function returns 0 or the
-// refusal. A single number behind a pointer is an answer, and is 0 where the call is refused, but for the number of open choices in 24; places are
-// answers too, and are 255 then.
+// The engine, the posting and the typed notation for programs in C and Rust (include/mestecur.h). A slice passes as a
+// pointer and a length. Each function returns 0 or the refusal. A single number behind a pointer is an answer, and is 0
+// where the call is refused, but for the number of open choices in 24; places are answers too, and are 255 then.
 ghost use mathlib.Core.Path.{_≡_};
 ghost use Rattle.meaning.specs.Count.{one};
-ghost use Rattle.exports.specs.Contracts.{CheckReturns, FirstReturns, InterfaceReturns, PlainReturns, StepReturns};
+ghost use Rattle.exports.specs.Contracts.{CheckReturns, FirstReturns, InterfaceReturns, PlainReturns};
+ghost use Rattle.exports.specs.Contracts.{StepReturns};
 ghost use Rattle.exports.specs.Contracts.{RunReturns, RewriteReturns, ClearReturns, LackingReturns, ReadReturns};
 ghost use Rattle.exports.specs.Contracts.{WriteReturns};
 ghost use Rattle.desk.specs.Posting.{PostSays};
@@ -54,7 +55,8 @@ pub extern "C" fn mestecur_step(
     places: &mut [u8; layout::limits::CHARTS],
     open_choices: &mut u64,
 ) -> u8
-    ensures { λ r. ⌜ StepReturns (now (file .entry)) (now (config .entry)) input (now (next .entry)) r (now (next .exit))
+    ensures { λ r. ⌜ StepReturns (now (file .entry)) (now (config .entry)) input (now (next .entry)) r
+        (now (next .exit))
         (now (output .exit)) (now (mark .exit)) (now (places .exit)) (now («open_choices» .exit)) ⌝ }
 {
     let s = engine::step::step(file, config, input, next);
@@ -82,7 +84,8 @@ pub extern "C" fn mestecur_run(
     rows: &mut [u8],
     carried_on: &mut u64,
 ) -> u8
-    ensures { λ r. ⌜ RunReturns (now (file .entry)) (now (config .entry)) carried (now (inputs .entry)) (now (rows .entry)) r
+    ensures { λ r. ⌜ RunReturns (now (file .entry)) (now (config .entry)) carried (now (inputs .entry))
+        (now (rows .entry)) r
         (now (rows .exit)) (now («carried_on» .exit)) ⌝ }
 {
     let a = engine::run::run(file, config, carried, inputs, rows);
@@ -130,7 +133,8 @@ pub extern "C" fn mestecur_lacking(
     answer: &mut u8,
     signal: &mut u8,
 ) -> u8
-    ensures { λ r. ⌜ LackingReturns (now (file .entry)) chart place offered r (now (answer .exit)) (now (signal .exit)) ⌝ }
+    ensures { λ r. ⌜ LackingReturns (now (file .entry)) chart place offered r (now (answer .exit))
+        (now (signal .exit)) ⌝ }
 {
     let a = lacks::in_numbers(engine::lacking::lacking(file, chart, place, offered));
     *answer = a.answer;

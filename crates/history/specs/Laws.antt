@@ -23,15 +23,19 @@ use Rattle.meaning.specs.Meaning.{Set, same, Answer}
 use Rattle.meaning.specs.File.{File, fileOf}
 use Rattle.meaning.specs.Check.{firstOf, refusalOf}
 use Rattle.meaning.specs.Check.Laws.{eq-or-not}
-use Rattle.meaning.specs.Calls.{laidOver, Valid, stepIn, nextIn, afterStep, carriedAfter, outputIn, rowOf, rowsOf, carriedOf, runRefusal, runBytes, runCarried, configAt}
+use Rattle.meaning.specs.Calls.{laidOver, Valid, stepIn, nextIn, afterStep, carriedAfter, outputIn, rowOf, rowsOf}
+use Rattle.meaning.specs.Calls.{carriedOf, runRefusal, runBytes, runCarried, configAt}
 use Rattle.meaning.specs.Calls.Laws.{behind-is, run-open}
 use Rattle.meaning.specs.Laws.Runs.{Stand, rows-all, length-row, file-leads}
 use Rattle.desk.specs.declared.Case.{Case}
 use Rattle.desk.specs.declared.Entry.{Entry}
-use Rattle.desk.specs.Posting.{configOf, joined, bookTests, outside?, dayTests, postRefusal, answerTo, postedRow, postedCase, rowsFrom, casesFrom, postCases, postRows}
+use Rattle.desk.specs.Posting.{configOf, joined, bookTests, outside?, dayTests, postRefusal, answerTo, postedRow}
+use Rattle.desk.specs.Posting.{postedCase, rowsFrom, casesFrom, postCases, postRows}
 use Rattle.desk.specs.Turns.{firstBytes}
-use Rattle.desk.specs.Turns.Posted.{refusalAt, config-valid, len-known, book-passes, each-passes, after-long, next-bytes, Accepted, accepted}
-use Rattle.history.specs.Words.{mine, Alike, alike-none, alike-on, alike-swap, alike-join, alike-back, alike-then, postedAt, postDays, DaysPosted, caseRows, arrived}
+use Rattle.desk.specs.Turns.Posted.{refusalAt, config-valid, len-known, book-passes, each-passes, after-long}
+use Rattle.desk.specs.Turns.Posted.{next-bytes, Accepted, accepted}
+use Rattle.history.specs.Words.{mine, Alike, alike-none, alike-on, alike-swap, alike-join, alike-back, alike-then}
+use Rattle.history.specs.Words.{postedAt, postDays, DaysPosted, caseRows, arrived}
 
 -- ── each case in its place, over lists of cases ──
 
@@ -71,10 +75,12 @@ module _ (f : List ℕ) (h : refusalOf f ≡ 0) where
   row-long : (c : Case) → refusalAt f (configOf c) ≡ 0 → (i : Set) → length (postedRow F c i) ≡ w
   unfolding postedRow
   row-long c z i =
-      let r = length-row (answerTo F c i) (configOf c) (F .charts) (after-long f h c z (c .carried ∪ i) (answerTo F c i) refl) in
+      let r = length-row (answerTo F c i) (configOf c) (F .charts)
+      (after-long f h c z (c .carried ∪ i) (answerTo F c i) refl) in
       rw (length-append, length-bytes 4 (c .last + 1), r) (omega arith)
 
-  rows-long : (k : ℕ) (cs : List Case) (es : List Entry) → firstOf (bookTests f cs) ≡ 0 → length (rowsFrom F k cs es) ≡ length cs * w
+  rows-long : (k : ℕ) (cs : List Case) (es : List Entry) → firstOf (bookTests f cs) ≡ 0
+      → length (rowsFrom F k cs es) ≡ length cs * w
   unfolding rowsFrom
   rows-long k [] es e = omega arith
   rows-long k (c ∷ cs) es e =
@@ -82,7 +88,8 @@ module _ (f : List ℕ) (h : refusalOf f ≡ 0) where
       rw (length-append, row-long c (p .0) (joined k es), rows-long (suc k) cs es (p .1), suc-mul) (omega arith)
 
   -- row k of rows that bytes t stand behind
-  rows-at : (j k : ℕ) (cs : List Case) (es : List Entry) (t : List ℕ) (c : Case) → firstOf (bookTests f cs) ≡ 0 → k < length cs
+  rows-at : (j k : ℕ) (cs : List Case) (es : List Entry) (t : List ℕ) (c : Case) → firstOf (bookTests f cs) ≡ 0
+      → k < length cs
       → take w (drop (k * w) (rowsFrom F j cs es ++ t)) ≡ postedRow F (getD cs k c) (joined (j + k) es)
   unfolding rowsFrom
   rows-at j k [] es t c e l = absurd (omega (arith, l))
@@ -90,7 +97,8 @@ module _ (f : List ℕ) (h : refusalOf f ≡ 0) where
       let z : j + 0 ≡ j = omega arith in
       let y : 0 * w ≡ 0 = omega arith in
       rw (z, y, append-assoc)
-      (take-at (postedRow F a (joined j es)) (rowsFrom F (suc j) as′ es ++ t) w (row-long a (book-passes f a as′ e .0) (joined j es)))
+      (take-at (postedRow F a (joined j es)) (rowsFrom F (suc j) as′ es ++ t) w
+      (row-long a (book-passes f a as′ e .0) (joined j es)))
   rows-at j (suc k) (a ∷ as′) es t c e l =
       let p = book-passes f a as′ e in
       let z : suc j + k ≡ j + suc k = omega arith in
@@ -114,7 +122,8 @@ module _ (f : List ℕ) (h : refusalOf f ≡ 0) where
 
 -- ── a day that is accepted ──
 
-module _ (f : List ℕ) (cs : List Case) (es : List Entry) (rows : List ℕ) (h : postRefusal f cs es (length rows) ≡ 0) where
+module _ (f : List ℕ) (cs : List Case) (es : List Entry) (rows : List ℕ)
+    (h : postRefusal f cs es (length rows) ≡ 0) where
   abbrev width : ℕ
   width = 14 + fileOf f .charts
 
@@ -141,7 +150,8 @@ module _ (f : List ℕ) (cs : List Case) (es : List Entry) (rows : List ℕ) (h 
   rows-fit =
       let n = rows-long f (ok .file) 0 cs es (ok .book) in
       let l = ok .fits in
-      let e : length written ≡ length rows = ap length written-are ∙ rw (length-append, length-drop, n) (omega (arith, l)) in
+      let e : length written ≡ length rows =
+      ap length written-are ∙ rw (length-append, length-drop, n) (omega (arith, l)) in
       (omega (arith, l, e), e)
 
   -- exactly these: behind them all bytes are as they were
@@ -198,7 +208,8 @@ module _ (f : List ℕ) (cs : List Case) (es : List Entry) (rows : List ℕ) (h 
     row-is-run row g =
         let r = answerTo (fileOf f) own (joined k es) in
         let n : length (rowOf r (configOf own)) ≡ length row =
-        length-row r (configOf own) (fileOf f .charts) (after-long f (ok .file) own own-passes (own .carried ∪ joined k es) r refl) ∙ sym g in
+        length-row r (configOf own) (fileOf f .charts)
+        (after-long f (ok .file) own own-passes (own .carried ∪ joined k es) r refl) ∙ sym g in
         ap (drop 4) row-posted ∙ row-tail (fileOf f) own (joined k es)
         ∙ sym (behind-is (runRefusal f (configOf own) 1 (length row)) _ row (run-given (length row) (omega (arith, g)))
         ∙ rw (append-nil (rowOf r (configOf own)), n, drop-length row) (append-nil (rowOf r (configOf own))))
@@ -208,7 +219,8 @@ module _ (f : List ℕ) (cs : List Case) (es : List Entry) (rows : List ℕ) (h 
         → getD records k c .carried ≡ runCarried f (configOf own) (own .carried) (joined k es ∷ []) room
     unfolding runCarried carriedOf postedCase
     carried-is-run room g =
-        ap (λ (x : Case). x .carried) case-posted ∙ sym (behind-is (runRefusal f (configOf own) 1 room) _ _ (run-given room g))
+        ap (λ (x : Case). x .carried) case-posted
+        ∙ sym (behind-is (runRefusal f (configOf own) 1 room) _ _ (run-given room g))
 
     -- the new configuration is what the row ends with
     pub config-is-run : configOf (getD records k c) ≡ afterStep (answerTo (fileOf f) own (joined k es)) (configOf own)
@@ -232,18 +244,22 @@ own-joined k es es′ e = sym (joined-mine k es) ∙ ap (joined k) e ∙ joined-
 -- whatever else they hold: its row has the same bytes in both, and its new record is the same
 module _ (f : List ℕ) (cs cs′ : List Case) (es es′ : List Entry) (rows rows′ : List ℕ)
     (h : postRefusal f cs es (length rows) ≡ 0) (h′ : postRefusal f cs′ es′ (length rows′) ≡ 0)
-    (k : ℕ) (c : Case) (l : k < length cs) (l′ : k < length cs′) (e : getD cs k c ≡ getD cs′ k c) (g : mine k es ≡ mine k es′) where
+    (k : ℕ) (c : Case) (l : k < length cs) (l′ : k < length cs′) (e : getD cs k c ≡ getD cs′ k c)
+    (g : mine k es ≡ mine k es′) where
   pub own-row : postedAt f (postRows f cs es rows) k ≡ postedAt f (postRows f cs′ es′ rows′) k
   own-row =
-      row-posted f cs es rows h k c l ∙ ap₂ (postedRow (fileOf f)) e (own-joined k es es′ g) ∙ sym (row-posted f cs′ es′ rows′ h′ k c l′)
+      row-posted f cs es rows h k c l ∙ ap₂ (postedRow (fileOf f)) e (own-joined k es es′ g)
+      ∙ sym (row-posted f cs′ es′ rows′ h′ k c l′)
 
   pub own-case : getD (postCases f cs es (length rows)) k c ≡ getD (postCases f cs′ es′ (length rows′)) k c
   own-case =
-      case-posted f cs es rows h k c l ∙ ap₂ (postedCase (fileOf f)) e (own-joined k es es′ g) ∙ sym (case-posted f cs′ es′ rows′ h′ k c l′)
+      case-posted f cs es rows h k c l ∙ ap₂ (postedCase (fileOf f)) e (own-joined k es es′ g)
+      ∙ sym (case-posted f cs′ es′ rows′ h′ k c l′)
 
 -- ── entries in another order, or joined beforehand ──
 
-swap-joined : (t u : Bool) (a b r : Set) → cond t (a ∪ cond u (b ∪ r) r) (cond u (b ∪ r) r) ≡ cond u (b ∪ cond t (a ∪ r) r) (cond t (a ∪ r) r)
+swap-joined : (t u : Bool) (a b r : Set)
+    → cond t (a ∪ cond u (b ∪ r) r) (cond u (b ∪ r) r) ≡ cond u (b ∪ cond t (a ∪ r) r) (cond t (a ∪ r) r)
 swap-joined true true a b r = sets (a ∷ b ∷ r ∷ []) [] (A ∪ₑ (B ∪ₑ C) ≐ B ∪ₑ (A ∪ₑ C)) tt
 swap-joined true false a b r = refl
 swap-joined false true a b r = refl
@@ -267,8 +283,10 @@ alike-joined : (k : ℕ) (es fs : List Entry) → Alike es fs → joined k es �
 unfolding joined
 alike-joined k _ _ alike-none = refl
 alike-joined k _ _ (alike-on e {es} {fs} p) = rw (alike-joined k es fs p)
-alike-joined k _ _ (alike-swap a b es) = swap-joined (same (a .number) k) (same (b .number) k) (a .signals) (b .signals) (joined k es)
-alike-joined k _ _ (alike-join a b es e) = rw (← e) (both-joined (same (a .number) k) (a .signals) (b .signals) (joined k es))
+alike-joined k _ _ (alike-swap a b es) =
+    swap-joined (same (a .number) k) (same (b .number) k) (a .signals) (b .signals) (joined k es)
+alike-joined k _ _ (alike-join a b es e) =
+    rw (← e) (both-joined (same (a .number) k) (a .signals) (b .signals) (joined k es))
 alike-joined k _ _ (alike-back {es} {fs} p) = sym (alike-joined k es fs p)
 alike-joined k _ _ (alike-then {es} {fs} {gs} p q) = alike-joined k es fs p ∙ alike-joined k fs gs q
 
@@ -352,7 +370,8 @@ module _ (f : List ℕ) (rows : List ℕ) (k : ℕ) (c : Case) where
   arrived-long (day ∷ days) = ap suc (arrived-long days)
 
   -- a list of days, at least one, of which none is refused
-  module _ (day : List Entry) (days : List (List Entry)) (cs : List Case) (p : DaysPosted f cs (day ∷ days) rows) (l : k < length cs) where
+  module _ (day : List Entry) (days : List (List Entry)) (cs : List Case) (p : DaysPosted f cs (day ∷ days) rows)
+      (l : k < length cs) where
     abbrev first : Case
     first = getD cs k c
 
@@ -369,7 +388,8 @@ module _ (f : List ℕ) (rows : List ℕ) (k : ℕ) (c : Case) where
     first-valid : Valid (fileOf f) (configOf first)
     first-valid = own-valid f cs day rows begun k c l
 
-    run-passes : (room : ℕ) → length inputs * (10 + fileOf f .charts) ≤ room → runRefusal f (configOf first) (length inputs) room ≡ 0
+    run-passes : (room : ℕ) → length inputs * (10 + fileOf f .charts) ≤ room
+        → runRefusal f (configOf first) (length inputs) room ≡ 0
     run-passes room g = run-open f (configOf first) (length inputs) room file-passes first-valid g
 
     -- its rows, day by day, are the bytes that the run over what arrived for it writes to a buffer that they fill
@@ -379,14 +399,17 @@ module _ (f : List ℕ) (rows : List ℕ) (k : ℕ) (c : Case) where
     days-rows buffer g =
         let R = rowsOf (fileOf f) (configOf first) (first .carried) inputs in
         let s : Stand = record { config = configOf first; carried = first .carried } in
-        let n : length R ≡ length buffer = rows-all (fileOf f) (file-leads f file-passes) s inputs first-valid ∙ sym g in
+        let n : length R ≡ length buffer =
+        rows-all (fileOf f) (file-leads f file-passes) s inputs first-valid ∙ sym g in
         rows-run (day ∷ days) cs p l
-        ∙ sym (behind-is (runRefusal f (configOf first) (length inputs) (length buffer)) _ buffer (run-passes (length buffer) (omega (arith, g)))
+        ∙ sym (behind-is (runRefusal f (configOf first) (length inputs) (length buffer)) _ buffer
+        (run-passes (length buffer) (omega (arith, g)))
         ∙ rw (n, drop-length buffer) (append-nil R))
 
     -- and what it carries after them is what that run returns
     pub days-carried : (room : ℕ) → length inputs * (10 + fileOf f .charts) ≤ room
-        → getD (postDays f cs (day ∷ days) rows) k c .carried ≡ runCarried f (configOf first) (first .carried) inputs room
+        → getD (postDays f cs (day ∷ days) rows) k c .carried
+        ≡ runCarried f (configOf first) (first .carried) inputs room
     unfolding runCarried
     days-carried room g =
         carried-run (day ∷ days) cs p l

@@ -1,4 +1,5 @@
--- A loop in a walk by hand, by states: each turn leaves the loop or leads to a state with a smaller measure. Says nothing of the crate.
+-- A loop in a walk by hand, by states: each turn leaves the loop or leads to a state with a smaller measure. Says
+-- nothing of the crate.
 --     loops    a loop from a good state
 -- Assumes `Given` and `Tables`.
 use mathlib.Core.Path.{_≡_, refl, subst}
@@ -26,7 +27,8 @@ le-cases i n h = by-test (ltb i n) refl
     by-test true e = inl (ltb-true i n e)
     by-test false e = inr (omega (arith, h, ltb-false i n e))
 
-module _ {M : Type 1} (𝓤 : URA M) (H : Heap 𝓤) (A : Atoms 𝓤) (W : Given 𝓤 H A) (𝓣 : Tables 𝓤 H) (En : Env 𝓤 H) (turn : Body) (Left : Out → SProp 𝓤)
+module _ {M : Type 1} (𝓤 : URA M) (H : Heap 𝓤) (A : Atoms 𝓤) (W : Given 𝓤 H A) (𝓣 : Tables 𝓤 H) (En : Env 𝓤 H)
+    (turn : Body) (Left : Out → SProp 𝓤)
     {S : Type 0} (μ : S → ℕ) (Good : S → Type 0) (At : S → List (Item 𝓤)) where
   abbrev Is : ℕ → S → Type 0
   Is t s = (μ s ≡ t) × Good s
@@ -38,10 +40,12 @@ module _ {M : Type 1} (𝓤 : URA M) (H : Heap 𝓤) (A : Atoms 𝓤) (W : Given
   Below t = ex 𝓤 (λ (u : ℕ). guard 𝓤 (u < t) (Inv u))
 
   inv : (s : S) → Good s → ent 𝓤 (⋆ 𝓤 H A (At s)) (Inv (μ s))
-  inv s g = via 𝓤 (guard 𝓤 (Is (μ s) s) (⋆ 𝓤 H A (At s))) (guardI 𝓤 (Is (μ s) s) (⋆ 𝓤 H A (At s)) (refl, g)) (exI 𝓤 (λ (r : S). guard 𝓤 (Is (μ s) r) (⋆ 𝓤 H A (At r))) s)
+  inv s g = via 𝓤 (guard 𝓤 (Is (μ s) s) (⋆ 𝓤 H A (At s))) (guardI 𝓤 (Is (μ s) s) (⋆ 𝓤 H A (At s)) (refl, g))
+      (exI 𝓤 (λ (r : S). guard 𝓤 (Is (μ s) r) (⋆ 𝓤 H A (At r))) s)
 
   below : (t : ℕ) (s : S) → Good s → μ s < t → ent 𝓤 (⋆ 𝓤 H A (At s)) (Below t)
-  below t s g l = via 𝓤 (Inv (μ s)) (inv s g) (via 𝓤 (guard 𝓤 (μ s < t) (Inv (μ s))) (guardI 𝓤 (μ s < t) (Inv (μ s)) l) (exI 𝓤 (λ (u : ℕ). guard 𝓤 (u < t) (Inv u)) (μ s)))
+  below t s g l = via 𝓤 (Inv (μ s)) (inv s g) (via 𝓤 (guard 𝓤 (μ s < t) (Inv (μ s))) (guardI 𝓤 (μ s < t) (Inv (μ s)) l)
+      (exI 𝓤 (λ (u : ℕ). guard 𝓤 (u < t) (Inv u)) (μ s)))
 
   -- what a turn is shown by: from a good state, to any X that every good state with a smaller measure gives
   abbrev pub Turns : Type 2
@@ -54,4 +58,5 @@ module _ {M : Type 1} (𝓤 : URA M) (H : Heap 𝓤) (A : Atoms 𝓤) (W : Given
         turns s (f .1) (Below t) (λ r g l. below t r g (subst (λ (u : ℕ). μ r < u) (f .0) l))))
 
     pub loops : (s : S) → Good s → ent 𝓤 (⋆ 𝓤 H A (At s)) (Wp 𝓤 H (𝓣 .C) (𝓣 .Λ) En (loop turn) Left)
-    loops s g = via 𝓤 (Inv (μ s)) (inv s g) (loop-rule 𝓤 H (W .laws) 𝓣 _<_ (Nat·lt-wfRel .wf) En turn Left Inv each (μ s))
+    loops s g =
+        via 𝓤 (Inv (μ s)) (inv s g) (loop-rule 𝓤 H (W .laws) 𝓣 _<_ (Nat·lt-wfRel .wf) En turn Left Inv each (μ s))

@@ -40,7 +40,8 @@ pub fn look_through(file: &[u8], cases: &[Case]) -> Seen
 fn post_all(file: &[u8], cases: &mut [Case], d: Day, n: usize, charts: usize, rows: &mut [u8])
     requires { ⌜ Postable (now cases) n charts (length (now rows)) ⌝ }
     ensures { λ _. ⌜ (now (cases .exit) ≡ turnCases (now (file .entry)) d n 0 (now (cases .entry)))
-        × (now (rows .exit) ≡ laidOver (turnRows (now (file .entry)) d charts n 0 (now (cases .entry))) (now (rows .entry))) ⌝ }
+        × (now (rows .exit)
+        ≡ laidOver (turnRows (now (file .entry)) d charts n 0 (now (cases .entry))) (now (rows .entry))) ⌝ }
 {
     let mut i: usize = 0;
     while i < n {

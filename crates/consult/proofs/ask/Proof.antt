@@ -33,4 +33,5 @@ returns c =
     (search needs) (s .pre) (c .before .step .ensures .0) (c .before .step .ensures .1)
 
 pub ask-spec : {M : Type 1} → statement M
-ask-spec = tie.close (tie.spec (λ c. search needs) slice-aggregate-step (λ c. search needs) (λ c κs. search needs) returns)
+ask-spec =
+    tie.close (tie.spec (λ c. search needs) slice-aggregate-step (λ c. search needs) (λ c κs. search needs) returns)

@@ -25,7 +25,8 @@ unfolding badOf same
 bad-length s c l n = rw (le-ltb mostCharts (c .length) l, ne-eqb (c .length) (s .charts) n)
 
 bad-states : (s : Seen) (c : Case) (t : Bool) (r : ℕ) → c .length ≤ mostCharts → c .length ≡ s .charts
-    → t ≡ anyUpTo (c .length) (λ k. notBelow (getD (c .config) k 0) (getD (s .states) k 0)) → r ≡ cond t badState 0 → r ≡ badOf s c
+    → t ≡ anyUpTo (c .length) (λ k. notBelow (getD (c .config) k 0) (getD (s .states) k 0)) → r ≡ cond t badState 0
+    → r ≡ badOf s c
 unfolding badOf same
 bad-states s c t r l n e g = g ∙ rw (le-ltb mostCharts (c .length) l, eq-eqb (c .length) (s .charts) n, e)
 
@@ -38,7 +39,8 @@ returns-2 c = bad-length _ _ (c .before .before .if1 .left) (c .if2 .taken)
 returns-3 : tie.Need-returns-3
 returns-3 c =
     let e = c .before .before .before .before in
-    bad-states _ _ _ _ (e .before .before .if1 .left) (e .if2 .left) (c .before .bad-state .ensures) (rw (c .if3 .taken))
+    bad-states _ _ _ _ (e .before .before .if1 .left) (e .if2 .left) (c .before .bad-state .ensures)
+    (rw (c .if3 .taken))
 
 returns-4 : tie.Need-returns-4
 returns-4 c =

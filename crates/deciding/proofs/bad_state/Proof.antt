@@ -22,7 +22,8 @@ loop-holds : tie.Need-loop-holds Inv-loop μ-loop
 loop-holds c = (omega arith, any-none _)
 
 returns : tie.Need-returns Inv-loop μ-loop
-returns c = sym (any-at _ _ (c .before .before .loop .k) (c .before .loop-test .taken) (ap not (le-ltb _ _ (c .if1 .taken))))
+returns c =
+    sym (any-at _ _ (c .before .before .loop .k) (c .before .loop-test .taken) (ap not (le-ltb _ _ (c .if1 .taken))))
 
 loop-again : tie.Need-loop-again Inv-loop μ-loop
 loop-again c = (omega arith, any-more _ _ (c .before .before .loop .inv .1) (ap not (lt-ltb _ _ (c .if1 .left))))

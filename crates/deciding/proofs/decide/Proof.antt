@@ -10,7 +10,8 @@ use Rattle.deciding.proofs.decide.Tie as tie
 returns : tie.Need-returns
 returns c =
     let s = c .before .before .before in
-    c .planned .ensures ∙ ap (λ (r : ℕ). planOf r (s .args .n) (s .args .s .charts)) (c .before .before .verdict .ensures)
+    c .planned .ensures
+    ∙ ap (λ (r : ℕ). planOf r (s .args .n) (s .args .s .charts)) (c .before .before .verdict .ensures)
 
 pub decide-spec : {M : Type 1} → statement M
 decide-spec = tie.close (tie.spec (λ c κs. search needs) (λ c. search needs) (λ c κs. search needs) returns)

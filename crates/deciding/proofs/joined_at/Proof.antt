@@ -14,4 +14,5 @@ unfolding joinedAt
 returns-2 c = simp (lt-ltb _ _ (c .if1 .left))
 
 pub joined-at-spec : {M : Type 1} → statement M
-joined-at-spec = tie.close (tie.spec returns (λ c. search needs) (λ c. search needs) (λ c. search needs) (λ c. search needs) returns-2)
+joined-at-spec = tie.close (tie.spec returns (λ c. search needs) (λ c. search needs) (λ c. search needs)
+    (λ c. search needs) returns-2)

@@ -13,7 +13,8 @@ use Rattle.deciding.proofs.look_at.Statement.{statement}
 use Rattle.deciding.proofs.look_at.Tie as tie
 
 seen-is : (s : Seen) (c : Case) (r b : ℕ) (e : Bool) → b ≡ badOf s c → r ≡ cond (same (s .refusal) 0) b (s .refusal)
-    → e ≡ (s .ended || leb lastRow (c .last)) → record { refusal = r; charts = s .charts; states = s .states; ended = e } ≡ seenOf s c
+    → e ≡ (s .ended || leb lastRow (c .last))
+    → record { refusal = r; charts = s .charts; states = s .states; ended = e } ≡ seenOf s c
 unfolding seenOf same
 seen-is s c r b e h g k = rw (g, h, k)
 

@@ -12,7 +12,8 @@ use Rattle.desk.specs.Turns.{joinedAt, takenOf}
 use Rattle.deciding.proofs.take_one.Statement.{statement}
 use Rattle.deciding.proofs.take_one.Tie as tie
 
-taken-is : (n : ℕ) (d : Day) (e : Entry) (l : List Set) (t : Bool) → l ≡ joinedAt (d .sets) (e .number) (e .signals) → t ≡ (d .outside || leb n (e .number))
+taken-is : (n : ℕ) (d : Day) (e : Entry) (l : List Set) (t : Bool) → l ≡ joinedAt (d .sets) (e .number) (e .signals)
+    → t ≡ (d .outside || leb n (e .number))
     → record { sets = l; outside = t } ≡ takenOf n d e
 unfolding takenOf
 taken-is n d e l t h g = rw (h, g)

@@ -47,12 +47,26 @@ module _ (s : Seen) (outside : Bool) (n room : ℕ) where
             by-room : room < n * (14 + s .charts) → shortBook ≡ verdict
             unfolding verdictOf same
             by-room e =
-                rw (eq-eqb (s .refusal) 0 k, ne-eqb n 0 some, le-ltb mostCases n few, inside, on, lt-ltb room (n * (14 + s .charts)) e)
+                rw (
+                  eq-eqb (s .refusal) 0 k,
+                  ne-eqb n 0 some,
+                  le-ltb mostCases n few,
+                  inside,
+                  on,
+                  lt-ltb room (n * (14 + s .charts)) e,
+                )
 
             by-nothing : n * (14 + s .charts) ≤ room → 0 ≡ verdict
             unfolding verdictOf same
             by-nothing e =
-                rw (eq-eqb (s .refusal) 0 k, ne-eqb n 0 some, le-ltb mostCases n few, inside, on, le-ltb room (n * (14 + s .charts)) e)
+                rw (
+                  eq-eqb (s .refusal) 0 k,
+                  ne-eqb n 0 some,
+                  le-ltb mostCases n few,
+                  inside,
+                  on,
+                  le-ltb room (n * (14 + s .charts)) e,
+                )
 
 -- a product that fits
 fits : (n m : ℕ) → n ≤ 64 → m < 256 → n * (14 + m) < 2 ^ 64
@@ -69,11 +83,13 @@ returns-3 c = by-many _ _ _ _ (c .before .before .if1 .left) (c .before .if2 .le
 
 returns-4 : tie.Need-returns-4
 returns-4 c =
-    by-outside _ _ _ _ (c .before .before .before .if1 .left) (c .before .before .if2 .left) (c .before .if3 .left) (c .if4 .taken)
+    by-outside _ _ _ _ (c .before .before .before .if1 .left) (c .before .before .if2 .left) (c .before .if3 .left)
+    (c .if4 .taken)
 
 returns-5 : tie.Need-returns-5
 returns-5 c =
-    by-end _ _ _ _ (c .before .before .before .before .if1 .left) (c .before .before .before .if2 .left) (c .before .before .if3 .left)
+    by-end _ _ _ _ (c .before .before .before .before .if1 .left) (c .before .before .before .if2 .left)
+    (c .before .before .if3 .left)
     (c .before .if4 .left) (c .if5 .taken)
 
 mul-if6 : tie.Need-mul-if6
@@ -85,16 +101,19 @@ mul-if6 c =
 returns-6 : tie.Need-returns-6
 returns-6 c =
     let e = c .before .before in
-    by-room _ _ _ _ (e .before .before .before .before .if1 .left) (e .before .before .before .if2 .left) (e .before .before .if3 .left)
+    by-room _ _ _ _ (e .before .before .before .before .if1 .left) (e .before .before .before .if2 .left)
+    (e .before .before .if3 .left)
     (e .before .if4 .left) (e .if5 .left) (c .if6 .taken)
 
 returns-7 : tie.Need-returns-7
 returns-7 c =
     let e = c .before .before in
-    by-nothing _ _ _ _ (e .before .before .before .before .if1 .left) (e .before .before .before .if2 .left) (e .before .before .if3 .left)
+    by-nothing _ _ _ _ (e .before .before .before .before .if1 .left) (e .before .before .before .if2 .left)
+    (e .before .before .if3 .left)
     (e .before .if4 .left) (e .if5 .left) (c .if6 .left)
 
 pub verdict-spec : {M : Type 1} → statement M
 verdict-spec =
     tie.close
-    (tie.spec returns returns-2 returns-3 returns-4 returns-5 (λ c. search needs) (λ c. search needs) (λ c. search needs) mul-if6 returns-6 returns-7)
+    (tie.spec returns returns-2 returns-3 returns-4 returns-5 (λ c. search needs) (λ c. search needs)
+    (λ c. search needs) mul-if6 returns-6 returns-7)

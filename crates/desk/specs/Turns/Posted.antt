@@ -9,7 +9,8 @@ use Prim.Native.Nat.{ℕ, zero, suc, _+_, _*_, _-_, _≤_, _<_}
 use native.Mathlib.Omega.{arith}
 use borrow.Author.Tests.{lt-ltb, le-ltb, eq-eqb, ne-eqb, ltb-false, eqb-false, leb-false}
 use lib.Dec.{ltb, leb, eqb, lit<}
-use lib.ListN.{length, getD, take, drop, set, replicate, length-set, length-replicate, getD-replicate, length-append, List·getD-append}
+use lib.ListN.{length, getD, take, drop, set, replicate, length-set, length-replicate, getD-replicate, length-append}
+use lib.ListN.{List·getD-append}
 use lib.Seq.{getD-set-same, getD-set-other, take-at, take-suc}
 use Rattle.signals.specs.Mask.{_∪_}
 use Rattle.signals.specs.Decide.{sets, A, B, C, _∪ₑ_, ∅ₑ, _≐_}
@@ -19,7 +20,8 @@ use Rattle.meaning.specs.Count.Laws.{any-cong}
 use Rattle.meaning.specs.Meaning.{Set, ∅, same, Outcome, Answer, refused, given, answer}
 use Rattle.meaning.specs.File.{File, trailer, shapeOf, fileAt, fileOf}
 use Rattle.meaning.specs.Check.{Test, firstOf, fileTests, refusalOf, differ, notBelow}
-use Rattle.meaning.specs.Check.Laws.{eq-or-not, firstOf-++, firstOf-before, firstOf-passes, Passes, passed, counted, call-refused, call-passed}
+use Rattle.meaning.specs.Check.Laws.{eq-or-not, firstOf-++, firstOf-before, firstOf-passes, Passes, passed, counted}
+use Rattle.meaning.specs.Check.Laws.{call-refused, call-passed}
 use Rattle.meaning.specs.Calls.{made, laidOver, configTests, Valid, stepRefusal, outcomesIn, foundIn, manyOpen?}
 use Rattle.meaning.specs.Calls.{stepIn, stepOf, nextIn}
 use Rattle.meaning.specs.Calls.{rowOf, afterStep, carriedAfter, refusalIn}
@@ -32,8 +34,12 @@ use Rattle.desk.specs.declared.Day.{Day}
 use Rattle.desk.specs.declared.Seen.{Seen}
 use Rattle.desk.specs.declared.Reply.{Reply}
 use Rattle.desk.specs.declared.Plan.{Plan}
-use Rattle.desk.specs.Posting.{mostCases, lastRow, width, badBook, noSuchCase, rowsEnd, shortBook, configOf, joined, bookTests, outside?, ended?, dayTests, postRefusal, answerTo, postedRow, postedCase, rowsFrom, casesFrom, postCases, postRows}
-use Rattle.desk.specs.Turns.{firstBytes, joinedAt, takenOf, noDay, allTaken, badOf, seenOf, unseenOf, allSeen, verdictOf, planOf, replyOf, offeredTo, replyTo, keptOf, turnCase, rowBytes, turnRow, turnCases, turnRows, Postable}
+use Rattle.desk.specs.Posting.{mostCases, lastRow, width, badBook, noSuchCase, rowsEnd, shortBook, configOf}
+use Rattle.desk.specs.Posting.{joined, bookTests, outside?, ended?, dayTests, postRefusal, answerTo, postedRow}
+use Rattle.desk.specs.Posting.{postedCase, rowsFrom, casesFrom, postCases, postRows}
+use Rattle.desk.specs.Turns.{firstBytes, joinedAt, takenOf, noDay, allTaken, badOf, seenOf, unseenOf, allSeen}
+use Rattle.desk.specs.Turns.{verdictOf, planOf, replyOf, offeredTo, replyTo, keptOf, turnCase, rowBytes, turnRow}
+use Rattle.desk.specs.Turns.{turnCases, turnRows, Postable}
 
 -- the first bytes of a record that has them
 pub first-bytes : (n : ℕ) (l : List ℕ) → n ≤ length l → take n l ≡ firstBytes n l
@@ -71,9 +77,18 @@ sets-joined n d [] k h l = sets (getD (d .sets) k 0 ∷ []) [] (A ≐ A ∪ₑ �
 sets-joined n d (e ∷ es) k h l =
     sets-joined n (takenOf n d e) es k (put-long (ltb (e .number) mostCases) (d .sets) (e .number) _ ∙ h) l
     ∙ elim (eq-or-not (e .number) k) [
-      | inl q ↦ rw (q, lt-ltb k mostCases l, getD-set-same (d .sets) k (getD (d .sets) k 0 ∪ e .signals) 0 (omega arith), eq-eqb k k refl)
+      | inl q ↦ rw (
+        q,
+        lt-ltb k mostCases l,
+        getD-set-same (d .sets) k (getD (d .sets) k 0 ∪ e .signals) 0 (omega arith),
+        eq-eqb k k refl,
+      )
           (sets (getD (d .sets) k 0 ∷ e .signals ∷ joined k es ∷ []) [] ((A ∪ₑ B) ∪ₑ C ≐ A ∪ₑ (B ∪ₑ C)) tt)
-      | inr q ↦ rw (put-other (ltb (e .number) mostCases) (d .sets) (e .number) k (getD (d .sets) (e .number) 0 ∪ e .signals) (λ z. q (sym z)), ne-eqb (e .number) k q)
+      | inr q ↦ rw (
+        put-other (ltb (e .number) mostCases) (d .sets) (e .number) k (getD (d .sets) (e .number) 0 ∪ e .signals)
+            (λ z. q (sym z)),
+        ne-eqb (e .number) k q,
+      )
     ]
 
 pub sets-of-day : (n : ℕ) (es : List Entry) (k : ℕ) → k < mostCases → getD (allTaken n noDay es .sets) k 0 ≡ joined k es
@@ -124,13 +139,15 @@ each-passes f [] e k c l = absurd (omega (arith, l))
 each-passes f (a ∷ as′) e zero c l = book-passes f a as′ e .0
 each-passes f (a ∷ as′) e (suc k) c l = each-passes f as′ (book-passes f a as′ e .1) k c (omega (arith, l))
 
-book-through : (f : List ℕ) (cs : List Case) (us : List Test) → firstOf (bookTests f cs) ≡ 0 → firstOf (bookTests f cs ++ us) ≡ firstOf us
+book-through : (f : List ℕ) (cs : List Case) (us : List Test) → firstOf (bookTests f cs) ≡ 0
+    → firstOf (bookTests f cs ++ us) ≡ firstOf us
 unfolding bookTests
 book-through f [] us e = refl
 book-through f (c ∷ cs) us e =
     let z = book-passes f c cs e in
     rw append-assoc
-    (firstOf-++ (configTests f (configOf c)) (bookTests f cs ++ us) (config-passes f (configOf c) (z .0)) ∙ book-through f cs us (z .1))
+    (firstOf-++ (configTests f (configOf c)) (bookTests f cs ++ us) (config-passes f (configOf c) (z .0))
+    ∙ book-through f cs us (z .1))
 
 -- what is seen of a file is its refusal, and then 20 or 21 of the first bad case
 unseen-refusal : (f : List ℕ) → unseenOf f .refusal ≡ refusalOf f
@@ -147,7 +164,8 @@ seen-kept s (c ∷ cs) h =
     let e : seenOf s c .refusal ≡ s .refusal = rw (ne-eqb (s .refusal) 0 h) in
     seen-kept (seenOf s c) cs (λ z. h (sym e ∙ z)) ∙ e
 
-pub seen-refused : (f : List ℕ) (cs : List Case) → (refusalOf f ≡ 0 → ⊥) → allSeen (unseenOf f) cs .refusal ≡ refusalOf f
+pub seen-refused : (f : List ℕ) (cs : List Case) → (refusalOf f ≡ 0 → ⊥)
+    → allSeen (unseenOf f) cs .refusal ≡ refusalOf f
 seen-refused f cs h = seen-kept (unseenOf f) cs (λ z. h (sym (unseen-refusal f) ∙ z)) ∙ unseen-refusal f
 
 seen-ended : (s : Seen) (cs : List Case) → allSeen s cs .ended ≡ (s .ended || ended? cs)
@@ -179,7 +197,8 @@ module _ (f : List ℕ) (h : refusalOf f ≡ 0) where
   -- a configuration that neither 20 nor 21 applies to
   pub config-valid : (config : List ℕ) → refusalAt f config ≡ 0 → Valid F config
   config-valid config z =
-      call-allowed f config [] (ap firstOf (append-nil (fileTests f ++ configTests f config)) ∙ call-passed f (configTests f config) h ∙ z) .1
+      call-allowed f config []
+      (ap firstOf (append-nil (fileTests f ++ configTests f config)) ∙ call-passed f (configTests f config) h ∙ z) .1
 
   -- it has a byte for each chart
   pub len-known : (c : Case) → refusalAt f (configOf c) ≡ 0 → c .length ≡ F .charts
@@ -225,7 +244,10 @@ module _ (f : List ℕ) (h : refusalOf f ≡ 0) where
       eq-eqb (length (configOf c)) (F .charts) (long ∙ z),
       any-same s q c z,
     )
-    | inr z ↦ rw (ne-eqb (c .length) (s .charts) (λ e. z (e ∙ q .charts)), ne-eqb (length (configOf c)) (F .charts) (λ e. z (sym long ∙ e)))
+    | inr z ↦ rw (
+      ne-eqb (c .length) (s .charts) (λ e. z (e ∙ q .charts)),
+      ne-eqb (length (configOf c)) (F .charts) (λ e. z (sym long ∙ e)),
+    )
         (either-way (ltb mostCharts (c .length)) wrongLength)
   ]
     where
@@ -271,7 +293,8 @@ front-laid n xs = sym (first-bytes (length n) (n ++ xs) (rw length-append (omega
 
 module _ (f : List ℕ) (h : refusalOf f ≡ 0) (c : Case) (z : refusalAt f (configOf c) ≡ 0) where
   carried-kept : (i : Set)
-      → cond (same (refusalIn (stepIn (fileOf f) (configOf c) i)) 0) ∅ i ≡ carriedAfter (stepIn (fileOf f) (configOf c) i) i
+      → cond (same (refusalIn (stepIn (fileOf f) (configOf c) i)) 0) ∅ i
+      ≡ carriedAfter (stepIn (fileOf f) (configOf c) i) i
   unfolding stepIn foundIn same
   carried-kept i = limited (manyOpen? (fileOf f) (configOf c))
     where
@@ -289,10 +312,12 @@ module _ (f : List ℕ) (h : refusalOf f ≡ 0) (c : Case) (z : refusalAt f (con
   unfolding stepOf
   step-is i =
       let l = few-charts f h in
-      behind-is (stepRefusal f (configOf c) width) _ _ (step-open f (configOf c) width h (config-valid f h (configOf c) z) (omega (arith, l)))
+      behind-is (stepRefusal f (configOf c) width) _ _
+      (step-open f (configOf c) width h (config-valid f h (configOf c) z) (omega (arith, l)))
 
   -- the configuration after it has a byte for each chart
-  pub after-long : (i : Set) (r : Answer) → stepIn (fileOf f) (configOf c) i ≡ r → length (afterStep r (configOf c)) ≡ fileOf f .charts
+  pub after-long : (i : Set) (r : Answer) → stepIn (fileOf f) (configOf c) i ≡ r
+      → length (afterStep r (configOf c)) ≡ fileOf f .charts
   after-long i r e =
       ap (λ (a : Answer). length (afterStep a (configOf c))) (sym e)
       ∙ valid-after (fileOf f) (file-leads f h) (configOf c) i (config-valid f h (configOf c) z) .long
@@ -309,24 +334,33 @@ module _ (f : List ℕ) (h : refusalOf f ≡ 0) (c : Case) (z : refusalAt f (con
 
     pub row-posted : turnRow (fileOf f .charts) f c d k ≡ postedRow (fileOf f) c i
     unfolding turnRow rowBytes postedRow replyOf rowOf
-    row-posted = rw (e, step-is (c .carried ∪ i), next-bytes (c .carried ∪ i) (stepIn (fileOf f) (configOf c) (c .carried ∪ i)) refl)
+    row-posted = rw (
+      e,
+      step-is (c .carried ∪ i),
+      next-bytes (c .carried ∪ i) (stepIn (fileOf f) (configOf c) (c .carried ∪ i)) refl,
+    )
 
 -- ── the book posted, from case k on ──
 
-module _ (f : List ℕ) (h : refusalOf f ≡ 0) (d : Day) (es : List Entry) (e : (k : ℕ) → k < mostCases → getD (d .sets) k 0 ≡ joined k es) where
-  cases-posted : (k : ℕ) (cs : List Case) → firstOf (bookTests f cs) ≡ 0 → k + length cs ≤ mostCases → turnCases f d (length cs) k cs ≡ casesFrom (fileOf f) k cs es
+module _ (f : List ℕ) (h : refusalOf f ≡ 0) (d : Day) (es : List Entry)
+    (e : (k : ℕ) → k < mostCases → getD (d .sets) k 0 ≡ joined k es) where
+  cases-posted : (k : ℕ) (cs : List Case) → firstOf (bookTests f cs) ≡ 0 → k + length cs ≤ mostCases
+      → turnCases f d (length cs) k cs ≡ casesFrom (fileOf f) k cs es
   unfolding turnCases casesFrom
   cases-posted k [] z l = refl
   cases-posted k (c ∷ cs) z l =
       let p = book-passes f c cs z in
-      ap₂ (λ (x : Case) (xs : List Case). x ∷ xs) (case-posted f h c (p .0) d k (joined k es) (e k (omega (arith, l)))) (cases-posted (suc k) cs (p .1) (omega (arith, l)))
+      ap₂ (λ (x : Case) (xs : List Case). x ∷ xs) (case-posted f h c (p .0) d k (joined k es) (e k (omega (arith, l))))
+      (cases-posted (suc k) cs (p .1) (omega (arith, l)))
 
-  rows-posted : (k : ℕ) (cs : List Case) → firstOf (bookTests f cs) ≡ 0 → k + length cs ≤ mostCases → turnRows f d (fileOf f .charts) (length cs) k cs ≡ rowsFrom (fileOf f) k cs es
+  rows-posted : (k : ℕ) (cs : List Case) → firstOf (bookTests f cs) ≡ 0 → k + length cs ≤ mostCases
+      → turnRows f d (fileOf f .charts) (length cs) k cs ≡ rowsFrom (fileOf f) k cs es
   unfolding turnRows rowsFrom
   rows-posted k [] z l = refl
   rows-posted k (c ∷ cs) z l =
       let p = book-passes f c cs z in
-      ap₂ (λ (x xs : List ℕ). x ++ xs) (row-posted f h c (p .0) d k (joined k es) (e k (omega (arith, l)))) (rows-posted (suc k) cs (p .1) (omega (arith, l)))
+      ap₂ (λ (x xs : List ℕ). x ++ xs) (row-posted f h c (p .0) d k (joined k es) (e k (omega (arith, l))))
+      (rows-posted (suc k) cs (p .1) (omega (arith, l)))
 
 -- ── what is decided ──
 
@@ -343,17 +377,21 @@ module _ (f : List ℕ) (cs : List Case) (es : List Entry) (room : ℕ) where
   pub verdict-is : decision ≡ postRefusal f cs es room
   unfolding verdictOf postRefusal same dayTests firstOf
   verdict-is = elim (eq-or-not (refusalOf f) 0) [
-    | inr h ↦ rw (seen-refused f cs h, ne-eqb (refusalOf f) 0 h) (sym (call-refused f (bookTests f cs ++ dayTests f cs es room) h))
-    | inl h ↦ rw (book-refusal f h cs, call-passed f (bookTests f cs ++ dayTests f cs es room) h) (behind h (eq-or-not (firstOf (bookTests f cs)) 0))
+    | inr h ↦ rw (seen-refused f cs h, ne-eqb (refusalOf f) 0 h)
+        (sym (call-refused f (bookTests f cs ++ dayTests f cs es room) h))
+    | inl h ↦ rw (book-refusal f h cs, call-passed f (bookTests f cs ++ dayTests f cs es room) h)
+        (behind h (eq-or-not (firstOf (bookTests f cs)) 0))
   ]
     where
       behind : (h : refusalOf f ≡ 0) → ((firstOf (bookTests f cs) ≡ 0) ⊎ (firstOf (bookTests f cs) ≡ 0 → ⊥))
           → cond (eqb (firstOf (bookTests f cs)) 0)
           (cond (eqb (length cs) 0 || ltb mostCases (length cs)) badBook
-          (cond (day .outside) noSuchCase (cond (seen .ended) rowsEnd (cond (ltb room (length cs * (14 + seen .charts))) shortBook 0))))
+          (cond (day .outside) noSuchCase
+          (cond (seen .ended) rowsEnd (cond (ltb room (length cs * (14 + seen .charts))) shortBook 0))))
           (firstOf (bookTests f cs))
           ≡ firstOf (bookTests f cs ++ dayTests f cs es room)
-      behind h (inr z) = rw (ne-eqb (firstOf (bookTests f cs)) 0 z) (sym (firstOf-before (bookTests f cs) (dayTests f cs es room) z))
+      behind h (inr z) =
+          rw (ne-eqb (firstOf (bookTests f cs)) 0 z) (sym (firstOf-before (bookTests f cs) (dayTests f cs es room) z))
       behind h (inl z) = rw (
         eq-eqb (firstOf (bookTests f cs)) 0 z,
         book-through f cs (dayTests f cs es room) z,
@@ -368,7 +406,8 @@ module _ (f : List ℕ) (cs : List Case) (es : List Entry) (room : ℕ) where
   unfolding ended?
   rows-on [] e k c l = absurd (omega (arith, l))
   rows-on (a ∷ as′) e zero c l = leb-false lastRow (a .last) (or-none-left (leb lastRow (a .last)) (ended? as′) e .0)
-  rows-on (a ∷ as′) e (suc k) c l = rows-on as′ (or-none-left (leb lastRow (a .last)) (ended? as′) e .1) k c (omega (arith, l))
+  rows-on (a ∷ as′) e (suc k) c l =
+      rows-on as′ (or-none-left (leb lastRow (a .last)) (ended? as′) e .1) k c (omega (arith, l))
 
   -- what an accepted day meets
   pub record Accepted : Type 0 where
@@ -391,13 +430,19 @@ module _ (f : List ℕ) (cs : List Case) (es : List Entry) (room : ℕ) where
   }
     where
       h : refusalOf f ≡ 0
-      h = elim (eq-or-not (refusalOf f) 0) [ inl y ↦ y | inr y ↦ absurd (y (sym (call-refused f (bookTests f cs ++ dayTests f cs es room) y) ∙ e)) ]
+      h = elim (eq-or-not (refusalOf f) 0) [
+        | inl y ↦ y
+        | inr y ↦ absurd (y (sym (call-refused f (bookTests f cs ++ dayTests f cs es room) y) ∙ e))
+      ]
 
       t : firstOf (bookTests f cs ++ dayTests f cs es room) ≡ 0
       t = sym (call-passed f (bookTests f cs ++ dayTests f cs es room) h) ∙ e
 
       z : firstOf (bookTests f cs) ≡ 0
-      z = elim (eq-or-not (firstOf (bookTests f cs)) 0) [ inl y ↦ y | inr y ↦ absurd (y (sym (firstOf-before (bookTests f cs) (dayTests f cs es room) y) ∙ t)) ]
+      z = elim (eq-or-not (firstOf (bookTests f cs)) 0) [
+        | inl y ↦ y
+        | inr y ↦ absurd (y (sym (firstOf-before (bookTests f cs) (dayTests f cs es room) y) ∙ t))
+      ]
 
       p : Passes (dayTests f cs es room)
       p =
@@ -425,7 +470,8 @@ module _ (f : List ℕ) (cs : List Case) (es : List Entry) (room : ℕ) where
     there = omega arith;
     narrow = omega (arith, charts-are a, few-charts f (a .file));
     fits = rw (charts-are a) (a .fits);
-    known = λ k c l. omega (arith, len-known f (a .file) (getD cs k c) (each-passes f cs (a .book) k c l), few-charts f (a .file));
+    known = λ k c l.
+        omega (arith, len-known f (a .file) (getD cs k c) (each-passes f cs (a .book) k c l), few-charts f (a .file));
     rising = rows-on cs (a .on);
   }
 
@@ -436,7 +482,14 @@ module _ (f : List ℕ) (cs : List Case) (es : List Entry) (room : ℕ) where
   ]
     where
       none : Postable cs 0 0 room
-      none = record { few = omega arith; there = omega arith; narrow = omega arith; fits = omega arith; known = λ k c l. absurd (omega (arith, l)); rising = λ k c l. absurd (omega (arith, l)) }
+      none = record {
+        few = omega arith;
+        there = omega arith;
+        narrow = omega arith;
+        fits = omega arith;
+        known = λ k c l. absurd (omega (arith, l));
+        rising = λ k c l. absurd (omega (arith, l));
+      }
 
   -- ── the whole ──
 
@@ -447,15 +500,22 @@ module _ (f : List ℕ) (cs : List Case) (es : List Entry) (room : ℕ) where
   unfolding postCases same turnCases
   cases-are = elim (eq-or-not decision 0) [
     | inl z ↦ let a = accepted (sym verdict-is ∙ z) in
-        rw (plan-of z .0, eq-eqb (postRefusal f cs es room) 0 (sym verdict-is ∙ z)) (cases-posted f (a .file) day es (sets-of-day (length cs) es) 0 cs (a .book) (omega (arith, a .few)))
+        rw (plan-of z .0, eq-eqb (postRefusal f cs es room) 0 (sym verdict-is ∙ z))
+        (cases-posted f (a .file) day es (sets-of-day (length cs) es) 0 cs (a .book) (omega (arith, a .few)))
     | inr z ↦ rw (plan-none z .0, ne-eqb (postRefusal f cs es room) 0 (λ y. z (verdict-is ∙ y)))
   ]
 
-  pub rows-are : (rows : List ℕ) → length rows ≡ room → laidOver (turnRows f day (plan .charts) (plan .count) 0 cs) rows ≡ postRows f cs es rows
+  pub rows-are : (rows : List ℕ) → length rows ≡ room
+      → laidOver (turnRows f day (plan .charts) (plan .count) 0 cs) rows ≡ postRows f cs es rows
   unfolding postRows same turnRows
   rows-are rows y = rw y (elim (eq-or-not decision 0) [
     | inl z ↦ let a = accepted (sym verdict-is ∙ z) in
-        rw (plan-of z .0, charts-of z, eq-eqb (postRefusal f cs es room) 0 (sym verdict-is ∙ z), rows-posted f (a .file) day es (sets-of-day (length cs) es) 0 cs (a .book) (omega (arith, a .few)))
+        rw (
+          plan-of z .0,
+          charts-of z,
+          eq-eqb (postRefusal f cs es room) 0 (sym verdict-is ∙ z),
+          rows-posted f (a .file) day es (sets-of-day (length cs) es) 0 cs (a .book) (omega (arith, a .few)),
+        )
     | inr z ↦ rw (plan-none z .0, ne-eqb (postRefusal f cs es room) 0 (λ y. z (verdict-is ∙ y)))
   ])
 
