@@ -1,6 +1,6 @@
--- What is said of a file's tree and of its slaves: the charts of a tree in their order (`chartsIn`); a tree of charts and
--- slaves of the file alone (`Within`), in which each slave has the tree of its node (`Built`); a slave's record as a
--- number (`keyOf`), and numbers that rise (`Climbs`).
+-- What is said of a file's tree and of its slaves: the charts of a tree in their order (`chartsIn`); a tree of charts
+-- and slaves of the file alone (`Within`), in which each slave has the tree of its node (`Built`); a slave's record as
+-- a number (`keyOf`), and numbers that rise (`Climbs`).
 use mathlib.Core.Path.{_≡_}
 use mathlib.Core.List.{List, [], _∷_, _++_}
 use Prim.Native.Nat.{ℕ, suc, _+_, _*_, _<_}

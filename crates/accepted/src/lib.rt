@@ -1,1 +1,2 @@
-// A theory: the file of a chart that is typed passes the file check. Definitions and theorems in specs/, and no function.
+// A theory: the file of a chart that is typed passes the file check. Definitions and theorems in specs/, and no
+// function.

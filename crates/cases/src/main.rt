@@ -1,5 +1,6 @@
-// Answers recorded calls of the engine: reads commands from standard input, makes each call on buffers filled with one byte, and prints a line
-// for it. docs/CASES.md has the format; reference/ makes the commands and the lines that are expected.
+// Answers recorded calls of the engine: reads commands from standard input, makes each call on buffers filled with one
+// byte, and prints a line for it. docs/CASES.md has the format; reference/ makes the commands and the lines that are
+// expected.
 ghost use mathlib.Core.Path.{_≡_};
 ghost use Prim.Native.Nat.{_≤_, _<_};
 ghost use lib.ListN.{length};

@@ -212,7 +212,8 @@ pub fn config() -> Configuration
     if c.count == 0 {
         words::wrong(
             &buffer[..n],
-            b"\" is no configuration. Expected: the state of each chart, 0 to 255, with dots between, as 0.1; at most 64 of them.\n",
+            b"\" is no configuration. Expected: the state of each chart, 0 to 255, with dots between, as 0.1; \
+              at most 64 of them.\n",
         );
     }
     c

@@ -1,5 +1,6 @@
-// The command line tool. crates/typed reads what is typed, the public calls answer, and the answer is printed here, in lines of the day program's form.
-// Answers and refusals go to standard output; what is wrong with a command or a file's name goes to standard error.
+// The command line tool. crates/typed reads what is typed, the public calls answer, and the answer is printed here, in
+// lines of the day program's form. Answers and refusals go to standard output; what is wrong with a command or a file's
+// name goes to standard error.
 mod ask;
 mod tell;
 mod typing;
@@ -13,7 +14,8 @@ use ask::Command;
 // The longest file: as long as the day program's input may be (RULES 3.4).
 const MOST_BYTES: usize = 65536;
 
-// Room for that and one byte more, which tells that a file is longer. Only the length is promised, so that no proof looks at so many zeros.
+// Room for that and one byte more, which tells that a file is longer. Only the length is promised, so that no proof
+// looks at so many zeros.
 fn file_room() -> [u8; 65537]
     ensures { λ r. ⌜ 65537 ≡ length r ⌝ }
 {

@@ -226,8 +226,8 @@ fn step_of(file: &[u8], charts: usize, config: &[u8], input: u64)
     }
 }
 
-// A run of the sets that were typed, as many as there is room for. It also says what is left to carry; a step says what each chart took and how
-// many choices are open.
+// A run of the sets that were typed, as many as there is room for. It also says what is left to carry; a step says what
+// each chart took and how many choices are open.
 fn run_typed(file: &[u8], charts: usize, config: &[u8], inputs: &mut [u64], is_step: bool)
     requires { ⌜ (charts ≤ mostCharts) × (length (now inputs) ≤ 1024) ⌝ }
 {

@@ -223,20 +223,26 @@ pub fn help(fd: i32) {
           chart first FILE               the first configuration\n  \
           chart interface FILE           the signals that it looks at, and those that it can output\n  \
           chart plain FILE               whether it is plain: no step of a plain file is marked n\n  \
-          chart step FILE CONFIG SET     one step from a configuration, what each chart did, and how many choices are open\n  \
+          chart step FILE CONFIG SET     one step from a configuration, what each chart did, and how many choices \
+          are open\n  \
           chart run FILE CONFIG SET..    one step for each set, in order\n  \
           chart rewrite FILE OUT         writes the same chart without slaves to the file OUT\n  \
           chart clear FILE OUT           writes the same chart without dead transitions to the file OUT\n  \
-          chart lacking FILE CHART PLACE SET  whether a transition's guard is met when its chart is offered the set, or what it lacks\n  \
+          chart lacking FILE CHART PLACE SET  whether a transition's guard is met when its chart is offered the set, \
+          or what it lacks\n  \
           chart why FILE CONFIG SET      the same of each transition from the present states, under the input alone\n  \
           chart read TEXT OUT            writes the file that a typed text means (docs/NOTATION.md) to the file OUT\n  \
           chart write FILE               the chart as such a text, without blanks\n  \
           chart show FILE                the same text laid out, a transition a line\n\
           \n\
-          CONFIG is the state of each chart, such as 0.1. SET is a list of signals, such as s0,s3; a number in hex, such as 0x9; or - for none.\n\
-          A step is shown as its number, its output in hex, the configuration after it, y if all permitted choices agree or else n, and its\n\
-          output as signals; or as its number and why it is refused. A run adds the signals of a refused step to the next set, and shows what\n\
-          is carried after the last. CHART and PLACE are numbers: a transition's place in its chart's list, both counted from 0.\n\
+          CONFIG is the state of each chart, such as 0.1. SET is a list of signals, such as s0,s3; a number in \
+          hex, such as 0x9; or - for none.\n\
+          A step is shown as its number, its output in hex, the configuration after it, y if all permitted choices \
+          agree or else n, and its\n\
+          output as signals; or as its number and why it is refused. A run adds the signals of a refused step to \
+          the next set, and shows what\n\
+          is carried after the last. CHART and PLACE are numbers: a transition's place in its chart's list, \
+          both counted from 0.\n\
           docs/RULES.md has the exact rules.\n",
     );
 }

@@ -12,7 +12,8 @@ use Rattle.line.specs.Line.{frontOf, dayRefusal, dayFrom}
 use Rattle.day.specs.declared.Front.{Front}
 pub mod Laws
 
--- the program's contract: what it prints for the first bytes s of its input and so many behind them, over the front of a buffer b, which becomes c
+-- the program's contract: what it prints for the first bytes s of its input and so many behind them, over the front of
+-- a buffer b, which becomes c
 abbrev pub DaySays : List ℕ → ℕ → List ℕ → ℕ → List ℕ → Type 0
 DaySays s behind b r c = (r ≡ length (dayFrom s behind)) × (c ≡ laidOver (dayFrom s behind) b)
 

@@ -1,4 +1,5 @@
-// The day program (RULES 10): it takes a chart file with inputs in front from standard input, and prints a line for each input.
+// The day program (RULES 10): it takes a chart file with inputs in front from standard input, and prints a line for
+// each input.
 ghost use mathlib.Core.Path.{_≡_};
 ghost use Prim.Native.Nat.{_+_, _*_, _≤_};
 ghost use lib.ListN.{length};
@@ -10,7 +11,8 @@ ghost use Rattle.line.specs.Line.{inputsOf, linesOf, dayOf};
 ghost use Rattle.day.specs.Day.{Opened, Accepted, DaySays};
 use checks::limits;
 
-// What the check of an input found: its refusal, and, if there is none, how many charts it has and how many inputs stand in front of them.
+// What the check of an input found: its refusal, and, if there is none, how many charts it has and how many inputs
+// stand in front of them.
 struct Front {
     refusal: u8,
     charts: usize,
@@ -52,8 +54,8 @@ fn opened(input: &[u8]) -> Front
 // The most inputs: 8 bytes each.
 const MOST_INPUTS: usize = limits::MOST_INPUT / 8;
 
-// Room for what an input of 65,536 bytes can ask for: the inputs, their rows, their lines of at most 128 bytes. Only the lengths are
-// promised, so that no proof looks at so many zeros.
+// Room for what an input of 65,536 bytes can ask for: the inputs, their rows, their lines of at most 128 bytes. Only
+// the lengths are promised, so that no proof looks at so many zeros.
 fn input_room() -> [u64; MOST_INPUTS]
     ensures { λ r. ⌜ 8192 ≡ length r ⌝ }
 {
@@ -88,7 +90,8 @@ fn read_inputs(input: &[u8], inputs: &mut [u64])
 // The rows of all inputs, from the first configuration on, with nothing carried.
 fn put_rows(input: &[u8], charts: usize, n: usize, rows: &mut [u8])
     requires { ⌜ Accepted (now input) charts n × (n ≤ 8192) × (n * (10 + charts) ≤ length (now rows)) ⌝ }
-    ensures { λ _. ⌜ now (rows .exit) ≡ laidOver (rowsOf (fileOf (now (input .entry))) (initials (now (input .entry))) ∅ (inputsOf n (now (input .entry)))) (now (rows .entry)) ⌝ }
+    ensures { λ _. ⌜ now (rows .exit) ≡ laidOver (rowsOf (fileOf (now (input .entry))) (initials (now (input .entry))) ∅
+        (inputsOf n (now (input .entry)))) (now (rows .entry)) ⌝ }
 {
     let mut config = [0u8; layout::limits::CHARTS];
     engine::file::first(input, &mut config);
@@ -100,7 +103,8 @@ fn put_rows(input: &[u8], charts: usize, n: usize, rows: &mut [u8])
 // The lines of n rows of w bytes each, at the front of `out`; returns their length.
 fn put_lines(rows: &[u8], w: usize, n: usize, out: &mut [u8]) -> usize
     requires { ⌜ (10 ≤ w) × (w ≤ 26) × (n * w ≤ length (now rows)) × (128 * n ≤ length (now out)) ⌝ }
-    ensures { λ r. ⌜ (r ≡ length (linesOf w 1 n (now (rows .entry)))) × (now (out .exit) ≡ laidOver (linesOf w 1 n (now (rows .entry))) (now (out .entry))) ⌝ }
+    ensures { λ r. ⌜ (r ≡ length (linesOf w 1 n (now (rows .entry))))
+        × (now (out .exit) ≡ laidOver (linesOf w 1 n (now (rows .entry))) (now (out .entry))) ⌝ }
 {
     let mut at: usize = 0;
     let mut end: usize = 0;
@@ -119,7 +123,8 @@ fn put_lines(rows: &[u8], w: usize, n: usize, out: &mut [u8]) -> usize
 // What is printed for an input that is not too long, at the front of `out`; returns its length.
 fn lines_for(input: &[u8], out: &mut [u8]) -> usize
     requires { ⌜ (length (now input) ≤ 65536) × (1048576 ≤ length (now out)) ⌝ }
-    ensures { λ r. ⌜ (r ≡ length (dayOf (now (input .entry)))) × (now (out .exit) ≡ laidOver (dayOf (now (input .entry))) (now (out .entry))) ⌝ }
+    ensures { λ r. ⌜ (r ≡ length (dayOf (now (input .entry))))
+        × (now (out .exit) ≡ laidOver (dayOf (now (input .entry))) (now (out .entry))) ⌝ }
 {
     let o = opened(input);
     let r = o.refusal;

@@ -1,5 +1,5 @@
--- What a loop that writes xs at a place has still to write, and its laws, in this order: all of it; one piece less; none of it; its room. Assumes
--- nothing.
+-- What a loop that writes xs at a place has still to write, and its laws, in this order: all of it; one piece less;
+-- none of it; its room. Assumes nothing.
 use mathlib.Core.Path.{_≡_, refl, sym, ap, _∙_}
 use mathlib.Core.List.{List, [], _++_}
 use Prim.Native.Nat.{ℕ, _+_}
@@ -19,7 +19,8 @@ pub left-all : (l : List ℕ) (at : ℕ) (xs : List ℕ) → Left l at xs l at x
 left-all l at xs = record { is = refl; place = refl }
 
 module _ {l xs m : List ℕ} {at j : ℕ} where
-  pub left-put : {n : List ℕ} {k : ℕ} (ys zs : List ℕ) → Left l at xs m j (ys ++ zs) → Put m j ys n k → Left l at xs n k zs
+  pub left-put : {n : List ℕ} {k : ℕ} (ys zs : List ℕ) → Left l at xs m j (ys ++ zs) → Put m j ys n k
+      → Left l at xs n k zs
   left-put ys zs w p =
       record {
         is = rw (p .is, p .place) (sym (sets-append m j ys zs) ∙ w .is);

@@ -1,5 +1,5 @@
--- What the day program prints (RULES 10): numbers in digits, fields, the line of a row, the whole output. Laws are in Line/Laws.antt; the example of
--- RULES 10.4 is in Line/Example.antt.
+-- What the day program prints (RULES 10): numbers in digits, fields, the line of a row, the whole output. Laws are in
+-- Line/Laws.antt; the example of RULES 10.4 is in Line/Example.antt.
 use mathlib.Core.Bool.{cond}
 use mathlib.Core.List.{List, [], _∷_, _++_, map}
 use Prim.Native.Nat.{ℕ, zero, suc, _+_, _-_, _/_, _%_}
@@ -31,7 +31,8 @@ digits base (suc n) x = digits base n (x / base) ++ (digit (x % base) ∷ [])
 abbrev pub hex : ℕ → ℕ → List ℕ
 hex n x = digits 16 n x
 
--- how many decimal digits a number has, up to a limit: one, and one more for each division that it takes to get below ten
+-- how many decimal digits a number has, up to a limit: one, and one more for each division that it takes to get below
+-- ten
 unfoldable pub widthTo : ℕ → ℕ → ℕ
 widthTo zero x = 0
 widthTo (suc n) x = cond (ltb x 10) 1 (suc (widthTo n (x / 10)))
@@ -84,12 +85,13 @@ dotted states = joined dot (map decimal states)
 unfoldable pub letter : ℕ → ℕ
 letter mark = cond (same mark 1) (code "y") (code "n")
 
--- the fields of a step that is given: output, states, mark (RULES 10.3). A row has the output in its first 8 bytes, the mark in byte 8 and the
--- configuration from byte 10 on (RULES 6.3).
+-- the fields of a step that is given: output, states, mark (RULES 10.3). A row has the output in its first 8 bytes, the
+-- mark in byte 8 and the configuration from byte 10 on (RULES 6.3).
 abbrev pub givenFields : List ℕ → List (List ℕ)
 givenFields row = hex 16 (le 8 row) ∷ dotted (drop 10 row) ∷ (letter (getD row 8 0) ∷ []) ∷ []
 
--- two parts of such a line: the output with a space on either side, and the mark with a space before it, to the line's end
+-- two parts of such a line: the output with a space on either side, and the mark with a space before it, to the line's
+-- end
 abbrev pub outputPart : Set → List ℕ
 outputPart output = space ∷ hex 16 output ++ (space ∷ [])
 

@@ -1,11 +1,12 @@
-// The making of the day program's lines (RULES 10.3), and the parts that others make lines of. Nothing here knows a file. Each function that writes a
-// part of a line takes the place where it begins and returns the place behind it.
+// The making of the day program's lines (RULES 10.3), and the parts that others make lines of. Nothing here knows a
+// file. Each function that writes a part of a line takes the place where it begins and returns the place behind it.
 ghost use mathlib.Core.Path.{_≡_};
 ghost use mathlib.Core.List.{[], _∷_};
 ghost use Prim.Native.Nat.{_+_, _-_, _≤_, _<_, _^_};
 ghost use lib.ListN.{length};
 ghost use Rattle.meaning.specs.Calls.{laidOver};
-ghost use Rattle.line.specs.Line.{digit, digits, width, decimal, hex, dot, closing, dotted, letter, outputPart, markPart, givenFields, refusedFields, lineOf, fileRefused};
+ghost use Rattle.line.specs.Line.{digit, digits, width, decimal, hex, dot, closing, dotted, letter, outputPart};
+ghost use Rattle.line.specs.Line.{markPart, givenFields, refusedFields, lineOf, fileRefused};
 ghost use Rattle.layout.specs.Put.{Put, Room};
 
 // The character of a digit.
@@ -163,7 +164,8 @@ fn put_refused(out: &mut [u8], at: usize, refusal: u8) -> usize
 // The line of an input's number and its row, at the front of `out`; returns its length.
 pub fn line(number: u64, row: &[u8], out: &mut [u8]) -> usize
     requires { ⌜ (10 ≤ length (now row)) × (length (now row) ≤ 26) × (128 ≤ length (now out)) ⌝ }
-    ensures { λ r. ⌜ (r ≡ length (lineOf number (now (row .entry)))) × (now (out .exit) ≡ laidOver (lineOf number (now (row .entry))) (now (out .entry))) ⌝ }
+    ensures { λ r. ⌜ (r ≡ length (lineOf number (now (row .entry))))
+        × (now (out .exit) ≡ laidOver (lineOf number (now (row .entry))) (now (out .entry))) ⌝ }
 {
     let next = put_decimal(out, 0, number);
     let refusal = row[layout::row::REFUSAL];

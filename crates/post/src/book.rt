@@ -1,5 +1,5 @@
-// A book as bytes (docs/FORMAT.md): a head of 32 bytes with the mark, the length of the file, the number of cases and the number of the day last posted;
-// then a record of 32 bytes for each case.
+// A book as bytes (docs/FORMAT.md): a head of 32 bytes with the mark, the length of the file, the number of cases and
+// the number of the day last posted; then a record of 32 bytes for each case.
 ghost use mathlib.Core.Path.{_≡_};
 ghost use Prim.Native.Nat.{_+_, _*_, _≤_, _<_};
 ghost use lib.ListN.{length};

@@ -1,4 +1,5 @@
-// A day's entries, typed: a line for each, the number of a case and a set, as `7 s0,s3`. The first line may be the day's number, as `day 12`.
+// A day's entries, typed: a line for each, the number of a case and a set, as `7 s0,s3`. The first line may be the
+// day's number, as `day 12`.
 ghost use mathlib.Core.Path.{_≡_};
 ghost use Prim.Native.Nat.{_+_, _*_, _≤_, _<_};
 ghost use lib.ListN.{length};

@@ -1,4 +1,5 @@
-// The files that the words of a command name. A file is replaced whole: its new bytes go to a file beside it, which is flushed and then takes its name.
+// The files that the words of a command name. A file is replaced whole: its new bytes go to a file beside it, which is
+// flushed and then takes its name.
 ghost use mathlib.Core.Path.{_≡_};
 ghost use Prim.Native.Nat.{_+_, _*_, _≤_};
 ghost use lib.ListN.{length};

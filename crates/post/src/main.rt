@@ -1,5 +1,5 @@
-// The posting desk's program (RULES 11): makes a book, posts a day to it, shows it. A book is a file (docs/FORMAT.md). What is wrong with a command or a
-// file goes to standard error; rows, and the refusal of a day, go to standard output.
+// The posting desk's program (RULES 11): makes a book, posts a day to it, shows it. A book is a file (docs/FORMAT.md).
+// What is wrong with a command or a file goes to standard error; rows, and the refusal of a day, go to standard output.
 mod book;
 mod day;
 mod files;
@@ -24,8 +24,8 @@ const ENTRIES: usize = 4;
 
 const SHOWN: usize = 2;
 
-// Room for a chart file or a day's entries, and a byte more, which tells that it is longer; and for the rows of 64 cases of sixteen charts. Only the
-// lengths are promised, so that no proof looks at so many zeros.
+// Room for a chart file or a day's entries, and a byte more, which tells that it is longer; and for the rows of 64
+// cases of sixteen charts. Only the lengths are promised, so that no proof looks at so many zeros.
 fn file_room() -> [u8; 65537]
     ensures { λ r. ⌜ 65537 ≡ length r ⌝ }
 {

@@ -39,7 +39,8 @@ pub fn wrong_line(before: u64) {
 
 pub fn help() {
     complain(
-        b"usage: post new CHART COUNT BOOK   makes a book of COUNT cases, 1 to 64, at their first configuration\n       \
+        b"usage: post new CHART COUNT BOOK   makes a book of COUNT cases, 1 to 64, at their first \
+          configuration\n       \
           post day CHART BOOK DAY     posts a day's entries, and writes its rows to DAY.rows\n       \
           post show BOOK              shows the cases of a book\n",
     );

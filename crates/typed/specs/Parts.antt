@@ -1,4 +1,5 @@
--- What the functions promise that reading and showing are made of: where a part of a word ends, and what is written for one signal. Assumes nothing.
+-- What the functions promise that reading and showing are made of: where a part of a word ends, and what is written for
+-- one signal. Assumes nothing.
 use mathlib.Core.Path.{_≡_}
 use mathlib.Core.Bool.{cond}
 use mathlib.Core.List.{List, [], _∷_, _++_}
@@ -20,7 +21,8 @@ pub record Ends (separator : ℕ) (w : List ℕ) (at e : ℕ) : Type 0 where
   pub within : e ≤ length w
   pub parts : split separator (drop at w) ≡ take (e - at) (drop at w) ∷ behindPart separator w e
 
-pub behind-more : (separator : ℕ) (w : List ℕ) (e : ℕ) → e < length w → behindPart separator w e ≡ split separator (drop (e + 1) w)
+pub behind-more : (separator : ℕ) (w : List ℕ) (e : ℕ) → e < length w
+    → behindPart separator w e ≡ split separator (drop (e + 1) w)
 unfolding behindPart
 behind-more separator w e h = rw (lt-ltb e (length w) h)
 
@@ -28,6 +30,7 @@ pub behind-none : (separator : ℕ) (w : List ℕ) (e : ℕ) → length w ≤ e 
 unfolding behindPart
 behind-none separator w e h = rw (le-ltb e (length w) h)
 
--- what is written at a place for signal n, the signals below it being written: nothing, or the signal, behind a comma unless it is the first
+-- what is written at a place for signal n, the signals below it being written: nothing, or the signal, behind a comma
+-- unless it is the first
 unfoldable pub nextSignal : ℕ → Set → ℕ → List ℕ
 nextSignal at s n = cond (bit s n) (cond (same at 0) [] (comma ∷ []) ++ shownSignal n) []

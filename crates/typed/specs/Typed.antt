@@ -1,5 +1,6 @@
--- What a person types, a configuration or a set of signals, and a set as a person reads it. A word is the bytes of its characters. Laws are in
--- Typed/Laws.antt; that what is shown reads back as the same, in Typed/ReadBack.antt; words that are typed right and wrong, in Typed/Example.antt.
+-- What a person types, a configuration or a set of signals, and a set as a person reads it. A word is the bytes of its
+-- characters. Laws are in Typed/Laws.antt; that what is shown reads back as the same, in Typed/ReadBack.antt; words
+-- that are typed right and wrong, in Typed/Example.antt.
 use mathlib.Core.Bool.{Bool, true, false, not, _&&_, cond}
 use mathlib.Core.List.{List, [], _∷_, _++_, map}
 use Prim.Native.Nat.{ℕ, zero, suc, _+_, _*_, _-_, _^_}
@@ -25,7 +26,8 @@ between lo hi b = not (ltb b lo) && leb b hi
 unfoldable pub valueOf : ℕ → ℕ
 valueOf b =
     cond (between (code "0") (code "9") b) (b - code "0")
-    (cond (between (code "a") (code "f") b) (b - code "a" + 10) (cond (between (code "A") (code "F") b) (b - code "A" + 10) 16))
+    (cond (between (code "a") (code "f") b) (b - code "a" + 10)
+    (cond (between (code "A") (code "F") b) (b - code "A" + 10) 16))
 
 -- what is made of the number that was read; if there is none, `other`
 abbrev pub given : {A : Type 0} → Read → (ℕ → A) → A → A
@@ -85,14 +87,17 @@ signalsOn s (p ∷ ps) = given (signalOf p) (λ n. signalsOn (s ∪ single n) ps
 -- `-` for none; `0x` and hex digits; else signals with commas between
 unfoldable pub setOf : List ℕ → Read
 setOf w =
-    cond (eqList w (ascii "-")) (Is ∅) (cond (eqList (take 2 w) (ascii "0x")) (hexOf (drop 2 w)) (signalsOn ∅ (split comma w)))
+    cond (eqList w (ascii "-")) (Is ∅)
+    (cond (eqList (take 2 w) (ascii "0x")) (hexOf (drop 2 w)) (signalsOn ∅ (split comma w)))
 
 -- ── a configuration ──
 
--- the states of the parts, 0 to 255 each, behind those that are read; none at all if a part is no state, or if they are more than 64
+-- the states of the parts, 0 to 255 each, behind those that are read; none at all if a part is no state, or if they are
+-- more than 64
 unfoldable pub statesOn : List ℕ → List (List ℕ) → List ℕ
 statesOn states [] = states
-statesOn states (p ∷ ps) = cond (ltb (length states) 64) (given (numberOf 255 p) (λ s. statesOn (states ++ (s ∷ [])) ps) []) []
+statesOn states (p ∷ ps) =
+    cond (ltb (length states) 64) (given (numberOf 255 p) (λ s. statesOn (states ++ (s ∷ [])) ps) []) []
 
 -- states with dots between; none if it is not typed so
 unfoldable pub configOf : List ℕ → List ℕ

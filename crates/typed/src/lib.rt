@@ -1,12 +1,13 @@
-// What a person types and reads: a configuration `0.1`; a set of signals `s0,s3`, `0x9` or `-`; a set shown as signals. Nothing here knows a
-// chart file or an operating system.
+// What a person types and reads: a configuration `0.1`; a set of signals `s0,s3`, `0x9` or `-`; a set shown as signals.
+// Nothing here knows a chart file or an operating system.
 ghost use mathlib.Core.Path.{_≡_};
 ghost use Prim.Native.Nat.{_≤_, _<_};
 ghost use lib.ListN.{length, take, replicate};
 ghost use Rattle.meaning.specs.Meaning.{eqList};
 ghost use Rattle.meaning.specs.Calls.{laidOver};
 ghost use Rattle.layout.specs.Put.{Put, Room};
-ghost use Rattle.typed.specs.Typed.{between, valueOf, digitOn, digitsOn, begun, numberOf, hexOf, signalOf, signalsOn, split, comma, setOf, configOf, shownSignal, shown};
+ghost use Rattle.typed.specs.Typed.{between, valueOf, digitOn, digitsOn, begun, numberOf, hexOf, signalOf};
+ghost use Rattle.typed.specs.Typed.{signalsOn, split, comma, setOf, configOf, shownSignal, shown};
 ghost use Rattle.typed.specs.Parts.{Ends, nextSignal};
 
 // The most states that a configuration can be typed with.
@@ -221,7 +222,10 @@ fn no_states() -> Configuration
 
 // A configuration: states with dots between.
 pub fn config(word: &[u8]) -> Configuration
-    ensures { λ r. ⌜ r ≡ record { count = length (configOf (now (word .entry))); states = laidOver (configOf (now (word .entry))) (replicate 64 0) } ⌝ }
+    ensures { λ r. ⌜ r ≡ record {
+      count = length (configOf (now (word .entry)));
+      states = laidOver (configOf (now (word .entry))) (replicate 64 0);
+    } ⌝ }
 {
     let mut states = [0u8; MOST_STATES];
     let mut count: usize = 0;

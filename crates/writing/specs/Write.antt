@@ -1,5 +1,5 @@
--- What writing a file as text answers: refusals 1 to 11, 46 for edition 2, 51 if it is nested too deep, 45 if the buffer
--- is too short; or the text. A refusal changes no byte of the buffer.
+-- What writing a file as text answers: refusals 1 to 11, 46 for edition 2, 51 if it is nested too deep, 45 if the
+-- buffer is too short; or the text. A refusal changes no byte of the buffer.
 use mathlib.Core.Bool.{cond}
 use mathlib.Core.List.{List, [], _∷_, _++_}
 use Prim.Native.Nat.{ℕ}

@@ -7,4 +7,5 @@ use Rattle.cases.proofs.print_places.Tie as tie
 
 pub print-places-spec : {M : Type 1} → statement M
 print-places-spec =
-    tie.close (tie.spec (λ c. search needs) (λ c. sym (length-take-le _ _ (search needs))) (λ c κs. search needs) (λ c. search needs))
+    tie.close (tie.spec (λ c. search needs) (λ c. sym (length-take-le _ _ (search needs))) (λ c κs. search needs)
+    (λ c. search needs))

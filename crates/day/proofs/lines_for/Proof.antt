@@ -26,8 +26,12 @@ put-lines-requires c κs =
     let r = p .before .before in
     let e = r .before in
     let s = e .before .before .before .before in
-    let a = e .before .opened .ensures .accepted (e .if1 .left) in
-    (omega arith, omega (arith, a .few), omega (arith, rows-fit _ _ (few e) (a .few), p .put-rows .kept .1 .1 .1 .0, r .row-room .ensures), omega (arith, few e, s .pre .1))
+    let a = e .before .opened .ensures .accepted (e .if1 .left) in (
+      omega arith,
+      omega (arith, a .few),
+      omega (arith, rows-fit _ _ (few e) (a .few), p .put-rows .kept .1 .1 .1 .0, r .row-room .ensures),
+      omega (arith, few e, s .pre .1),
+    )
 
 returns : tie.Need-returns
 returns c =
@@ -41,7 +45,8 @@ returns-2 c =
     let p = l .before .before .before .before in
     let e = p .before .before .before in
     let o = e .before .opened .ensures in
-    printed _ _ _ _ _ (day-given _ _ _ _ _ (sym (e .if1 .left) ∙ o .refusal) (o .accepted (e .if1 .left)) (o .inputs (e .if1 .left)) (p .put-rows .ensures)) (l .put-lines .ensures)
+    printed _ _ _ _ _ (day-given _ _ _ _ _ (sym (e .if1 .left) ∙ o .refusal) (o .accepted (e .if1 .left))
+    (o .inputs (e .if1 .left)) (p .put-rows .ensures)) (l .put-lines .ensures)
 
 pub lines-for-spec : {M : Type 1} → statement M
 lines-for-spec =

@@ -27,13 +27,15 @@ returns : tie.Need-returns
 returns c =
     let o = c .before .before in
     let s = o .before .before in
-    refuses _ _ _ (c .refused .ensures) (c .before .if1 .taken) (by-file _ (s .pre) _ (o .opened .ensures .refusal) (c .before .if1 .taken))
+    refuses _ _ _ (c .refused .ensures) (c .before .if1 .taken)
+    (by-file _ (s .pre) _ (o .opened .ensures .refusal) (c .before .if1 .taken))
 
 returns-2 : tie.Need-returns-2
 returns-2 c =
     let e = c .before .before in
     let s = e .before .before .before in
-    refuses _ _ _ (c .refused2 .ensures) (λ z. omega arith) (by-front _ (s .pre) (accepted e) (λ z. c .before .if2 .taken (ap (λ (k : ℕ). k % 8) (front-is _ (accepted e) _ (stands e)) ∙ z)))
+    refuses _ _ _ (c .refused2 .ensures) (λ z. omega arith) (by-front _ (s .pre) (accepted e)
+    (λ z. c .before .if2 .taken (ap (λ (k : ℕ). k % 8) (front-is _ (accepted e) _ (stands e)) ∙ z)))
 
 returns-3 : tie.Need-returns-3
 returns-3 c =
@@ -43,10 +45,17 @@ returns-3 c =
     let q = front-is _ (accepted e) _ w in
     record {
       refusal = by-none _ (s .pre) (accepted e) (sym (ap (λ (k : ℕ). k % 8) q) ∙ c .before .if2 .left);
-      accepted = λ z. record { passes = accepted e; charts-is = charts-are _ _ w; few = w .sized .charts; within = omega (arith, w .order, w .end); leads = leads-of _ (accepted e) _ w };
+      accepted = λ z. record {
+        passes = accepted e;
+        charts-is = charts-are _ _ w;
+        few = w .sized .charts;
+        within = omega (arith, w .order, w .end);
+        leads = leads-of _ (accepted e) _ w;
+      };
       inputs = λ z. ap (λ (k : ℕ). k / 8) q;
     }
 
 pub opened-spec : {M : Type 1} → statement M
 opened-spec =
-    tie.close (tie.spec (λ c κs. search needs) (λ c κs. search needs) returns (λ c κs. search needs) returns-2 returns-3)
+    tie.close (tie.spec (λ c κs. search needs) (λ c κs. search needs) returns
+    (λ c κs. search needs) returns-2 returns-3)

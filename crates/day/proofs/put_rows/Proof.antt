@@ -1,4 +1,5 @@
--- `put_rows` meets its contract: the run from the first configuration is not refused, and leaves its rows. Assumes nothing.
+-- `put_rows` meets its contract: the run from the first configuration is not refused, and leaves its rows. Assumes
+-- nothing.
 use mathlib.Core.Path.{_≡_, sym, ap, _∙_}
 use mathlib.Core.List.{List, _++_}
 use Prim.Native.Nat.{ℕ, _+_, _*_, _≤_}
@@ -15,23 +16,32 @@ use Rattle.day.specs.Day.Laws.{initials-valid, starts, runs, length-inpu
 use Rattle.day.proofs.put_rows.Statement.{statement}
 use Rattle.day.proofs.put_rows.Tie as tie
 
-module _ (f : List ℕ) (charts n : ℕ) (a : Accepted f charts n) (config inputs rows rows′ : List ℕ) (c : config ≡ initials f) (i : inputs ≡ inputsOf n f)
+module _ (f : List ℕ) (charts n : ℕ) (a : Accepted f charts n) (config inputs rows rows′ : List ℕ)
+    (c : config ≡ initials f) (i : inputs ≡ inputsOf n f)
     (l : n * (10 + charts) ≤ length rows) where
-  ran : rows′ ≡ runBytes f config ∅ inputs rows → rows′ ≡ laidOver (rowsOf (fileOf f) (initials f) ∅ (inputsOf n f)) rows
+  ran : rows′ ≡ runBytes f config ∅ inputs rows
+      → rows′ ≡ laidOver (rowsOf (fileOf f) (initials f) ∅ (inputsOf n f)) rows
   ran p =
-      let r : length (inputsOf n f) * (10 + fileOf f .charts) ≤ length rows = rw (length-inputs n f, ← a .charts-is) l in
+      let r : length (inputsOf n f) * (10 + fileOf f .charts) ≤ length rows =
+      rw (length-inputs n f, ← a .charts-is) l in
       rw (c, i) at p ∙ runs f (a .passes) (initials f) (inputsOf n f) rows (initials-valid f (a .passes)) r
 
 -- the part of the array that was lent is the inputs
 lent : (n m : ℕ) (f part rest : List ℕ) → m ≡ n → part ≡ inputsOf m f → take n (part ++ rest) ≡ inputsOf n f
 lent n m f part rest e p = rw (p, e) (take-at (inputsOf n f) rest n (length-inputs n f))
 
-asked : (c : tie.After-inputs) → length (take (c .before .before .before .before .before .before .before .args .n) (c .before .input-room .result)) ≡ c .before .before .before .before .before .before .before .args .n
+asked : (c : tie.After-inputs)
+    → length (take (c .before .before .before .before .before .before .before .args .n) (c .before .input-room .result))
+    ≡ c .before .before .before .before .before .before .before .args .n
 asked c =
     let s = c .before .before .before .before .before .before .before in
-    length-take-le (s .args .n) (c .before .input-room .result) (omega (arith, s .pre .1, c .before .input-room .ensures))
+    length-take-le (s .args .n) (c .before .input-room .result)
+    (omega (arith, s .pre .1, c .before .input-room .ensures))
 
-config-is : (c : tie.After-config3) → take (c .before .before .before .before .before .before .before .before .before .before .args .charts) (c .before .before .before .before .before .before .first .last .1 .0) ≡ initials (c .before .before .before .before .before .before .before .before .before .before .args .input .now)
+config-is : (c : tie.After-config3)
+    → take (c .before .before .before .before .before .before .before .before .before .before .args .charts)
+    (c .before .before .before .before .before .before .first .last .1 .0)
+    ≡ initials (c .before .before .before .before .before .before .before .before .before .before .args .input .now)
 config-is c =
     let g = c .before .before .before .before .before .before in
     let s = g .before .before .before .before in
@@ -39,12 +49,17 @@ config-is c =
 
 inputs-are : (c : tie.After-config3)
     → let i = c .before .before .before in
-    take (c .before .before .before .before .before .before .before .before .before .before .args .n) (c .before .before .read-inputs .last .1 .0 ++ drop (c .before .before .before .before .before .before .before .before .before .before .args .n) (i .before .input-room .result))
-    ≡ inputsOf (c .before .before .before .before .before .before .before .before .before .before .args .n) (c .before .before .before .before .before .before .before .before .before .before .args .input .now)
+    take (c .before .before .before .before .before .before .before .before .before .before .args .n)
+    (c .before .before .read-inputs .last .1 .0
+    ++ drop (c .before .before .before .before .before .before .before .before .before .before .args .n)
+    (i .before .input-room .result))
+    ≡ inputsOf (c .before .before .before .before .before .before .before .before .before .before .args .n)
+    (c .before .before .before .before .before .before .before .before .before .before .args .input .now)
 inputs-are c = lent _ _ _ _ _ (asked (c .before .before .before)) (c .before .before .read-inputs .ensures)
 
 read-inputs-requires : tie.Need-read-inputs-requires
-read-inputs-requires c κs = omega (arith, asked c, c .before .before .before .before .before .before .before .pre .0 .within)
+read-inputs-requires c κs =
+    omega (arith, asked c, c .before .before .before .before .before .before .before .pre .0 .within)
 
 slice-aggregate-run : tie.Need-slice-aggregate-run
 slice-aggregate-run c =

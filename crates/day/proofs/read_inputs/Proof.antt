@@ -15,25 +15,29 @@ use Rattle.day.proofs.read_inputs.Tie as tie
 none-yet : (s : List ℕ) (n : ℕ) → inputsOf (n - 0) s ≡ inputsOf n s
 none-yet s n = ap (λ (k : ℕ). inputsOf k s) (let e : n - 0 ≡ n = omega arith in e)
 
-inputs-next : (s : List ℕ) (n i : ℕ) → i < n → inputsOf (n - i) (drop (8 * i) s) ≡ le 8 (drop (8 * i) s) ∷ inputsOf (n - (i + 1)) (drop (8 * (i + 1)) s)
+inputs-next : (s : List ℕ) (n i : ℕ) → i < n
+    → inputsOf (n - i) (drop (8 * i) s) ≡ le 8 (drop (8 * i) s) ∷ inputsOf (n - (i + 1)) (drop (8 * (i + 1)) s)
 unfolding inputsOf
 inputs-next s n i l =
     let e : n - i ≡ suc (n - (i + 1)) = omega arith in
     let q : 8 * (i + 1) ≡ 8 * i + 8 = omega arith in
     rw (e, q, ← drop-drop 8 (8 * i) s)
 
-one-more : (s l out : List ℕ) (n i v : ℕ) → i < n → i < length l → v ≡ le 8 (drop (8 * i) s) → take i l ++ inputsOf (n - i) (drop (8 * i) s) ≡ out
+one-more : (s l out : List ℕ) (n i v : ℕ) → i < n → i < length l → v ≡ le 8 (drop (8 * i) s)
+    → take i l ++ inputsOf (n - i) (drop (8 * i) s) ≡ out
     → take (i + 1) (set l i v) ++ inputsOf (n - (i + 1)) (drop (8 * (i + 1)) s) ≡ out
 one-more s l out n i v h k e p =
     let t : take (i + 1) (set l i v) ≡ take i l ++ (v ∷ []) = rw add-one (take-suc-set l i v k) in
     rw (t, append-assoc, e, ← inputs-next s n i h) p
 
-all : (s l out : List ℕ) (n i : ℕ) → i ≡ n → length l ≡ n → take i l ++ inputsOf (n - i) (drop (8 * i) s) ≡ out → l ≡ out
+all : (s l out : List ℕ) (n i : ℕ) → i ≡ n → length l ≡ n
+    → take i l ++ inputsOf (n - i) (drop (8 * i) s) ≡ out → l ≡ out
 unfolding inputsOf
 all s l out n i e h p = sym (take-length l) ∙ rw h (sym (append-nil (take n l))) ∙ rw (e, sub-self) at p
 
 abbrev Inv-loop : tie.InvT-loop
-Inv-loop input inputs₀ n i₀ inputs i = (i ≤ n) × (length inputs ≡ n) × (take i inputs ++ inputsOf (n - i) (drop (8 * i) input) ≡ inputsOf n input)
+Inv-loop input inputs₀ n i₀ inputs i =
+    (i ≤ n) × (length inputs ≡ n) × (take i inputs ++ inputsOf (n - i) (drop (8 * i) input) ≡ inputsOf n input)
 
 abbrev μ-loop : tie.MeasureT-loop
 μ-loop input inputs₀ n i₀ inputs i = n - i

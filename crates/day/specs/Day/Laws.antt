@@ -1,5 +1,6 @@
--- Laws of the day program, in this order: what is laid over the front of a part of a buffer; lines of rows, one more, and the last; the refusals 1
--- to 11 and 30; the first configuration; the whole output; that the contract determines it, and that it is the output for all of the input.
+-- Laws of the day program, in this order: what is laid over the front of a part of a buffer; lines of rows, one more,
+-- and the last; the refusals 1 to 11 and 30; the first configuration; the whole output; that the contract determines
+-- it, and that it is the output for all of the input.
 use mathlib.Core.Path.{_≡_, refl, sym, ap, _∙_}
 use mathlib.Core.Bool.{not}
 use mathlib.Core.List.{List, [], _∷_, _++_, append-assoc}
@@ -18,7 +19,8 @@ use Rattle.meaning.specs.Meaning.{∅, same}
 use Rattle.meaning.specs.File.{trailer, shapeOf, bodyOf, chartOf, fileAt, fileOf}
 use Rattle.meaning.specs.Check.{Test, firstOf, fileTests, refusalOf, differ, distance?}
 use Rattle.meaning.specs.Count.Laws.{or-left, any-all}
-use Rattle.meaning.specs.Check.Laws.{alike, firstOf-here, firstOf-next, firstOf-[], call-refused, call-passed, passed, charted}
+use Rattle.meaning.specs.Check.Laws.{alike, firstOf-here, firstOf-next, firstOf-[], call-refused, call-passed, passed}
+use Rattle.meaning.specs.Check.Laws.{charted}
 use Rattle.meaning.specs.Calls.{laidOver, firstRefusal, initials, firstBytes, rowsOf, runBytes}
 use Rattle.meaning.specs.Calls.Laws.{length-made, getD-made}
 use Rattle.meaning.specs.Laws.Runs.{Leads, Valid, rows-all}
@@ -34,33 +36,47 @@ use Rattle.day.specs.Day.{Accepted, DaySays}
 -- ── a text laid over the front of the bytes from `at` up to e ──
 
 -- a text that is the output, laid over a buffer
-pub printed : (text out out₀ : List ℕ) (r : ℕ) (whole : List ℕ) → whole ≡ text → (r ≡ length text) × (out ≡ laidOver text out₀)
+pub printed : (text out out₀ : List ℕ) (r : ℕ) (whole : List ℕ) → whole ≡ text
+    → (r ≡ length text) × (out ≡ laidOver text out₀)
     → (r ≡ length whole) × (out ≡ laidOver whole out₀)
 printed text out out₀ r whole e p = rw e p
 
-module _ (l text part : List ℕ) (at e : ℕ) (order : at ≤ e) (to : e ≤ length l) (p : part ≡ laidOver text (take (e - at) (drop at l))) (kept : length part ≡ e - at) where
+module _ (l text part : List ℕ) (at e : ℕ) (order : at ≤ e) (to : e ≤ length l)
+    (p : part ≡ laidOver text (take (e - at) (drop at l))) (kept : length part ≡ e - at) where
   pub text-fits : length text ≤ e - at
   text-fits = omega (arith, rw (p, length-append, length-drop, length-take, length-drop) at kept)
 
   laid-is : take at l ++ (part ++ drop (e - at) (drop at l)) ≡ (take at l ++ text) ++ drop (at + length text) l
   laid-is =
-      let h : length text ≤ length (take (e - at) (drop at l)) = rw (length-take, length-drop) (omega (arith, text-fits)) in
-      rw (p, append-assoc text, ← drop-append-le (length text) (take (e - at) (drop at l)) (drop (e - at) (drop at l)) h, take-append-drop, drop-drop, append-assoc)
+      let h : length text ≤ length (take (e - at) (drop at l)) =
+      rw (length-take, length-drop) (omega (arith, text-fits)) in
+      rw (
+        p,
+        append-assoc text,
+        ← drop-append-le (length text) (take (e - at) (drop at l)) (drop (e - at) (drop at l)) h,
+        take-append-drop,
+        drop-drop,
+        append-assoc,
+      )
 
   front : length (take at l ++ text) ≡ at + length text
   front = rw (length-append, length-take-le at l (omega arith))
 
-  pub text-before : (rest out : List ℕ) → take at l ++ (text ++ rest) ≡ out → take (at + length text) (take at l ++ (part ++ drop (e - at) (drop at l))) ++ rest ≡ out
-  text-before rest out h = rw (laid-is, take-at (take at l ++ text) (drop (at + length text) l) (at + length text) front, append-assoc) h
+  pub text-before : (rest out : List ℕ) → take at l ++ (text ++ rest) ≡ out
+      → take (at + length text) (take at l ++ (part ++ drop (e - at) (drop at l))) ++ rest ≡ out
+  text-before rest out h =
+      rw (laid-is, take-at (take at l ++ text) (drop (at + length text) l) (at + length text) front, append-assoc) h
 
-  pub text-behind : drop (at + length text) (take at l ++ (part ++ drop (e - at) (drop at l))) ≡ drop (at + length text) l
+  pub text-behind : drop (at + length text) (take at l ++ (part ++ drop (e - at) (drop at l)))
+      ≡ drop (at + length text) l
   text-behind = rw laid-is (drop-at (take at l ++ text) (drop (at + length text) l) (at + length text) front)
 
 -- ── lines ──
 
 -- the first of the rows that are left gives the next line
 pub lines-next : (rows : List ℕ) (w n i at : ℕ) → i < n
-    → linesOf w (i + 1) (n - i) (drop at rows) ≡ lineOf (i + 1) (take w (drop at rows)) ++ linesOf w (i + 1 + 1) (n - (i + 1)) (drop (at + w) rows)
+    → linesOf w (i + 1) (n - i) (drop at rows)
+    ≡ lineOf (i + 1) (take w (drop at rows)) ++ linesOf w (i + 1 + 1) (n - (i + 1)) (drop (at + w) rows)
 unfolding linesOf
 lines-next rows w n i at l =
     let e : n - i ≡ suc (n - (i + 1)) = omega arith in
@@ -75,7 +91,8 @@ module _ (f : List ℕ) where
   -- 31 does not apply
   behind-length : length f ≤ 65536 → dayRefusal f ≡ firstOf (fileTests f ++ (odd-front ∷ []))
   unfolding dayRefusal
-  behind-length h = firstOf-next (record { number = tooLong; applies = ltb mostInput (length f) }) _ (le-ltb mostInput (length f) h)
+  behind-length h =
+      firstOf-next (record { number = tooLong; applies = ltb mostInput (length f) }) _ (le-ltb mostInput (length f) h)
 
   module _ (h : length f ≤ 65536) where
     pub by-file : (r : ℕ) → r ≡ refusalOf f → (r ≡ 0 → ⊥) → r ≡ dayRefusal f
@@ -84,11 +101,13 @@ module _ (f : List ℕ) where
     module _ (a : refusalOf f ≡ 0) where
       pub by-front : (frontOf f % 8 ≡ 0 → ⊥) → 30 ≡ dayRefusal f
       unfolding same
-      by-front n = sym (behind-length h ∙ call-passed f _ a ∙ firstOf-here odd-front [] (ap not (ne-eqb (frontOf f % 8) 0 n)))
+      by-front n =
+          sym (behind-length h ∙ call-passed f _ a ∙ firstOf-here odd-front [] (ap not (ne-eqb (frontOf f % 8) 0 n)))
 
       pub by-none : frontOf f % 8 ≡ 0 → 0 ≡ dayRefusal f
       unfolding same
-      by-none e = sym (behind-length h ∙ call-passed f _ a ∙ firstOf-next odd-front [] (ap not (eq-eqb (frontOf f % 8) 0 e)) ∙ firstOf-[])
+      by-none e = sym (behind-length h ∙ call-passed f _ a
+          ∙ firstOf-next odd-front [] (ap not (eq-eqb (frontOf f % 8) 0 e)) ∙ firstOf-[])
 
 -- the body of a file that passed stands behind the front
 module _ (f : List ℕ) (a : refusalOf f ≡ 0) (o : Opening) (s : Stands f o) where
@@ -111,7 +130,8 @@ charts-are f o s = ap (λ n. n .charts) (s .shape)
 pub leads-of : (f : List ℕ) → refusalOf f ≡ 0 → (o : Opening) → Stands f o → Leads (fileOf f)
 unfolding fileOf
 leads-of f a o s =
-    leads (shapeOf (trailer f)) (bodyOf f) (checked f (shapeOf (trailer f)) (bodyOf f) a refl refl (rw (s .shape) at (s .sized)) (rw (s .shape) at (s .summed)))
+    leads (shapeOf (trailer f)) (bodyOf f) (checked f (shapeOf (trailer f)) (bodyOf f) a refl refl
+    (rw (s .shape) at (s .sized)) (rw (s .shape) at (s .summed)))
 
 -- ── the first configuration ──
 
@@ -121,27 +141,33 @@ module _ (f : List ℕ) (a : refusalOf f ≡ 0) where
   initials-valid =
       record {
         long = length-made _ _;
-        states = λ c l. rw (getD-made _ (λ d. fileOf f .chart d .initial) c l) (charted (shapeOf (trailer f)) (bodyOf f) (passed f a .charts) c l .initial);
+        states = λ c l. rw (getD-made _ (λ d. fileOf f .chart d .initial) c l)
+            (charted (shapeOf (trailer f)) (bodyOf f) (passed f a .charts) c l .initial);
       }
 
   -- what `first` leaves in a buffer
-  pub starts : (charts : ℕ) (b b′ : List ℕ) → charts ≡ fileOf f .charts → charts ≤ length b → b′ ≡ firstBytes f b → take charts b′ ≡ initials f
+  pub starts : (charts : ℕ) (b b′ : List ℕ) → charts ≡ fileOf f .charts → charts ≤ length b → b′ ≡ firstBytes f b
+      → take charts b′ ≡ initials f
   unfolding firstBytes firstRefusal same
   starts charts b b′ e l p =
-      let z : firstRefusal f (length b) ≡ 0 = call-passed f _ a ∙ firstOf-next _ _ (rw (← e) (le-ltb (length b) charts l)) ∙ firstOf-[] in
+      let z : firstRefusal f (length b) ≡ 0 =
+      call-passed f _ a ∙ firstOf-next _ _ (rw (← e) (le-ltb (length b) charts l)) ∙ firstOf-[] in
       rw (p, z) (take-at (initials f) _ charts (initials-valid .long ∙ sym e))
 
   -- a run from a valid configuration is not refused
-  module _ (config inputs rows : List ℕ) (v : Valid (fileOf f) config) (l : length inputs * (10 + fileOf f .charts) ≤ length rows) where
+  module _ (config inputs rows : List ℕ) (v : Valid (fileOf f) config)
+      (l : length inputs * (10 + fileOf f .charts) ≤ length rows) where
     unrefused : firstOf (configTestsIn (fileOf f) config) ≡ 0
     unfolding configTestsIn same
     unrefused =
         firstOf-next _ _ (ap not (eq-eqb (length config) (fileOf f .charts) (v .long)))
-        ∙ firstOf-next _ _ (any-all (fileOf f .charts) _ (λ c m. ap not (lt-ltb (getD config c 0) (fileOf f .chart c .states) (v .states c m))))
+        ∙ firstOf-next _ _ (any-all (fileOf f .charts) _
+        (λ c m. ap not (lt-ltb (getD config c 0) (fileOf f .chart c .states) (v .states c m))))
         ∙ firstOf-[]
 
     pub runs : runBytes f config ∅ inputs rows ≡ laidOver (rowsOf (fileOf f) config ∅ inputs) rows
-    runs = bytes-passed f config ∅ inputs rows a ∙ sym (after-rows (fileOf f) config ∅ inputs rows unrefused l _ _ refl refl .1)
+    runs = bytes-passed f config ∅ inputs rows a
+        ∙ sym (after-rows (fileOf f) config ∅ inputs rows unrefused l _ _ refl refl .1)
 
 pub length-inputs : (n : ℕ) (s : List ℕ) → length (inputsOf n s) ≡ n
 unfolding inputsOf
@@ -151,12 +177,17 @@ length-inputs (suc n) s = ap suc (length-inputs n (drop 8 s))
 -- ── the output ──
 
 -- bytes behind the rows are not looked at
-pub lines-front : (w k n : ℕ) (rows rest : List ℕ) → n * w ≤ length rows → linesOf w k n (rows ++ rest) ≡ linesOf w k n rows
+pub lines-front : (w k n : ℕ) (rows rest : List ℕ) → n * w ≤ length rows
+    → linesOf w k n (rows ++ rest) ≡ linesOf w k n rows
 unfolding linesOf
 lines-front w k zero rows rest l = refl
 lines-front w k (suc n) rows rest l =
     let h : n * w + w ≤ length rows = rw suc-mul at l in
-    rw (take-append-le w rows rest (omega arith), drop-append-le w rows rest (omega arith), lines-front w (suc k) n (drop w rows) rest (rw length-drop (omega arith)))
+    rw (
+      take-append-le w rows rest (omega arith),
+      drop-append-le w rows rest (omega arith),
+      lines-front w (suc k) n (drop w rows) rest (rw length-drop (omega arith)),
+    )
 
 pub rows-fit : (n c : ℕ) → n ≤ 8192 → c ≤ mostCharts → n * (10 + c) ≤ 8192 * (10 + mostCharts)
 rows-fit n c h k =
@@ -170,12 +201,17 @@ module _ (f : List ℕ) where
 
   -- the lines of the rows of a run, whatever stands behind them
   pub day-given : (charts n : ℕ) (rows rows₀ : List ℕ) → 0 ≡ dayRefusal f → Accepted f charts n → n ≡ frontOf f / 8
-      → rows ≡ laidOver (rowsOf (fileOf f) (initials f) ∅ (inputsOf n f)) rows₀ → dayOf f ≡ linesOf (10 + charts) 1 n rows
+      → rows ≡ laidOver (rowsOf (fileOf f) (initials f) ∅ (inputsOf n f)) rows₀
+      → dayOf f ≡ linesOf (10 + charts) 1 n rows
   unfolding dayOf dayLines same
   day-given charts n rows rows₀ e a i p =
       let R = rowsOf (fileOf f) (initials f) ∅ (inputsOf n f) in
-      let l : length R ≡ n * (10 + fileOf f .charts) = rows-all (fileOf f) (a .leads) (record { config = initials f; carried = ∅ }) (inputsOf n f) (initials-valid f (a .passes)) ∙ rw (length-inputs n f) in
-      rw (← e, ← i, a .charts-is, p) (sym (lines-front (10 + fileOf f .charts) 1 n R (drop (length R) rows₀) (omega arith)))
+      let l : length R ≡ n * (10 + fileOf f .charts) = rows-all (fileOf f) (a .leads) (record {
+        config = initials f;
+        carried = ∅;
+      }) (inputsOf n f) (initials-valid f (a .passes)) ∙ rw (length-inputs n f) in
+      rw (← e, ← i, a .charts-is, p)
+      (sym (lines-front (10 + fileOf f .charts) 1 n R (drop (length R) rows₀) (omega arith)))
 
 -- ── the contract ──
 
@@ -198,7 +234,8 @@ module _ (f : List ℕ) where
   unfolding dayRefusal
   too-long h =
       day-refused f tooLong
-      (sym (firstOf-here (record { number = tooLong; applies = ltb mostInput (length f) }) _ (lt-ltb mostInput (length f) h)))
+      (sym (firstOf-here (record { number = tooLong; applies = ltb mostInput (length f) }) _
+      (lt-ltb mostInput (length f) h)))
       (λ e. omega arith)
 
   pub day-whole : dayFrom (take mostInput f) (length (take 1 (drop mostInput f))) ≡ dayOf f

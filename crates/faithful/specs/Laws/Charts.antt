@@ -85,7 +85,8 @@ module _ {A : Type 0} where
       let f = h .counted in
       omega arith
 
-  pub gathered-append : {B : Type 0} (f : A → List B) (l m : List A) → gathered f (l ++ m) ≡ gathered f l ++ gathered f m
+  pub gathered-append : {B : Type 0} (f : A → List B) (l m : List A)
+      → gathered f (l ++ m) ≡ gathered f l ++ gathered f m
   unfolding gathered
   gathered-append f [] m = refl
   gathered-append f (a ∷ l) m =

@@ -1,5 +1,5 @@
--- `literals` meets its contract: in every text that has the literals of a guard there, those before i are read, and the text
--- goes on with the others at i.
+-- `literals` meets its contract: in every text that has the literals of a guard there, those before i are read, and the
+-- text goes on with the others at i.
 use mathlib.Core.Path.{_≡_, refl, sym, _∙_}
 use mathlib.Core.List.{List, _∷_, _++_}
 use Prim.Native.Nat.{ℕ, _+_, _-_, _≤_, _<_}
@@ -64,7 +64,8 @@ returns c =
       within = c .behind-sign2 .ensures .within;
       onward = omega (arith, l .inv .0 .1, c .behind-sign2 .ensures .onward);
       gives =
-          λ ls ts h. through-end _ ls ts _ _ _ (λ e. t .if1 .left (p .peek .ensures ∙ e)) (c .behind-sign2 .ensures) refl refl
+          λ ls ts h. through-end _ ls ts _ _ _
+          (λ e. t .if1 .left (p .peek .ensures ∙ e)) (c .behind-sign2 .ensures) refl refl
           refl (l .inv .1 ls ts h);
     }
 

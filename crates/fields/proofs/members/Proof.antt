@@ -1,5 +1,5 @@
--- `members` meets its contract: in every text that has the names of a set there, the names before i are read, and the text
--- goes on with the others at i.
+-- `members` meets its contract: in every text that has the names of a set there, the names before i are read, and the
+-- text goes on with the others at i.
 use mathlib.Core.Path.{_≡_, refl, sym, ap, _∙_}
 use mathlib.Core.List.{List, _∷_, _++_}
 use Prim.Native.Nat.{ℕ, _+_, _-_, _≤_, _<_}
@@ -61,7 +61,8 @@ returns c =
       within = c .behind-sign2 .ensures .within;
       onward = omega (arith, l .inv .0 .1, c .behind-sign2 .ensures .onward);
       gives =
-          λ ks ts h. going-end _ ks ts _ _ _ _ (λ e. t .if1 .left (p .peek .ensures ∙ e)) (c .behind-sign2 .ensures) refl
+          λ ks ts h. going-end _ ks ts _ _ _ _
+          (λ e. t .if1 .left (p .peek .ensures ∙ e)) (c .behind-sign2 .ensures) refl
           refl (l .inv .1 ks ts h);
     }
 

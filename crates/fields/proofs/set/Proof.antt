@@ -9,7 +9,8 @@ returns : tie.Need-returns
 returns c =
     let t = c .before in
     let p = t .before in
-    set-empty _ _ _ (p .before .behind-sign .ensures) _ (sym (p .peek .ensures) ∙ t .if1 .taken) (c .behind-sign2 .ensures)
+    set-empty _ _ _ (p .before .behind-sign .ensures) _ (sym (p .peek .ensures) ∙ t .if1 .taken)
+    (c .behind-sign2 .ensures)
     refl refl
 
 returns-2 : tie.Need-returns-2

@@ -16,7 +16,8 @@ returns c =
     let a = j .before in
     let i = a .before in
     transition-right _ _ _ _ _ _ _ _ _ _ (i .behind-sign .ensures) (a .name-at .ensures) (j .behind-sign2 .ensures)
-    (b .name-at2 .ensures) (k .behind-sign3 .ensures) (g .guard-at .ensures) (s .set .ensures) (c .behind-sign4 .ensures)
+    (b .name-at2 .ensures) (k .behind-sign3 .ensures) (g .guard-at .ensures) (s .set .ensures)
+    (c .behind-sign4 .ensures)
     refl refl refl refl refl (e .either .ensures)
 
 pub transition-at-spec : {M : Type 1} → statement M

@@ -23,28 +23,45 @@ returns c =
     (λ g f. back-closer _ g f _ _ _ (sym (c .before .is-closer .ensures) ∙ c .if1 .taken), omega arith)
 
 returns-2 : tie.Need-returns-2
-returns-2 c =
-    (λ g f. let d = c .before .before in back-found _ g f _ _ _ (no-closer (d .before .before)) (is-opener d) (c .before .if3 .taken) ∙ ap g (sym (c .found .ensures)), omega arith)
+returns-2 c = (
+  λ g f. let d = c .before .before in back-found _ g f _ _ _ (no-closer (d .before .before)) (is-opener d)
+      (c .before .if3 .taken) ∙ ap g (sym (c .found .ensures)),
+  omega arith,
+)
 
 returns-3 : tie.Need-returns-3
-returns-3 c =
-    (λ g f. let d = c .before in back-open _ g f _ _ _ (no-closer (d .before .before)) (is-opener d) (c .if3 .left), omega arith)
+returns-3 c = (
+  λ g f. let d = c .before in back-open _ g f _ _ _ (no-closer (d .before .before)) (is-opener d) (c .if3 .left),
+  omega arith,
+)
 
 returns-4 : tie.Need-returns-4
-returns-4 c =
-    (λ g f. let d = c .before .before in back-first _ g f _ _ _ (no-closer (d .before .before)) (no-opener d) (c .before .if4 .taken) (c .if5 .taken), omega arith)
+returns-4 c = (
+  λ g f. let d = c .before .before in
+      back-first _ g f _ _ _ (no-closer (d .before .before)) (no-opener d) (c .before .if4 .taken) (c .if5 .taken),
+  omega arith,
+)
 
 returns-5 : tie.Need-returns-5
-returns-5 c =
-    (λ g f. let d = c .before .before in back-bar _ g f _ _ _ (no-closer (d .before .before)) (no-opener d) (c .before .if4 .taken) (c .if5 .left), omega arith)
+returns-5 c = (
+  λ g f. let d = c .before .before in
+      back-bar _ g f _ _ _ (no-closer (d .before .before)) (no-opener d) (c .before .if4 .taken) (c .if5 .left),
+  omega arith,
+)
 
 returns-6 : tie.Need-returns-6
-returns-6 c =
-    (λ g f. let d = c .before .before .before in back-blank _ g f _ _ _ (no-closer (d .before .before)) (no-opener d) (c .before .before .if4 .left) (sym (c .before .is-blank .ensures) ∙ c .if6 .taken), omega arith)
+returns-6 c = (
+  λ g f. let d = c .before .before .before in back-blank _ g f _ _ _ (no-closer (d .before .before)) (no-opener d)
+      (c .before .before .if4 .left) (sym (c .before .is-blank .ensures) ∙ c .if6 .taken),
+  omega arith,
+)
 
 returns-7 : tie.Need-returns-7
-returns-7 c =
-    (λ g f. let d = c .before .before .before in back-else _ g f _ _ _ (no-closer (d .before .before)) (no-opener d) (c .before .before .if4 .left) (sym (c .before .is-blank .ensures) ∙ c .if6 .left), omega arith)
+returns-7 c = (
+  λ g f. let d = c .before .before .before in back-else _ g f _ _ _ (no-closer (d .before .before)) (no-opener d)
+      (c .before .before .if4 .left) (sym (c .before .is-blank .ensures) ∙ c .if6 .left),
+  omega arith,
+)
 
 pub one-back-spec : {M : Type 1} → statement M
 one-back-spec =

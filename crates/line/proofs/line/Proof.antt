@@ -1,4 +1,5 @@
--- `line::line` meets its contract. A line is its number and what closes it, and is no longer than 105 bytes. Assumes nothing.
+-- `line::line` meets its contract. A line is its number and what closes it, and is no longer than 105 bytes. Assumes
+-- nothing.
 use Prim.Native.Nat.{_≤_}
 use native.Mathlib.Omega.{arith}
 use borrow.Author.Needs.{needs}

@@ -1,5 +1,5 @@
--- `line::put_digits` meets its contract. The loop's invariant: with the n - i lowest digits of what is left written over the buffer, all is
--- written. Assumes nothing.
+-- `line::put_digits` meets its contract. The loop's invariant: with the n - i lowest digits of what is left written
+-- over the buffer, all is written. Assumes nothing.
 use mathlib.Core.Path.{_≡_, refl, sym, ap, _∙_}
 use mathlib.Core.List.{List, [], _∷_}
 use Prim.Native.Nat.{ℕ, suc, _+_, _-_, _/_, _%_, _≤_, _<_}
@@ -14,10 +14,12 @@ use Rattle.line.proofs.put_digits.Statement.{statement}
 use Rattle.line.proofs.put_digits.Tie as tie
 
 -- a byte behind xs may be written before it
-set-sets : (l : List ℕ) (at : ℕ) (xs : List ℕ) (k b : ℕ) → at + length xs ≤ k → sets (set l k b) at xs ≡ set (sets l at xs) k b
+set-sets : (l : List ℕ) (at : ℕ) (xs : List ℕ) (k b : ℕ) → at + length xs ≤ k
+    → sets (set l k b) at xs ≡ set (sets l at xs) k b
 set-sets l at [] k b h = refl
 set-sets l at (x ∷ xs) k b h =
-    ap (λ (m : List ℕ). sets m (suc at) xs) (set-comm l k at b x (λ e. omega arith)) ∙ set-sets (set l at x) (suc at) xs k b (omega arith)
+    ap (λ (m : List ℕ). sets m (suc at) xs) (set-comm l k at b x (λ e. omega arith))
+    ∙ set-sets (set l at x) (suc at) xs k b (omega arith)
 
 -- the lowest digit, and then those above it
 lowest-first : (l : List ℕ) (at base k x : ℕ)
@@ -55,7 +57,8 @@ loop-again c =
     let e : a .n - l .i ≡ suc k = omega arith in (
       omega arith,
       simp length-set (l .inv .1),
-      rw (c .place .ensures, c .before .digit .ensures) (lowest-first (l .out) (a .at) (a .base) k (l .left) ∙ (rw e at (l .inv .2))),
+      rw (c .place .ensures, c .before .digit .ensures)
+          (lowest-first (l .out) (a .at) (a .base) k (l .left) ∙ (rw e at (l .inv .2))),
     )
 
 returns : tie.Need-returns Inv-loop μ-loop

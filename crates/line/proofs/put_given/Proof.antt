@@ -19,7 +19,8 @@ config : (row : List ℕ) → take (length row - 10) (drop 10 row) ≡ drop 10 r
 config row = take-all (length row - 10) (drop 10 row) (omega (arith, length-drop 10 row))
 
 -- room for all of it
-room : (c : tie.Start) → c .args .at + (21 + length (dotted (drop 10 (now (c .args .row))))) ≤ length (now (c .args .out))
+room : (c : tie.Start)
+    → c .args .at + (21 + length (dotted (drop 10 (now (c .args .row))))) ≤ length (now (c .args .out))
 room c =
     let h : Room (now (c .args .out)) (c .args .at) (closing (givenFields (now (c .args .row)))) = c .pre .1 in
     omega (arith, length-given (now (c .args .row)))
@@ -30,18 +31,27 @@ put-output-requires c κs = omega (arith, room (c .before .before .before .befor
 put-states-requires : tie.Need-put-states-requires
 put-states-requires c κs =
     let s = c .before .before .before .before .before .before .before .before .before in
-    rw (config (now (s .args .row))) (omega (arith, room s, length-output (c .before .before .before .before .before .le64 .result)))
+    rw (config (now (s .args .row)))
+    (omega (arith, room s, length-output (c .before .before .before .before .before .le64 .result)))
 
 put-mark-requires : tie.Need-put-mark-requires
 put-mark-requires c κs =
-    let s = c .before .before .before .before .before .before .before .before .before .before .before .before .before .before in
+    let s =
+    c .before .before .before .before .before .before .before .before .before .before .before .before .before .before in
     let e = ap (λ (l : List ℕ). length (dotted l)) (config (now (s .args .row))) in
-    omega (arith, room s, length-output (c .before .before .before .before .before .before .before .before .before .before .le64 .result))
+    omega (
+      arith,
+      room s,
+      length-output (c .before .before .before .before .before .before .before .before .before .before .le64 .result),
+    )
 
 returns : tie.Need-returns
 returns c =
-    let row = now (c .before .before .before .before .before .before .before .before .before .before .before .before .before .before .before .before .before .args .row) in
-    let output = rw (c .before .before .before .before .before .before .before .before .before .before .before .before .before .le64 .ensures) at (c .before .before .before .before .before .before .before .before .before .before .before .before .put-output .ensures) in
+    let row = now (c .before .before .before .before .before .before .before .before .before .before .before .before
+    .before .before .before .before .before .args .row) in
+    let output = rw (c .before .before .before .before .before .before .before .before .before .before .before .before
+    .before .le64 .ensures) at (c .before .before .before .before .before .before .before .before .before .before
+    .before .before .put-output .ensures) in
     let states = rw (config row) at (c .before .before .before .before .before .before .before .put-states .ensures) in
     rw closing-given (put-append output (put-append states (c .before .before .put-mark .ensures)))
 

@@ -6,8 +6,10 @@ use Rattle.line.proofs.put_mark.Tie as tie
 
 returns : tie.Need-returns
 returns c =
-    let mark = rw (c .before .before .before .before .before .before .before .letter .ensures) at (c .before .before .before .before .before .before .put-byte2 .ensures) in
-    put-append (c .before .before .before .before .before .before .before .before .before .before .before .put-byte .ensures)
+    let mark = rw (c .before .before .before .before .before .before .before .letter .ensures) at
+    (c .before .before .before .before .before .before .put-byte2 .ensures) in
+    put-append
+    (c .before .before .before .before .before .before .before .before .before .before .before .put-byte .ensures)
     (put-append mark (c .before .before .put-byte3 .ensures))
 
 pub put-mark-spec : {M : Type 1} → statement M

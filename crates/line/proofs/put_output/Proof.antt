@@ -17,8 +17,11 @@ put-byte-requires-2 c κs =
     omega (arith, length-output x, length-digits 16 16 x)
 
 returns : tie.Need-returns
-returns c = put-append (c .before .before .before .before .before .before .before .before .before .before .put-byte .ensures)
-    (put-append (c .before .before .before .before .before .before .put-hex .ensures) (c .before .before .put-byte2 .ensures))
+returns c =
+    put-append (c .before .before .before .before .before .before .before .before .before .before .put-byte .ensures)
+    (put-append (c .before .before .before .before .before .before .put-hex .ensures)
+    (c .before .before .put-byte2 .ensures))
 
 pub put-output-spec : {M : Type 1} → statement M
-put-output-spec = tie.close (tie.spec (λ c κs. search needs) put-hex-requires put-byte-requires-2 (λ c. search needs) returns)
+put-output-spec =
+    tie.close (tie.spec (λ c κs. search needs) put-hex-requires put-byte-requires-2 (λ c. search needs) returns)

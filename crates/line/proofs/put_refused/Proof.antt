@@ -30,6 +30,7 @@ put-refused-spec =
     (λ c. search needs)
     (λ c κs. omega (arith, room (c .before .before .before)))
     (λ c κs. omega (arith, room (c .before .before .before .before .before .before .before)))
-    (λ c κs. omega (arith, room (c .before .before .before .before .before .before .before .before .before .before .before)))
+    (λ c κs.
+    omega (arith, room (c .before .before .before .before .before .before .before .before .before .before .before)))
     (λ c. search needs)
     returns)

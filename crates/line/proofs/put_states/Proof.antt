@@ -1,4 +1,5 @@
--- `line::put_states` meets its contract. The loop's invariant: the states from i on are left, each behind a dot. Assumes nothing.
+-- `line::put_states` meets its contract. The loop's invariant: the states from i on are left, each behind a dot.
+-- Assumes nothing.
 use mathlib.Core.Path.{refl, sym, _∙_}
 use mathlib.Core.List.{List, _∷_, _++_, map}
 use Prim.Native.Nat.{ℕ, suc, _-_, _≤_}
@@ -20,7 +21,8 @@ abbrev rest : List ℕ → ℕ → List ℕ
 rest states i = behind dot (map decimal (drop i states))
 
 abbrev Inv-loop : tie.InvT-loop
-Inv-loop out₀ at states next₀ i₀ out next i = (i ≤ length states) × Left out₀ next₀ (rest states 1) out next (rest states i)
+Inv-loop out₀ at states next₀ i₀ out next i =
+    (i ≤ length states) × Left out₀ next₀ (rest states 1) out next (rest states i)
 
 abbrev μ-loop : tie.MeasureT-loop
 μ-loop out₀ at states next₀ i₀ out next i = length states - i
@@ -29,17 +31,20 @@ returns : tie.Need-returns Inv-loop μ-loop
 unfolding dotted joined
 returns c =
     let a = c .before .before .before .args in
-    rw (drop-of-length-le (now (a .states)) {i = 0} (omega arith)) (record { is = refl; place = sym (add-zero (a .at)) })
+    rw (drop-of-length-le (now (a .states)) {i = 0} (omega arith))
+    (record { is = refl; place = sym (add-zero (a .at)) })
 
 -- room for the first state and for the rest
 room : (c : tie.Else1 Inv-loop μ-loop) → let a = c .before .before .before .args in
     Room (now (a .out)) (a .at) (decimal (getD (now (a .states)) 0 0) ++ rest (now (a .states)) 1)
-room c = rw (dotted-cons (now (c .before .before .before .args .states)) (omega arith)) at (c .before .before .before .pre)
+room c =
+    rw (dotted-cons (now (c .before .before .before .args .states)) (omega arith)) at (c .before .before .before .pre)
 
 put-decimal-requires : tie.Need-put-decimal-requires Inv-loop μ-loop
 put-decimal-requires c κs =
     let a = c .before .before .before .before .before .args in
-    room-first (now (a .out)) (a .at) (decimal (getD (now (a .states)) 0 0)) (rest (now (a .states)) 1) (room (c .before .before))
+    room-first (now (a .out)) (a .at) (decimal (getD (now (a .states)) 0 0)) (rest (now (a .states)) 1)
+    (room (c .before .before))
 
 put-state-requires : tie.Need-put-state-requires Inv-loop μ-loop
 put-state-requires c κs =
@@ -47,7 +52,8 @@ put-state-requires c κs =
     let first = c .before .before .before .before .before .before in
     let a = first .before .before .before .before .before .before .args in
     let states = now (a .states) in
-    let r = room-next (now (a .out)) (a .at) (decimal (getD states 0 0)) (rest states 1) (room (first .before .before .before))
+    let r =
+    room-next (now (a .out)) (a .at) (decimal (getD states 0 0)) (rest states 1) (room (first .before .before .before))
     (first .put-decimal .ensures) in
     room-first (l .out) (l .next) (dot ∷ decimal (getD states (l .i) 0)) (rest states (suc (l .i)))
     (rw (behind-cons states (l .i) (omega arith)) at (left-room (rest states (l .i)) (l .inv .1) r))
@@ -55,7 +61,8 @@ put-state-requires c κs =
 loop-again : tie.Need-loop-again Inv-loop μ-loop
 loop-again c =
     let l = c .before .before .before .before .before .before .loop in
-    let states = now (c .before .before .before .before .before .before .before .before .before .before .before .before .before .before .before .args .states) in (
+    let states = now (c .before .before .before .before .before .before .before .before .before .before .before .before
+    .before .before .before .args .states) in (
       omega arith,
       rw add-one
           (left-put (dot ∷ decimal (getD states (l .i) 0)) (rest states (suc (l .i)))
@@ -73,7 +80,8 @@ returns-2 c =
     let first = c .before .before .before .before in
     let states = now (first .before .before .before .before .before .before .args .states) in
     rw (dotted-cons states (omega arith))
-    (put-append (first .put-decimal .ensures) (left-none (rw (drop-of-length-le states (c .loop-test .left)) at (c .before .loop .inv .1))))
+    (put-append (first .put-decimal .ensures)
+    (left-none (rw (drop-of-length-le states (c .loop-test .left)) at (c .before .loop .inv .1))))
 
 pub put-states-spec : {M : Type 1} → statement M
 put-states-spec =

@@ -31,7 +31,8 @@ loop-again c =
     let word = now (a .word) in (
       omega arith,
       rw (← add-assoc, add-one (l .i))
-          (left-put (getD word (l .i) 0 ∷ []) (drop (suc (l .i)) word) (rw (drop-cons word (l .i) 0 (omega arith)) at (l .inv .1))
+          (left-put (getD word (l .i) 0 ∷ []) (drop (suc (l .i)) word)
+          (rw (drop-cons word (l .i) 0 (omega arith)) at (l .inv .1))
           (put-byte (l .out) (a .at + l .i) (getD word (l .i) 0))),
     )
 
@@ -39,7 +40,8 @@ same-length : tie.Need-same-length Inv-loop μ-loop
 same-length c = left-length _ (c .before .loop .inv .1)
 
 returns : tie.Need-returns Inv-loop μ-loop
-returns c = left-none (rw (drop-of-length-le (now (c .before .before .args .word)) (c .loop-test .left)) at (c .before .loop .inv .1))
+returns c = left-none
+    (rw (drop-of-length-le (now (c .before .before .args .word)) (c .loop-test .left)) at (c .before .loop .inv .1))
 
 pub put-word-spec : {M : Type 1} → statement M
 put-word-spec =

@@ -16,7 +16,8 @@ returns : tie.Need-returns
 unfolding fileRefused
 returns c =
     let a = c .before .before .before .before .before .before .before .before .before .before .args in
-    let p = put-append (c .before .before .before .before .before .before .put-word .ensures) (c .before .before .put-refused .ensures) in
+    let p = put-append (c .before .before .before .before .before .before .put-word .ensures)
+    (c .before .before .put-refused .ensures) in
     let h = refused-le (a .n) (omega arith) in
     rw (fields-cons (ascii "file") (refusedFields (a .n))) (put-over p (omega arith))
 

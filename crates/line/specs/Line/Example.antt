@@ -8,13 +8,19 @@ use Rattle.layout.specs.Record.{trailerOf, headOf, transitionOf, slaveOf, nodeO
 use Rattle.layout.specs.Body.{headAt, transitionAt, slaveAt, nodeAt, startOf, from, transitionsOf}
 use Rattle.meaning.specs.Count.{anyUpTo, tally}
 use Rattle.signals.specs.Guard.{guard}
-use Rattle.meaning.specs.Meaning.{same, nth, pick, lastPlace, met?, actionOf, after, guards, inFaceChart, inFace, inFaces, out, outs, okChart, meets, ok, oks, permitted, upd, moves, nexts, placeOf, placesFrom, upto, outcomeOf, outcome, search, outcomes, eqList, agree, answer}
+use Rattle.meaning.specs.Meaning.{same, nth, pick, lastPlace, met?, actionOf, after, guards, inFaceChart, inFace}
+use Rattle.meaning.specs.Meaning.{inFaces, out, outs, okChart, meets, ok, oks, permitted, upd, moves, nexts, placeOf}
+use Rattle.meaning.specs.Meaning.{placesFrom, upto, outcomeOf, outcome, search, outcomes, eqList, agree, answer}
 use Rattle.meaning.specs.File.{gather, build, treeOf, Has, HasS, trailer, bodyOf, shapeOf, chartOf, fileAt, fileOf}
-use Rattle.meaning.specs.Check.{firstOf, edition?, counts?, distance?, nonzero, zeros?, chart?, charts?, ends?, leaving, transitions?, rising, slave?, slaves?, nodeOfKind?, nodes?, names, named, held, naming?, inside?, fileTests, refusalOf}
+use Rattle.meaning.specs.Check.{firstOf, edition?, counts?, distance?, nonzero, zeros?, chart?, charts?, ends?, leaving}
+use Rattle.meaning.specs.Check.{transitions?, rising, slave?, slaves?, nodeOfKind?, nodes?, names, named, held, naming?}
+use Rattle.meaning.specs.Check.{inside?, fileTests, refusalOf}
 use Rattle.meaning.specs.Open.{openChart, openTree, isOpen, choices, howMany, openChoices}
 use Rattle.meaning.specs.Calls.{made, initials, foundIn, manyOpen?, stepIn, rowOf, rowsOf}
 use Rattle.line.specs.Ascii.{ascii}
-use Rattle.line.specs.Line.{digit, digits, widthTo, width, decimal, behind, joined, fields, dotted, letter, rowFields, lineOf, fileRefused, frontOf, dayRefusal, inputsOf, linesOf, dayLines, dayOf}
+use Rattle.line.specs.Line.{digit, digits, widthTo, width, decimal, behind, joined, fields, dotted, letter}
+use Rattle.line.specs.Line.{rowFields, lineOf, fileRefused, frontOf, dayRefusal, inputsOf, linesOf, dayLines}
+use Rattle.line.specs.Line.{dayOf}
 
 abbrev zeros : ℕ → List ℕ
 zeros n = replicate n 0
@@ -23,7 +29,8 @@ zeros n = replicate n 0
 front : List ℕ
 front = bytes 8 1 ++ bytes 8 0 ++ bytes 8 2
 
--- one chart with two states and the initial state 0: 0 to 1 needs {0} and outputs {1}, 1 to 0 needs {1}; no feedback, no extra set; one node
+-- one chart with two states and the initial state 0: 0 to 1 needs {0} and outputs {1}, 1 to 0 needs {1}; no feedback,
+-- no extra set; one node
 chart : List ℕ
 chart =
     (2 ∷ 0 ∷ 2 ∷ zeros 21)
@@ -41,7 +48,8 @@ pub case-length : length case ≡ 136
 unfolding case bytes
 case-length = refl
 
--- all of it; without the front (no line, RULES 10.3); with a front of 23 bytes; without the last byte (no charts); nothing at all
+-- all of it; without the front (no line, RULES 10.3); with a front of 23 bytes; without the last byte (no charts);
+-- nothing at all
 pub outputs : List (List ℕ)
 unfolding case chart
 outputs = dayOf case ∷ dayOf chart ∷ dayOf (drop 1 case) ∷ dayOf (take 135 case) ∷ dayOf [] ∷ []
@@ -52,7 +60,14 @@ pub printed : outputs ≡ ascii "1 0000000000000002 1 y\n2 refused 23\n3 0000000
     ∷ ascii "file refused 3\n"
     ∷ ascii "file refused 1\n"
     ∷ []
-unfolding outputs case chart le bytes trailerOf headOf transitionOf slaveOf nodeOf headAt transitionAt slaveAt nodeAt startOf from transitionsOf anyUpTo tally same nth pick lastPlace actionOf after guard met? guards inFaceChart inFace inFaces out outs okChart meets ok oks permitted upd moves nexts placeOf placesFrom upto outcomeOf outcome search outcomes eqList agree answer gather build treeOf Has HasS trailer bodyOf shapeOf chartOf fileAt fileOf firstOf edition? counts? distance? nonzero zeros? chart? charts? ends? leaving transitions? rising slave? slaves? nodeOfKind? nodes? names named held naming? inside? fileTests refusalOf made initials openChart openTree isOpen choices howMany openChoices foundIn manyOpen? stepIn rowOf rowsOf digit digits widthTo width decimal behind joined fields dotted letter rowFields lineOf fileRefused frontOf dayRefusal inputsOf linesOf dayLines dayOf
+unfolding outputs case chart le bytes trailerOf headOf transitionOf slaveOf nodeOf headAt transitionAt slaveAt nodeAt
+    startOf from transitionsOf anyUpTo tally same nth pick lastPlace actionOf after guard met? guards inFaceChart inFace
+    inFaces out outs okChart meets ok oks permitted upd moves nexts placeOf placesFrom upto outcomeOf outcome search
+    outcomes eqList agree answer gather build treeOf Has HasS trailer bodyOf shapeOf chartOf fileAt fileOf firstOf
+    edition? counts? distance? nonzero zeros? chart? charts? ends? leaving transitions? rising slave? slaves?
+    nodeOfKind? nodes? names named held naming? inside? fileTests refusalOf made initials openChart openTree isOpen
+    choices howMany openChoices foundIn manyOpen? stepIn rowOf rowsOf digit digits widthTo width decimal behind joined
+    fields dotted letter rowFields lineOf fileRefused frontOf dayRefusal inputsOf linesOf dayLines dayOf
 printed = refl
 
 -- 31 comes first: these bytes have no chart

@@ -1,5 +1,5 @@
--- Laws of lines, in this order: digits; how many digits a number has; states one after another; a line in its parts; the line of a
--- row that a run writes; how long a line is.
+-- Laws of lines, in this order: digits; how many digits a number has; states one after another; a line in its parts;
+-- the line of a row that a run writes; how long a line is.
 use mathlib.Core.Path.{_≡_, refl, ap}
 use mathlib.Core.Bool.{Bool, true, false, cond}
 use mathlib.Core.List.{List, [], _∷_, _++_, map, append-assoc, append-nil}
@@ -18,7 +18,9 @@ use Rattle.layout.specs.Le.Laws.{le-bytes-append, bytes-drop}
 use Rattle.meaning.specs.Meaning.{same, refused, given}
 use Rattle.meaning.specs.Calls.{rowOf}
 use Rattle.line.specs.Ascii.{ascii}
-use Rattle.line.specs.Line.{digits, widthTo, width, decimal, hex, behind, joined, space, dot, newline, fields, closing, dotted, letter, outputPart, markPart, givenFields, refusedFields, rowFields, lineOf}
+use Rattle.line.specs.Line.{digits, widthTo, width, decimal, hex, behind, joined, space, dot, newline, fields}
+use Rattle.line.specs.Line.{closing, dotted, letter, outputPart, markPart, givenFields, refusedFields, rowFields}
+use Rattle.line.specs.Line.{lineOf}
 
 -- ---- digits
 
@@ -40,7 +42,8 @@ widthTo-more zero n x h k = absurd (omega arith)
 widthTo-more (suc m) zero x h k = absurd (omega arith)
 widthTo-more (suc m) (suc n) x h k =
     ⊎-elim (λ small. rw (lt-ltb x 10 small))
-    (λ large. rw (le-ltb x 10 large) (ap suc (widthTo-more m n (x / 10) (omega arith) (omega arith)))) (small-or-not x (decLt x 10))
+    (λ large. rw (le-ltb x 10 large) (ap suc (widthTo-more m n (x / 10) (omega arith) (omega arith))))
+    (small-or-not x (decLt x 10))
 
 pub width-one : (x : ℕ) → x < 10 → width x ≡ 1
 unfolding width widthTo
@@ -55,7 +58,8 @@ pub width-le : (n x : ℕ) → x < 10 ^ suc n → width x ≤ suc n
 width-le zero x h = rw (width-one x h) (omega arith)
 width-le (suc n) x h =
     ⊎-elim (λ small. rw (width-one x small) (omega arith))
-    (λ large. rw (width-suc x large) (omega (arith, width-le n (x / 10) (omega (arith, pow-suc 10 (suc n)))))) (small-or-not x (decLt x 10))
+    (λ large. rw (width-suc x large) (omega (arith, width-le n (x / 10) (omega (arith, pow-suc 10 (suc n))))))
+    (small-or-not x (decLt x 10))
 
 pub length-decimal : (x : ℕ) → length (decimal x) ≡ width x
 unfolding decimal
@@ -85,7 +89,8 @@ pub line-given : (n : ℕ) (row : List ℕ) → getD row 9 0 ≡ 0 → lineOf n 
 unfolding lineOf rowFields same
 line-given n row e = rw (eq-eqb _ _ e) (fields-cons (decimal n) (givenFields row))
 
-pub line-refused : (n : ℕ) (row : List ℕ) → (getD row 9 0 ≡ 0 → ⊥) → lineOf n row ≡ decimal n ++ closing (refusedFields (getD row 9 0))
+pub line-refused : (n : ℕ) (row : List ℕ) → (getD row 9 0 ≡ 0 → ⊥)
+    → lineOf n row ≡ decimal n ++ closing (refusedFields (getD row 9 0))
 unfolding lineOf rowFields same
 line-refused n row f = rw (ne-eqb _ _ f) (fields-cons (decimal n) (refusedFields (getD row 9 0)))
 
@@ -101,10 +106,13 @@ closing-given row = simp append-assoc
 -- ---- the line of a row that a run writes
 
 pub line-row-given : (n o : ℕ) (next config : List ℕ) (m : Bool) → o < 2 ^ 64
-    → lineOf n (rowOf (given o next m) config) ≡ fields (decimal n ∷ hex 16 o ∷ dotted next ∷ (cond m (code "y") (code "n") ∷ []) ∷ [])
+    → lineOf n (rowOf (given o next m) config)
+    ≡ fields (decimal n ∷ hex 16 o ∷ dotted next ∷ (cond m (code "y") (code "n") ∷ []) ∷ [])
 unfolding lineOf rowFields letter same bytes rowOf
-line-row-given n o next config false h = ap (λ (x : ℕ). fields (decimal n ∷ hex 16 x ∷ dotted next ∷ (code "n" ∷ []) ∷ [])) (le-bytes-append 8 o _ h)
-line-row-given n o next config true h = ap (λ (x : ℕ). fields (decimal n ∷ hex 16 x ∷ dotted next ∷ (code "y" ∷ []) ∷ [])) (le-bytes-append 8 o _ h)
+line-row-given n o next config false h =
+    ap (λ (x : ℕ). fields (decimal n ∷ hex 16 x ∷ dotted next ∷ (code "n" ∷ []) ∷ [])) (le-bytes-append 8 o _ h)
+line-row-given n o next config true h =
+    ap (λ (x : ℕ). fields (decimal n ∷ hex 16 x ∷ dotted next ∷ (code "y" ∷ []) ∷ [])) (le-bytes-append 8 o _ h)
 
 pub line-row-refused : (n r : ℕ) (config : List ℕ) → (r ≡ 0 → ⊥)
     → lineOf n (rowOf (refused r) config) ≡ fields (decimal n ∷ ascii "refused" ∷ decimal r ∷ [])

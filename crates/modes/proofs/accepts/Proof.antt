@@ -18,4 +18,5 @@ returns-2 c =
     (c .is-whole .ensures ∙ ap isWhole (c .before .refined .ensures))
 
 pub accepts-spec : {M : Type 1} → statement M
-accepts-spec = tie.close (tie.spec (λ c κs. search needs) returns (λ c κs. search needs) (λ c κs. search needs) returns-2)
+accepts-spec =
+    tie.close (tie.spec (λ c κs. search needs) returns (λ c κs. search needs) (λ c κs. search needs) returns-2)

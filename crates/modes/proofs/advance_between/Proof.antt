@@ -21,7 +21,8 @@ no-blank c = sym (c .before .is-blank .ensures) ∙ c .if1 .left
 led : (c : tie.After-wide) → let a = c .before .before .before .before .before .args in
     c .wide .result ≡ lookup table (refine (a .m) (a .a)) (a .b)
 led c = let a = c .before .before .before .before .before .args in
-    c .wide .ensures .0 ∙ c .before .lookup .ensures ∙ ap (λ x. lookup table x (a .b)) (c .before .before .refined .ensures)
+    c .wide .ensures .0 ∙ c .before .lookup .ensures
+    ∙ ap (λ x. lookup table x (a .b)) (c .before .before .refined .ensures)
 
 returns-2 : tie.Need-returns-2
 returns-2 c = sym (gap-wrong _ _ _ _ (no-blank (c .before .before .before .before)) (led (c .before)) (c .if2 .taken))
@@ -29,7 +30,8 @@ returns-2 c = sym (gap-wrong _ _ _ _ (no-blank (c .before .before .before .befor
 returns-3 : tie.Need-returns-3
 returns-3 c =
     let d = c .before .before in
-    ap (λ x. d .wide .result * 8 + x) (c .token-after .ensures) ∙ sym (gap-lands _ _ _ _ (no-blank (d .before .before .before)) (led d) (c .before .if2 .left))
+    ap (λ x. d .wide .result * 8 + x) (c .token-after .ensures)
+    ∙ sym (gap-lands _ _ _ _ (no-blank (d .before .before .before)) (led d) (c .before .if2 .left))
 
 pub advance-between-spec : {M : Type 1} → statement M
 advance-between-spec =
@@ -44,5 +46,10 @@ advance-between-spec =
     returns-2
     (λ c. search needs)
     (λ c κs. search needs)
-    (λ c. omega (arith, c .token-after .ensures, token-after-le (c .before .before .before .before .before .before .before .args .b), c .before .before .wide .ensures .1))
+    (λ c. omega (
+      arith,
+      c .token-after .ensures,
+      token-after-le (c .before .before .before .before .before .before .before .args .b),
+      c .before .before .wide .ensures .1,
+    ))
     returns-3)

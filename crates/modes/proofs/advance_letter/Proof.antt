@@ -13,7 +13,8 @@ returns c = rw (eq-eqb _ _ (c .if1 .taken)) (pack-zero _)
 
 returns-2 : tie.Need-returns-2
 unfolding advanceLetter
-returns-2 c = rw (ne-eqb _ _ (c .before .before .if1 .left), sym (c .before .is-digit .ensures) ∙ c .if2 .taken) (pack-is _ _)
+returns-2 c =
+    rw (ne-eqb _ _ (c .before .before .if1 .left), sym (c .before .is-digit .ensures) ∙ c .if2 .taken) (pack-is _ _)
 
 returns-3 : tie.Need-returns-3
 unfolding advanceLetter
@@ -21,4 +22,5 @@ returns-3 c = rw (ne-eqb _ _ (c .before .before .if1 .left), sym (c .before .is-
 
 pub advance-letter-spec : {M : Type 1} → statement M
 advance-letter-spec =
-    tie.close (tie.spec (λ c. search needs) returns (λ c κs. search needs) (λ c. search needs) (λ c. search needs) returns-2 returns-3)
+    tie.close (tie.spec (λ c. search needs) returns (λ c κs. search needs) (λ c. search needs)
+    (λ c. search needs) returns-2 returns-3)

@@ -15,4 +15,5 @@ unfolding advanceNumber
 returns-2 c = rw (sym (c .before .before .is-digit .ensures) ∙ c .before .if1 .left) (c .advance-between .ensures)
 
 pub advance-number-spec : {M : Type 1} → statement M
-advance-number-spec = tie.close (tie.spec (λ c κs. search needs) (λ c. search needs) (λ c. search needs) returns (λ c κs. search needs) returns-2)
+advance-number-spec = tie.close (tie.spec (λ c κs. search needs) (λ c. search needs) (λ c. search needs) returns
+    (λ c κs. search needs) returns-2)

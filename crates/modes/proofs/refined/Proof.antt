@@ -15,7 +15,8 @@ returns c = rw (eq-eqb _ _ (c .before .if1 .taken)) (ap (97 +_) (c .wide .ensure
 returns-2 : tie.Need-returns-2
 unfolding refine
 returns-2 c =
-    rw (ne-eqb _ _ (c .before .before .if1 .left), eq-eqb _ _ (c .before .if2 .taken)) (ap (105 +_) (c .wide2 .ensures .0))
+    rw (ne-eqb _ _ (c .before .before .if1 .left), eq-eqb _ _ (c .before .if2 .taken))
+    (ap (105 +_) (c .wide2 .ensures .0))
 
 returns-3 : tie.Need-returns-3
 unfolding refine
@@ -26,7 +27,8 @@ returns-3 c =
 
 returns-4 : tie.Need-returns-4
 unfolding refine
-returns-4 c = rw (ne-eqb _ _ (c .before .before .if1 .left), ne-eqb _ _ (c .before .if2 .left), ne-eqb _ _ (c .if3 .left))
+returns-4 c =
+    rw (ne-eqb _ _ (c .before .before .if1 .left), ne-eqb _ _ (c .before .if2 .left), ne-eqb _ _ (c .if3 .left))
 
 pub refined-spec : {M : Type 1} → statement M
 refined-spec =

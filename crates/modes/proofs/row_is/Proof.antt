@@ -12,8 +12,10 @@ returns c = rw (ne-eqb _ _ (λ e. c .if1 .taken (c .before .wide .ensures .0 ∙
 returns-2 : tie.Need-returns-2
 returns-2 c =
     let d = c .before .before in
-    rw (eq-eqb _ _ (sym (d .before .entry .ensures) ∙ sym (d .wide .ensures .0) ∙ c .before .if1 .left)) (ap (λ x. eqb x (d .before .before .args .b)) (c .entry2 .ensures))
+    rw (eq-eqb _ _ (sym (d .before .entry .ensures) ∙ sym (d .wide .ensures .0) ∙ c .before .if1 .left))
+    (ap (λ x. eqb x (d .before .before .args .b)) (c .entry2 .ensures))
 
 pub row-is-spec : {M : Type 1} → statement M
 row-is-spec =
-    tie.close (tie.spec (λ c κs. search needs) (λ c κs. search needs) returns (λ c. search needs) (λ c κs. search needs) returns-2)
+    tie.close (tie.spec (λ c κs. search needs) (λ c κs. search needs) returns (λ c. search needs)
+    (λ c κs. search needs) returns-2)

@@ -1,5 +1,5 @@
--- Laws of the lists of names: some member passes a test (`any-..`), the mask of a list (`bit-mask`), a number given twice
--- (`twice-snoc`).
+-- Laws of the lists of names: some member passes a test (`any-..`), the mask of a list (`bit-mask`), a number given
+-- twice (`twice-snoc`).
 use mathlib.Core.Path.{_≡_, refl, sym, ap, _∙_}
 use mathlib.Core.Bool.{Bool, true, false, _||_, true≢false}
 use mathlib.Core.List.{List, [], _∷_, _++_}

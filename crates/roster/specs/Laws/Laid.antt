@@ -1,6 +1,6 @@
 -- Laws of bytes of the members of a list, one after another: the bytes of a list (`all-..`), with room for the next
--- member (`room-of`) and one member more (`put-of`); tests that no member passes (`every-..`); and the charts of a roster
--- (`laid-..`).
+-- member (`room-of`) and one member more (`put-of`); tests that no member passes (`every-..`); and the charts of a
+-- roster (`laid-..`).
 use mathlib.Core.Path.{_≡_, refl, sym, ap, _∙_, subst}
 use mathlib.Core.Bool.{Bool, false}
 use mathlib.Core.List.{List, [], _∷_, _++_, append-nil, append-assoc}

@@ -1,6 +1,6 @@
 -- Laws of lists sorted by a key: each member (`every-sorted`); they hold the same members (`sorted-perm`), so what does
--- not depend on the order is the same (`length-perm`, `any-perm`, `gathered-perm`); and keys that are all numbers from 0
--- up, each once, come in their order (`sorted-order`), and are at most as many as the limit (`few-names`).
+-- not depend on the order is the same (`length-perm`, `any-perm`, `gathered-perm`); and keys that are all numbers from
+-- 0 up, each once, come in their order (`sorted-order`), and are at most as many as the limit (`few-names`).
 use mathlib.Core.Path.{_≡_, refl, sym, ap, ap₂, _∙_, subst}
 use mathlib.Core.Bool.{Bool, true, false, _||_, cond, true≢false, false≢true}
 use mathlib.Core.List.{List, [], _∷_, _++_, map, append-nil, List·Permᴰ, List·Permᴰ·nil}

@@ -1,6 +1,6 @@
 -- Laws of the walk from chart to chart, in this order: counts that are cut (`cut-..`); one chart more (`holds-more`);
--- one step (`walked-found`, `walked-passed`); the end of the text (`walked-end`) and its beginning (`walked-begun`); and
--- 52 by number (`none-refused`).
+-- one step (`walked-found`, `walked-passed`); the end of the text (`walked-end`) and its beginning (`walked-begun`);
+-- and 52 by number (`none-refused`).
 use mathlib.Core.Path.{_≡_, refl, sym, ap, ap₂, _∙_, subst}
 use mathlib.Core.Bool.{Bool, true, false, _||_, true≢false}
 use mathlib.Core.List.{List, [], _∷_, _++_, map, append-nil, append-assoc, List·Permᴰ}

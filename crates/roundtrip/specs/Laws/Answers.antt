@@ -1,6 +1,7 @@
 -- An accepted file of edition 1 that is written as text and read again: every public call answers the same of both, but
--- for the rewriting and clearing, whose bytes follow the order of the nodes. In this order: the check and the edition; the first configuration; the interface; a step, its places and how
--- many choices are open in it; a run; whether the file is plain; what a transition lacks; its text again.
+-- for the rewriting and clearing, whose bytes follow the order of the nodes. In this order: the check and the edition;
+-- the first configuration; the interface; a step, its places and how many choices are open in it; a run; whether the
+-- file is plain; what a transition lacks; its text again.
 use mathlib.Core.Path.{_≡_, sym, ap, ap₂, _∙_, subst}
 use mathlib.Core.Bool.{cond}
 use mathlib.Core.List.{List, [], _∷_}

@@ -25,7 +25,8 @@ accepted c = sym (c .before .opened .ensures .refusal) ∙ c .if1 .left
 returns-2 : tie.Need-returns-2
 returns-2 c =
     let t = c .before in
-    tests-refused (deliverTests _ _) _ _ _ _ (deliver-short _ _ (accepted (t .before)) (t .if2 .taken)) (λ z. omega arith)
+    tests-refused (deliverTests _ _) _ _ _ _ (deliver-short _ _ (accepted (t .before)) (t .if2 .taken))
+    (λ z. omega arith)
     (c .refused2 .ensures)
 
 returns-3 : tie.Need-returns-3

@@ -11,4 +11,5 @@ unfolding over? same
 returns c = refl
 
 pub is-over-spec : {M : Type 1} → statement M
-is-over-spec = tie.close (tie.spec (λ c. search needs) (λ c. search needs) (λ c. search needs) (λ c. search needs) returns)
+is-over-spec =
+    tie.close (tie.spec (λ c. search needs) (λ c. search needs) (λ c. search needs) (λ c. search needs) returns)

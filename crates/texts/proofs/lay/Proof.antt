@@ -1,5 +1,5 @@
--- `lay` meets its contract: heads, transitions, slaves, nodes and the trailer, one behind another, are the file that the
--- text means.
+-- `lay` meets its contract: heads, transitions, slaves, nodes and the trailer, one behind another, are the file that
+-- the text means.
 use mathlib.Core.Path.{_≡_, sym}
 use Prim.Native.Nat.{ℕ, _+_, _≤_}
 use native.Mathlib.Omega.{arith}
@@ -22,11 +22,13 @@ abbrev at-walk : tie.After-put-sorted → tie.After-lay
 at-walk c = c .before .before .before .before .before .before .before .before .before .before .before .before .before
 
 abbrev at-slave-room : tie.After-put-sorted → tie.After-slave-room
-at-slave-room c = c .before .before .before .before .before .before .before .before .before .before .before .before .before .before .before .before
+at-slave-room c = c .before .before .before .before .before .before .before .before .before .before .before .before
+    .before .before .before .before
 
 abbrev at-start : tie.After-put-sorted → tie.Start
 at-start c =
-    c .before .before .before .before .before .before .before .before .before .before .before .before .before .before .before .before .before .before .before .before
+    c .before .before .before .before .before .before .before .before .before .before .before .before .before .before
+    .before .before .before .before .before .before
 
 abbrev at-sorted : tie.After-put-all → tie.After-put-sorted
 at-sorted c = c .before .before .before .before .before

@@ -34,7 +34,8 @@ returns-2 c =
     let l = s .before in
     let o = l .before in
     let a = o .before .before .before in
-    says-named _ _ (a .pre .spells) (a .args .out .now) _ (outlined o) (l .if1 .left) _ (rostered s) (c .before .if2 .taken) _
+    says-named _ _ (a .pre .spells) (a .args .out .now) _ (outlined o) (l .if1 .left) _ (rostered s)
+    (c .before .if2 .taken) _
     (c .refused2 .ensures)
 
 returns-3 : tie.Need-returns-3
@@ -46,7 +47,8 @@ returns-3 c =
     let l = s .before in
     let o = l .before in
     let a = o .before .before .before in
-    says-over _ _ (a .pre .spells) (a .args .out .now) _ (outlined o) (l .if1 .left) _ (rostered s) (n .if2 .left) _ (m .shape .ensures)
+    says-over _ _ (a .pre .spells) (a .args .out .now) _ (outlined o) (l .if1 .left) _ (rostered s) (n .if2 .left) _
+    (m .shape .ensures)
     (sym (v .is-over .ensures) ∙ c .before .if3 .taken) _ (c .refused3 .ensures)
 
 returns-4 : tie.Need-returns-4
@@ -59,7 +61,8 @@ returns-4 c =
     let l = s .before in
     let o = l .before in
     let a = o .before .before .before in
-    says-crowded _ _ (a .pre .spells) (a .args .out .now) _ (outlined o) (l .if1 .left) _ (rostered s) (n .if2 .left) _ (m .shape .ensures)
+    says-crowded _ _ (a .pre .spells) (a .args .out .now) _ (outlined o) (l .if1 .left) _ (rostered s) (n .if2 .left) _
+    (m .shape .ensures)
     (sym (v .is-over .ensures) ∙ w .if3 .left) (c .before .if4 .taken) _ (c .refused4 .ensures)
 
 of-ready-requires : tie.Need-of-ready-requires
@@ -73,7 +76,8 @@ of-ready-requires c κs =
     let l = s .before in
     let o = l .before in
     let a = o .before .before .before in
-    is-ready _ _ (a .pre .spells) (a .args .out .now) _ (outlined o) (l .if1 .left) _ (rostered s) (n .if2 .left) _ (m .shape .ensures)
+    is-ready _ _ (a .pre .spells) (a .args .out .now) _ (outlined o) (l .if1 .left) _ (rostered s) (n .if2 .left) _
+    (m .shape .ensures)
     (sym (v .is-over .ensures) ∙ w .if3 .left) (f .if4 .left)
 
 pub of-chart-spec : {M : Type 1} → statement M

@@ -30,14 +30,17 @@ delivered : (f g b : List ℕ) (r : FileRead) (c : List ℕ) → f ≡ g → Del
 delivered f g b r c e h = subst (λ (x : List ℕ). Delivers x b r c) e h
 
 -- the file has room
-fits : (c : tie.After-lay) → length (readFile (c .before .before .before .before .before .args .text .now)) ≤ length (c .before .before .file-room .result)
-fits c = let s = size _ _ _ (c .before .before .before .before .before .pre) in omega (arith, s, c .before .before .file-room .ensures)
+fits : (c : tie.After-lay) → length (readFile (c .before .before .before .before .before .args .text .now))
+    ≤ length (c .before .before .file-room .result)
+fits c = let s = size _ _ _ (c .before .before .before .before .before .pre) in
+    omega (arith, s, c .before .before .file-room .ensures)
 
 array-share-prefix-file : tie.Need-array-share-prefix-file
 array-share-prefix-file c = within _ _ _ _ (c .before .lay .ensures) (fits (c .before))
 
 slice-aggregate-deliver : tie.Need-slice-aggregate-deliver
-slice-aggregate-deliver c = sym (length-take-le _ _ (within _ _ _ _ (c .before .before .lay .ensures) (fits (c .before .before))))
+slice-aggregate-deliver c =
+    sym (length-take-le _ _ (within _ _ _ _ (c .before .before .lay .ensures) (fits (c .before .before))))
 
 returns : tie.Need-returns
 returns c =

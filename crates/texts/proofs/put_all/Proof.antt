@@ -27,7 +27,8 @@ more : (f l m : List ℕ) (at i : ℕ) → i < length f → Put l at (take i f) 
     → Put l at (take (i + 1) f) (set m (at + i) (getD f i 0)) (at + (i + 1))
 more f l m at i h p =
     subst (λ (k : ℕ). Put l at (take (i + 1) f) (set m (at + i) (getD f i 0)) k) (add-assoc at i 1)
-    (subst (λ (xs : List ℕ). Put l at xs (set m (at + i) (getD f i 0)) (at + i + 1)) (rw add-one (sym (take-suc f i 0 h)))
+    (subst (λ (xs : List ℕ). Put l at xs (set m (at + i) (getD f i 0)) (at + i + 1))
+    (rw add-one (sym (take-suc f i 0 h)))
     (put-append p (put-byte m (at + i) (getD f i 0))))
 
 -- all of them

@@ -42,7 +42,8 @@ of-chart-requires c κs =
 returns-2 : tie.Need-returns-2
 returns-2 c =
     let d = c .before in
-    says-wrong _ _ _ _ (wrong-is _ _ _ refl (sym (d .before .place .given .1) ∙ d .before .before .before .recognise .ensures))
+    says-wrong _ _ _ _
+    (wrong-is _ _ _ refl (sym (d .before .place .given .1) ∙ d .before .before .before .recognise .ensures))
     (c .refused .ensures)
 
 pub read-spec : {M : Type 1} → statement M

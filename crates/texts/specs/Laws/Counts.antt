@@ -89,9 +89,11 @@ module _ (m : Shape) (t : Chart) (h : Counted m t) where
   unfolding over? shapeOf trailerFor cap cut
   shape-is e =
       let none = same (m .nodes) 0 in
-      let p = or-four (same (m .charts) 0 || ltb mostCharts (m .charts)) (ltb mostSlaves (m .slaves)) (none || ltb mostNodes (m .nodes))
+      let p = or-four (same (m .charts) 0 || ltb mostCharts (m .charts)) (ltb mostSlaves (m .slaves))
+      (none || ltb mostNodes (m .nodes))
       (ltb mostTransitions (m .transitions)) e in
-      let s = h .slaves ∙ cut-is 1000 (length (slavesOf t)) mostSlaves (omega arith) (ap (ltb mostSlaves) (sym (h .slaves)) ∙ p .1) in
+      let s = h .slaves ∙ cut-is 1000 (length (slavesOf t)) mostSlaves (omega arith)
+      (ap (ltb mostSlaves) (sym (h .slaves)) ∙ p .1) in
       let n = h .nodes ∙ cut-is 1000 (length (nodesOf t)) mostNodes (omega arith)
       (ap (ltb mostNodes) (sym (h .nodes)) ∙ or-right none (ltb mostNodes (m .nodes)) (p .2)) in
       let u = h .transitions ∙ cut-is 65535 (length (transitionsOf t)) mostTransitions (omega arith)

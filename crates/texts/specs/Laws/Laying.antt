@@ -66,8 +66,10 @@ module _ (w : List ℕ) (s : Roster) (m : Shape) (y : Ready w s m) where
   unfolding counts? trailerFor
   limits =
       let e = y .counted in
-      let p = or-four (same (length (chartsOf t)) 0 || ltb mostCharts (length (chartsOf t))) (ltb mostSlaves (length (slavesOf t)))
-      (same (length (nodesOf t)) 0 || ltb mostNodes (length (nodesOf t))) (ltb mostTransitions (length (transitionsOf t))) e in
+      let p = or-four (same (length (chartsOf t)) 0 || ltb mostCharts (length (chartsOf t)))
+      (ltb mostSlaves (length (slavesOf t)))
+      (same (length (nodesOf t)) 0 || ltb mostNodes (length (nodesOf t)))
+      (ltb mostTransitions (length (transitionsOf t))) e in
       record {
         charts = ltb-false mostCharts _ (or-right (same (length (chartsOf t)) 0) _ (p .0));
         slaves = ltb-false mostSlaves _ (p .1);
@@ -77,7 +79,8 @@ module _ (w : List ℕ) (s : Roster) (m : Shape) (y : Ready w s m) where
 
   pub small : Small m
   unfolding shapeOf trailerFor
-  small = rw (y .shape) (let l = limits in (omega (arith, l .charts), omega (arith, l .transitions), omega (arith, l .slaves), omega (arith, l .nodes)))
+  small = rw (y .shape) (let l = limits in
+      (omega (arith, l .charts), omega (arith, l .transitions), omega (arith, l .slaves), omega (arith, l .nodes)))
 
   pub size : length (readFile w) ≤ mostFile
   size =
@@ -119,7 +122,8 @@ module _ (w : List ℕ) (s : Roster) (m : Shape) (y : Ready w s m) where
   right =
       y .found .is-refused
       ∙ or-left (any sequential? (sequentialsOf t)) (parts? t)
-      (or-right (notAll? namedCharts (map nameOf (sequentialsOf t))) (any sequential? (sequentialsOf t) || parts? t) (y .named))
+      (or-right (notAll? namedCharts (map nameOf (sequentialsOf t)))
+      (any sequential? (sequentialsOf t) || parts? t) (y .named))
 
   few : s .crowded ≡ false
   few = y .found .is-crowded good ∙ y .sparse
@@ -131,14 +135,23 @@ module _ (w : List ℕ) (s : Roster) (m : Shape) (y : Ready w s m) where
       room-met : Room slaves 0 (all slaveBytes (layChart t 0 .slaves))
       room-met =
           let l = limits in
-          omega (arith, l .slaves, es, slaves-filed t (y .named), slaves-met t (y .named), length-all 4 slaveBytes length-slave (layChart t 0 .slaves))
+          omega (
+            arith,
+            l .slaves,
+            es,
+            slaves-filed t (y .named),
+            slaves-met t (y .named),
+            length-all 4 slaveBytes length-slave (layChart t 0 .slaves),
+          )
 
       room-tree : Room nodes 0 (nodesFor t)
       room-tree = let l = limits in omega (arith, l .nodes, en, length-nodes t)
 
-      both : Put nodes 0 (nodesFor t) nodes′ (c .at) × Put slaves 0 (all slaveBytes (layChart t 0 .slaves)) slaves′ (c .slaves)
+      both : Put nodes 0 (nodesFor t) nodes′ (c .at)
+          × Put slaves 0 (all slaveBytes (layChart t 0 .slaves)) slaves′ (c .slaves)
       both =
-          h .gives t (y .spells) (ltb-false mostDepth (depth t) (y .shallow)) (y .named) (limits .nodes) room-tree room-met
+          h .gives t (y .spells) (ltb-false mostDepth (depth t) (y .shallow)) (y .named)
+          (limits .nodes) room-tree room-met
 
       pub tree-within : c .at ≤ length nodes′
       tree-within = omega (arith, both .0 .place, put-length (both .0), room-tree)

@@ -27,7 +27,8 @@ use Rattle.texts.specs.declared.FileRead.{FileRead}
 use Rattle.texts.specs.Contracts.{ReadSays}
 use Rattle.texts.specs.Shapes.{over?, shapeWith}
 use Rattle.texts.specs.Ready.{Ready}
-use Rattle.texts.specs.Laws.Tests.{tests-refused, says-chart, chart-deep, chart-names, chart-counts, chart-crowded}
+use Rattle.texts.specs.Laws.Tests.{tests-refused, says-chart, chart-deep, chart-names, chart-counts}
+use Rattle.texts.specs.Laws.Tests.{chart-crowded}
 use Rattle.texts.specs.Laws.Counts.{Counted, counts-shape, shape-is}
 
 -- the answer of a refusal n
@@ -35,7 +36,8 @@ abbrev Refuses : ℕ → FileRead → Type 0
 Refuses n r = r ≡ record { refusal = n; length = 0; place = 0 }
 
 module _ (w : List ℕ) (t : Chart) (e : Spells w t) (b : List ℕ) where
-  says-refused : (n : ℕ) (r : FileRead) → firstOf (chartTests t (length b)) ≡ n → (n ≡ 0 → ⊥) → Refuses n r → ReadSays w b r b
+  says-refused : (n : ℕ) (r : FileRead) → firstOf (chartTests t (length b)) ≡ n → (n ≡ 0 → ⊥) → Refuses n r
+      → ReadSays w b r b
   says-refused n r f z q = says-chart w t b r b e (tests-refused (chartTests t (length b)) (fileFor t) b n r f z q)
 
   module _ (o : Outline) (h : OutlineFor t o) where

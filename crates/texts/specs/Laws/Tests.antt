@@ -1,6 +1,6 @@
--- Laws of the tests of a reading: a refusal, and a file that is written (`tests-refused`, `tests-passed`); the file's own
--- tests (`deliver-..`); those of a chart before them (`chart-..`); what the call says (`says-..`), and that it is one
--- answer (`read-determined`).
+-- Laws of the tests of a reading: a refusal, and a file that is written (`tests-refused`, `tests-passed`); the file's
+-- own tests (`deliver-..`); those of a chart before them (`chart-..`); what the call says (`says-..`), and that it is
+-- one answer (`read-determined`).
 use mathlib.Core.Path.{_≡_, refl, sym, ap, _∙_}
 use mathlib.Core.Bool.{Bool, true, false, cond}
 use mathlib.Core.List.{List, [], _∷_, _++_}
@@ -30,7 +30,8 @@ use Rattle.texts.specs.Contracts.{ReadSays, tested, written, deliverTest
 
 module _ (ts : List Test) (f b : List ℕ) where
   -- a refusal leaves the buffer as it was
-  pub tests-refused : (n : ℕ) (s : FileRead) → firstOf ts ≡ n → (n ≡ 0 → ⊥) → s ≡ record { refusal = n; length = 0; place = 0 }
+  pub tests-refused : (n : ℕ) (s : FileRead) → firstOf ts ≡ n → (n ≡ 0 → ⊥)
+      → s ≡ record { refusal = n; length = 0; place = 0 }
       → (s ≡ tested ts f) × (b ≡ written ts f b)
   unfolding tested written same
   tests-refused n s e h q = rw (e, ne-eqb n 0 h) (q, refl)
@@ -89,7 +90,8 @@ module _ (t : Chart) (room : ℕ) where
 -- ── what the call says ──
 
 -- of a text that spells a chart, all tests are made on that chart
-pub says-chart : (text : List ℕ) (t : Chart) (b : List ℕ) (r : FileRead) (c : List ℕ) → Spells text t → ReadsChart t b r c
+pub says-chart : (text : List ℕ) (t : Chart) (b : List ℕ) (r : FileRead) (c : List ℕ) → Spells text t
+    → ReadsChart t b r c
     → ReadSays text b r c
 unfolding readRefusal readLength readPlace readOut readFile refusalIn placeIn fileIn tested written
 says-chart text t b r c s h = rw (complete text t s) h

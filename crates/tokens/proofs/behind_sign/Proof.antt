@@ -11,7 +11,8 @@ returns c =
     let a = d .before .before .args in
     let h = d .next-token .ensures .1 in
     record {
-      behind = behind-out (a .text .now) (a .at) (d .next-token .result) (a .n) (d .next-token .ensures .0) (omega arith);
+      behind =
+          behind-out (a .text .now) (a .at) (d .next-token .result) (a .n) (d .next-token .ensures .0) (omega arith);
       within = omega arith;
       onward = omega (arith, d .next-token .ensures .0);
       further = λ p q. omega (arith, d .next-token .ensures .0);

@@ -12,4 +12,5 @@ returns-2 : tie.Need-returns-2
 returns-2 c = (cap-above _ (c .if1 .left), omega arith)
 
 pub more-spec : {M : Type 1} → statement M
-more-spec = tie.close (tie.spec (λ c. search needs) (λ c. search needs) (λ c. search needs) (λ c. search needs) returns returns-2)
+more-spec = tie.close (tie.spec (λ c. search needs) (λ c. search needs) (λ c. search needs)
+    (λ c. search needs) returns returns-2)

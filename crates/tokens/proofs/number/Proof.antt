@@ -7,13 +7,15 @@ use borrow.Author.Tests.{not-true, not-false}
 use lib.ListN.{length, drop}
 use Rattle.notation.specs.Laws.Decimal.{digit-range}
 use Rattle.tokens.specs.Tokens.{digits, numberOn}
-use Rattle.tokens.specs.Laws.Steps.{digits-stop, digits-more, digits-end, number-stops, number-more, number-ends, drop-none}
+use Rattle.tokens.specs.Laws.Steps.{digits-stop, digits-more, digits-end, number-stops, number-more, number-ends}
+use Rattle.tokens.specs.Laws.Steps.{drop-none}
 use Rattle.tokens.proofs.number.Statement.{statement}
 use Rattle.tokens.proofs.number.Tie as tie
 
 abbrev Inv-loop : tie.InvT-loop
 Inv-loop text at x₀ i₀ x i =
-    (at ≤ i) × (i ≤ length text) × (x ≤ 1000) × (numberOn x (drop i text) ≡ numberOn 0 (drop at text)) × (drop (digits (drop i text)) (drop i text) ≡ drop (digits (drop at text)) (drop at text))
+    (at ≤ i) × (i ≤ length text) × (x ≤ 1000) × (numberOn x (drop i text) ≡ numberOn 0 (drop at text))
+    × (drop (digits (drop i text)) (drop i text) ≡ drop (digits (drop at text)) (drop at text))
 
 abbrev μ-loop : tie.MeasureT-loop
 μ-loop text at x₀ i₀ x i = length text - i
@@ -47,7 +49,8 @@ loop-again c =
       omega arith,
       omega arith,
       c .more .ensures .1,
-      ap (λ x. numberOn x (drop (l .i + 1) (a .text .now))) (c .more .ensures .0) ∙ sym (number-more (a .text .now) (l .i) (omega arith) (l .x) e) ∙ l .inv .3,
+      ap (λ x. numberOn x (drop (l .i + 1) (a .text .now))) (c .more .ensures .0)
+          ∙ sym (number-more (a .text .now) (l .i) (omega arith) (l .x) e) ∙ l .inv .3,
       sym (digits-more (a .text .now) (l .i) (omega arith) e) ∙ l .inv .4,
     )
 

@@ -19,4 +19,5 @@ slice-aggregate-is c =
     sym (length-take-le (length (now (a .other))) (now (a .word)) (omega arith))
 
 pub begins-spec : {M : Type 1} → statement M
-begins-spec = tie.close (tie.spec (λ c κs. search needs) returns slice-aggregate-is (λ c κs. search needs) (λ c. search needs))
+begins-spec =
+    tie.close (tie.spec (λ c κs. search needs) returns slice-aggregate-is (λ c κs. search needs) (λ c. search needs))

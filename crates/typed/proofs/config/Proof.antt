@@ -1,5 +1,5 @@
--- `typed::config` meets its contract. The loop's invariant: the states at the front are those read, zeros stand behind them, and the parts from `at`
--- on give the others. Assumes nothing.
+-- `typed::config` meets its contract. The loop's invariant: the states at the front are those read, zeros stand behind
+-- them, and the parts from `at` on give the others. Assumes nothing.
 use mathlib.Core.Path.{_≡_, refl, sym, ap, ap₂, _∙_}
 use mathlib.Core.List.{List, [], _∷_, _++_}
 use Prim.Native.Nat.{ℕ, _+_, _-_, _≤_, _<_}
@@ -41,9 +41,11 @@ module _ (w states : List ℕ) (count at : ℕ) (s : So-far w states count at) w
   -- no more than 64 fit
   full : 64 ≤ count → configOf w ≡ []
   unfolding statesOn
-  full h = s .whole ∙ split-some dot (drop at w) (λ ps. statesOn done ps ≡ []) (λ p ps. rw (le-ltb (length done) 64 (rw length-done h)))
+  full h = s .whole ∙ split-some dot (drop at w) (λ ps. statesOn done ps ≡ [])
+      (λ p ps. rw (le-ltb (length done) 64 (rw length-done h)))
 
-  module _ (h : count < 64) (e : ℕ) (p : Ends dot w at e) (r : Read) (q : r ≡ numberOf 255 (take (e - at) (drop at w))) where
+  module _ (h : count < 64) (e : ℕ) (p : Ends dot w at e) (r : Read)
+      (q : r ≡ numberOf 255 (take (e - at) (drop at w))) where
     wrong : r ≡ Wrong → configOf w ≡ []
     unfolding statesOn
     wrong z = s .whole ∙ rw (p .parts, lt-ltb (length done) 64 (rw length-done h), ← q, z)
@@ -53,7 +55,8 @@ module _ (w states : List ℕ) (count at : ℕ) (s : So-far w states count at) w
       done-more = rw add-one (take-suc-set states count n (rw (s .long) h))
 
       behind-more′ : drop (count + 1) (set states count n) ≡ drop (count + 1) (replicate 64 0)
-      behind-more′ = drop-set-lt (count + 1) states count n (omega arith) ∙ sym (drop-drop 1 count states) ∙ ap (drop 1) (s .behind) ∙ drop-drop 1 count (replicate 64 0)
+      behind-more′ = drop-set-lt (count + 1) states count n (omega arith) ∙ sym (drop-drop 1 count states)
+          ∙ ap (drop 1) (s .behind) ∙ drop-drop 1 count (replicate 64 0)
 
       next : configOf w ≡ statesOn (take (count + 1) (set states count n)) (behindPart dot w e)
       unfolding statesOn
@@ -64,10 +67,12 @@ module _ (w states : List ℕ) (count at : ℕ) (s : So-far w states count at) w
       last l =
           let T = take (count + 1) (set states count n) in
           let k : configOf w ≡ T = next ∙ ap (statesOn T) (behind-none dot w e (omega arith)) in
-          let m : length T ≡ count + 1 = length-take-le (count + 1) (set states count n) (rw (length-set, s .long) (omega arith)) in
+          let m : length T ≡ count + 1 =
+          length-take-le (count + 1) (set states count n) (rw (length-set, s .long) (omega arith)) in
           rw k
           (ap₂ (λ (i : ℕ) (l : List ℕ). record { count = i; states = l }) (sym m)
-          (sym (take-append-drop (count + 1) (set states count n)) ∙ ap (λ (x : List ℕ). T ++ x) (behind-more′ ∙ ap (λ (j : ℕ). drop j (replicate 64 0)) (sym m))))
+          (sym (take-append-drop (count + 1) (set states count n))
+          ∙ ap (λ (x : List ℕ). T ++ x) (behind-more′ ∙ ap (λ (j : ℕ). drop j (replicate 64 0)) (sym m))))
 
       more : (e ≡ length w → ⊥) → So-far w (set states count n) (count + 1) (e + 1)
       more l =
@@ -76,7 +81,8 @@ module _ (w states : List ℕ) (count at : ℕ) (s : So-far w states count at) w
             within = omega (arith, p .within);
             long = rw length-set (s .long);
             behind = behind-more′;
-            whole = next ∙ ap (statesOn (take (count + 1) (set states count n))) (behind-more dot w e (omega (arith, p .within)));
+            whole = next ∙ ap (statesOn (take (count + 1) (set states count n)))
+                (behind-more dot w e (omega (arith, p .within)));
           }
 
 abbrev Inv-loop : tie.InvT-loop
@@ -94,25 +100,29 @@ returns c =
     let g = c .before .before .before in
     let e = g .before .before in
     let l = e .before .before .loop in
-    c .no-states .ensures ∙ sym (ap of (wrong _ _ _ (l .at) (l .inv) (e .before .loop-test .taken) _ (e .end .ensures) _ (g .number .ensures) (c .before .enum-told .given .1)))
+    c .no-states .ensures ∙ sym (ap of (wrong _ _ _ (l .at) (l .inv) (e .before .loop-test .taken) _ (e .end .ensures) _
+    (g .number .ensures) (c .before .enum-told .given .1)))
 
 -- a state is a byte
 small : (c : tie.After-known-told Inv-loop μ-loop) → c .before .state .given .0 .0 ≤ 255
-small c = let g = c .before .before .before in number-most 255 _ _ (sym (g .number .ensures) ∙ c .before .state .given .1)
+small c = let g = c .before .before .before in
+    number-most 255 _ _ (sym (g .number .ensures) ∙ c .before .state .given .1)
 
 returns-2 : tie.Need-returns-2 Inv-loop μ-loop
 returns-2 c =
     let g = c .before .before .before .before in
     let e = g .before .before in
     let l = e .before .before .loop in
-    last _ _ _ (l .at) (l .inv) (e .before .loop-test .taken) _ (e .end .ensures) _ (g .number .ensures) _ (c .before .before .state .given .1) (c .if1 .taken)
+    last _ _ _ (l .at) (l .inv) (e .before .loop-test .taken) _ (e .end .ensures) _ (g .number .ensures) _
+    (c .before .before .state .given .1) (c .if1 .taken)
 
 loop-again : tie.Need-loop-again Inv-loop μ-loop
 loop-again c =
     let g = c .before .before .before .before in
     let e = g .before .before in
     let l = e .before .before .loop in
-    more _ _ _ (l .at) (l .inv) (e .before .loop-test .taken) _ (e .end .ensures) _ (g .number .ensures) _ (c .before .before .state .given .1) (c .if1 .left)
+    more _ _ _ (l .at) (l .inv) (e .before .loop-test .taken) _ (e .end .ensures) _ (g .number .ensures) _
+    (c .before .before .state .given .1) (c .if1 .left)
 
 returns-3 : tie.Need-returns-3 Inv-loop μ-loop
 returns-3 c =

@@ -1,4 +1,5 @@
--- `typed::digit_on` meets its contract: x goes over the quotient exactly if x with the digit behind it goes over the most. Assumes nothing.
+-- `typed::digit_on` meets its contract: x goes over the quotient exactly if x with the digit behind it goes over the
+-- most. Assumes nothing.
 use mathlib.Core.Path.{sym, ap, _∙_}
 use Prim.Native.Nat.{ℕ, _+_, _*_, _-_, _/_, _≤_, _<_}
 use native.Mathlib.Nat.{le-div-iff-mul-le, div-lt-iff-lt-mul}
@@ -17,7 +18,8 @@ module _ (base most x v : ℕ) (p : 0 < base) (h : v ≤ most) where
   fits l = omega (arith, le-div-iff-mul-le p .0 l)
 
 -- the digit has room
-room : (c : tie.Else2) → let a = c .before .before .before .args in a .x * a .base + c .before .before .value .result ≤ a .most
+room : (c : tie.Else2) → let a = c .before .before .before .args in
+    a .x * a .base + c .before .before .value .result ≤ a .most
 room c =
     let a = c .before .before .before .args in
     fits (a .base) (a .most) (a .x) (c .before .before .value .result) (omega arith) (omega arith) (c .if2 .left)
@@ -31,7 +33,8 @@ returns-2 : tie.Need-returns-2
 returns-2 c =
     let a = c .before .before .before .args in
     let e = c .before .before .value .ensures in
-    let o = over (a .base) (a .most) (a .x) (c .before .before .value .result) (omega arith) (omega arith) (c .if2 .taken) in
+    let o =
+    over (a .base) (a .most) (a .x) (c .before .before .value .result) (omega arith) (omega arith) (c .if2 .taken) in
     sym (digit-over (a .base) (a .most) (a .x) (a .b) (omega (arith, e)) (omega (arith, e, o)))
 
 mul-t7 : tie.Need-mul-t7
@@ -44,8 +47,10 @@ returns-3 : tie.Need-returns-3
 returns-3 c =
     let a = c .before .before .before .args in
     let e = c .before .before .value .ensures in
-    ap (λ (v : ℕ). Is (a .x * a .base + v)) e ∙ sym (digit-is (a .base) (a .most) (a .x) (a .b) (omega (arith, e)) (omega (arith, e, room c)))
+    ap (λ (v : ℕ). Is (a .x * a .base + v)) e
+    ∙ sym (digit-is (a .base) (a .most) (a .x) (a .b) (omega (arith, e)) (omega (arith, e, room c)))
 
 pub digit-on-spec : {M : Type 1} → statement M
 digit-on-spec =
-    tie.close (tie.spec (λ c κs. search needs) returns (λ c. search needs) (λ c. search needs) returns-2 mul-t7 add-t8 returns-3)
+    tie.close (tie.spec (λ c κs. search needs) returns (λ c. search needs)
+    (λ c. search needs) returns-2 mul-t7 add-t8 returns-3)

@@ -1,4 +1,5 @@
--- `typed::digits` meets its contract. The loop's invariant: reading on from x at i reads the whole word. Assumes nothing.
+-- `typed::digits` meets its contract. The loop's invariant: reading on from x at i reads the whole word. Assumes
+-- nothing.
 use mathlib.Core.Path.{_≡_, refl, sym, _∙_}
 use mathlib.Core.List.{List}
 use Prim.Native.Nat.{ℕ, _+_, _-_, _≤_, _<_}
@@ -14,7 +15,8 @@ use Rattle.typed.specs.declared.Read.the-variants.{Is, Wrong}
 use Rattle.typed.proofs.digits.Statement.{statement}
 use Rattle.typed.proofs.digits.Tie as tie
 
-module _ (base most x : ℕ) (w : List ℕ) (i : ℕ) (h : i < length w) (r : Read) (e : r ≡ digitOn base most x (getD w i 0)) where
+module _ (base most x : ℕ) (w : List ℕ) (i : ℕ) (h : i < length w) (r : Read)
+    (e : r ≡ digitOn base most x (getD w i 0)) where
   read-wrong : r ≡ Wrong → digitsOn base most x (drop i w) ≡ Wrong
   unfolding digitsOn
   read-wrong p = rw (drop-cons w i 0 h, ← e, p)
@@ -38,14 +40,16 @@ returns c =
     let d = c .before .before in
     let l = d .before .before .before .loop in
     let a = d .before .before .before .before .before .args in
-    sym (l .inv ∙ read-wrong (a .base) (a .most) (l .x) (now (a .word)) (l .i) (d .before .before .loop-test .taken) _ (d .digit-on .ensures) (c .enum-told .given .1))
+    sym (l .inv ∙ read-wrong (a .base) (a .most) (l .x) (now (a .word)) (l .i) (d .before .before .loop-test .taken) _
+    (d .digit-on .ensures) (c .enum-told .given .1))
 
 loop-again : tie.Need-loop-again Inv-loop μ-loop
 loop-again c =
     let d = c .before .before .before in
     let l = d .before .before .before .loop in
     let a = d .before .before .before .before .before .args in
-    l .inv ∙ read-on (a .base) (a .most) (l .x) (now (a .word)) (l .i) (d .before .before .loop-test .taken) _ (d .digit-on .ensures) _ (c .before .y .given .1)
+    l .inv ∙ read-on (a .base) (a .most) (l .x) (now (a .word)) (l .i) (d .before .before .loop-test .taken) _
+    (d .digit-on .ensures) _ (c .before .y .given .1)
 
 returns-2 : tie.Need-returns-2 Inv-loop μ-loop
 returns-2 c =

@@ -1,5 +1,5 @@
--- `typed::end` meets its contract. The loop's invariant: no separator stands from `at` up to i, so those characters belong to the part.
--- Assumes nothing.
+-- `typed::end` meets its contract. The loop's invariant: no separator stands from `at` up to i, so those characters
+-- belong to the part. Assumes nothing.
 use mathlib.Core.Path.{_≡_, sym, ap, _∙_}
 use mathlib.Core.List.{List, append-nil}
 use Prim.Native.Nat.{ℕ, suc, _+_, _-_, _≤_, _<_}
@@ -46,7 +46,8 @@ module _ (separator : ℕ) (w : List ℕ) (at i : ℕ) (order : at ≤ i) (withi
 
 abbrev Inv-loop : tie.InvT-loop
 Inv-loop word at separator i₀ i =
-    (at ≤ i) × (i ≤ length word) × (split separator (drop at word) ≡ before (take (i - at) (drop at word)) (split separator (drop i word)))
+    (at ≤ i) × (i ≤ length word)
+    × (split separator (drop at word) ≡ before (take (i - at) (drop at word)) (split separator (drop i word)))
 
 abbrev μ-loop : tie.MeasureT-loop
 μ-loop word at separator i₀ i = length word - i
@@ -63,8 +64,11 @@ returns c =
 
 loop-again : tie.Need-loop-again Inv-loop μ-loop
 loop-again c =
-    let l = c .before .before .before .loop in
-    (omega arith, omega arith, part-more _ _ _ (l .i) (l .inv .0) (l .inv .1) (l .inv .2) (c .before .before .loop-test .taken) (c .if1 .left))
+    let l = c .before .before .before .loop in (
+      omega arith,
+      omega arith,
+      part-more _ _ _ (l .i) (l .inv .0) (l .inv .1) (l .inv .2) (c .before .before .loop-test .taken) (c .if1 .left),
+    )
 
 returns-2 : tie.Need-returns-2 Inv-loop μ-loop
 returns-2 c =
@@ -74,4 +78,5 @@ returns-2 c =
 pub end-spec : {M : Type 1} → statement M
 end-spec =
     tie.close
-    (tie.spec Inv-loop μ-loop loop-holds (λ c. omega arith) returns (λ c. omega arith) (λ c. omega arith) loop-again returns-2)
+    (tie.spec Inv-loop μ-loop loop-holds (λ c. omega arith) returns (λ c. omega arith)
+    (λ c. omega arith) loop-again returns-2)

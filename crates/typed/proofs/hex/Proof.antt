@@ -18,7 +18,9 @@ returns-2 c = rw (between-above 1 16 (length (now (c .before .before .before .ar
 
 returns-3 : tie.Need-returns-3
 unfolding hexOf
-returns-3 c = rw (between-is 1 16 (length (now (c .before .before .before .before .args .word))) (omega arith) (omega arith)) (c .digits .ensures)
+returns-3 c =
+    rw (between-is 1 16 (length (now (c .before .before .before .before .args .word))) (omega arith) (omega arith))
+    (c .digits .ensures)
 
 pub hex-spec : {M : Type 1} → statement M
 hex-spec = tie.close (tie.spec returns returns-2 (λ c κs. search needs) returns-3)

@@ -28,8 +28,10 @@ returns-2 c =
 loop-again : tie.Need-loop-again Inv-loop μ-loop
 loop-again c =
     let l = c .before .before .before .before .loop in
-    let a = c .before .before .before .before .before .before .args in
-    (omega arith, l .inv .1 ∙ eqList-more (now (a .word)) (now (a .other)) (l .i) (omega arith) (omega arith) (c .if2 .left))
+    let a = c .before .before .before .before .before .before .args in (
+      omega arith,
+      l .inv .1 ∙ eqList-more (now (a .word)) (now (a .other)) (l .i) (omega arith) (omega arith) (c .if2 .left),
+    )
 
 returns-3 : tie.Need-returns-3 Inv-loop μ-loop
 returns-3 c =

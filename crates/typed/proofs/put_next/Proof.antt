@@ -36,14 +36,19 @@ has c = sym (c .before .has .ensures) ∙ not-false _ (c .if1 .left)
 returns : tie.Need-returns
 returns c =
     let a = c .before .before .before .args in
-    rw (lacks (a .at) (a .set) (a .n) (sym (c .before .has .ensures) ∙ not-true _ (c .if1 .taken))) (record { is = refl; place = sym (add-zero (a .at)) })
+    rw (lacks (a .at) (a .set) (a .n) (sym (c .before .has .ensures) ∙ not-true _ (c .if1 .taken)))
+    (record { is = refl; place = sym (add-zero (a .at)) })
 
 -- what is written
-first-is : (c : tie.Then2) → let a = c .before .before .before .before .args in nextSignal (a .at) (a .set) (a .n) ≡ shownSignal (a .n)
-first-is c = let a = c .before .before .before .before .args in first (a .at) (a .set) (a .n) (has (c .before)) (c .if2 .taken)
+first-is : (c : tie.Then2) → let a = c .before .before .before .before .args in
+    nextSignal (a .at) (a .set) (a .n) ≡ shownSignal (a .n)
+first-is c = let a = c .before .before .before .before .args in
+    first (a .at) (a .set) (a .n) (has (c .before)) (c .if2 .taken)
 
-later-is : (c : tie.Else2) → let a = c .before .before .before .before .args in nextSignal (a .at) (a .set) (a .n) ≡ comma ∷ shownSignal (a .n)
-later-is c = let a = c .before .before .before .before .args in later (a .at) (a .set) (a .n) (has (c .before)) (c .if2 .left)
+later-is : (c : tie.Else2) → let a = c .before .before .before .before .args in
+    nextSignal (a .at) (a .set) (a .n) ≡ comma ∷ shownSignal (a .n)
+later-is c = let a = c .before .before .before .before .args in
+    later (a .at) (a .set) (a .n) (has (c .before)) (c .if2 .left)
 
 put-signal-requires : tie.Need-put-signal-requires
 put-signal-requires c κs = rw (first-is (c .before)) at (c .before .before .before .before .before .pre .1)
@@ -52,7 +57,8 @@ returns-2 : tie.Need-returns-2
 returns-2 c = rw (first-is (c .before .before .before .before)) (c .before .before .put-signal .ensures)
 
 put-byte-requires : tie.Need-put-byte-requires
-put-byte-requires c κs = omega (arith, ap length (later-is (c .before)), c .before .before .before .before .before .pre .1)
+put-byte-requires c κs =
+    omega (arith, ap length (later-is (c .before)), c .before .before .before .before .before .pre .1)
 
 put-signal-requires-2 : tie.Need-put-signal-requires-2
 put-signal-requires-2 c κs =
@@ -62,7 +68,8 @@ put-signal-requires-2 c κs =
 returns-3 : tie.Need-returns-3
 returns-3 c =
     let s = c .before .before in
-    rw (later-is (s .before .before .before .before .before .before)) (put-append (s .before .before .before .before .put-byte .ensures) (s .put-signal2 .ensures))
+    rw (later-is (s .before .before .before .before .before .before))
+    (put-append (s .before .before .before .before .put-byte .ensures) (s .put-signal2 .ensures))
 
 pub put-next-spec : {M : Type 1} → statement M
 put-next-spec =

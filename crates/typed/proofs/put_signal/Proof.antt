@@ -15,7 +15,8 @@ put-decimal-requires c κs = search needs
 
 returns : tie.Need-returns
 unfolding shownSignal
-returns c = put-append (c .before .before .before .before .before .before .put-byte .ensures) (c .before .before .put-decimal .ensures)
+returns c = put-append (c .before .before .before .before .before .before .put-byte .ensures)
+    (c .before .before .put-decimal .ensures)
 
 pub put-signal-spec : {M : Type 1} → statement M
 put-signal-spec = tie.close (tie.spec put-byte-requires put-decimal-requires (λ c. search needs) returns)

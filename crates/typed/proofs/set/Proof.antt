@@ -25,11 +25,13 @@ module _ (w : List ℕ) where
   unfolding setOf
   by-none e = rw e
 
-  by-hex : (r : Read) → eqList w (ascii "-") ≡ false → eqList (take 2 w) (ascii "0x") ≡ true → r ≡ hexOf (take (length w - 2) (drop 2 w)) → r ≡ setOf w
+  by-hex : (r : Read) → eqList w (ascii "-") ≡ false → eqList (take 2 w) (ascii "0x") ≡ true
+      → r ≡ hexOf (take (length w - 2) (drop 2 w)) → r ≡ setOf w
   unfolding setOf
   by-hex r e f h = rw (e, f) (h ∙ ap hexOf (take-all (length w - 2) (drop 2 w) (omega (arith, length-drop 2 w))))
 
-  by-signals : (r : Read) → eqList w (ascii "-") ≡ false → eqList (take 2 w) (ascii "0x") ≡ false → r ≡ signalsOn 0 (split comma w) → r ≡ setOf w
+  by-signals : (r : Read) → eqList w (ascii "-") ≡ false → eqList (take 2 w) (ascii "0x") ≡ false
+      → r ≡ signalsOn 0 (split comma w) → r ≡ setOf w
   unfolding setOf
   by-signals r e f h = rw (e, f) h
 
@@ -40,17 +42,20 @@ returns c = by-none _ (sym (c .before .is .ensures) ∙ c .if1 .taken)
 no-dash : (c : tie.Else1) → eqList (now (c .before .before .before .before .args .word)) (ascii "-") ≡ false
 no-dash c = sym (c .before .is .ensures) ∙ c .if1 .left
 
-begun : (c : tie.Then2) → eqList (take 2 (now (c .before .before .before .before .before .before .before .args .word))) (ascii "0x") ≡ true
+begun : (c : tie.Then2)
+    → eqList (take 2 (now (c .before .before .before .before .before .before .before .args .word))) (ascii "0x") ≡ true
 begun c = sym (c .before .begins .ensures) ∙ c .if2 .taken
 
 long : (c : tie.Then2) → 2 ≤ length (now (c .before .before .before .before .before .before .before .args .word))
 long c = two (now (c .before .before .before .before .before .before .before .args .word)) (begun c)
 
 returns-2 : tie.Need-returns-2
-returns-2 c = by-hex _ _ (no-dash (c .before .before .before .before .before)) (begun (c .before .before)) (c .hex .ensures)
+returns-2 c =
+    by-hex _ _ (no-dash (c .before .before .before .before .before)) (begun (c .before .before)) (c .hex .ensures)
 
 returns-3 : tie.Need-returns-3
-returns-3 c = by-signals _ _ (no-dash (c .before .before .before .before)) (sym (c .before .before .begins .ensures) ∙ c .before .if2 .left) (c .signal-list .ensures)
+returns-3 c = by-signals _ _ (no-dash (c .before .before .before .before))
+    (sym (c .before .before .begins .ensures) ∙ c .before .if2 .left) (c .signal-list .ensures)
 
 pub set-spec : {M : Type 1} → statement M
 set-spec =

@@ -1,4 +1,5 @@
--- `typed::show` meets its contract. The loop's invariant: the signals below n are written, with commas between. Assumes nothing.
+-- `typed::show` meets its contract. The loop's invariant: the signals below n are written, with commas between. Assumes
+-- nothing.
 use mathlib.Core.Path.{_≡_, refl, ap, _∙_}
 use mathlib.Core.List.{List}
 use Prim.Native.Nat.{ℕ, _+_, _-_, _≤_}
@@ -29,7 +30,8 @@ shown-some s e = rw (ne-eqb _ _ e)
 
 -- one signal more
 put-more : (s n : ℕ) (out₀ out out′ : List ℕ) (end next : ℕ)
-    → Put out₀ 0 (listed (membersTo n s)) out end → Put out end (nextSignal end s n) out′ next → Put out₀ 0 (listed (membersTo (n + 1) s)) out′ next
+    → Put out₀ 0 (listed (membersTo n s)) out end → Put out end (nextSignal end s n) out′ next
+    → Put out₀ 0 (listed (membersTo (n + 1) s)) out′ next
 put-more s n out₀ out out′ end next p q =
     let e : end ≡ length (listed (membersTo n s)) = p .place ∙ zero-add _ in
     rw (add-one, listed-next s n) (put-append p (rw (ap (λ (k : ℕ). nextSignal k s n) e) at q))
@@ -43,7 +45,8 @@ abbrev μ-loop : tie.MeasureT-loop
 returns : tie.Need-returns Inv-loop μ-loop
 returns c =
     let s = c .before .before .before .before in
-    rw (shown-none (s .before .before .args .set) (s .if1 .taken)) (put-over (c .before .before .put-byte .ensures) (omega arith))
+    rw (shown-none (s .before .before .args .set) (s .if1 .taken))
+    (put-over (c .before .before .put-byte .ensures) (omega arith))
 
 loop-holds : tie.Need-loop-holds Inv-loop μ-loop
 unfolding membersTo joined
@@ -52,14 +55,25 @@ loop-holds c = (omega arith, record { is = refl; place = refl })
 put-next-requires : tie.Need-put-next-requires Inv-loop μ-loop
 put-next-requires c κs =
     let l = c .before .before .loop in
-    let set = c .before .before .before .before .before .args .set in
-    (omega arith, omega (arith, put-length (l .inv .1), l .inv .1 .place, listed-le set (l .n) (omega arith), next-le (l .end) set (l .n) (omega arith)))
+    let set = c .before .before .before .before .before .args .set in (
+      omega arith,
+      omega (
+        arith,
+        put-length (l .inv .1),
+        l .inv .1 .place,
+        listed-le set (l .n) (omega arith),
+        next-le (l .end) set (l .n) (omega arith),
+      ),
+    )
 
 loop-again : tie.Need-loop-again Inv-loop μ-loop
 loop-again c =
     let p = c .before .before in
-    let l = p .before .before .before .loop in
-    (omega arith, put-more (p .before .before .before .before .before .before .args .set) (l .n) _ _ _ (l .end) _ (l .inv .1) (p .put-next .ensures))
+    let l = p .before .before .before .loop in (
+      omega arith,
+      put-more (p .before .before .before .before .before .before .args .set) (l .n) _ _ _ (l .end) _ (l .inv .1)
+          (p .put-next .ensures),
+    )
 
 same-length-2 : tie.Need-same-length-2 Inv-loop μ-loop
 same-length-2 c = put-length (c .before .loop .inv .1)

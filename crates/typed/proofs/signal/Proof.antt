@@ -27,7 +27,8 @@ no-s [] h = refl
 no-s (b ∷ w) h = rw (ne-eqb _ _ h)
 
 -- the number is the word from its second character on
-numbered : (w : List ℕ) (r : Read) → getD w 0 0 ≡ code "s" → r ≡ numberOf 63 (take (length w - 1) (drop 1 w)) → r ≡ signalOf w
+numbered : (w : List ℕ) (r : Read) → getD w 0 0 ≡ code "s" → r ≡ numberOf 63 (take (length w - 1) (drop 1 w))
+    → r ≡ signalOf w
 unfolding signalOf same
 numbered [] r h e = absurd (omega arith)
 numbered (b ∷ w) r h e = rw (eq-eqb _ _ h) (e ∙ ap (numberOf 63) (take-all (length (b ∷ w) - 1) w (omega arith)))
@@ -39,7 +40,8 @@ returns-2 : tie.Need-returns-2
 returns-2 c = sym (no-s (now (c .before .before .before .before .args .word)) (c .if2 .taken))
 
 returns-3 : tie.Need-returns-3
-returns-3 c = numbered (now (c .before .before .before .before .before .before .args .word)) _ (c .before .before .if2 .left) (c .number .ensures)
+returns-3 c = numbered (now (c .before .before .before .before .before .before .args .word)) _
+    (c .before .before .if2 .left) (c .number .ensures)
 
 pub signal-spec : {M : Type 1} → statement M
 signal-spec =

@@ -1,4 +1,5 @@
--- `typed::signal_list` meets its contract. The loop's invariant: the parts from `at` on, joined with what is read, are the whole. Assumes nothing.
+-- `typed::signal_list` meets its contract. The loop's invariant: the parts from `at` on, joined with what is read, are
+-- the whole. Assumes nothing.
 use mathlib.Core.Path.{_≡_, refl, sym, ap, _∙_}
 use mathlib.Core.List.{List}
 use Prim.Native.Nat.{ℕ, _+_, _-_, _≤_}
@@ -14,7 +15,8 @@ use Rattle.typed.specs.declared.Read.the-variants.{Is, Wrong}
 use Rattle.typed.proofs.signal_list.Statement.{statement}
 use Rattle.typed.proofs.signal_list.Tie as tie
 
-module _ (s : ℕ) (w : List ℕ) (at e : ℕ) (h : Ends comma w at e) (r : Read) (q : r ≡ signalOf (take (e - at) (drop at w))) where
+module _ (s : ℕ) (w : List ℕ) (at e : ℕ) (h : Ends comma w at e) (r : Read)
+    (q : r ≡ signalOf (take (e - at) (drop at w))) where
   list-wrong : r ≡ Wrong → signalsOn s (split comma (drop at w)) ≡ Wrong
   unfolding signalsOn
   list-wrong p = rw (h .parts, ← q, p)
@@ -23,12 +25,14 @@ module _ (s : ℕ) (w : List ℕ) (at e : ℕ) (h : Ends comma w at e) (r : Read
   unfolding signalsOn
   list-last n p l = rw (h .parts, ← q, p, behind-none comma w e (omega arith))
 
-  list-more : (n : ℕ) → r ≡ Is n → (e ≡ length w → ⊥) → signalsOn s (split comma (drop at w)) ≡ signalsOn (s ∪ single n) (split comma (drop (e + 1) w))
+  list-more : (n : ℕ) → r ≡ Is n → (e ≡ length w → ⊥)
+      → signalsOn s (split comma (drop at w)) ≡ signalsOn (s ∪ single n) (split comma (drop (e + 1) w))
   unfolding signalsOn
   list-more n p l = rw (h .parts, ← q, p, behind-more comma w e (omega (arith, h .within)))
 
 abbrev Inv-loop : tie.InvT-loop
-Inv-loop word set₀ at₀ set at = (at ≤ length word) × (signalsOn 0 (split comma word) ≡ signalsOn set (split comma (drop at word)))
+Inv-loop word set₀ at₀ set at =
+    (at ≤ length word) × (signalsOn 0 (split comma word) ≡ signalsOn set (split comma (drop at word)))
 
 abbrev μ-loop : tie.MeasureT-loop
 μ-loop word set₀ at₀ set at = length word - at
@@ -50,7 +54,8 @@ returns-2 c =
     let g = k .before .before .before in
     let e = g .before .before in
     let l = e .before .loop in
-    let m = list-last (l .set) _ (l .at) _ (e .end .ensures) _ (g .signal .ensures) _ (k .before .n .given .1) (c .if1 .taken) in
+    let m = list-last (l .set) _ (l .at) _ (e .end .ensures) _ (g .signal .ensures) _ (k .before .n .given .1)
+    (c .if1 .taken) in
     ap (λ (x : ℕ). Is x) (c .before .with .ensures) ∙ sym (l .inv .1 ∙ m)
 
 loop-again : tie.Need-loop-again Inv-loop μ-loop
@@ -59,7 +64,8 @@ loop-again c =
     let g = k .before .before .before in
     let e = g .before .before in
     let l = e .before .loop in
-    let m = list-more (l .set) _ (l .at) _ (e .end .ensures) _ (g .signal .ensures) _ (k .before .n .given .1) (c .if1 .left) in
+    let m =
+    list-more (l .set) _ (l .at) _ (e .end .ensures) _ (g .signal .ensures) _ (k .before .n .given .1) (c .if1 .left) in
     (omega (arith, e .end .ensures .within, c .if1 .left), rw (c .before .with .ensures) (l .inv .1 ∙ m))
 
 pub signal-list-spec : {M : Type 1} → statement M

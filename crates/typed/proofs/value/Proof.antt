@@ -35,11 +35,19 @@ sub-result-3 c = omega (arith, between-low _ _ _ (sym (c .before .between3 .ensu
 
 returns-3 : tie.Need-returns-3
 unfolding valueOf
-returns-3 c = rw (no-decimal (c .before .before .before .before), no-lower (c .before .before), sym (c .before .between3 .ensures) ∙ c .if3 .taken)
+returns-3 c = rw (
+  no-decimal (c .before .before .before .before),
+  no-lower (c .before .before),
+  sym (c .before .between3 .ensures) ∙ c .if3 .taken,
+)
 
 returns-4 : tie.Need-returns-4
 unfolding valueOf
-returns-4 c = rw (no-decimal (c .before .before .before .before), no-lower (c .before .before), sym (c .before .between3 .ensures) ∙ c .if3 .left)
+returns-4 c = rw (
+  no-decimal (c .before .before .before .before),
+  no-lower (c .before .before),
+  sym (c .before .between3 .ensures) ∙ c .if3 .left,
+)
 
 pub value-spec : {M : Type 1} → statement M
 value-spec =

@@ -1,5 +1,5 @@
--- Laws of what is typed and shown, in this order: words that are alike; digits; how large a number can be; parts of a word; signals written one after
--- another; how long they are.
+-- Laws of what is typed and shown, in this order: words that are alike; digits; how large a number can be; parts of a
+-- word; signals written one after another; how long they are.
 use mathlib.Core.Path.{_≡_, refl, sym, ap, _∙_}
 use mathlib.Core.Bool.{Bool, true, false, cond, false≢true}
 use mathlib.Core.List.{List, [], _∷_, _++_, map, append-assoc, append-nil}
@@ -18,7 +18,8 @@ use Rattle.line.specs.Line.{behind, joined}
 use Rattle.line.specs.Line.Laws.{length-decimal, width-le}
 use Rattle.signals.specs.Mask.{bit}
 use Rattle.typed.specs.Parts.{nextSignal}
-use Rattle.typed.specs.Typed.{between, valueOf, given, digitOn, digitsOn, begun, numberOf, signalOf, inFront, split, comma, membersTo, shownSignal}
+use Rattle.typed.specs.Typed.{between, valueOf, given, digitOn, digitsOn, begun, numberOf, signalOf, inFront}
+use Rattle.typed.specs.Typed.{split, comma, membersTo, shownSignal}
 use Rattle.typed.specs.declared.Read.{Read}
 use Rattle.typed.specs.declared.Read.the-variants.{Is, Wrong}
 
@@ -82,7 +83,8 @@ digits-most base most x [] n h e = let p : x ≡ n = cc in omega arith
 digits-most base most x (b ∷ w) n h e =
     go (digitOn base most x b) refl (λ y p q. digits-most base most y w n (digit-most base most x b y p) q) e
   where
-    go : (r : Read) → digitOn base most x b ≡ r → ((y : ℕ) → digitOn base most x b ≡ Is y → digitsOn base most y w ≡ Is n → n ≤ most)
+    go : (r : Read) → digitOn base most x b ≡ r
+        → ((y : ℕ) → digitOn base most x b ≡ Is y → digitsOn base most y w ≡ Is n → n ≤ most)
         → given r (λ y. digitsOn base most y w) Wrong ≡ Is n → n ≤ most
     go (Is y) p f q = f y p q
     go Wrong p f q = let z : _≡_ {A = ℕ} 0 1 = cc in absurd (omega arith)
@@ -122,18 +124,22 @@ before-more p b [] = refl
 before-more p b (q ∷ qs) = rw (append-assoc p)
 
 -- there is a first part
-pub split-some : (separator : ℕ) (w : List ℕ) (P : List (List ℕ) → Type 0) → ((p : List ℕ) (ps : List (List ℕ)) → P (p ∷ ps)) → P (split separator w)
+pub split-some : (separator : ℕ) (w : List ℕ) (P : List (List ℕ) → Type 0)
+    → ((p : List ℕ) (ps : List (List ℕ)) → P (p ∷ ps)) → P (split separator w)
 unfolding split inFront
 split-some separator [] P f = f [] []
-split-some separator (b ∷ w) P f = go (same b separator) (split-some separator w (λ ps. P (inFront b ps)) (λ p ps. f (b ∷ p) ps))
+split-some separator (b ∷ w) P f =
+    go (same b separator) (split-some separator w (λ ps. P (inFront b ps)) (λ p ps. f (b ∷ p) ps))
   where
-    go : (t : Bool) → P (inFront b (split separator w)) → P (cond t ([] ∷ split separator w) (inFront b (split separator w)))
+    go : (t : Bool) → P (inFront b (split separator w))
+        → P (cond t ([] ∷ split separator w) (inFront b (split separator w)))
     go true h = f [] (split separator w)
     go false h = h
 
 module _ (separator : ℕ) (w : List ℕ) where
   -- at a separator a part ends
-  pub split-here : (i : ℕ) → i < length w → getD w i 0 ≡ separator → split separator (drop i w) ≡ [] ∷ split separator (drop (i + 1) w)
+  pub split-here : (i : ℕ) → i < length w → getD w i 0 ≡ separator
+      → split separator (drop i w) ≡ [] ∷ split separator (drop (i + 1) w)
   unfolding split same
   split-here i h e = rw (add-one, drop-cons w i 0 h, eq-eqb _ _ e)
 
@@ -141,7 +147,8 @@ module _ (separator : ℕ) (w : List ℕ) where
   pub split-on : (p : List ℕ) (i : ℕ) → i < length w → (getD w i 0 ≡ separator → ⊥)
       → before p (split separator (drop i w)) ≡ before (p ++ (getD w i 0 ∷ [])) (split separator (drop (i + 1) w))
   unfolding split same
-  split-on p i h e = rw (add-one, drop-cons w i 0 h, ne-eqb _ _ e) (before-more p (getD w i 0) (split separator (drop (suc i) w)))
+  split-on p i h e =
+      rw (add-one, drop-cons w i 0 h, ne-eqb _ _ e) (before-more p (getD w i 0) (split separator (drop (suc i) w)))
 
 -- ---- signals written one after another
 
@@ -159,26 +166,30 @@ abbrev pub listed : List ℕ → List ℕ
 listed xs = joined comma (map shownSignal xs)
 
 -- one signal more
-pub listed-snoc : (xs : List ℕ) (n : ℕ) → listed (xs ++ (n ∷ [])) ≡ listed xs ++ (cond (same (length (listed xs)) 0) [] (comma ∷ []) ++ shownSignal n)
+pub listed-snoc : (xs : List ℕ) (n : ℕ)
+    → listed (xs ++ (n ∷ [])) ≡ listed xs ++ (cond (same (length (listed xs)) 0) [] (comma ∷ []) ++ shownSignal n)
 unfolding joined same behind shownSignal
 listed-snoc [] n = rw append-nil
 listed-snoc (x ∷ xs) n =
     ap (λ (ps : List (List ℕ)). shownSignal x ++ behind comma ps) (map-snoc shownSignal xs n)
     ∙ ap (λ (l : List ℕ). shownSignal x ++ l) (behind-snoc comma (map shownSignal xs) (shownSignal n))
     ∙ sym (append-assoc (shownSignal x) (behind comma (map shownSignal xs)) (comma ∷ shownSignal n))
-    ∙ ap (λ (t : Bool). (shownSignal x ++ behind comma (map shownSignal xs)) ++ (cond t [] (comma ∷ []) ++ shownSignal n)) (sym (ne-eqb _ 0 some))
+    ∙ ap (λ (t : Bool). (shownSignal x ++ behind comma (map shownSignal xs))
+    ++ (cond t [] (comma ∷ []) ++ shownSignal n)) (sym (ne-eqb _ 0 some))
   where
     some : length (shownSignal x ++ behind comma (map shownSignal xs)) ≡ 0 → ⊥
     some e = omega arith
 
 -- the signals below n, and signal n if it is in the set
-pub listed-next : (s n : ℕ) → listed (membersTo (suc n) s) ≡ listed (membersTo n s) ++ nextSignal (length (listed (membersTo n s))) s n
+pub listed-next : (s n : ℕ)
+    → listed (membersTo (suc n) s) ≡ listed (membersTo n s) ++ nextSignal (length (listed (membersTo n s))) s n
 unfolding membersTo nextSignal
 listed-next s n = go (bit s n)
   where
     go : (t : Bool)
         → listed (membersTo n s ++ cond t (n ∷ []) [])
-        ≡ listed (membersTo n s) ++ cond t (cond (same (length (listed (membersTo n s))) 0) [] (comma ∷ []) ++ shownSignal n) []
+        ≡ listed (membersTo n s)
+        ++ cond t (cond (same (length (listed (membersTo n s))) 0) [] (comma ∷ []) ++ shownSignal n) []
     go true = listed-snoc (membersTo n s) n
     go false = rw (append-nil (membersTo n s), append-nil (listed (membersTo n s)))
 

@@ -1,5 +1,6 @@
--- What is shown reads back as the same: a set as signals (`shown-reads`), a configuration with dots (`dotted-reads`). In this order: each signal and
--- each state by itself; parts that are joined split again; the signals of a set joined are the set; the two theorems.
+-- What is shown reads back as the same: a set as signals (`shown-reads`), a configuration with dots (`dotted-reads`).
+-- In this order: each signal and each state by itself; parts that are joined split again; the signals of a set joined
+-- are the set; the two theorems.
 use mathlib.Core.Path.{_≡_, refl, sym, ap, _∙_}
 use mathlib.Core.Bool.{Bool, true, false, not, _&&_, _||_, cond, false≢true, or-false}
 use mathlib.Core.List.{List, [], _∷_, _++_, map, append-assoc, append-nil}
@@ -19,7 +20,8 @@ use Rattle.meaning.specs.Laws.Bools.{and-l, and-r}
 use Rattle.meaning.specs.Meaning.{Set, ∅, same, eqList}
 use Rattle.line.specs.Ascii.{ascii}
 use Rattle.line.specs.Line.{digit, digits, widthTo, width, decimal, behind, joined, dot, dotted}
-use Rattle.typed.specs.Typed.{between, valueOf, given, digitOn, digitsOn, begun, numberOf, inFront, split, comma, signalOf, signalsOn, setOf, statesOn, configOf, membersTo, shownSignal, shown}
+use Rattle.typed.specs.Typed.{between, valueOf, given, digitOn, digitsOn, begun, numberOf, inFront, split, comma}
+use Rattle.typed.specs.Typed.{signalOf, signalsOn, setOf, statesOn, configOf, membersTo, shownSignal, shown}
 use Rattle.typed.specs.Typed.Laws.{before, before-none, map-snoc, listed}
 use Rattle.typed.specs.declared.Read.{Read}
 use Rattle.typed.specs.declared.Read.the-variants.{Is, Wrong}
@@ -44,7 +46,8 @@ says-is Wrong n e = absurd (false≢true e)
 unfoldable right : (List ℕ → Read) → (ℕ → List ℕ) → ℕ → ℕ → Bool
 right read show separator n = says (read (show n)) n && clear separator (show n)
 
-module _ (read : List ℕ → Read) (show : ℕ → List ℕ) (separator most : ℕ) (all : anyUpTo most (λ n. not (right read show separator n)) ≡ false)
+module _ (read : List ℕ → Read) (show : ℕ → List ℕ) (separator most : ℕ)
+    (all : anyUpTo most (λ n. not (right read show separator n)) ≡ false)
     (n : ℕ) (h : n < most) where
   is-right : right read show separator n ≡ true
   is-right = not-false _ (any-never most (λ k. not (right read show separator k)) all n h)
@@ -58,11 +61,13 @@ module _ (read : List ℕ → Read) (show : ℕ → List ℕ) (separator most : 
   clears = and-r (says (read (show n)) n) _ is-right
 
 signals-right : anyUpTo 64 (λ n. not (right signalOf shownSignal comma n)) ≡ false
-unfolding anyUpTo right says clear same between valueOf digitOn digitsOn begun numberOf signalOf shownSignal digit digits widthTo width decimal
+unfolding anyUpTo right says clear same between valueOf digitOn digitsOn begun numberOf signalOf shownSignal digit
+    digits widthTo width decimal
 signals-right = refl
 
 states-right : anyUpTo 256 (λ n. not (right (numberOf 255) decimal dot n)) ≡ false
-unfolding anyUpTo right says clear same between valueOf digitOn digitsOn begun numberOf digit digits widthTo width decimal
+unfolding anyUpTo right says clear same between valueOf digitOn digitsOn begun numberOf digit digits widthTo
+    width decimal
 states-right = refl
 
 signal-reads : (n : ℕ) → n < 64 → signalOf (shownSignal n) ≡ Is n
@@ -84,7 +89,8 @@ unfolding inFront before
 inFront-before b p [] = refl
 inFront-before b p (q ∷ qs) = refl
 
-split-clear : (separator : ℕ) (p w : List ℕ) → clear separator p ≡ true → split separator (p ++ w) ≡ before p (split separator w)
+split-clear : (separator : ℕ) (p w : List ℕ) → clear separator p ≡ true
+    → split separator (p ++ w) ≡ before p (split separator w)
 unfolding split clear
 split-clear separator [] w h = sym (before-none (split separator w))
 split-clear separator (b ∷ p) w h =
@@ -96,7 +102,8 @@ module _ (separator : ℕ) where
   Clear [] = Unit {0}
   Clear (p ∷ ps) = (clear separator p ≡ true) × Clear ps
 
-  split-behind : (p : List ℕ) (ps : List (List ℕ)) → clear separator p ≡ true → Clear ps → split separator (p ++ behind separator ps) ≡ p ∷ ps
+  split-behind : (p : List ℕ) (ps : List (List ℕ)) → clear separator p ≡ true → Clear ps
+      → split separator (p ++ behind separator ps) ≡ p ∷ ps
   unfolding Clear behind split before same
   split-behind p [] h k = split-clear separator p [] h ∙ rw append-nil
   split-behind p (q ∷ qs) h k =
@@ -130,13 +137,15 @@ joined-high (suc n) s m h = go (bit s n) (joined-high n s m (omega arith))
 joined-low : (n s m : ℕ) → m < n → bit (joinedTo n s) m ≡ bit s m
 unfolding joinedTo
 joined-low zero s m h = absurd (omega arith)
-joined-low (suc n) s m h = ⊎-elim (λ e. last e (bit s n) refl) (λ l. lower l (bit s n) (joined-low n s m l)) (below-suc m n h)
+joined-low (suc n) s m h =
+    ⊎-elim (λ e. last e (bit s n) refl) (λ l. lower l (bit s n) (joined-low n s m l)) (below-suc m n h)
   where
     last : m ≡ n → (t : Bool) → bit s n ≡ t → bit (cond t (joinedTo n s ∪ single n) (joinedTo n s)) m ≡ bit s m
     last e true b = rw (e, bit-with (joinedTo n s) n n, joined-high n s n (omega arith), eq-eqb n n refl, b)
     last e false b = rw (e, joined-high n s n (omega arith), b)
 
-    lower : m < n → (t : Bool) → bit (joinedTo n s) m ≡ bit s m → bit (cond t (joinedTo n s ∪ single n) (joinedTo n s)) m ≡ bit s m
+    lower : m < n → (t : Bool) → bit (joinedTo n s) m ≡ bit s m
+        → bit (cond t (joinedTo n s ∪ single n) (joinedTo n s)) m ≡ bit s m
     lower l true e = rw (bit-with (joinedTo n s) n m, ne-eqb n m (λ z. omega arith), or-false) e
     lower l false e = e
 
@@ -149,15 +158,18 @@ joined-all s h = ext (joinedTo 64 s) s (λ m. go m (decLt m 64))
 
 -- one signal more is read
 signals-snoc : (t : Set) (ps : List (List ℕ)) (p : List ℕ)
-    → signalsOn t (ps ++ (p ∷ [])) ≡ given (signalsOn t ps) (λ u. given (signalOf p) (λ n. Is (u ∪ single n)) Wrong) Wrong
+    → signalsOn t (ps ++ (p ∷ []))
+    ≡ given (signalsOn t ps) (λ u. given (signalOf p) (λ n. Is (u ∪ single n)) Wrong) Wrong
 unfolding signalsOn
 signals-snoc t [] p = refl
 signals-snoc t (q ∷ qs) p = go (signalOf q) (λ n. signals-snoc (t ∪ single n) qs p)
   where
     go : (r : Read)
-        → ((n : ℕ) → signalsOn (t ∪ single n) (qs ++ (p ∷ [])) ≡ given (signalsOn (t ∪ single n) qs) (λ u. given (signalOf p) (λ n. Is (u ∪ single n)) Wrong) Wrong)
+        → ((n : ℕ) → signalsOn (t ∪ single n) (qs ++ (p ∷ []))
+        ≡ given (signalsOn (t ∪ single n) qs) (λ u. given (signalOf p) (λ n. Is (u ∪ single n)) Wrong) Wrong)
         → given r (λ n. signalsOn (t ∪ single n) (qs ++ (p ∷ []))) Wrong
-        ≡ given (given r (λ n. signalsOn (t ∪ single n) qs) Wrong) (λ u. given (signalOf p) (λ n. Is (u ∪ single n)) Wrong) Wrong
+        ≡ given (given r (λ n. signalsOn (t ∪ single n) qs) Wrong)
+        (λ u. given (signalOf p) (λ n. Is (u ∪ single n)) Wrong) Wrong
     go (Is n) f = f n
     go Wrong f = refl
 
@@ -166,7 +178,8 @@ unfolding membersTo Clear
 members-clear zero s h = tt
 members-clear (suc n) s h = go (bit s n) (members-clear n s (omega arith))
   where
-    go : (t : Bool) → Clear comma (map shownSignal (membersTo n s)) → Clear comma (map shownSignal (membersTo n s ++ cond t (n ∷ []) []))
+    go : (t : Bool) → Clear comma (map shownSignal (membersTo n s))
+        → Clear comma (map shownSignal (membersTo n s ++ cond t (n ∷ []) []))
     go true k =
         rw (map-snoc shownSignal (membersTo n s) n)
         (clear-snoc comma (map shownSignal (membersTo n s)) (shownSignal n) k (signal-clear n (omega arith)))
@@ -178,20 +191,27 @@ members-read zero s h = refl
 members-read (suc n) s h = go (bit s n) (members-read n s (omega arith))
   where
     go : (t : Bool) → signalsOn ∅ (map shownSignal (membersTo n s)) ≡ Is (joinedTo n s)
-        → signalsOn ∅ (map shownSignal (membersTo n s ++ cond t (n ∷ []) [])) ≡ Is (cond t (joinedTo n s ∪ single n) (joinedTo n s))
+        → signalsOn ∅ (map shownSignal (membersTo n s ++ cond t (n ∷ []) []))
+        ≡ Is (cond t (joinedTo n s ∪ single n) (joinedTo n s))
     go true e =
-        rw
-        (map-snoc shownSignal (membersTo n s) n, signals-snoc ∅ (map shownSignal (membersTo n s)) (shownSignal n), e, signal-reads n (omega arith))
+        rw (
+          map-snoc shownSignal (membersTo n s) n,
+          signals-snoc ∅ (map shownSignal (membersTo n s)) (shownSignal n),
+          e,
+          signal-reads n (omega arith),
+        )
     go false e = rw (append-nil (membersTo n s)) e
 
 -- ---- a set
 
 -- a list of signals is no `-` and begins with no `0x`
-listed-reads : (xs : List ℕ) (s : ℕ) → (s ≡ 0 → ⊥) → Clear comma (map shownSignal xs) → signalsOn ∅ (map shownSignal xs) ≡ Is s
+listed-reads : (xs : List ℕ) (s : ℕ) → (s ≡ 0 → ⊥) → Clear comma (map shownSignal xs)
+    → signalsOn ∅ (map shownSignal xs) ≡ Is s
     → setOf (listed xs) ≡ Is s
 unfolding setOf eqList same joined shownSignal signalsOn Clear
 listed-reads [] s h k e = let z : 0 ≡ s = cc in absurd (h (sym z))
-listed-reads (x ∷ xs) s h k e = ap (signalsOn ∅) (split-behind comma (shownSignal x) (map shownSignal xs) (k .0) (k .1)) ∙ e
+listed-reads (x ∷ xs) s h k e =
+    ap (signalsOn ∅) (split-behind comma (shownSignal x) (map shownSignal xs) (k .0) (k .1)) ∙ e
 
 pub shown-reads : (s : ℕ) → s < 2 ^ 64 → setOf (shown s) ≡ Is s
 unfolding shown setOf eqList same
@@ -210,15 +230,18 @@ unfolding Clear
 states-clear [] h = tt
 states-clear (c ∷ cs) h = (state-clear c (h 0), states-clear cs (λ i. h (suc i)))
 
-states-read : (done cs : List ℕ) → length done + length cs ≤ 64 → AllBytes cs → statesOn done (map decimal cs) ≡ done ++ cs
+states-read : (done cs : List ℕ) → length done + length cs ≤ 64 → AllBytes cs
+    → statesOn done (map decimal cs) ≡ done ++ cs
 unfolding statesOn
 states-read done [] l h = sym (append-nil done)
 states-read done (c ∷ cs) l h =
     rw (lt-ltb (length done) 64 (omega arith), state-reads c (h 0))
-    (states-read (done ++ (c ∷ [])) cs (rw length-append (omega arith)) (λ i. h (suc i)) ∙ append-assoc done (c ∷ []) cs)
+    (states-read (done ++ (c ∷ [])) cs (rw length-append (omega arith)) (λ i. h (suc i))
+    ∙ append-assoc done (c ∷ []) cs)
 
 pub dotted-reads : (cs : List ℕ) → 0 < length cs → length cs ≤ 64 → AllBytes cs → configOf (dotted cs) ≡ cs
 unfolding configOf dotted joined
 dotted-reads [] p l h = absurd (omega arith)
 dotted-reads (c ∷ cs) p l h =
-    ap (statesOn []) (split-behind dot (decimal c) (map decimal cs) (state-clear c (h 0)) (states-clear cs (λ i. h (suc i)))) ∙ states-read [] (c ∷ cs) (omega arith) h
+    ap (statesOn []) (split-behind dot (decimal c) (map decimal cs) (state-clear c (h 0))
+    (states-clear cs (λ i. h (suc i)))) ∙ states-read [] (c ∷ cs) (omega arith) h

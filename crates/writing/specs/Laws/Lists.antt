@@ -1,6 +1,6 @@
--- Lists as typed: the members of a list of one or more (`followed-members`, `listed-members`, `followed-first`); what is
--- made of the numbers below a limit, one after another (`from-..`); those of them that pass a test (`chosen-..`); and
--- names that are the numbers below one (`numbers-named`).
+-- Lists as typed: the members of a list of one or more (`followed-members`, `listed-members`, `followed-first`); what
+-- is made of the numbers below a limit, one after another (`from-..`); those of them that pass a test (`chosen-..`);
+-- and names that are the numbers below one (`numbers-named`).
 use mathlib.Core.Path.{_≡_, refl, sym, ap, ap₂, _∙_}
 use mathlib.Core.Bool.{Bool, true, false, _&&_, _||_, not}
 use mathlib.Core.List.{List, [], _∷_, _++_, append-assoc, append-nil}

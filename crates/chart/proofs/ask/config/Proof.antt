@@ -13,7 +13,10 @@ use Rattle.typed.specs.declared.Configuration.{Configuration}
 use Rattle.chart.proofs.ask.config.Statement.{statement}
 use Rattle.chart.proofs.ask.config.Tie as tie
 
-counts : (w : List ℕ) (r : Configuration) → r ≡ record { count = length (configOf w); states = laidOver (configOf w) (replicate 64 0) } → Counts (r .count) (r .states)
+counts : (w : List ℕ) (r : Configuration) → r ≡ record {
+  count = length (configOf w);
+  states = laidOver (configOf w) (replicate 64 0);
+} → Counts (r .count) (r .states)
 counts w r e =
     let h : r .count ≤ length (r .states) = rw (e, length-append) (omega arith) in
     (h, sym (length-take-le (r .count) (r .states) h))

@@ -35,7 +35,8 @@ returns : tie.Need-returns Inv-loop μ-loop
 returns c = counts _ _ (omega (arith, c .unread .ensures))
 
 same-length-2 : tie.Need-same-length-2 Inv-loop μ-loop
-same-length-2 c = let r = c .before .before .before .before .before .before .before in long r ∙ r .before .before .before .loop .inv .1
+same-length-2 c = let r = c .before .before .before .before .before .before .before in
+    long r ∙ r .before .before .before .loop .inv .1
 
 returns-2 : tie.Need-returns-2 Inv-loop μ-loop
 returns-2 c =

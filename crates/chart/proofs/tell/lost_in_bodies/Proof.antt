@@ -20,7 +20,8 @@ lost-in-bodies-spec =
     μ-loop
     (λ c. omega arith)
     (λ c κs. (c .before .before .before .before .pre .0, c .loop-test .taken))
-    (λ c κs. let p = c .before .before .before .before .before .pre in (p .1, (let l = p .2 in let t = c .before .loop-test .taken in omega arith)))
+    (λ c κs. let p = c .before .before .before .before .before .pre in
+    (p .1, (let l = p .2 in let t = c .before .loop-test .taken in omega arith)))
     (λ c κs. search needs)
     (λ c. omega arith)
     (λ c. omega arith)

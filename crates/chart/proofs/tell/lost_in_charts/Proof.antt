@@ -7,11 +7,13 @@ use Rattle.chart.proofs.tell.lost_in_charts.Statement.{statement}
 use Rattle.chart.proofs.tell.lost_in_charts.Tie as tie
 
 -- where the body of the file is, and that of the cleared one
-old : (c : tie.Else1) → Stands (c .before .before .before .before .before .args .file .now) (c .before .before .opened .result)
+old : (c : tie.Else1)
+    → Stands (c .before .before .before .before .before .args .file .now) (c .before .before .opened .result)
 old c = c .before .before .opened .ensures .stands (c .if1 .left)
 
 new : (c : tie.Else2)
-    → Stands (c .before .before .before .before .before .before .before .before .args .cleared .now) (c .before .before .opened2 .result)
+    → Stands (c .before .before .before .before .before .before .before .before .args .cleared .now)
+    (c .before .before .opened2 .result)
 new c = c .before .before .opened2 .ensures .stands (c .if2 .left)
 
 -- back to where both are known

@@ -24,7 +24,8 @@ fits f buffer = go (same (rewriteRefusal f (length buffer)) 0)
     go false = omega arith
 
 within : (f buffer out : List ℕ) (w : Rewritten)
-    → (w ≡ record { refusal = rewriteRefusal f (length buffer); length = rewriteLength f (length buffer) }) × (out ≡ rewriteOut f buffer) → w .length ≤ length out
+    → (w ≡ record { refusal = rewriteRefusal f (length buffer); length = rewriteLength f (length buffer) })
+    × (out ≡ rewriteOut f buffer) → w .length ≤ length out
 within f buffer out w p = rw (p .0, p .1) (fits f buffer)
 
 pub rewrite-spec : {M : Type 1} → statement M

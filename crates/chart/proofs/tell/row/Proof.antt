@@ -11,7 +11,8 @@ use Rattle.line.specs.Line.{fields, lineOf}
 use Rattle.chart.proofs.tell.row.Statement.{statement}
 use Rattle.chart.proofs.tell.row.Tie as tie
 
-module _ (n : ℕ) (row out out₀ : List ℕ) (r : ℕ) (p : (r ≡ length (lineOf n row)) × (out ≡ laidOver (lineOf n row) out₀)) where
+module _ (n : ℕ) (row out out₀ : List ℕ) (r : ℕ)
+    (p : (r ≡ length (lineOf n row)) × (out ≡ laidOver (lineOf n row) out₀)) where
   some : 1 ≤ r
   unfolding lineOf fields
   some = rw (p .0, length-append) (omega arith)

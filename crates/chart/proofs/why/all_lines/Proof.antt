@@ -19,7 +19,8 @@ read c =
     let t = c .before .if1 .taken in omega (arith, l, t)
 
 lines-requires : tie.Need-lines-requires Inv-loop μ-loop
-lines-requires c κs = let p = c .before .before .before .before .before .before .pre in (p .0, p .1, c .before .if1 .taken)
+lines-requires c κs = let p = c .before .before .before .before .before .before .pre in
+    (p .0, p .1, c .before .if1 .taken)
 
 pub all-lines-spec : {M : Type 1} → statement M
 all-lines-spec =

@@ -6,7 +6,8 @@ use Rattle.opening.specs.Open.{Stands}
 use Rattle.chart.proofs.why.all_of.Statement.{statement}
 use Rattle.chart.proofs.why.all_of.Tie as tie
 
-stands : (c : tie.Else1) → Stands (c .before .before .before .before .before .args .file .now) (c .before .before .opened .result)
+stands : (c : tie.Else1)
+    → Stands (c .before .before .before .before .before .args .file .now) (c .before .before .opened .result)
 stands c = c .before .before .opened .ensures .stands (c .if1 .left)
 
 all-lines-requires : tie.Need-all-lines-requires

@@ -9,7 +9,9 @@ use Rattle.post.proofs.book.moved.Tie as tie
 
 -- the last of 64 rows ends in the buffer
 room : (k charts n : ℕ) → k < 64 → charts ≤ 16 → n ≡ 1920 → k * (14 + charts) + (14 + charts) ≤ n
-room k charts n h g e = let l : k * (14 + charts) ≤ 63 * 30 = mul-le-mul {n₂ = 63} {m₂ = 30} (omega (arith, h)) (omega (arith, g)) in omega (arith, l, g, e)
+room k charts n h g e =
+    let l : k * (14 + charts) ≤ 63 * 30 = mul-le-mul {n₂ = 63} {m₂ = 30} (omega (arith, h)) (omega (arith, g)) in
+    omega (arith, l, g, e)
 
 post-one-requires : tie.Need-post-one-requires
 post-one-requires c κs =

@@ -14,7 +14,8 @@ replace-spec =
     (λ c κs. search needs)
     (λ c κs. search needs)
     (λ c. search needs)
-    (λ c. let s = c .before .before .before .before .before .before in sym (length-take-le _ _ (omega (arith, s .pre .0, s .pre .1))))
+    (λ c. let s = c .before .before .before .before .before .before in
+    sym (length-take-le _ _ (omega (arith, s .pre .0, s .pre .1))))
     (λ c κs. search needs)
     (λ c. search needs)
     (λ c κs. search needs)

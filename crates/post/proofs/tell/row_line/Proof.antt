@@ -11,7 +11,8 @@ use Rattle.line.specs.Line.{lineOf}
 use Rattle.post.proofs.tell.row_line.Statement.{statement}
 use Rattle.post.proofs.tell.row_line.Tie as tie
 
-within : (n : ℕ) (row out out₀ : List ℕ) (r : ℕ) → (r ≡ length (lineOf n row)) × (out ≡ laidOver (lineOf n row) out₀) → r ≤ length out
+within : (n : ℕ) (row out out₀ : List ℕ) (r : ℕ) → (r ≡ length (lineOf n row)) × (out ≡ laidOver (lineOf n row) out₀)
+    → r ≤ length out
 within n row out out₀ r p = omega (arith, p .0, simp length-append at (ap length (p .1)))
 
 line-requires : tie.Need-line-requires
