@@ -1,5 +1,5 @@
 -- What the proofs of the records' readers and writers share, in this order: what stands at place k of the record that
--- begins at `at`; a record that is written part by part, each where the part before it ends. Assumes nothing.
+-- begins at `at`; a record that is written part by part, each where the part before it ends.
 use mathlib.Core.Path.{_≡_, refl, sym, ap, _∙_}
 use mathlib.Core.List.{List, [], _∷_, _++_}
 use Prim.Native.Nat.{ℕ, _+_}

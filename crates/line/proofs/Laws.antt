@@ -1,5 +1,5 @@
 -- What a loop that writes xs at a place has still to write, and its laws, in this order: all of it; one piece less;
--- none of it; its room. Assumes nothing.
+-- none of it; its room.
 use mathlib.Core.Path.{_≡_, refl, sym, ap, _∙_}
 use mathlib.Core.List.{List, [], _++_}
 use Prim.Native.Nat.{ℕ, _+_}

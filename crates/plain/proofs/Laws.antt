@@ -1,5 +1,5 @@
 -- What the loops over pairs share: the transitions of a list that a loop has not passed, and a test of some one of
--- them. Assumes nothing.
+-- them.
 use mathlib.Core.Path.{_≡_, ap, ap₂, _∙_}
 use mathlib.Core.Bool.{Bool, true, false, _||_}
 use mathlib.Core.List.{List, [], _∷_}

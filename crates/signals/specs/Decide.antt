@@ -1,6 +1,6 @@
 -- Claims on sets, decided by computation. A claim is an equation of two expressions over variables; it follows from
 -- other claims if it does at each way for one signal to be in the variables or not, which `valid` tries. `sets` makes
--- the theorem of it. Assumes nothing.
+-- the theorem of it.
 use mathlib.Core.Path.{_≡_, refl, sym, ap, ap₂, _∙_}
 use mathlib.Core.Bool.{Bool, true, false, not, _&&_, _||_, Bool·beq}
 use mathlib.Core.List.{List, [], _∷_, map}

@@ -1,5 +1,5 @@
 -- What the functions promise that reading and showing are made of: where a part of a word ends, and what is written for
--- one signal. Assumes nothing.
+-- one signal.
 use mathlib.Core.Path.{_≡_}
 use mathlib.Core.Bool.{cond}
 use mathlib.Core.List.{List, [], _∷_, _++_}

@@ -1,4 +1,4 @@
--- `call_of` meets its contract. Assumes nothing.
+-- `call_of` meets its contract.
 use mathlib.Core.Path.{refl}
 use native.Mathlib.Omega.{arith}
 use borrow.Author.Needs.{needs}

@@ -1,5 +1,5 @@
 -- `calls_by` meets its contract. The loop's invariant: of the slaves passed the call signals that the transition also
--- outputs are joined. Assumes nothing.
+-- outputs are joined.
 use mathlib.Core.Path.{_≡_, sym, ap, _∙_}
 use mathlib.Core.Bool.{Bool, _&&_, _||_, cond}
 use mathlib.Core.List.{List}

@@ -1,5 +1,4 @@
 -- `calls_of` meets its contract. The loop's invariant: of the slaves passed the chart's call signals are joined.
--- Assumes nothing.
 use mathlib.Core.Path.{_≡_, sym, ap, _∙_}
 use mathlib.Core.Bool.{Bool, cond}
 use mathlib.Core.Logic.{⊎-elim}

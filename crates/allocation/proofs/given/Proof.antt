@@ -1,5 +1,5 @@
 -- `given` meets its contract. The loop's invariant: each slave passed has its number, and the others are those that
--- `left` lacks. Assumes nothing.
+-- `left` lacks.
 use mathlib.Core.Path.{_≡_, refl, sym, ap, _∙_}
 use mathlib.Core.Bool.{Bool, true, false, not, _||_, cond, false≢true, or-false}
 use mathlib.Core.List.{List, [], _∷_, _++_}

@@ -1,5 +1,5 @@
 -- `inner` meets its contract. A chart has the call signal of the slave that the node which holds it stands in. The
--- loop's invariant: the charts of the nodes passed have theirs. Assumes nothing.
+-- loop's invariant: the charts of the nodes passed have theirs.
 use mathlib.Core.Path.{_≡_, refl, sym, ap, _∙_}
 use mathlib.Core.Bool.{cond}
 use mathlib.Core.List.{List}

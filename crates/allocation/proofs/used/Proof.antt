@@ -1,4 +1,4 @@
--- `used` meets its contract. Assumes nothing.
+-- `used` meets its contract.
 use mathlib.Core.Path.{ap₂}
 use borrow.Author.Needs.{needs}
 use Rattle.signals.specs.Mask.{_∪_}

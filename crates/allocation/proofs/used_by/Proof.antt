@@ -1,5 +1,4 @@
--- `used_by` meets its contract. The loop's invariant: the signals of the transitions passed are joined. Assumes
--- nothing.
+-- `used_by` meets its contract. The loop's invariant: the signals of the transitions passed are joined.
 use mathlib.Core.Path.{_≡_, sym, ap, ap₂, _∙_}
 use mathlib.Core.List.{List, [], _∷_}
 use Prim.Native.Nat.{ℕ, _+_, _≤_, _-_}

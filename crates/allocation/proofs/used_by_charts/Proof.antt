@@ -1,5 +1,5 @@
 -- `used_by_charts` meets its contract. The loop's invariant: the sets of the charts passed are joined, and `start` is
--- where the next one's transitions begin. Assumes nothing.
+-- where the next one's transitions begin.
 use mathlib.Core.Path.{_≡_, sym, ap, ap₂, _∙_}
 use mathlib.Core.List.{List}
 use Prim.Native.Nat.{ℕ, _+_, _≤_, _-_}

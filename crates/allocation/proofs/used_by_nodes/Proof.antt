@@ -1,4 +1,4 @@
--- `used_by_nodes` meets its contract. The loop's invariant: the sets of the nodes passed are joined. Assumes nothing.
+-- `used_by_nodes` meets its contract. The loop's invariant: the sets of the nodes passed are joined.
 use mathlib.Core.Path.{_≡_, ap₂, _∙_}
 use Prim.Native.Nat.{ℕ, _≤_, _-_}
 use native.Mathlib.Omega.{arith}

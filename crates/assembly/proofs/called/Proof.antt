@@ -1,4 +1,4 @@
--- `called` meets its contract. Assumes nothing.
+-- `called` meets its contract.
 use mathlib.Core.Path.{refl}
 use Rattle.assembly.specs.Records.{calledWith}
 use Rattle.assembly.proofs.called.Statement.{statement}

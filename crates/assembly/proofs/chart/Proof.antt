@@ -1,5 +1,5 @@
 -- `chart` meets its contract: the rewritten chart's transitions are the own ones, with their call signals, and the idle
--- ones. Assumes nothing.
+-- ones.
 use mathlib.Core.Path.{_≡_, sym, ap, _∙_}
 use mathlib.Core.List.{List, _++_}
 use Prim.Native.Nat.{ℕ, _+_, _<_}

@@ -1,4 +1,4 @@
--- `heads` meets its contract. The loop's invariant: the heads of the charts passed are written. Assumes nothing.
+-- `heads` meets its contract. The loop's invariant: the heads of the charts passed are written.
 use mathlib.Core.Path.{_≡_, sym, ap, _∙_}
 use mathlib.Core.List.{List}
 use Prim.Native.Nat.{ℕ, _+_, _-_, _≤_}

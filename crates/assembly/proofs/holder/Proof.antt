@@ -1,4 +1,4 @@
--- `holder` meets its contract, by whether the chart has slaves. Assumes nothing.
+-- `holder` meets its contract, by whether the chart has slaves.
 use mathlib.Core.Path.{_≡_, sym, ap, _∙_}
 use mathlib.Core.List.{List}
 use Prim.Native.Nat.{ℕ}

@@ -1,5 +1,4 @@
--- `idles` meets its contract. The loop's invariant: the idle transitions of the states passed are written. Assumes
--- nothing.
+-- `idles` meets its contract. The loop's invariant: the idle transitions of the states passed are written.
 use mathlib.Core.List.{List}
 use Prim.Native.Nat.{ℕ, _+_, _-_, _≤_}
 use native.Mathlib.Omega.{arith}

@@ -1,5 +1,5 @@
 -- `lay` meets its contract: heads, transitions, nodes and the trailer, one behind another, are all bytes of the
--- rewritten file. Assumes nothing.
+-- rewritten file.
 use mathlib.Core.Path.{_≡_, sym, ap, ap₂, _∙_}
 use mathlib.Core.List.{List, _++_}
 use Prim.Native.Nat.{ℕ, _+_, _≤_}

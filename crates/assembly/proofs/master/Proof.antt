@@ -1,4 +1,4 @@
--- `master` meets its contract: the three parts of `masterBytes`, one behind another. Assumes nothing.
+-- `master` meets its contract: the three parts of `masterBytes`, one behind another.
 use mathlib.Core.Path.{_≡_, sym}
 use mathlib.Core.List.{List, _++_}
 use Prim.Native.Nat.{ℕ, _+_}

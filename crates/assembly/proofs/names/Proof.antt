@@ -1,5 +1,5 @@
 -- `names` meets its contract. The loop's invariant: the nodes passed have their names, and `first` is where those made
--- for the next begin. Assumes nothing.
+-- for the next begin.
 use mathlib.Core.Path.{_≡_, refl, ap₂, _∙_}
 use mathlib.Core.List.{List}
 use Prim.Native.Nat.{ℕ, _+_, _-_, _≤_, _<_}

@@ -1,4 +1,4 @@
--- `node` meets its contract, by the node's kind. Assumes nothing.
+-- `node` meets its contract, by the node's kind.
 use mathlib.Core.Path.{_≡_, refl, sym, ap, _∙_}
 use mathlib.Core.List.{List}
 use Prim.Native.Nat.{ℕ, zero, suc, _≤_, _<_}

@@ -1,5 +1,5 @@
 -- `nodes` meets its contract. The loop's invariant: the nodes for the nodes passed are written, and `first` is the next
--- one's name. Assumes nothing.
+-- one's name.
 use mathlib.Core.Path.{_≡_, refl, ap, _∙_}
 use mathlib.Core.List.{List}
 use Prim.Native.Nat.{ℕ, _+_, _-_, _≤_, _<_}

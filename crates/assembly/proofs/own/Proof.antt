@@ -1,5 +1,4 @@
 -- `own` meets its contract. The loop's invariant: the own transitions passed are written, with their call signals.
--- Assumes nothing.
 use mathlib.Core.Path.{ap, ap₂, _∙_}
 use mathlib.Core.List.{List}
 use Prim.Native.Nat.{ℕ, _+_, _-_, _≤_}

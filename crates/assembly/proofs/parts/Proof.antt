@@ -1,5 +1,5 @@
 -- `parts` meets its contract. The loop's invariant: the nodes for the slaves passed are written, and `made` is the last
--- one's name. Assumes nothing.
+-- one's name.
 use mathlib.Core.Path.{_≡_, sym, ap, _∙_}
 use mathlib.Core.List.{List, []}
 use mathlib.Core.Logic.{⊎-elim}

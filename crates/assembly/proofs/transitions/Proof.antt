@@ -1,5 +1,5 @@
 -- `transitions` meets its contract. The loop's invariant: the transitions of the charts passed are written, and `start`
--- is where the next one's begin. Assumes nothing.
+-- is where the next one's begin.
 use mathlib.Core.Path.{_≡_, sym}
 use mathlib.Core.List.{List}
 use Prim.Native.Nat.{ℕ, _-_, _≤_}

@@ -1,4 +1,4 @@
--- `cases::main` is safe and ends: it counts down. Assumes nothing.
+-- `cases::main` is safe and ends: it counts down.
 use Prim.Native.Nat.{_≤_}
 use borrow.Author.Needs.{needs}
 use Rattle.cases.proofs.main.Statement.{statement}

@@ -1,4 +1,4 @@
--- `cases::print_buffer` is safe and ends: it counts up to the buffer's length. Assumes nothing.
+-- `cases::print_buffer` is safe and ends: it counts up to the buffer's length.
 use Prim.Native.Nat.{_≤_, _-_}
 use borrow.Author.Needs.{needs}
 use lib.ListN.{length}

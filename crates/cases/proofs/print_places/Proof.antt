@@ -1,4 +1,4 @@
--- `cases::print_places` is safe: it shows no more places than there are. Assumes nothing.
+-- `cases::print_places` is safe: it shows no more places than there are.
 use mathlib.Core.Path.{sym}
 use borrow.Author.Needs.{needs}
 use lib.Seq.{length-take-le}

@@ -1,4 +1,4 @@
--- `cases::print_within` is safe: the parts that it lends are in what it was lent. Assumes nothing.
+-- `cases::print_within` is safe: the parts that it lends are in what it was lent.
 use mathlib.Core.Path.{sym}
 use borrow.Author.Needs.{needs}
 use lib.Seq.{length-take-le}

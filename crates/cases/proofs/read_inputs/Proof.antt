@@ -1,4 +1,4 @@
--- `cases::read_inputs` is safe and ends: it counts up to n. Assumes nothing.
+-- `cases::read_inputs` is safe and ends: it counts up to n.
 use mathlib.Core.Path.{_≡_, refl}
 use Prim.Native.Nat.{_≤_, _-_}
 use native.Mathlib.Omega.{arith}

@@ -1,4 +1,4 @@
--- `cases::read_part` meets its contract: what was read stands at the front of the buffer. Assumes nothing.
+-- `cases::read_part` meets its contract: what was read stands at the front of the buffer.
 use mathlib.Core.Path.{_≡_, sym}
 use mathlib.Core.List.{List, _++_}
 use Prim.Native.Nat.{ℕ, _≤_}

@@ -1,4 +1,4 @@
--- `line_room` meets its contract: so many zeros are so many. Assumes nothing.
+-- `line_room` meets its contract: so many zeros are so many.
 use mathlib.Core.Path.{sym}
 use Prim.Native.Nat.{ℕ}
 use lib.ListN.{length-replicate}

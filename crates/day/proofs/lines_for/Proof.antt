@@ -1,4 +1,4 @@
--- `lines_for` meets its contract: the line of a refusal, or the lines of the run's rows. Assumes nothing.
+-- `lines_for` meets its contract: the line of a refusal, or the lines of the run's rows.
 use mathlib.Core.Path.{_≡_, sym, _∙_}
 use mathlib.Core.List.{List}
 use Prim.Native.Nat.{ℕ, _≤_}

@@ -1,4 +1,4 @@
--- `opened` meets its contract: the file's refusal, then 30, then neither. Assumes nothing.
+-- `opened` meets its contract: the file's refusal, then 30, then neither.
 use mathlib.Core.Path.{_≡_, sym, ap, _∙_}
 use mathlib.Core.List.{List}
 use Prim.Native.Nat.{ℕ, _-_, _/_, _%_}

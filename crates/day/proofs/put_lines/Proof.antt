@@ -1,5 +1,4 @@
--- `put_lines` meets its contract: the lines written, then those of the rows that are left, are all lines. Assumes
--- nothing.
+-- `put_lines` meets its contract: the lines written, then those of the rows that are left, are all lines.
 use mathlib.Core.Path.{_≡_, refl, sym, ap, ap₂, _∙_}
 use mathlib.Core.List.{List, _++_, append-nil}
 use Prim.Native.Nat.{ℕ, _+_, _*_, _-_, _≤_, _<_}

@@ -1,5 +1,4 @@
--- `put_rows` meets its contract: the run from the first configuration is not refused, and leaves its rows. Assumes
--- nothing.
+-- `put_rows` meets its contract: the run from the first configuration is not refused, and leaves its rows.
 use mathlib.Core.Path.{_≡_, sym, ap, _∙_}
 use mathlib.Core.List.{List, _++_}
 use Prim.Native.Nat.{ℕ, _+_, _*_, _≤_}

@@ -1,4 +1,4 @@
--- `read_inputs` meets its contract: the inputs read, then those left in the front, are all inputs. Assumes nothing.
+-- `read_inputs` meets its contract: the inputs read, then those left in the front, are all inputs.
 use mathlib.Core.Path.{_≡_, refl, sym, ap, _∙_}
 use mathlib.Core.List.{List, [], _∷_, _++_, append-assoc, append-nil}
 use Prim.Native.Nat.{ℕ, suc, _+_, _*_, _-_, _≤_, _<_}

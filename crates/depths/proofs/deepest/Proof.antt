@@ -1,4 +1,4 @@
--- `deepest` meets its contract. The loop's invariant: of the slaves passed it is the deepest. Assumes nothing.
+-- `deepest` meets its contract. The loop's invariant: of the slaves passed it is the deepest.
 use mathlib.Core.Path.{_≡_, sym, ap, ap₂, _∙_}
 use mathlib.Core.List.{List}
 use mathlib.Core.Logic.{⊎-elim}

@@ -1,4 +1,4 @@
--- `depth` meets its contract: each arm is the depth at its kind, and names lower nodes. Assumes nothing.
+-- `depth` meets its contract: each arm is the depth at its kind, and names lower nodes.
 use mathlib.Core.Path.{_≡_, sym, ap, ap₂, _∙_}
 use mathlib.Core.List.{List}
 use Prim.Native.Nat.{ℕ, suc, _+_, _≤_, _<_}

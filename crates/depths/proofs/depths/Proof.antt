@@ -1,4 +1,4 @@
--- `depths` meets its contract. The loop's invariant: the table is right below j. Assumes nothing.
+-- `depths` meets its contract. The loop's invariant: the table is right below j.
 use mathlib.Core.Path.{_≡_, refl}
 use Prim.Native.Nat.{_≤_, _-_}
 use native.Mathlib.Omega.{arith}

@@ -1,4 +1,4 @@
--- `larger` meets its contract. Assumes nothing.
+-- `larger` meets its contract.
 use borrow.Author.Tests.{lt-ltb, le-ltb}
 use Rattle.depths.proofs.larger.Statement.{statement}
 use Rattle.depths.proofs.larger.Tie as tie

@@ -1,4 +1,4 @@
--- `too_deep` meets its contract: the table has the last node, which is the whole. Assumes nothing.
+-- `too_deep` meets its contract: the table has the last node, which is the whole.
 use mathlib.Core.Path.{ap}
 use Prim.Native.Nat.{_-_}
 use native.Mathlib.Omega.{arith}

@@ -1,4 +1,4 @@
--- `exports::mestecur_interface` hands on what `interface` answers. Assumes nothing.
+-- `exports::mestecur_interface` hands on what `interface` answers.
 use mathlib.Core.Path.{ap}
 use borrow.Author.Needs.{needs}
 use Rattle.queries.specs.declared.interface.Faces.{Faces}

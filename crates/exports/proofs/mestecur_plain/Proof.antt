@@ -1,4 +1,4 @@
--- `exports::mestecur_plain` hands on what `plain` answers, yes as a number. Assumes nothing.
+-- `exports::mestecur_plain` hands on what `plain` answers, yes as a number.
 use mathlib.Core.Path.{ap, _∙_}
 use borrow.Author.Needs.{needs}
 use Rattle.meaning.specs.Count.{one}

@@ -1,4 +1,4 @@
--- `exports::mestecur_rewrite` hands on what `rewriting` answers. Assumes nothing.
+-- `exports::mestecur_rewrite` hands on what `rewriting` answers.
 use mathlib.Core.Path.{ap}
 use borrow.Author.Needs.{needs}
 use Rattle.transforms.specs.declared.rewriting.Rewritten.{Rewritten}

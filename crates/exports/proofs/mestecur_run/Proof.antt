@@ -1,4 +1,4 @@
--- `exports::mestecur_run` hands on what `run` answers. Assumes nothing.
+-- `exports::mestecur_run` hands on what `run` answers.
 use mathlib.Core.Path.{ap}
 use borrow.Author.Needs.{needs}
 use Rattle.running.specs.declared.Ran.{Ran}

@@ -1,4 +1,4 @@
--- `exports::mestecur_step` hands on what `step` answers, the mark as a number. Assumes nothing.
+-- `exports::mestecur_step` hands on what `step` answers, the mark as a number.
 use mathlib.Core.Path.{ap, _∙_}
 use borrow.Author.Needs.{needs}
 use Rattle.meaning.specs.Count.{one}

@@ -1,4 +1,4 @@
--- `before_last` meets its contract, by the node's kind and its chart's slaves. Assumes nothing.
+-- `before_last` meets its contract, by the node's kind and its chart's slaves.
 use mathlib.Core.Path.{_≡_, refl}
 use mathlib.Core.List.{List}
 use Prim.Native.Nat.{ℕ, zero, suc, _+_}

@@ -1,4 +1,4 @@
--- `idle_count` meets its contract. Assumes nothing.
+-- `idle_count` meets its contract.
 use borrow.Author.Tests.{eq-eqb, ne-eqb}
 use Rattle.meaning.specs.Meaning.{same}
 use Rattle.growth.specs.Counts.{idleCount}

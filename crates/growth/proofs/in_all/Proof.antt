@@ -1,4 +1,4 @@
--- `in_all` meets its contract. The loop's invariant: `sum` is the tally of the charts passed. Assumes nothing.
+-- `in_all` meets its contract. The loop's invariant: `sum` is the tally of the charts passed.
 use mathlib.Core.Path.{_≡_, sym, _∙_}
 use Prim.Native.Nat.{_*_, _-_, _≤_}
 use native.Mathlib.Omega.{arith}

@@ -1,4 +1,4 @@
--- `in_chart` meets its contract. Assumes nothing.
+-- `in_chart` meets its contract.
 use mathlib.Core.Path.{ap}
 use Prim.Native.Nat.{ℕ, _+_, _<_}
 use native.Mathlib.Omega.{arith}

@@ -1,5 +1,4 @@
 -- `leaving` meets its contract. The loop's invariant: of the transitions passed those from the state are counted.
--- Assumes nothing.
 use mathlib.Core.Path.{_≡_, refl, sym, ap, _∙_}
 use mathlib.Core.List.{List}
 use mathlib.Core.Logic.{⊎-elim}

@@ -1,4 +1,4 @@
--- `nodes` meets its contract. The loop's invariant: `sum` is where the nodes made for node j begin. Assumes nothing.
+-- `nodes` meets its contract. The loop's invariant: `sum` is where the nodes made for node j begin.
 use mathlib.Core.Path.{_≡_, ap, _∙_}
 use Prim.Native.Nat.{ℕ, _+_, _*_, _-_, _≤_}
 use native.Mathlib.Omega.{arith}

@@ -1,5 +1,5 @@
 -- `over_from` meets its contract. The loop's invariant: no chart passed has a state with over `most` out, and `start`
--- is where the next one's transitions begin. Assumes nothing.
+-- is where the next one's transitions begin.
 use mathlib.Core.Path.{_≡_, sym, ap, ap₂, _∙_}
 use mathlib.Core.Bool.{Bool, false}
 use mathlib.Core.List.{List}

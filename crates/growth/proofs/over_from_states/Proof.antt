@@ -1,4 +1,4 @@
--- `over_from_states` meets its contract. The loop's invariant: no state passed has over `most` out. Assumes nothing.
+-- `over_from_states` meets its contract. The loop's invariant: no state passed has over `most` out.
 use mathlib.Core.Path.{_≡_, sym}
 use mathlib.Core.Bool.{false}
 use Prim.Native.Nat.{_+_, _-_, _≤_}

@@ -1,4 +1,4 @@
--- `over_in_chart` meets its contract. The loop's invariant: no chart passed has over `most`. Assumes nothing.
+-- `over_in_chart` meets its contract. The loop's invariant: no chart passed has over `most`.
 use mathlib.Core.Path.{_≡_, sym, _∙_}
 use mathlib.Core.Bool.{false}
 use Prim.Native.Nat.{_-_, _≤_}

@@ -1,4 +1,4 @@
--- `shape` meets its contract. Assumes nothing.
+-- `shape` meets its contract.
 use mathlib.Core.Path.{ap₂}
 use Prim.Native.Nat.{ℕ}
 use borrow.Author.Needs.{needs}

@@ -1,4 +1,4 @@
--- `slaves_of` meets its contract. The loop's invariant: of the slaves passed the chart's are counted. Assumes nothing.
+-- `slaves_of` meets its contract. The loop's invariant: of the slaves passed the chart's are counted.
 use mathlib.Core.Path.{_≡_, sym, ap, _∙_}
 use mathlib.Core.Logic.{⊎-elim}
 use Prim.Native.Nat.{ℕ, _+_, _-_, _≤_}

@@ -1,4 +1,4 @@
--- `line::digit` meets its contract. Assumes nothing.
+-- `line::digit` meets its contract.
 use mathlib.Core.Path.{refl}
 use borrow.Author.Needs.{needs}
 use borrow.Author.Tests.{lt-ltb, le-ltb}

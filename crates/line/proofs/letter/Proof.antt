@@ -1,4 +1,4 @@
--- `line::letter` meets its contract. Assumes nothing.
+-- `line::letter` meets its contract.
 use mathlib.Core.Path.{refl}
 use borrow.Author.Tests.{eq-eqb, ne-eqb}
 use Rattle.meaning.specs.Meaning.{same}

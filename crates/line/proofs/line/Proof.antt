@@ -1,5 +1,4 @@
--- `line::line` meets its contract. A line is its number and what closes it, and is no longer than 105 bytes. Assumes
--- nothing.
+-- `line::line` meets its contract. A line is its number and what closes it, and is no longer than 105 bytes.
 use Prim.Native.Nat.{_≤_}
 use native.Mathlib.Omega.{arith}
 use borrow.Author.Needs.{needs}

@@ -1,4 +1,4 @@
--- `line::put_decimal` meets its contract. Assumes nothing.
+-- `line::put_decimal` meets its contract.
 use native.Mathlib.Omega.{arith}
 use borrow.Author.Needs.{needs}
 use Rattle.line.specs.Line.{decimal}

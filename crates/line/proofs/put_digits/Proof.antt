@@ -1,5 +1,5 @@
 -- `line::put_digits` meets its contract. The loop's invariant: with the n - i lowest digits of what is left written
--- over the buffer, all is written. Assumes nothing.
+-- over the buffer, all is written.
 use mathlib.Core.Path.{_≡_, refl, sym, ap, _∙_}
 use mathlib.Core.List.{List, [], _∷_}
 use Prim.Native.Nat.{ℕ, suc, _+_, _-_, _/_, _%_, _≤_, _<_}

@@ -1,4 +1,4 @@
--- `line::put_given` meets its contract. Each part is written where the one before it ends. Assumes nothing.
+-- `line::put_given` meets its contract. Each part is written where the one before it ends.
 use mathlib.Core.Path.{_≡_, ap}
 use mathlib.Core.List.{List}
 use Prim.Native.Nat.{ℕ, _+_, _-_, _≤_}

@@ -1,4 +1,4 @@
--- `line::put_mark` meets its contract. Assumes nothing.
+-- `line::put_mark` meets its contract.
 use borrow.Author.Needs.{needs}
 use Rattle.layout.specs.Put.Laws.{put-append}
 use Rattle.line.proofs.put_mark.Statement.{statement}

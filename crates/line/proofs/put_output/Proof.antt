@@ -1,4 +1,4 @@
--- `line::put_output` meets its contract. Assumes nothing.
+-- `line::put_output` meets its contract.
 use native.Mathlib.Omega.{arith}
 use borrow.Author.Needs.{needs}
 use Rattle.line.specs.Line.Laws.{length-digits, length-output}

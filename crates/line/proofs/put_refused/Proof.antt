@@ -1,4 +1,4 @@
--- `line::put_refused` meets its contract. Each part is written where the one before it ends. Assumes nothing.
+-- `line::put_refused` meets its contract. Each part is written where the one before it ends.
 use Prim.Native.Nat.{_+_, _≤_}
 use native.Mathlib.Omega.{arith}
 use borrow.Author.Needs.{needs}

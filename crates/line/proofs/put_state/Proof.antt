@@ -1,4 +1,4 @@
--- `line::put_state` meets its contract. Assumes nothing.
+-- `line::put_state` meets its contract.
 use borrow.Author.Needs.{needs}
 use Rattle.layout.specs.Put.Laws.{put-append}
 use Rattle.line.proofs.put_state.Statement.{statement}

@@ -1,5 +1,4 @@
 -- `line::put_states` meets its contract. The loop's invariant: the states from i on are left, each behind a dot.
--- Assumes nothing.
 use mathlib.Core.Path.{refl, sym, _∙_}
 use mathlib.Core.List.{List, _∷_, _++_, map}
 use Prim.Native.Nat.{ℕ, suc, _-_, _≤_}

@@ -1,4 +1,4 @@
--- `line::put_word` meets its contract. The loop's invariant: the bytes from i on are left. Assumes nothing.
+-- `line::put_word` meets its contract. The loop's invariant: the bytes from i on are left.
 use mathlib.Core.List.{[], _∷_}
 use Prim.Native.Nat.{suc, _+_, _-_, _≤_}
 use native.Mathlib.Nat.{add-zero, add-assoc}

@@ -1,4 +1,4 @@
--- `line::refused_file` meets its contract. Assumes nothing.
+-- `line::refused_file` meets its contract.
 use native.Mathlib.Omega.{arith}
 use borrow.Author.Needs.{needs}
 use Rattle.line.specs.Ascii.{ascii}

@@ -1,5 +1,5 @@
 -- `line::width` meets its contract. The loop's invariant: what is left has as many digits as are not counted yet, its
--- last one counted before. Assumes nothing.
+-- last one counted before.
 use mathlib.Core.Path.{_≡_}
 use Prim.Native.Nat.{suc, _+_}
 use native.Mathlib.Omega.{arith}

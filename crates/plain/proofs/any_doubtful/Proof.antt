@@ -1,4 +1,4 @@
--- `any_doubtful` meets its contract. The loop's invariant: those that are left decide. Assumes nothing.
+-- `any_doubtful` meets its contract. The loop's invariant: those that are left decide.
 use mathlib.Core.Path.{_≡_, refl, sym, ap, _∙_}
 use Prim.Native.Nat.{_+_, _-_}
 use native.Mathlib.Omega.{arith}

@@ -1,4 +1,4 @@
--- `fed_back` meets its contract. Assumes nothing.
+-- `fed_back` meets its contract.
 use mathlib.Core.Path.{ap₂}
 use borrow.Author.Needs.{needs}
 use Rattle.signals.specs.Mask.{_∪_}

@@ -1,5 +1,4 @@
--- `fed_by_charts` meets its contract. The loop's invariant: the feedback sets of the charts passed are joined. Assumes
--- nothing.
+-- `fed_by_charts` meets its contract. The loop's invariant: the feedback sets of the charts passed are joined.
 use mathlib.Core.Path.{_≡_, ap}
 use Prim.Native.Nat.{_≤_, _-_}
 use native.Mathlib.Omega.{arith}

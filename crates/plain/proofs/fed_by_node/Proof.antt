@@ -1,4 +1,4 @@
--- `fed_by_node` meets its contract. Assumes nothing.
+-- `fed_by_node` meets its contract.
 use mathlib.Core.Path.{_≡_}
 use mathlib.Core.Bool.{cond}
 use mathlib.Core.List.{List}

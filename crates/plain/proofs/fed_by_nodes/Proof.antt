@@ -1,5 +1,4 @@
--- `fed_by_nodes` meets its contract. The loop's invariant: the feedback sets of the nodes passed are joined. Assumes
--- nothing.
+-- `fed_by_nodes` meets its contract. The loop's invariant: the feedback sets of the nodes passed are joined.
 use mathlib.Core.Path.{_≡_}
 use mathlib.Core.Bool.{cond}
 use Prim.Native.Nat.{_≤_, _-_}

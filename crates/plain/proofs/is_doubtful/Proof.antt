@@ -1,4 +1,4 @@
--- `is_doubtful` meets its contract. Assumes nothing.
+-- `is_doubtful` meets its contract.
 use borrow.Author.Needs.{needs}
 use Rattle.meaning.specs.Meaning.{same}
 use Rattle.plain.proofs.is_doubtful.Statement.{statement}

@@ -1,5 +1,5 @@
 -- `is_plain` meets its contract. The loop's invariant: no chart passed has a doubtful pair, and `start` is where the
--- next one's transitions begin. Assumes nothing.
+-- next one's transitions begin.
 use mathlib.Core.Path.{_≡_, sym, ap, ap₂, _∙_}
 use mathlib.Core.Bool.{Bool, false, not}
 use mathlib.Core.List.{List}

@@ -1,4 +1,4 @@
--- `told_apart` meets its contract. Assumes nothing.
+-- `told_apart` meets its contract.
 use mathlib.Core.Path.{ap}
 use borrow.Author.Needs.{needs}
 use Rattle.meaning.specs.Meaning.{Set, ∅, same}

@@ -1,4 +1,4 @@
--- `signals::has` meets its contract: its body is the definition of `bit`. Assumes nothing.
+-- `signals::has` meets its contract: its body is the definition of `bit`.
 use mathlib.Core.Path.{refl}
 use borrow.Author.Needs.{needs}
 use Rattle.signals.specs.Mask.{bit}

@@ -1,4 +1,4 @@
--- `signals::lowest_free` meets its contract. The loop's invariant: each signal passed is in the set. Assumes nothing.
+-- `signals::lowest_free` meets its contract. The loop's invariant: each signal passed is in the set.
 use Prim.Native.Nat.{ℕ, _≤_, _<_, _-_, _^_}
 use mathlib.Core.Path.{_≡_, sym, _∙_}
 use mathlib.Core.Bool.{true}

@@ -1,4 +1,4 @@
--- `signals::single` meets its contract: nothing is shifted out. Assumes nothing.
+-- `signals::single` meets its contract: nothing is shifted out.
 use mathlib.Core.Path.{_∙_}
 use native.Mathlib.Nat.{one-mul}
 use native.Mathlib.Omega.{arith}

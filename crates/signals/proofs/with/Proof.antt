@@ -1,4 +1,4 @@
--- `signals::with` meets its contract. Assumes nothing.
+-- `signals::with` meets its contract.
 use mathlib.Core.Path.{ap}
 use borrow.Author.Needs.{needs}
 use Rattle.signals.specs.Mask.{_∪_}

@@ -1,4 +1,4 @@
--- `typed::begins` meets its contract: of a shorter word there is no more to take than all of it. Assumes nothing.
+-- `typed::begins` meets its contract: of a shorter word there is no more to take than all of it.
 use mathlib.Core.Path.{sym}
 use native.Mathlib.Omega.{arith}
 use borrow.Author.Needs.{needs}

@@ -1,4 +1,4 @@
--- `typed::begun` meets its contract. Assumes nothing.
+-- `typed::begun` meets its contract.
 use mathlib.Core.Path.{_≡_, refl}
 use mathlib.Core.Bool.{true, false, not}
 use mathlib.Core.List.{List, [], _∷_}

@@ -1,4 +1,4 @@
--- `typed::between` meets its contract. Assumes nothing.
+-- `typed::between` meets its contract.
 use borrow.Author.Tests.{lt-ltb, le-ltb}
 use Rattle.typed.specs.Typed.{between}
 use Rattle.typed.proofs.between.Statement.{statement}

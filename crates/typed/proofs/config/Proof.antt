@@ -1,5 +1,5 @@
 -- `typed::config` meets its contract. The loop's invariant: the states at the front are those read, zeros stand behind
--- them, and the parts from `at` on give the others. Assumes nothing.
+-- them, and the parts from `at` on give the others.
 use mathlib.Core.Path.{_≡_, refl, sym, ap, ap₂, _∙_}
 use mathlib.Core.List.{List, [], _∷_, _++_}
 use Prim.Native.Nat.{ℕ, _+_, _-_, _≤_, _<_}

@@ -1,5 +1,5 @@
 -- `typed::digit_on` meets its contract: x goes over the quotient exactly if x with the digit behind it goes over the
--- most. Assumes nothing.
+-- most.
 use mathlib.Core.Path.{sym, ap, _∙_}
 use Prim.Native.Nat.{ℕ, _+_, _*_, _-_, _/_, _≤_, _<_}
 use native.Mathlib.Nat.{le-div-iff-mul-le, div-lt-iff-lt-mul}

@@ -1,5 +1,4 @@
--- `typed::digits` meets its contract. The loop's invariant: reading on from x at i reads the whole word. Assumes
--- nothing.
+-- `typed::digits` meets its contract. The loop's invariant: reading on from x at i reads the whole word.
 use mathlib.Core.Path.{_≡_, refl, sym, _∙_}
 use mathlib.Core.List.{List}
 use Prim.Native.Nat.{ℕ, _+_, _-_, _≤_, _<_}

@@ -1,5 +1,5 @@
 -- `typed::end` meets its contract. The loop's invariant: no separator stands from `at` up to i, so those characters
--- belong to the part. Assumes nothing.
+-- belong to the part.
 use mathlib.Core.Path.{_≡_, sym, ap, _∙_}
 use mathlib.Core.List.{List, append-nil}
 use Prim.Native.Nat.{ℕ, suc, _+_, _-_, _≤_, _<_}

@@ -1,4 +1,4 @@
--- `typed::hex` meets its contract. Assumes nothing.
+-- `typed::hex` meets its contract.
 use native.Mathlib.Omega.{arith}
 use borrow.Author.Needs.{needs}
 use lib.ListN.{length}

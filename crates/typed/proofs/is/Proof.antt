@@ -1,4 +1,4 @@
--- `typed::is` meets its contract: what is left from i on decides, since all before is equal. Assumes nothing.
+-- `typed::is` meets its contract: what is left from i on decides, since all before is equal.
 use mathlib.Core.Path.{_≡_, refl, sym, _∙_}
 use Prim.Native.Nat.{_-_, _≤_}
 use native.Mathlib.Omega.{arith}

@@ -1,4 +1,4 @@
--- `typed::number` meets its contract. Assumes nothing.
+-- `typed::number` meets its contract.
 use mathlib.Core.Path.{sym, _∙_}
 use borrow.Author.Needs.{needs}
 use borrow.Author.Tests.{not-true, not-false}

@@ -1,4 +1,4 @@
--- `typed::put_next` meets its contract: a case for each test. Assumes nothing.
+-- `typed::put_next` meets its contract: a case for each test.
 use mathlib.Core.Path.{_≡_, refl, sym, ap, _∙_}
 use mathlib.Core.Bool.{true, false}
 use mathlib.Core.List.{[], _∷_}

@@ -1,4 +1,4 @@
--- `typed::put_signal` meets its contract. Assumes nothing.
+-- `typed::put_signal` meets its contract.
 use borrow.Author.Needs.{needs}
 use Rattle.layout.specs.Put.Laws.{put-append}
 use Rattle.typed.specs.Typed.{shownSignal}

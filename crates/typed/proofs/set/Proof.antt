@@ -1,4 +1,4 @@
--- `typed::set` meets its contract: a case for each test. Assumes nothing.
+-- `typed::set` meets its contract: a case for each test.
 use mathlib.Core.Path.{_≡_, sym, ap, _∙_}
 use mathlib.Core.Bool.{true, false}
 use mathlib.Core.List.{List}

@@ -1,5 +1,4 @@
--- `typed::show` meets its contract. The loop's invariant: the signals below n are written, with commas between. Assumes
--- nothing.
+-- `typed::show` meets its contract. The loop's invariant: the signals below n are written, with commas between.
 use mathlib.Core.Path.{_≡_, refl, ap, _∙_}
 use mathlib.Core.List.{List}
 use Prim.Native.Nat.{ℕ, _+_, _-_, _≤_}

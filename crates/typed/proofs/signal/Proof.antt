@@ -1,4 +1,4 @@
--- `typed::signal` meets its contract. Assumes nothing.
+-- `typed::signal` meets its contract.
 use mathlib.Core.Path.{_≡_, refl, sym, ap, _∙_}
 use mathlib.Core.List.{List, [], _∷_}
 use Prim.Native.Nat.{ℕ, _-_}

@@ -1,5 +1,5 @@
 -- `typed::signal_list` meets its contract. The loop's invariant: the parts from `at` on, joined with what is read, are
--- the whole. Assumes nothing.
+-- the whole.
 use mathlib.Core.Path.{_≡_, refl, sym, ap, _∙_}
 use mathlib.Core.List.{List}
 use Prim.Native.Nat.{ℕ, _+_, _-_, _≤_}

@@ -1,4 +1,4 @@
--- `typed::value` meets its contract. Assumes nothing.
+-- `typed::value` meets its contract.
 use mathlib.Core.Path.{_≡_, sym, _∙_}
 use mathlib.Core.Bool.{false}
 use Prim.Native.Char.{code}

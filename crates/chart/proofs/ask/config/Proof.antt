@@ -1,4 +1,4 @@
--- `ask::config` meets its contract: no more states are counted than there is room for. Assumes nothing.
+-- `ask::config` meets its contract: no more states are counted than there is room for.
 use mathlib.Core.Path.{_≡_, sym}
 use mathlib.Core.List.{List}
 use Prim.Native.Nat.{ℕ, _≤_}

@@ -1,4 +1,4 @@
--- `ask::read_all` meets its contract: what is read stands at the front of the buffer. Assumes nothing.
+-- `ask::read_all` meets its contract: what is read stands at the front of the buffer.
 use mathlib.Core.Path.{_≡_, refl, sym, _∙_}
 use mathlib.Core.List.{List}
 use Prim.Native.Nat.{ℕ, _+_, _-_, _≤_}

@@ -1,4 +1,4 @@
--- `ask::sets` is safe and ends: a turn for each set. Assumes nothing.
+-- `ask::sets` is safe and ends: a turn for each set.
 use mathlib.Core.Path.{_≡_, refl}
 use Prim.Native.Nat.{_-_, _≤_}
 use native.Mathlib.Omega.{arith}

@@ -1,4 +1,4 @@
--- `tell::charts` meets its contract: a file that passed has at most mostCharts charts. Assumes nothing.
+-- `tell::charts` meets its contract: a file that passed has at most mostCharts charts.
 use borrow.Author.Needs.{needs}
 use Rattle.chart.proofs.tell.charts.Statement.{statement}
 use Rattle.chart.proofs.tell.charts.Tie as tie

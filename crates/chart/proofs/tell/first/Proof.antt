@@ -1,4 +1,4 @@
--- `tell::first` is safe: there are no more charts than the room has. Assumes nothing.
+-- `tell::first` is safe: there are no more charts than the room has.
 use mathlib.Core.Path.{sym}
 use native.Mathlib.Omega.{arith}
 use borrow.Author.Needs.{needs}

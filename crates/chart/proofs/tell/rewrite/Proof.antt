@@ -1,4 +1,4 @@
--- `tell::rewrite` is safe: the result lies within the buffer. Assumes nothing.
+-- `tell::rewrite` is safe: the result lies within the buffer.
 use mathlib.Core.Path.{_≡_, sym}
 use mathlib.Core.Bool.{Bool, true, false, cond}
 use mathlib.Core.List.{List}

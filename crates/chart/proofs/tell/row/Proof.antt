@@ -1,4 +1,4 @@
--- `tell::row` is safe: a line lies within the buffer and has its end. Assumes nothing.
+-- `tell::row` is safe: a line lies within the buffer and has its end.
 use mathlib.Core.Path.{_≡_, sym, ap}
 use mathlib.Core.List.{List}
 use Prim.Native.Nat.{ℕ, _-_, _≤_}

@@ -1,4 +1,4 @@
--- `tell::run` is safe: there is room for the sets that are counted. Assumes nothing.
+-- `tell::run` is safe: there is room for the sets that are counted.
 use mathlib.Core.Path.{sym}
 use native.Mathlib.Omega.{arith}
 use borrow.Author.Needs.{needs}

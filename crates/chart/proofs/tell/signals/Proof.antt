@@ -1,4 +1,4 @@
--- `tell::signals` is safe: what is shown lies within the buffer. Assumes nothing.
+-- `tell::signals` is safe: what is shown lies within the buffer.
 use mathlib.Core.Path.{_≡_, sym, ap}
 use mathlib.Core.List.{List}
 use Prim.Native.Nat.{ℕ, _≤_}

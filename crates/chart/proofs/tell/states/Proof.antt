@@ -1,4 +1,4 @@
--- `tell::states` is safe: the states of all charts have room. Assumes nothing.
+-- `tell::states` is safe: the states of all charts have room.
 use mathlib.Core.Path.{sym}
 use Prim.Native.Nat.{_*_, _≤_}
 use native.Mathlib.Omega.{arith}

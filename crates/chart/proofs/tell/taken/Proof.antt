@@ -1,4 +1,4 @@
--- `tell::taken` is safe and ends: it counts up to the charts, which are no more than the places. Assumes nothing.
+-- `tell::taken` is safe and ends: it counts up to the charts, which are no more than the places.
 use Prim.Native.Nat.{_≤_, _-_}
 use native.Mathlib.Omega.{arith}
 use borrow.Author.Needs.{needs}

@@ -1,4 +1,4 @@
--- `run::run` meets its contract: the file's refusal, or the run of its body. Assumes nothing.
+-- `run::run` meets its contract: the file's refusal, or the run of its body.
 use mathlib.Core.Path.{_≡_, refl, sym, _∙_}
 use mathlib.Core.List.{List}
 use Prim.Native.Nat.{ℕ}

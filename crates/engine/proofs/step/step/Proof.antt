@@ -1,4 +1,4 @@
--- `step::step` meets its contract: the file's refusal, or the step of its body. Assumes nothing.
+-- `step::step` meets its contract: the file's refusal, or the step of its body.
 use mathlib.Core.Path.{_≡_, sym, _∙_}
 use mathlib.Core.List.{List}
 use Prim.Native.Nat.{ℕ, _<_}

@@ -1,4 +1,4 @@
--- `body::head_at` meets its contract. The record is read at its place. Assumes nothing.
+-- `body::head_at` meets its contract. The record is read at its place.
 use borrow.Author.Needs.{needs}
 use Rattle.layout.specs.Body.{headAt}
 use Rattle.layout.proofs.body.head_at.Statement.{statement}

@@ -1,4 +1,4 @@
--- `body::node_at` meets its contract. The record is read at its place. Assumes nothing.
+-- `body::node_at` meets its contract. The record is read at its place.
 use borrow.Author.Needs.{needs}
 use Rattle.layout.specs.Body.{nodeAt}
 use Rattle.layout.proofs.body.node_at.Statement.{statement}

@@ -1,4 +1,4 @@
--- `body::slave_at` meets its contract. The record is read at its place. Assumes nothing.
+-- `body::slave_at` meets its contract. The record is read at its place.
 use borrow.Author.Needs.{needs}
 use Rattle.layout.specs.Body.{slaveAt}
 use Rattle.layout.proofs.body.slave_at.Statement.{statement}

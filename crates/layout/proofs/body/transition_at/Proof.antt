@@ -1,4 +1,4 @@
--- `body::transition_at` meets its contract. The record is read at its place. Assumes nothing.
+-- `body::transition_at` meets its contract. The record is read at its place.
 use borrow.Author.Needs.{needs}
 use Rattle.layout.specs.Body.{transitionAt}
 use Rattle.layout.proofs.body.transition_at.Statement.{statement}

@@ -1,4 +1,4 @@
--- `number::le16` meets its contract. Two bytes are the number that they stand for: `le-two`. Assumes nothing.
+-- `number::le16` meets its contract. Two bytes are the number that they stand for: `le-two`.
 use Prim.Native.Nat.{_+_}
 use native.Mathlib.Omega.{arith}
 use borrow.Author.Needs.{needs}

@@ -1,4 +1,4 @@
--- `number::le64` meets its contract. A number is its two halves: `le-twice`. Assumes nothing.
+-- `number::le64` meets its contract. A number is its two halves: `le-twice`.
 use Prim.Native.Nat.{ℕ, _+_, _*_, _^_}
 use mathlib.Core.Path.{ap₂, _∙_}
 use borrow.Author.Needs.{needs}

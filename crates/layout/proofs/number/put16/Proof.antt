@@ -1,4 +1,4 @@
--- `number::put16` meets its contract. Two bytes, one store each: `put-two`. Assumes nothing.
+-- `number::put16` meets its contract. Two bytes, one store each: `put-two`.
 use native.Mathlib.Omega.{arith}
 use lib.ListN.{length-set}
 use borrow.Author.Needs.{needs}

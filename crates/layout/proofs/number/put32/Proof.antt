@@ -1,4 +1,4 @@
--- `number::put32` meets its contract. The bytes of a number are those of its two halves: `put-twice`. Assumes nothing.
+-- `number::put32` meets its contract. The bytes of a number are those of its two halves: `put-twice`.
 use borrow.Author.Needs.{needs}
 use denote.Ref.{now}
 use Rattle.layout.specs.Le.Laws.{put-twice}

@@ -1,5 +1,4 @@
--- `record::read_transition` meets its contract. A field at k of the record at `at` is read at `at + k`. Assumes
--- nothing.
+-- `record::read_transition` meets its contract. A field at k of the record at `at` is read at `at + k`.
 use borrow.Author.Needs.{needs}
 use denote.Ref.{now}
 use Rattle.layout.specs.Record.{transitionOf}

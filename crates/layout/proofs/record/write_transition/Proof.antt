@@ -1,4 +1,4 @@
--- `record::write_transition` meets its contract. Each part is written where the one before it ends. Assumes nothing.
+-- `record::write_transition` meets its contract. Each part is written where the one before it ends.
 use mathlib.Core.Path.{ap}
 use native.Mathlib.Omega.{arith}
 use lib.ListN.{length, length-set}

@@ -1,5 +1,4 @@
 -- `file::first` meets its contract: the file's refusal, then 22, then the initial states over the front of the buffer.
--- Assumes nothing.
 use mathlib.Core.Path.{_≡_, sym, ap, _∙_}
 use mathlib.Core.List.{List}
 use Prim.Native.Nat.{ℕ, _≤_, _<_}

@@ -1,5 +1,4 @@
 -- `file::put_initials` meets its contract. The charts passed have their initial states at the front of the buffer.
--- Assumes nothing.
 use mathlib.Core.Path.{_≡_, refl}
 use mathlib.Core.List.{_++_}
 use Prim.Native.Nat.{_-_, _≤_}

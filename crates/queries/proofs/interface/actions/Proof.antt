@@ -1,4 +1,4 @@
--- `interface::actions` meets its contract. The loop's invariant: the actions passed are joined. Assumes nothing.
+-- `interface::actions` meets its contract. The loop's invariant: the actions passed are joined.
 use mathlib.Core.Path.{_≡_, sym, ap, ap₂, _∙_}
 use mathlib.Core.List.{List}
 use Prim.Native.Nat.{ℕ, _+_, _≤_, _-_}

@@ -1,5 +1,5 @@
 -- `interface::charts` meets its contract. The loop's invariant: the charts passed have their interfaces, and `start` is
--- where the next one's transitions begin. Assumes nothing.
+-- where the next one's transitions begin.
 use mathlib.Core.Path.{_≡_, refl, sym, ap₂, _∙_}
 use mathlib.Core.List.{List}
 use Prim.Native.Nat.{ℕ, _+_, _≤_, _-_}

@@ -1,4 +1,4 @@
--- `interface::guards` meets its contract. The loop's invariant: the guards passed are joined. Assumes nothing.
+-- `interface::guards` meets its contract. The loop's invariant: the guards passed are joined.
 use mathlib.Core.Path.{_≡_, sym, ap, ap₂, _∙_}
 use mathlib.Core.List.{List, [], _∷_}
 use Prim.Native.Nat.{ℕ, _+_, _≤_, _-_}

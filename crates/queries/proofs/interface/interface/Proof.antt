@@ -1,5 +1,4 @@
--- `interface::interface` meets its contract: the file's refusal with empty sets, or the interfaces of its body. Assumes
--- nothing.
+-- `interface::interface` meets its contract: the file's refusal with empty sets, or the interfaces of its body.
 use mathlib.Core.Path.{_≡_, sym, _∙_}
 use mathlib.Core.List.{List}
 use Prim.Native.Nat.{ℕ}

@@ -1,5 +1,5 @@
 -- `interface::of_body` meets its contract: the last entries of two tables that are filled with the charts' own
--- interfaces. Assumes nothing.
+-- interfaces.
 use mathlib.Core.Path.{_≡_, sym, ap₂, _∙_}
 use mathlib.Core.List.{List}
 use Prim.Native.Nat.{ℕ, _<_, _-_}

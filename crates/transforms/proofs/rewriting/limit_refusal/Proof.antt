@@ -1,4 +1,4 @@
--- `rewriting::limit_refusal` meets its contract: 41 to 44, in order. Assumes nothing.
+-- `rewriting::limit_refusal` meets its contract: 41 to 44, in order.
 use mathlib.Core.Path.{_≡_, sym, ap, _∙_}
 use mathlib.Core.Bool.{true, false}
 use Prim.Native.Nat.{_≤_, _<_}

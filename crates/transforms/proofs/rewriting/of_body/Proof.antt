@@ -1,5 +1,4 @@
 -- `rewriting::of_body` meets its contract: 40 to 45 in order, then the rewritten file over the front of the buffer.
--- Assumes nothing.
 use mathlib.Core.Path.{_≡_, refl, sym, ap, _∙_}
 use mathlib.Core.Bool.{true, false, not}
 use Prim.Native.Nat.{ℕ, _+_}
