@@ -12,7 +12,7 @@ use layout::body::Shape;
 use layout::limits;
 
 // A text is nested so deep at most.
-const MOST_DEPTH: u8 = 16;
+const MOST_DEPTH: u8 = reading::MOST_DEPTH;
 
 fn larger(a: u8, b: u8) -> u8
     ensures { λ r. ⌜ r ≡ larger a b ⌝ }

@@ -13,6 +13,7 @@ use Rattle.meaning.specs.Meaning.{Set, ∅, same, Answer}
 use Rattle.meaning.specs.File.{File, fileOf}
 use Rattle.meaning.specs.Check.{Test, firstOf, fileTests}
 use Rattle.meaning.specs.Calls.{made, laidOver, configTests, stepIn, nextIn, rowOf, carriedAfter}
+use Rattle.meaning.specs.Numbers.{mostCharts}
 use Rattle.desk.specs.declared.Case.{Case}
 use Rattle.desk.specs.declared.Entry.{Entry}
 pub mod Laws
@@ -29,7 +30,7 @@ lastRow = 4294967295
 
 -- the bytes that a record has for its configuration (RULES 11.1)
 abbrev pub width : ℕ
-width = 16
+width = mostCharts
 
 -- 60: a book has no case, or more than 64 (RULES 3.7)
 abbrev pub badBook : ℕ

@@ -4,7 +4,7 @@
 // The most cases in a book, and the bytes that a record has for a configuration.
 pub const CASES: usize = 64;
 
-pub const WIDTH: usize = 16;
+pub const WIDTH: usize = layout::limits::CHARTS;
 
 // The last row number: four bytes have no higher one.
 pub const LAST_ROW: u32 = 4294967295;
@@ -12,18 +12,18 @@ pub const LAST_ROW: u32 = 4294967295;
 // What a row has: its number; the output, the mark, the refusal and the configuration, as a row of a run has them.
 pub const ROW: usize = 4;
 
-pub const MARK: usize = 8;
+pub const MARK: usize = layout::row::MARK;
 
-pub const REFUSAL: usize = 9;
+pub const REFUSAL: usize = layout::row::REFUSAL;
 
-pub const STATES: usize = 10;
+pub const STATES: usize = layout::row::STATES;
 
 // Refusals (RULES 3.3, 11).
-pub const ACCEPTED: u8 = 0;
+pub const ACCEPTED: u8 = checks::limits::ACCEPTED;
 
-pub const WRONG_LENGTH: u8 = 20;
+pub const WRONG_LENGTH: u8 = checks::limits::WRONG_LENGTH;
 
-pub const BAD_STATE: u8 = 21;
+pub const BAD_STATE: u8 = checks::limits::BAD_STATE;
 
 pub const BAD_BOOK: u8 = 60;
 

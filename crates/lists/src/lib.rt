@@ -11,7 +11,7 @@ ghost use Rattle.lists.specs.Found.{letter?, width, TokenAt, BeginsAt};
 ghost use Rattle.lists.specs.Lists.{lacks, TransitionsFrom, TransitionsAt, ExtraAt, SequentialAt};
 
 // States are q0 to q15.
-const STATES: u64 = 16;
+const STATES: u64 = reading::NAMED_STATES as u64;
 
 // Names read so far.
 pub struct Listed {

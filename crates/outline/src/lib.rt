@@ -12,7 +12,7 @@ ghost use Rattle.outline.specs.Outline.{tooDeep, Joins, Composes, ChartA
 ghost use Rattle.outline.specs.Outline.{OutlineOf};
 
 // A chart is nested so deep at most.
-const MOST_DEPTH: usize = 16;
+const MOST_DEPTH: usize = reading::MOST_DEPTH as usize;
 
 // Counts are right below this number, which stands for all from there on.
 const MOST_COUNT: usize = 1000;

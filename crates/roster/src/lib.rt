@@ -13,10 +13,10 @@ use checks::limits;
 pub mod records;
 
 // Charts are c0 to c15.
-const CHARTS: u64 = 16;
+const CHARTS: u64 = reading::NAMED_CHARTS as u64;
 
 // As many places as a file may have charts.
-pub const PLACES: usize = 16;
+pub const PLACES: usize = layout::limits::CHARTS;
 
 // Counts are cut here.
 const MOST_COUNTED: usize = 65535;

@@ -15,11 +15,11 @@ use recogniser::Verdict;
 use roster::Roster;
 
 // The text is not of the notation; charts are nested too deep; a name is wrong (docs/NOTATION.md 5).
-pub const NOT_NOTATION: u8 = 50;
+pub const NOT_NOTATION: u8 = reading::NOT_NOTATION;
 
-pub const TOO_DEEP: u8 = 51;
+pub const TOO_DEEP: u8 = reading::TOO_DEEP;
 
-pub const BAD_NAME: u8 = 52;
+pub const BAD_NAME: u8 = reading::BAD_NAME;
 
 // Bytes of the slaves, of the nodes and of a whole file, at the most.
 const SLAVES: usize = limits::MOST_SLAVES as usize * limits::SLAVE_BYTES;

@@ -6,7 +6,7 @@ use checks::limits;
 use layout::body::Shape;
 
 // The charts are nested too deep for the notation.
-pub const TOO_DEEP: u8 = 51;
+pub const TOO_DEEP: u8 = reading::TOO_DEEP;
 
 // No text is longer.
 pub const MOST_TEXT: usize = printing::signs::MOST_TEXT;
