@@ -14,6 +14,7 @@ ghost use Rattle.meaning.specs.Rewriting.{unionUpTo, used, callsBy, callsOf};
 ghost use Rattle.allocation.specs.Known.{Checked, Calling, CallsIn, InnerIn, Upward};
 use layout::body::Shape;
 use layout::limits::CHARTS;
+use layout::record;
 use layout::record::Transition;
 use signals::Found;
 
@@ -131,7 +132,7 @@ pub fn inner(n: Shape, body: &[u8], calls: &[u64; CHARTS]) -> [u64; CHARTS]
     while j < nodes {
         let node = layout::body::node_at(n, body, j);
         let c = node.a as usize;
-        if node.kind == 0 {
+        if node.kind == record::HOLDS {
             inner[c] = call_of(calls, slaves, near[j]);
         }
         j += 1;

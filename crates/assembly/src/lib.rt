@@ -17,6 +17,7 @@ ghost use Rattle.assembly.specs.Records.{calledWith, idleWith, partBytes
 use layout::body::Shape;
 use layout::limits::CHARTS;
 use layout::limits::NODES;
+use layout::record;
 use layout::record::Head;
 use layout::record::Node;
 use layout::record::Transition;
@@ -222,7 +223,7 @@ fn parts(
         let node = s.node as usize;
         if s.chart as usize == c {
             let new = Node {
-                kind: 1,
+                kind: record::COMPOSES,
                 a: made,
                 b: names[node],
                 x: x,
@@ -258,7 +259,7 @@ fn master(
     let hidden = allocation::calls_of(n, body, calls, c);
     let h = layout::body::head_at(n, body, c);
     let held = Node {
-        kind: 0,
+        kind: record::HOLDS,
         a: c as u8,
         b: 0,
         x: 0,
@@ -267,7 +268,7 @@ fn master(
     let p = laying::put_node(out, at, held);
     let q = parts(n, body, names, c, h.feedback | hidden, first as u8, out, p);
     let whole = Node {
-        kind: 2,
+        kind: record::HIDES,
         a: (first + slaves) as u8,
         b: 0,
         x: hidden,
@@ -298,7 +299,7 @@ fn holder(
     let slaves = growth::slaves_of(n, body, c);
     if slaves == 0 {
         let held = Node {
-            kind: 0,
+            kind: record::HOLDS,
             a: c as u8,
             b: 0,
             x: 0,
@@ -330,12 +331,12 @@ fn node(
     let kind = r.kind;
     let a = r.a as usize;
     let b = r.b as usize;
-    if kind == 0 {
+    if kind == record::HOLDS {
         return holder(n, body, calls, names, a, first, out, at);
     }
-    if kind == 1 {
+    if kind == record::COMPOSES {
         let both = Node {
-            kind: 1,
+            kind: record::COMPOSES,
             a: names[a],
             b: names[b],
             x: r.x,
@@ -344,7 +345,7 @@ fn node(
         return laying::put_node(out, at, both);
     }
     let hidden = Node {
-        kind: 2,
+        kind: record::HIDES,
         a: names[a],
         b: 0,
         x: r.x,

@@ -12,6 +12,7 @@ ghost use Rattle.allocation.specs.Known.{Checked, InnerIn};
 ghost use Rattle.growth.specs.Counts.{idleCount};
 use layout::body::Shape;
 use layout::limits::CHARTS;
+use layout::record;
 use layout::record::Head;
 
 // How many idle transitions there are for `states` of a chart with the call signal `inner`.
@@ -139,7 +140,7 @@ pub fn before_last(n: Shape, body: &[u8], j: usize) -> usize
     ensures { λ r. ⌜ (r ≡ beforeLast (fileAt n (now (body .entry))) j) × (r ≤ mostSlaves + 1) ⌝ }
 {
     let node = layout::body::node_at(n, body, j);
-    if node.kind != 0 {
+    if node.kind != record::HOLDS {
         return 0;
     }
     let slaves = slaves_of(n, body, node.a as usize);

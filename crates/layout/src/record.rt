@@ -41,8 +41,13 @@ pub struct Slave {
     pub node: u8,
 }
 
-// By kind (RULES 2.6): 0 holds chart a; 1 composes nodes a and b, with the feedback x; 2 hides node a, without x in its
-// input and y in its output.
+// The kinds of a node (RULES 2.6): one holds chart a,
+pub const HOLDS: u8 = 0;
+// one composes nodes a and b, with the feedback x,
+pub const COMPOSES: u8 = 1;
+// and one hides node a, without x in its input and y in its output.
+pub const HIDES: u8 = 2;
+
 pub struct Node {
     pub kind: u8,
     pub a: u8,

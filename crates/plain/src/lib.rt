@@ -10,6 +10,7 @@ ghost use Rattle.meaning.specs.Rewriting.{unionUpTo};
 ghost use Rattle.meaning.specs.Plain.{fedBack, toldApart, doubtful, doubtfulWith, anyDoubtful, plainIn};
 ghost use Rattle.checks.specs.Known.{Sized, Summed};
 use layout::body::Shape;
+use layout::record;
 use layout::record::Transition;
 
 // The signals in feedback sets of charts.
@@ -33,7 +34,7 @@ fn fed_by_node(n: Shape, body: &[u8], j: usize) -> u64
     ensures { λ r. ⌜ r ≡ cond (same (fileAt n (now (body .entry)) .kind j) 1) (fileAt n (now (body .entry)) .x j) ∅ ⌝ }
 {
     let r = layout::body::node_at(n, body, j);
-    if r.kind == 1 { r.x } else { 0 }
+    if r.kind == record::COMPOSES { r.x } else { 0 }
 }
 
 // The signals in feedback sets of nodes.

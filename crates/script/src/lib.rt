@@ -13,6 +13,7 @@ ghost use Rattle.printing.specs.Turns.{inTurn, Adds};
 ghost use Rattle.script.specs.Tree.{Legible, composes as composesTree, decomposes as hasSlaves, textBy, partBy};
 ghost use Rattle.script.specs.Tree.{composedBy, hiddenBy, heldBy, masterBy, slaveText, slaveIf, slavesIn};
 use layout::body::Shape;
+use layout::record;
 use layout::record::Node;
 use printing::charts;
 use printing::sets;
@@ -49,7 +50,7 @@ fn composes(n: Shape, body: &[u8], j: usize, left: usize) -> bool
     if left == 0 {
         return false;
     }
-    layout::body::node_at(n, body, j).kind == 1
+    layout::body::node_at(n, body, j).kind == record::COMPOSES
 }
 
 // Node j by itself.
@@ -62,10 +63,10 @@ fn chart(n: Shape, body: &[u8], j: usize, left: usize, out: &mut [u8], at: usize
         return charts::sequential(n, body, 0, out, at);
     }
     let node = layout::body::node_at(n, body, j);
-    if node.kind == 0 {
+    if node.kind == record::HOLDS {
         return master(n, body, node.a, left - 1, out, at);
     }
-    if node.kind == 1 {
+    if node.kind == record::COMPOSES {
         return pair(n, body, node, left - 1, out, at);
     }
     hidden(n, body, node, left - 1, out, at)

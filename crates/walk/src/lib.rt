@@ -11,6 +11,7 @@ ghost use Rattle.walk.specs.Walk.{sheet, oneNode, oneSlave, Writes, Writ
 ghost use Rattle.walk.specs.Walk.{HiddenAt, BracketedAt, MasterAt, SlavesAt, StateAt, PairAt};
 ghost use Rattle.walk.specs.Walk.{TextLaid};
 use forms::Form;
+use layout::record;
 use layout::record::Node;
 use layout::record::Slave;
 
@@ -19,7 +20,7 @@ pub mod order;
 pub mod room;
 
 // A chart is nested so deep at most.
-const MOST_DEPTH: usize = 16;
+const MOST_DEPTH: usize = reading::MOST_DEPTH as usize;
 
 // Where the walk stands: the place in the text, the number of the next node, and the places of the next records of a
 // node and of a slave.
@@ -92,7 +93,7 @@ fn add_chart(c: Cursor, name: u64, out: &mut [u8]) -> Cursor
         (sheet r (now (out .exit)) l)) ⌝ }
 {
     let n = Node {
-        kind: 0,
+        kind: record::HOLDS,
         a: small(name),
         b: 0,
         x: 0,
@@ -136,7 +137,7 @@ fn chart(text: &[u8], from: Cursor, left: usize, out: &mut [u8], list: &mut [u8]
     };
     let q = part(text, c, left, out, list);
     let n = Node {
-        kind: 1,
+        kind: record::COMPOSES,
         a: one_less(p.node),
         b: one_less(q.node),
         x: x.mask,
@@ -185,7 +186,7 @@ fn hidden(text: &[u8], from: Cursor, left: usize, out: &mut [u8], list: &mut [u8
         slaves: c.slaves,
     };
     let n = Node {
-        kind: 2,
+        kind: record::HIDES,
         a: one_less(c.node),
         b: 0,
         x: x.mask,
