@@ -24,28 +24,13 @@ pub struct InNumbers {
     pub signal: u8,
 }
 
-// Where the transitions of chart c begin, counted through all charts.
-fn start_of(n: Shape, body: &[u8], c: usize) -> usize
-    requires { ⌜ Sized n (now body) × Summed n (now body) × (c < n .charts) ⌝ }
-    ensures { λ r. ⌜ r ≡ startOf n (now (body .entry)) c ⌝ }
-{
-    let mut start: usize = 0;
-    let mut k: usize = 0;
-    while k < c {
-        let head = layout::body::head_at(n, body, k);
-        start += head.transitions as usize;
-        k += 1;
-    }
-    start
-}
-
 // The transition at a place of chart c's list.
 pub fn at_place(n: Shape, body: &[u8], c: usize, place: usize) -> Transition
     requires { ⌜ Sized n (now body) × Summed n (now body) × (c < n .charts)
         × (place < headAt n (now body) c .transitions) ⌝ }
     ensures { λ r. ⌜ r ≡ transitionAt n (now (body .entry)) (startOf n (now (body .entry)) c + place) ⌝ }
 {
-    let start = start_of(n, body, c);
+    let start = layout::body::start_of(n, body, c);
     layout::body::transition_at(n, body, start + place)
 }
 

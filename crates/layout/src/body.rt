@@ -1,7 +1,7 @@
 // The body of a chart file: where its records stand, by the four counts, and each record by its number.
 ghost use mathlib.Core.Path.{_≡_};
-ghost use Prim.Native.Nat.{_+_, _*_, _<_};
-ghost use Rattle.layout.specs.Body.{Holds, sizeOf, headAt, transitionAt, slaveAt, nodeAt};
+ghost use Prim.Native.Nat.{_+_, _*_, _≤_, _<_};
+ghost use Rattle.layout.specs.Body.{Holds, sizeOf, headAt, startOf, transitionAt, slaveAt, nodeAt};
 use crate::limits::HEAD_BYTES;
 use crate::limits::NODE_BYTES;
 use crate::limits::SLAVE_BYTES;
@@ -36,6 +36,21 @@ pub fn head_at(n: Shape, body: &[u8], c: usize) -> Head
     ensures { λ r. ⌜ r ≡ headAt n (now (body .entry)) c ⌝ }
 {
     crate::record::read_head(body, HEAD_BYTES * c)
+}
+
+// Where the transitions of chart c begin, counted through all charts.
+pub fn start_of(n: Shape, body: &[u8], c: usize) -> usize
+    requires { ⌜ Holds n (now body) × (c ≤ n .charts) × (c < 256) ⌝ }
+    ensures { λ r. ⌜ r ≡ startOf n (now (body .entry)) c ⌝ }
+{
+    let mut start: usize = 0;
+    let mut k: usize = 0;
+    while k < c {
+        let head = head_at(n, body, k);
+        start += head.transitions as usize;
+        k += 1;
+    }
+    start
 }
 
 // Transition t, counted through all charts.

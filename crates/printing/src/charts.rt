@@ -2,7 +2,6 @@
 ghost use mathlib.Core.Path.{_≡_};
 ghost use mathlib.Core.List.{map};
 ghost use Prim.Native.Nat.{_<_};
-ghost use Rattle.layout.specs.Body.{startOf};
 ghost use Rattle.meaning.specs.File.{fileAt};
 ghost use Rattle.notation.specs.Spelling.{comma, ofTransition, ofTransitions, ofHeading, ofExtra, ofSequential};
 ghost use Rattle.writing.specs.Typed.{listed, transitionOf, orLeftOut, sequentialOf};
@@ -33,21 +32,6 @@ fn transition(t: Transition, out: &mut [u8], at: usize) -> usize
     signs::sign(out, end, b')')
 }
 
-// Where the transitions of chart c begin, counted through all charts.
-fn start_of(n: Shape, body: &[u8], c: usize) -> usize
-    requires { ⌜ Sized n (now body) × Summed n (now body) × (c < n .charts) ⌝ }
-    ensures { λ r. ⌜ r ≡ startOf n (now (body .entry)) c ⌝ }
-{
-    let mut start: usize = 0;
-    let mut k: usize = 0;
-    while k < c {
-        let head = layout::body::head_at(n, body, k);
-        start += head.transitions as usize;
-        k += 1;
-    }
-    start
-}
-
 // The transitions of chart c, in the file's order.
 fn in_order(n: Shape, body: &[u8], c: usize, out: &mut [u8], first: usize) -> usize
     requires { ⌜ Sized n (now body) × Summed n (now body) × (c < n .charts) ⌝ }
@@ -57,7 +41,7 @@ fn in_order(n: Shape, body: &[u8], c: usize, out: &mut [u8], first: usize) -> us
 {
     let head = layout::body::head_at(n, body, c);
     let count = head.transitions as usize;
-    let start = start_of(n, body, c);
+    let start = layout::body::start_of(n, body, c);
     let mut at = first;
     let mut k: usize = 0;
     while k < count {

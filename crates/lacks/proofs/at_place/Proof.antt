@@ -36,7 +36,7 @@ pub at-place-spec : {M : Type 1} → statement M
 at-place-spec =
     tie.close
     (tie.spec
-    (λ c κs. search needs)
+    (λ c κs. (c .before .pre .0 .holds, omega arith, (let w = c .before .pre .0 .charts in omega arith)))
     add-result
     (λ c κs. (c .before .before .pre .0 .holds, is-there c))
     returns)

@@ -67,7 +67,9 @@ in-order-spec =
     μ-loop
     (λ c κs. (c .before .before .pre .0 .holds, c .before .before .pre .2))
     (λ c. search needs)
-    (λ c κs. search needs)
+    (λ c κs.
+    let a = c .before .before .before .before in
+    (a .pre .0 .holds, omega arith, (let w = a .pre .0 .charts in omega arith)))
     loop-holds
     (λ c. omega (arith, there c))
     (λ c κs. (c .before .before .before .before .before .before .before .pre .0 .holds, omega (arith, there c)))
