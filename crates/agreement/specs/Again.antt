@@ -1,11 +1,11 @@
 -- The rewritten file in bytes passes 1 to 11, if the file does and 40 to 44 do not apply; and what is read of it is the
 -- rewritten file.
 use mathlib.Core.Path.{_≡_, refl, sym, _∙_, ap, ap₂, subst}
-use mathlib.Core.Bool.{Bool, true, false, _&&_, _||_, not, cond, true≢false}
+use mathlib.Core.Bool.{Bool, true, false, _&&_, _||_, not, cond}
 use mathlib.Core.List.{List, [], _∷_, _++_, append-nil}
 use Prim.Native.Nat.{ℕ, zero, suc, _+_, _*_, _-_, _≤_, _<_}
 use native.Mathlib.Omega.{arith}
-use borrow.Author.Tests.{lt-ltb, le-ltb}
+use borrow.Author.Tests.{le-ltb}
 use lib.Dec.{ltb}
 use lib.ListN.{length, getD, drop, List·getD-append}
 use lib.Seq.{getD-drop}
@@ -42,7 +42,7 @@ use Rattle.agreement.specs.Encoded.{noTransition, Fits, nodeIn, head-the
 use Rattle.agreement.specs.Encoded.{head-is, start-is, transition-is, node-is, chart-back, trailerFor}
 use Rattle.agreement.specs.Encoded.{length-encode, end-is, trailer-there, trailer-is, body-is, shape-is, file-is}
 use Rattle.agreement.specs.Reads.{reads-back, tree-same}
-use Rattle.meaning.specs.Check.Laws.{Passed}
+use Rattle.meaning.specs.Check.Laws.{Passed, neither, is-below}
 use Rattle.agreement.specs.Passed.{passes}
 use Rattle.agreement.specs.New.{Regular, Formed, new-smalls, new-states, formed}
 
@@ -55,15 +55,8 @@ pub record Given (F : File) : Type 0 where
 
 -- ── a test that is false ──
 
-pub neither : (a b : Bool) → a ≡ false → b ≡ false → (a || b) ≡ false
-neither true b p q = absurd (true≢false p)
-neither false b p q = q
-
 pub equal : (m k : ℕ) → m ≡ k → differ m k ≡ false
 equal m k e = ap (λ z. differ z k) e ∙ ap not (same-refl k)
-
-pub lower : (m k : ℕ) → m < k → notBelow m k ≡ false
-lower m k l = ap not (lt-ltb m k l)
 
 pub there : (m : ℕ) → 0 < m → same m 0 ≡ false
 there m l = same-≢ m 0 (λ e. omega arith)
@@ -137,7 +130,7 @@ naming-is F r = neither _ _ (neither _ _ (any-all (F .charts) _ (λ c l. equal (
     higher i j l m true e =
         let k = same→≡ (F .kind j) 0 (and-l _ _ e) in
         let a = same→≡ (F .a j) (F .master i) (and-r (same (F .kind j) 0) _ e) in
-        lower (F .node i) j (r .master-higher i j l m k a)
+        is-below (F .node i) j (r .master-higher i j l m k a)
     higher i j l m false e = refl
 
 module _ (F : File) (rg : Regular F) (gv : Given F) where
@@ -189,7 +182,7 @@ module _ (F : File) (rg : Regular F) (gv : Given F) where
   unfolding distance?
   distance = neither _ _ (equal _ _ (ap (λ t. t .distance) (trailer-is R fits) ∙ ap sizeOf (sym (shape-is R fits))))
       (le-ltb (endOf (encode R)) (trailer (encode R) .distance)
-      (let e = end-is R fits in let d : trailer (encode R) .distance ≡ sizeOf (shapeIn R) =
+      (let e = end-is R in let d : trailer (encode R) .distance ≡ sizeOf (shapeIn R) =
       ap (λ t. t .distance) (trailer-is R fits) in omega arith))
 
   zeros : (nonzero (encode R) (endOf (encode R) + 10) 2 || zeros? (shapeOf (trailer (encode R))) (bodyOf (encode R)))
@@ -197,7 +190,7 @@ module _ (F : File) (rg : Regular F) (gv : Given F) where
   unfolding zeros? shapeIn
   zeros = neither _ _
       (zeros-at (encode R) (trailerBytes t) [] (endOf (encode R)) 10 2
-      (trailer-there R fits ∙ sym (append-nil (trailerBytes t)))
+      (trailer-there R ∙ sym (append-nil (trailerBytes t)))
       (let e = length-trailer t in omega arith) (trailer-zero t))
       (ap₂ zeros? (shape-is R fits) (body-is R fits)
       ∙ neither _ _ (neither _ _ (neither _ _
@@ -216,7 +209,7 @@ module _ (F : File) (rg : Regular F) (gv : Given F) where
       (node-zero (nodeIn R j)))))
     where
       t : Trailer
-      t = trailerFor R fits
+      t = trailerFor R
 
   -- ── 6 and 7 ──
 
@@ -225,7 +218,7 @@ module _ (F : File) (rg : Regular F) (gv : Given F) where
   charts = neither _ _ (any-all (R .charts) (chart? n b) (λ c l. ap form (head-is R fits c l)
       ∙ neither _ _ (neither _ _ (neither _ _ (there (F .chart c .states) (rg .ready .some-state c l))
       (le-ltb mostStates (F .chart c .states) (rg .most-states c l)))
-      (lower (F .chart c .initial) (F .chart c .states) (rg .initials c l)))
+      (is-below (F .chart c .initial) (F .chart c .states) (rg .initials c l)))
       (any-never (R .charts) (λ c. ltb mostInChart (length (R .chart c .transitions))) (gv .lists) c l)))
       (equal _ _ (start-is R fits (R .charts) (omega arith)))
     where
@@ -245,7 +238,7 @@ module _ (F : File) (rg : Regular F) (gv : Given F) where
       ∙ (let h = every-at (λ t. (t .from < F .chart c .states) × (t .to < F .chart c .states))
       (R .chart c .transitions) k noTransition m′
       (new-states F rg (gv .room) c l) in
-      neither _ _ (lower _ _ (h .0)) (lower _ _ (h .1)))))
+      neither _ _ (is-below _ _ (h .0)) (is-below _ _ (h .1)))))
       (any-all (headAt n b c .states) _ (λ s m. ap (ltb mostFromState) (leaves c l s)
       ∙ any-never (R .chart c .states)
       (λ s. ltb mostFromState (leavingIn (R .chart c .transitions) s)) (any-never (R .charts) _ (gv .leaving) c l) s
@@ -288,11 +281,11 @@ module _ (F : File) (rg : Regular F) (gv : Given F) where
     where
       go : (j k : ℕ) → nodeAt n b j .kind ≡ k → Known j (nodeAt n b j) → nodeOfKind? G k j ≡ false
       go j zero e h = let u = h .0 .held e in
-          neither _ _ (neither _ _ (neither _ _ (lower _ _ (u .0)) (equal _ _ (u .1))) (equal _ _ (u .2)))
+          neither _ _ (neither _ _ (neither _ _ (is-below _ _ (u .0)) (equal _ _ (u .1))) (equal _ _ (u .2)))
           (equal _ _ (u .3))
       go j (suc zero) e h = let u = h .1 e in
-          neither _ _ (neither _ _ (lower _ _ (u .0)) (lower _ _ (u .1))) (equal _ _ (h .0 .both e))
-      go j (suc (suc zero)) e h = neither _ _ (lower _ _ (h .2 e)) (equal _ _ (h .0 .hidden e))
+          neither _ _ (neither _ _ (is-below _ _ (u .0)) (is-below _ _ (u .1))) (equal _ _ (h .0 .both e))
+      go j (suc (suc zero)) e h = neither _ _ (is-below _ _ (h .2 e)) (equal _ _ (h .0 .hidden e))
       go j (suc (suc (suc k))) e h = absurd (let u = h .0 .kind in omega arith)
 
   held-same : (c : ℕ) → held G c ≡ held R c
@@ -324,7 +317,7 @@ module _ (F : File) (rg : Regular F) (gv : Given F) where
 
   pub again : Passed (encode R)
   again = record {
-    long = let e = length-encode R fits in omega arith;
+    long = let e = length-encode R in omega arith;
     edition = ap edition? (trailer-is R fits) ∙ unfold edition? in rw (equal 1 firstEdition refl);
     counts = counts;
     distance = distance;

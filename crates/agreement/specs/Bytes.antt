@@ -19,7 +19,7 @@ use Rattle.agreement.specs.Every.{Every, every-imp}
 use Rattle.agreement.specs.Laid.{orderedR}
 use Rattle.agreement.specs.Encoded.{nodeIn, trailerFor}
 use Rattle.agreement.specs.New.{Regular, new-states, formed}
-use Rattle.agreement.specs.Again.{Given, fits}
+use Rattle.agreement.specs.Again.{Given}
 
 -- ── lists ──
 
@@ -125,4 +125,4 @@ module _ (F : File) (rg : Regular F) (gv : Given F) where
       (trailer-bytes t (let c = rg .charts in omega arith) (lit< tt) (let n = gv .nodes in omega arith) (lit< tt)))
     where
       t : Trailer
-      t = trailerFor R (fits F rg gv)
+      t = trailerFor R

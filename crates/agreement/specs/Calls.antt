@@ -117,7 +117,7 @@ module _ (f : List ℕ) (ab : AllBytes f) (room : ℕ) (ok : rewriteRefusal f ro
   pub length-is : rewriteLength f room ≡ sizeOf (shapeIn (rewrite (fileOf f))) + 12
   unfolding rewriteLength rewriteBytes
   length-is = ap (λ n. cond (same n 0) (length f′) 0) ok ∙ ap (λ b. cond b (length f′) 0) (same-refl 0)
-      ∙ length-encode (rewrite (fileOf f)) (fits (fileOf f) rg (allowed f room ok .given))
+      ∙ length-encode (rewrite (fileOf f))
 
   -- of edition 1
   pub new-edition : trailer f′ .edition ≡ firstEdition
@@ -127,7 +127,7 @@ module _ (f : List ℕ) (ab : AllBytes f) (room : ℕ) (ok : rewriteRefusal f ro
   no-front : endOf f′ - trailer f′ .distance ≡ 0
   unfolding rewriteBytes
   no-front = let ft = fits (fileOf f) rg (allowed f room ok .given) in
-      ap₂ _-_ (end-is (rewrite (fileOf f)) ft) (ap (λ t. t .distance) (trailer-is (rewrite (fileOf f)) ft))
+      ap₂ _-_ (end-is (rewrite (fileOf f))) (ap (λ t. t .distance) (trailer-is (rewrite (fileOf f)) ft))
       ∙ omega arith
 
   alike : ConfigsAlike (fileOf f) (fileOf f′)

@@ -65,7 +65,7 @@ length-transitions [] = refl
 length-transitions (t ∷ ts) =
     length-append (transitionBytes t) (transitionsBytes ts) ∙ omega (arith, length-transition t, length-transitions ts)
 
-transitions-append : (a b : List Transition) → transitionsBytes (a ++ b) ≡ transitionsBytes a ++ transitionsBytes b
+pub transitions-append : (a b : List Transition) → transitionsBytes (a ++ b) ≡ transitionsBytes a ++ transitionsBytes b
 unfolding transitionsBytes
 transitions-append [] b = refl
 transitions-append (t ∷ a) b = ap (λ z. transitionBytes t ++ z) (transitions-append a b)
@@ -127,6 +127,10 @@ module _ (ts : ℕ → List Transition) where
       )
 
 -- ── the body ──
+
+-- k past the first of two lists
+pub past : (p q : List ℕ) (m k : ℕ) → length p ≡ m → drop (m + k) (p ++ q) ≡ drop k q
+past p q m k e = ap (λ z. drop (z + k) (p ++ q)) (sym e) ∙ drop-append-add p q k
 
 -- a transition's sets are of 8 bytes
 abbrev pub Small : Transition → Type 0
@@ -194,9 +198,6 @@ module _ (F : File) where
       (rs ++ (ss ++ ns)) l in
       (u .0, ap (drop (24 * c)) (append-assoc (hs ++ rs) ss ns ∙ append-assoc hs rs (ss ++ ns)) ∙ u .1)
 
-  past : (p q : List ℕ) (m k : ℕ) → length p ≡ m → drop (m + k) (p ++ q) ≡ drop k q
-  past p q m k e = ap (λ z. drop (z + k) (p ++ q)) (sym e) ∙ drop-append-add p q k
-
   -- transition t, counted through all charts
   place-there : (t : ℕ) → t < length (all listOf (F .charts))
       → (r : List ℕ) × (drop (transitionsFrom (shapeIn F) + 28 * t) (bodyBytes F)
@@ -246,6 +247,29 @@ module _ (F : File) where
         ∙ ap (drop (20 * j)) (sym (append-nil ns))
         ∙ u .1,
   )
+
+  -- the trailer behind the body
+  abbrev pub trailerFor : Trailer
+  trailerFor = record {
+    distance = sizeOf (shapeIn F);
+    charts = F .charts;
+    slaves = F .slaves;
+    nodes = F .nodes;
+    edition = firstEdition;
+    transitions = transitionsIn F;
+  }
+
+  pub length-encode : length (encode F) ≡ sizeOf (shapeIn F) + 12
+  unfolding encode
+  length-encode =
+      length-append (bodyBytes F) (trailerBytes trailerFor) ∙ omega (arith, length-body, length-trailer trailerFor)
+
+  pub end-is : endOf (encode F) ≡ sizeOf (shapeIn F)
+  end-is = omega (arith, length-encode)
+
+  pub trailer-there : drop (endOf (encode F)) (encode F) ≡ trailerBytes trailerFor
+  unfolding encode
+  trailer-there = drop-at (bodyBytes F) (trailerBytes trailerFor) (endOf (encode F)) (length-body ∙ sym end-is)
 
 module _ (F : File) (ft : Fits F) where
   abbrev n : Shape
@@ -318,39 +342,17 @@ module _ (F : File) (ft : Fits F) where
 
   -- ── the trailer and the file ──
 
-  abbrev pub trailerFor : Trailer
-  trailerFor = record {
-    distance = sizeOf (shapeIn F);
-    charts = F .charts;
-    slaves = F .slaves;
-    nodes = F .nodes;
-    edition = firstEdition;
-    transitions = transitionsIn F;
-  }
-
-  pub length-encode : length (encode F) ≡ sizeOf (shapeIn F) + 12
-  unfolding encode
-  length-encode =
-      length-append (bodyBytes F) (trailerBytes trailerFor) ∙ omega (arith, length-body F, length-trailer trailerFor)
-
-  pub end-is : endOf (encode F) ≡ sizeOf (shapeIn F)
-  end-is = omega (arith, length-encode)
-
-  pub trailer-there : drop (endOf (encode F)) (encode F) ≡ trailerBytes trailerFor
-  unfolding encode
-  trailer-there = drop-at (bodyBytes F) (trailerBytes trailerFor) (endOf (encode F)) (length-body F ∙ sym end-is)
-
-  pub trailer-is : trailer (encode F) ≡ trailerFor
+  pub trailer-is : trailer (encode F) ≡ trailerFor F
   unfolding trailer
-  trailer-is = ap trailerOf (trailer-there ∙ sym (append-nil (trailerBytes trailerFor)))
-      ∙ trailer-back trailerFor [] (ft .size) (ft .total)
+  trailer-is = ap trailerOf (trailer-there F ∙ sym (append-nil (trailerBytes (trailerFor F))))
+      ∙ trailer-back (trailerFor F) [] (ft .size) (ft .total)
 
   pub body-is : bodyOf (encode F) ≡ bodyBytes F
   unfolding bodyOf encode
   body-is = ap (λ t. take (t .distance) (drop (endOf (encode F) - t .distance) (encode F))) trailer-is
       ∙ ap (λ z. take (sizeOf (shapeIn F)) (drop z (encode F)))
-      (let e = end-is in let z : endOf (encode F) - sizeOf (shapeIn F) ≡ 0 = omega arith in z)
-      ∙ take-at (bodyBytes F) (trailerBytes trailerFor) (sizeOf (shapeIn F)) (length-body F)
+      (let e = end-is F in let z : endOf (encode F) - sizeOf (shapeIn F) ≡ 0 = omega arith in z)
+      ∙ take-at (bodyBytes F) (trailerBytes (trailerFor F)) (sizeOf (shapeIn F)) (length-body F)
 
   pub shape-is : shapeOf (trailer (encode F)) ≡ shapeIn F
   unfolding shapeOf shapeIn

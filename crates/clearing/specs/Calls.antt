@@ -71,7 +71,7 @@ has-room f ab e one = call-passed f _ e
     ∙ firstOf-next (stayTest f) _
     (ap (λ n. same n stayEdition) one ∙ same-≢ firstEdition stayEdition (λ z. omega arith))
     ∙ firstOf-next _ [] (le-ltb (length f) _ (let o = in-order f ab (passed f e) one in
-    let g = length-encode (clear (fileOf f)) (o .fits) in let l = size-most f ab (passed f e) one in omega arith))
+    let g = length-encode (clear (fileOf f)) in let l = size-most f ab (passed f e) one in omega arith))
     ∙ firstOf-[]
 
 -- ── two files with the configurations of a third ──
@@ -139,12 +139,12 @@ module _ (f : List ℕ) (ab : AllBytes f) (room : ℕ) (ok : clearRefusal f room
   pub length-is : clearLength f room ≡ sizeOf (shapeIn (clear F)) + 12
   unfolding clearLength clearBytes
   length-is = ap (λ n. cond (same n 0) (length f′) 0) ok ∙ ap (λ b. cond b (length f′) 0) (same-refl 0)
-      ∙ length-encode (clear F) (order .fits)
+      ∙ length-encode (clear F)
 
   -- a buffer of the file's length has room for it
   pub not-longer : length f′ ≤ length f
   unfolding clearBytes
-  not-longer = let e = length-encode (clear F) (order .fits) in let l = size-most f ab p (allowed f room ok .one) in
+  not-longer = let e = length-encode (clear F) in let l = size-most f ab p (allowed f room ok .one) in
       omega arith
 
   -- made of bytes

@@ -1,6 +1,6 @@
 -- A dead transition is in no permitted choice. In this order: what being dead or not says; of a chart; of a tree.
 use mathlib.Core.Path.{_≡_, sym, _∙_, ap}
-use mathlib.Core.Bool.{Bool, true, false, _||_, not, false≢true}
+use mathlib.Core.Bool.{Bool, true, false, not, false≢true}
 use mathlib.Core.List.{[], _∷_}
 use Prim.Native.Nat.{ℕ}
 use borrow.Author.Tests.{eqb-true}
@@ -14,6 +14,7 @@ use Rattle.meaning.specs.Check.{differ}
 use Rattle.clearing.specs.Clearing.{dead}
 use Rattle.meaning.specs.Laws.Bools.{and-l, and-r, or-elim, same-refl, same→≡}
 use Rattle.meaning.specs.Laws.Guards.{met-is}
+use Rattle.meaning.specs.Check.Laws.{neither}
 
 none-differs : (a : Set) → a ≡ ∅ → differ a ∅ ≡ false
 none-differs a e = ap (λ z. differ z ∅) e ∙ ap not (same-refl ∅)
@@ -27,13 +28,9 @@ met-alive fed o t h =
     let i = o ∪ (t .action ∩ fed) in
     let p : t .needed ∖ i ≡ ∅ = eqb-true (t .needed ∖ i) 0 (and-l (within (t .needed) i) (apart (t .barred) i) g) in
     let q : t .barred ∩ i ≡ ∅ = eqb-true (t .barred ∩ i) 0 (and-r (within (t .needed) i) (apart (t .barred) i) g) in
-    both (differ (t .needed ∩ t .barred) ∅) _
+    neither (differ (t .needed ∩ t .barred) ∅) _
     (none-differs _ (sets (t .needed ∷ t .barred ∷ i ∷ []) (A ⊑ C ∷ B ⊥ₑ C ∷ []) (A ⊥ₑ B) tt p q))
     (none-differs _ (sets (t .barred ∷ o ∷ (t .action ∩ fed) ∷ []) (A ⊥ₑ B ∪ₑ C ∷ []) (A ⊥ₑ C) tt q))
-  where
-    both : (a b : Bool) → a ≡ false → b ≡ false → (a || b) ≡ false
-    both true b e g = e
-    both false b e g = g
 
 ok-alive : (K : Chart) (a : Bool) (o : Set) (s : ℕ) (m : Move) (t : Transition) → m ≡ takes t → okChart K a o s m ≡ true
     → dead (K .feedback) t ≡ false

@@ -25,7 +25,7 @@ use Rattle.meaning.specs.File.{File, endOf, trailer, bodyOf, shapeOf, fileOf}
 use Rattle.meaning.specs.Check.{edition?, differ, notBelow, counts?, distance?, nonzero, zeros?, chart?, charts?, ends?}
 use Rattle.meaning.specs.Check.{leaving, transitions?, inOrder, slave?, slaves?, nodeOfKind?, nodes?, naming?, inside?}
 use Rattle.meaning.specs.Check.{refusalOf}
-use Rattle.meaning.specs.Check.Laws.{Passed, below, alike}
+use Rattle.meaning.specs.Check.Laws.{Passed, below, alike, neither, is-below}
 use Rattle.meaning.specs.Check.Nodes.{kind-at-most, kind₀, kind₁, kind₂, node-passes, treed}
 use Rattle.meaning.specs.Rewriting.{leavingIn, transitionsIn, headFor, transitionsBytes, shapeIn, bodyBytes, encode}
 use Rattle.agreement.specs.Every.{Every, every-at, every-imp}
@@ -34,7 +34,7 @@ use Rattle.agreement.specs.Encoded.{node-there, head-is, start-is, transition-i
 use Rattle.agreement.specs.Encoded.{trailer-there, trailer-is, body-is, shape-is, file-is}
 use Rattle.agreement.specs.Reads.{Reads, reads-back}
 use Rattle.agreement.specs.Passed.{passes}
-use Rattle.agreement.specs.Again.{neither, equal, lower, there, head-zero, transition-zero, slave-zero, node-zero}
+use Rattle.agreement.specs.Again.{equal, there, head-zero, transition-zero, slave-zero, node-zero}
 use Rattle.agreement.specs.Again.{trailer-zero, zeros-at, leaving-list}
 use Rattle.agreement.specs.Bytes.{Bytes, end, byte, all-bytes, and, nought, in-turn, head-bytes, transitions-bytes}
 use Rattle.agreement.specs.Bytes.{node-bytes, trailer-bytes}
@@ -118,7 +118,7 @@ module _ (R : File) (h : InOrder R) where
   unfolding distance?
   distance-passes = neither _ _ (equal _ _ (ap (λ t. t .distance) (trailer-is R ft) ∙ ap sizeOf (sym (shape-is R ft))))
       (le-ltb (endOf (encode R)) (trailer (encode R) .distance)
-      (let e = end-is R ft in
+      (let e = end-is R in
       let d : trailer (encode R) .distance ≡ sizeOf (shapeIn R) = ap (λ t. t .distance) (trailer-is R ft) in
       omega arith))
 
@@ -127,7 +127,7 @@ module _ (R : File) (h : InOrder R) where
   unfolding zeros? shapeIn
   zeros-pass = neither _ _
       (zeros-at (encode R) (trailerBytes t) [] (endOf (encode R)) 10 2
-      (trailer-there R ft ∙ sym (append-nil (trailerBytes t)))
+      (trailer-there R ∙ sym (append-nil (trailerBytes t)))
       (let e = length-trailer t in omega arith) (trailer-zero t))
       (ap₂ zeros? (shape-is R ft) (body-is R ft)
       ∙ neither _ _ (neither _ _ (neither _ _
@@ -149,7 +149,7 @@ module _ (R : File) (h : InOrder R) where
       (node-zero (nodeIn R j)))))
     where
       t : Trailer
-      t = trailerFor R ft
+      t = trailerFor R
 
   -- ── 6 and 7 ──
 
@@ -158,7 +158,7 @@ module _ (R : File) (h : InOrder R) where
   charts-pass = neither _ _ (any-all (R .charts) (chart? n b) (λ c l. ap form (head-is R ft c l)
       ∙ neither _ _ (neither _ _ (neither _ _ (there (R .chart c .states) (h .some-state c l))
       (le-ltb mostStates (R .chart c .states) (h .states c l)))
-      (lower (R .chart c .initial) (R .chart c .states) (h .initial c l)))
+      (is-below (R .chart c .initial) (R .chart c .states) (h .initial c l)))
       (le-ltb mostInChart (length (R .chart c .transitions)) (h .list c l))))
       (equal _ _ (start-is R ft (R .charts) (omega arith)))
     where
@@ -173,7 +173,7 @@ module _ (R : File) (h : InOrder R) where
       ap₂ (λ t s. notBelow (t .from) s || notBelow (t .to) s) (transition-is R ft c k l m′) (stated c l)
       ∙ (let g = every-at (λ t. (t .from < R .chart c .states) × (t .to < R .chart c .states))
       (R .chart c .transitions) k noTransition m′ (h .ends c l) in
-      neither _ _ (lower _ _ (g .0)) (lower _ _ (g .1)))))
+      neither _ _ (is-below _ _ (g .0)) (is-below _ _ (g .1)))))
       (any-all (headAt n b c .states) _ (λ s m. ap (ltb mostFromState) (leaves c l s)
       ∙ le-ltb mostFromState _ (h .leaving c s l (subst (λ z. s < z) (stated c l) m)))))
     where
@@ -196,7 +196,7 @@ module _ (R : File) (h : InOrder R) where
 
   pub encoded-passed : Passed (encode R)
   encoded-passed = let G = fileOf (encode R) in record {
-    long = let e = length-encode R ft in omega arith;
+    long = let e = length-encode R in omega arith;
     edition = ap edition? (trailer-is R ft) ∙ unfold edition? in rw (equal 1 firstEdition refl);
     counts = counts-pass;
     distance = distance-passes;
@@ -266,4 +266,4 @@ module _ (R : File) (h : InOrder R) where
       (let n = h .nodes in omega arith) (lit< tt)))
     where
       t : Trailer
-      t = trailerFor R ft
+      t = trailerFor R

@@ -1,10 +1,11 @@
 -- What else clearing keeps. In this order: a file with nothing to clear is written as it is, without its front
 -- (`nothing-dead`); a plain file stays plain (`plain-stays`). Of its rewriting: Rewrites.
 use mathlib.Core.Path.{_≡_, refl, sym, _∙_, ap}
-use mathlib.Core.Bool.{Bool, true, false, _&&_, _||_, not, cond, true≢false}
+use mathlib.Core.Bool.{Bool, true, false, _&&_, _||_, not, cond}
 use mathlib.Core.List.{List, [], _∷_}
 use Prim.Native.Nat.{ℕ, _-_, _<_}
 use lib.ListN.{drop}
+use borrow.Author.Tests.{not-true}
 use Rattle.signals.specs.Mask.{_∪_, _∖_}
 use Rattle.signals.specs.Decide.{sets, A, B, _∪ₑ_, _∖ₑ_, _≐_}
 use Rattle.layout.specs.Le.{AllBytes}
@@ -81,15 +82,11 @@ module _ (f : Set) (fed : Set) where
           ap (λ b. b || anyDoubtful f (alive fed ts))
           (with-alive t ts (or-left (doubtfulWith f t ts) (anyDoubtful f ts) h)) ∙ q
 
-not-not : (b : Bool) → not b ≡ true → b ≡ false
-not-not true h = absurd (true≢false (sym h))
-not-not false h = refl
-
 plain-in : (F : File) → plainIn F ≡ true → plainIn (clear F) ≡ true
 unfolding plainIn fedBack clearedChart
 plain-in F h =
     ap not (any-all (F .charts) _ (λ c l. any-alive (fedBack F) (F .chart c .feedback) (F .chart c .transitions)
-    (any-never (F .charts) (λ c. anyDoubtful (fedBack F) (F .chart c .transitions)) (not-not _ h) c l)))
+    (any-never (F .charts) (λ c. anyDoubtful (fedBack F) (F .chart c .transitions)) (not-true _ h) c l)))
 
 pub plain-stays : (f : List ℕ) → AllBytes f → (room : ℕ) → clearRefusal f room ≡ 0 → plainOf f ≡ true
     → plainOf (clearBytes f) ≡ true

@@ -1,6 +1,6 @@
 -- The limits of the rewriting, over records: for a file that is read as the cleared one, no limit is met that the file
 -- does not meet. In this order: the signals that a file uses; the lists of a rewritten chart; two lists of tests, of
--- which the second applies less; the length of a file in bytes; each limit; each test, and all of them (`later`).
+-- which the second applies less; each limit; each test, and all of them (`later`).
 use mathlib.Core.Path.{_≡_, refl, sym, _∙_, ap, ap₂, subst}
 use mathlib.Core.Bool.{Bool, true, false, cond, true≢false}
 use mathlib.Core.Logic.{_≢_}
@@ -14,12 +14,8 @@ use lib.ListN.{length, length-append}
 use Rattle.signals.specs.Mask.{_∪_, bit, Within}
 use Rattle.signals.specs.Mask.Laws.{within-at}
 use Rattle.signals.specs.Decide.{sets, A, B, C, D, E, F as F₆, ∅ₑ, _∪ₑ_, _∖ₑ_, _⊑_}
-use Rattle.layout.specs.Body.{sizeOf}
-use Rattle.layout.specs.Record.{trailerBytes}
-use Rattle.layout.specs.Record.Laws.{length-trailer}
-use Rattle.layout.specs.declared.record.Trailer.{Trailer}
 use Rattle.layout.specs.declared.record.Transition.{Transition}
-use Rattle.meaning.specs.Numbers.{firstEdition, mostSignals, mostFromState, mostInChart, mostNodes, manyNodes}
+use Rattle.meaning.specs.Numbers.{mostSignals, mostFromState, mostInChart, mostNodes, manyNodes}
 use Rattle.meaning.specs.Count.{tally, one}
 use Rattle.meaning.specs.Count.Laws.{any-never, any-all, tally-cong, tally-le}
 use Rattle.meaning.specs.Meaning.{Set, same, Chart, guards, actions}
@@ -30,10 +26,10 @@ use Rattle.meaning.specs.Laws.Trees.{Ordered}
 use Rattle.meaning.specs.Rewriting.Laws.{list-most}
 use Rattle.meaning.specs.Rewriting.{unionUpTo, lacking, used, free, call, callsBy, called, idle, idles, chartWith}
 use Rattle.meaning.specs.Rewriting.{nearestIn, nearestSlave, rewrittenChart, before, count, start, rewrite, leavingIn}
-use Rattle.meaning.specs.Rewriting.{noFree?, fromState?, inChart?, rewriteTests, transitionsIn, shapeIn, bodyBytes}
+use Rattle.meaning.specs.Rewriting.{noFree?, fromState?, inChart?, rewriteTests, transitionsIn, shapeIn}
 use Rattle.meaning.specs.Rewriting.{encode}
 use Rattle.agreement.specs.Charts.{places, places-none}
-use Rattle.agreement.specs.Encoded.{length-body}
+use Rattle.agreement.specs.Encoded.{length-encode}
 use Rattle.agreement.specs.Reads.{Reads, tree-same}
 use Rattle.clearing.specs.Clearing.{alive, lost, clearedChart, clear}
 use Rattle.clearing.specs.Alive.{alive-most, guards-alive, actions-alive}
@@ -159,22 +155,6 @@ first-later k (t ∷ ts) (u ∷ us) h n = go (t .applies) (u .applies) refl refl
     go false false p q later = let a = firstOf-next t ts p in let c = firstOf-next u us q in
         let i = later (λ z. n (c ∙ z)) in let l = h .1 in (omega arith, omega arith)
 
--- ── the length of a file in bytes ──
-
-length-written : (R : File) → length (encode R) ≡ sizeOf (shapeIn R) + 12
-unfolding encode
-length-written R = length-append (bodyBytes R) (trailerBytes end) ∙ omega (arith, length-body R, length-trailer end)
-  where
-    end : Trailer
-    end = record {
-      distance = sizeOf (shapeIn R);
-      charts = R .charts;
-      slaves = R .slaves;
-      nodes = R .nodes;
-      edition = firstEdition;
-      transitions = transitionsIn R;
-    }
-
 -- ── over records: G is read as the cleared file of F ──
 
 module _ (F G : File) (r : Reads (clear F) G) (w : Ordered (clear F)) (there : 0 < F .nodes) where
@@ -255,7 +235,7 @@ module _ (F G : File) (r : Reads (clear F) G) (w : Ordered (clear F)) (there : 0
   pub written-shorter : length (encode (rewrite G)) ≤ length (encode (rewrite F))
   unfolding shapeIn
   written-shorter =
-      let a = length-written (rewrite F) in let b = length-written (rewrite G) in
+      let a = length-encode (rewrite F) in let b = length-encode (rewrite G) in
       let t = total-fewer in let n = nodes-same in let c = r .charts in omega arith
 
   -- ── each test ──

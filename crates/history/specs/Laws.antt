@@ -6,9 +6,9 @@
 -- `days-carried`).
 use mathlib.Core.Path.{_≡_, refl, sym, ap, ap₂, _∙_}
 use mathlib.Core.Bool.{Bool, true, false, cond, _||_}
-use mathlib.Core.Logic.{_⊎_, inl, inr}
+use mathlib.Core.Logic.{inl, inr}
 use mathlib.Core.List.{List, [], _∷_, _++_, append-nil, append-assoc}
-use Prim.Native.Nat.{ℕ, zero, suc, _+_, _*_, _-_, _≤_, _<_}
+use Prim.Native.Nat.{ℕ, zero, suc, _+_, _*_, _≤_, _<_}
 use native.Mathlib.Nat.{suc-mul}
 use native.Mathlib.Omega.{arith}
 use borrow.Author.Tests.{eq-eqb, ne-eqb}
@@ -19,14 +19,15 @@ use Rattle.signals.specs.Mask.{_∪_}
 use Rattle.signals.specs.Decide.{sets, A, B, C, _∪ₑ_, _≐_}
 use Rattle.layout.specs.Le.{bytes}
 use Rattle.layout.specs.Le.Laws.{length-bytes}
-use Rattle.meaning.specs.Meaning.{Set, same, Answer}
+use Rattle.meaning.specs.Meaning.{Set, same}
 use Rattle.meaning.specs.File.{File, fileOf}
 use Rattle.meaning.specs.Check.{firstOf, refusalOf}
 use Rattle.meaning.specs.Check.Laws.{eq-or-not}
-use Rattle.meaning.specs.Calls.{laidOver, Valid, stepIn, nextIn, afterStep, carriedAfter, outputIn, rowOf, rowsOf}
-use Rattle.meaning.specs.Calls.{carriedOf, runRefusal, runBytes, runCarried, configAt}
+use Rattle.meaning.specs.Calls.{laidOver, Valid, nextIn, afterStep, rowOf, rowsOf}
+use Rattle.meaning.specs.Calls.{carriedOf, runRefusal, runBytes, runCarried}
 use Rattle.meaning.specs.Calls.Laws.{behind-is, run-open}
 use Rattle.meaning.specs.Laws.Runs.{Stand, rows-all, length-row, file-leads}
+use Rattle.meaning.specs.Laws.Bools.{or-swap}
 use Rattle.desk.specs.declared.Case.{Case}
 use Rattle.desk.specs.declared.Entry.{Entry}
 use Rattle.desk.specs.Posting.{configOf, joined, bookTests, outside?, dayTests, postRefusal, answerTo, postedRow}
@@ -268,12 +269,6 @@ swap-joined false false a b r = refl
 both-joined : (t : Bool) (a b r : Set) → cond t (a ∪ cond t (b ∪ r) r) (cond t (b ∪ r) r) ≡ cond t ((a ∪ b) ∪ r) r
 both-joined true a b r = sets (a ∷ b ∷ r ∷ []) [] (A ∪ₑ (B ∪ₑ C) ≐ (A ∪ₑ B) ∪ₑ C) tt
 both-joined false a b r = refl
-
-or-swap : (a b c : Bool) → (a || (b || c)) ≡ (b || (a || c))
-or-swap true true c = refl
-or-swap true false c = refl
-or-swap false true c = refl
-or-swap false false c = refl
 
 or-both : (a c : Bool) → (a || (a || c)) ≡ (a || c)
 or-both true c = refl

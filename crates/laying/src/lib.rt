@@ -15,6 +15,8 @@ use layout::record::Slave;
 use layout::record::Trailer;
 use layout::record::Transition;
 
+pub mod room;
+
 pub fn put_head(out: &mut [u8], at: usize, r: Head) -> usize
     requires { ⌜ at + 24 ≤ length (now out) ⌝ }
     ensures { λ p. ⌜ Put (now (out .entry)) at (headBytes r) (now (out .exit)) p ⌝ }

@@ -6,7 +6,6 @@ use mathlib.Core.List.{List, _∷_, _++_, map}
 use Prim.Native.Nat.{ℕ, _≤_, _<_, _%_}
 use lib.ListN.{length, drop, getD}
 use Rattle.layout.specs.Record.{headBytes, transitionBytes}
-use Rattle.layout.specs.Put.{Room, Put}
 use Rattle.layout.specs.declared.record.Head.{Head}
 use Rattle.layout.specs.declared.record.Transition.{Transition as Record}
 use Rattle.notation.specs.Syntax.{OneOrMore, Transition, Sequential}
@@ -16,6 +15,7 @@ use Rattle.reading.specs.Names.{membersOf, membersOr, any, signals?, set?, sign
 use Rattle.reading.specs.Meant.{all, gathered, transitionFor, transitionsIn, headFor}
 use Rattle.fields.specs.declared.Passage.{Passage}
 use Rattle.lists.specs.Lists.{moreOf}
+use Rattle.laying.specs.Room.{Tries}
 use Rattle.roster.specs.declared.Roster.{Roster}
 use Rattle.roster.specs.Roster.{crowded?, StandsAt, Charted}
 use Rattle.roster.specs.Walk.{Every}
@@ -31,10 +31,6 @@ lineOf u = transitionBytes (transitionFor u)
 
 unfoldable pub linesOf : Sequential → List ℕ
 linesOf s = all lineOf (transitionsIn s)
-
--- xs is written at a place if there is room for it
-abbrev pub Puts : List ℕ → ℕ → List ℕ → List ℕ → ℕ → Type 0
-Puts before at xs after next = Room before at xs → Put before at xs after next
 
 -- ── one chart ──
 
@@ -67,18 +63,18 @@ pub record InRange (t : Transition) : Type 0 where
 abbrev pub LinesMore : List ℕ → ℕ → List ℕ → ℕ → List ℕ → ℕ → Type 0
 LinesMore w at before to after next =
     (ts : List Transition) (us : Tokens) → Text (moreOf ts ++ (sign rbrace ∷ us)) (drop at w) → Every InRange ts
-    → Puts before to (all lineOf ts) after next
+    → Tries before to (all lineOf ts) after next
 
 -- the transitions that stand at a place are written
 abbrev pub LinesFrom : List ℕ → ℕ → List ℕ → ℕ → List ℕ → ℕ → Type 0
 LinesFrom w at before to after next =
     (ts : OneOrMore Transition) (us : Tokens) → Text (ofTransitionList ts ++ (sign rbrace ∷ us)) (drop at w)
-    → Every InRange (membersOf ts) → Puts before to (all lineOf (membersOf ts)) after next
+    → Every InRange (membersOf ts) → Tries before to (all lineOf (membersOf ts)) after next
 
 -- the transitions of the chart that stands at a place are written
 abbrev pub LinesAt : List ℕ → ℕ → List ℕ → ℕ → List ℕ → ℕ → Type 0
 LinesAt w at before to after next =
-    (s : Sequential) → StandsAt w at s → sequential? s ≡ false → Puts before to (linesOf s) after next
+    (s : Sequential) → StandsAt w at s → sequential? s ≡ false → Tries before to (linesOf s) after next
 
 -- ── all charts ──
 
@@ -86,9 +82,9 @@ LinesAt w at before to after next =
 abbrev pub HeadsPut : List ℕ → Roster → List ℕ → ℕ → List ℕ → ℕ → Type 0
 HeadsPut w r before at after next =
     (ss : List Sequential) → Charted w r ss → any sequential? ss ≡ false → any crowded? ss ≡ false
-    → Puts before at (all (λ s. headBytes (headFor s)) ss) after next
+    → Tries before at (all (λ s. headBytes (headFor s)) ss) after next
 
 abbrev pub TransitionsPut : List ℕ → Roster → List ℕ → ℕ → List ℕ → ℕ → Type 0
 TransitionsPut w r before at after next =
     (ss : List Sequential) → Charted w r ss → any sequential? ss ≡ false
-    → Puts before at (all (λ u. transitionBytes (transitionFor u)) (gathered transitionsIn ss)) after next
+    → Tries before at (all (λ u. transitionBytes (transitionFor u)) (gathered transitionsIn ss)) after next

@@ -3,11 +3,9 @@
 ghost use mathlib.Core.Path.{_≡_};
 ghost use Prim.Native.Nat.{_≤_, _%_};
 ghost use lib.ListN.{length};
-ghost use Rattle.layout.specs.Record.{headBytes, transitionBytes};
-ghost use Rattle.roster.specs.Records.{Puts, PlaceOf, HeadAt, recordOf, LinesMore, LinesFrom, LinesAt};
+ghost use Rattle.roster.specs.Records.{PlaceOf, HeadAt, recordOf, LinesMore, LinesFrom, LinesAt};
 ghost use Rattle.roster.specs.Records.{HeadsPut, TransitionsPut};
 use crate::Roster;
-use checks::limits;
 use layout::record::Head;
 use layout::record::Transition;
 
@@ -50,18 +48,6 @@ fn head_at(text: &[u8], at: usize) -> Head
     }
 }
 
-// A head, if there is room for it.
-fn put_head(out: &mut [u8], at: usize, h: Head) -> usize
-    ensures { λ p. ⌜ Puts (now (out .entry)) at (headBytes h) (now (out .exit)) p ⌝ }
-{
-    if at <= out.len() {
-        if out.len() - at >= limits::HEAD_BYTES {
-            return laying::put_head(out, at, h);
-        }
-    }
-    at
-}
-
 // The heads of all charts.
 pub fn heads(text: &[u8], r: Roster, out: &mut [u8], at: usize) -> usize
     ensures { λ p. ⌜ HeadsPut (now (text .entry)) r (now (out .entry)) at (now (out .exit)) p ⌝ }
@@ -70,7 +56,7 @@ pub fn heads(text: &[u8], r: Roster, out: &mut [u8], at: usize) -> usize
     let mut p = at;
     let mut c: usize = 0;
     while c < charts {
-        p = put_head(out, p, head_at(text, place(text, r, c)));
+        p = laying::room::put_head(out, p, head_at(text, place(text, r, c)));
         c += 1;
     }
     p
@@ -91,18 +77,6 @@ fn record_of(t: fields::Passage) -> Transition
     }
 }
 
-// A transition, if there is room for it.
-fn put_transition(out: &mut [u8], at: usize, t: Transition) -> usize
-    ensures { λ p. ⌜ Puts (now (out .entry)) at (transitionBytes t) (now (out .exit)) p ⌝ }
-{
-    if at <= out.len() {
-        if out.len() - at >= limits::TRANSITION_BYTES {
-            return laying::put_transition(out, at, t);
-        }
-    }
-    at
-}
-
 // The transitions that stand behind commas.
 fn lines_more(text: &[u8], at: usize, out: &mut [u8], to: usize) -> usize
     requires { ⌜ at ≤ length (now text) ⌝ }
@@ -112,7 +86,7 @@ fn lines_more(text: &[u8], at: usize, out: &mut [u8], to: usize) -> usize
     let mut i = at;
     while tokens::peek(text, i) == b',' {
         let t = fields::transition_at(text, tokens::behind_sign(text, i, 1));
-        p = put_transition(out, p, record_of(t));
+        p = laying::room::put_transition(out, p, record_of(t));
         i = t.next;
     }
     p
@@ -124,7 +98,7 @@ fn lines_from(text: &[u8], at: usize, out: &mut [u8], to: usize) -> usize
     ensures { λ p. ⌜ LinesFrom (now (text .entry)) at (now (out .entry)) to (now (out .exit)) p ⌝ }
 {
     let t = fields::transition_at(text, at);
-    let p = put_transition(out, to, record_of(t));
+    let p = laying::room::put_transition(out, to, record_of(t));
     lines_more(text, t.next, out, p)
 }
 

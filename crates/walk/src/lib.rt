@@ -17,7 +17,6 @@ use layout::record::Slave;
 
 pub mod brackets;
 pub mod order;
-pub mod room;
 
 // A chart is nested so deep at most.
 const MOST_DEPTH: usize = reading::MOST_DEPTH as usize;
@@ -69,7 +68,7 @@ fn add_node(c: Cursor, n: Node, out: &mut [u8]) -> Cursor
     Cursor {
         place: c.place,
         node: one_more(c.node),
-        at: room::put_node(out, c.at, n),
+        at: laying::room::put_node(out, c.at, n),
         slaves: c.slaves,
     }
 }
@@ -83,7 +82,7 @@ fn add_slave(c: Cursor, s: Slave, list: &mut [u8]) -> Cursor
         place: c.place,
         node: c.node,
         at: c.at,
-        slaves: room::put_slave(list, c.slaves, s),
+        slaves: laying::room::put_slave(list, c.slaves, s),
     }
 }
 

@@ -12,7 +12,7 @@ use borrow.Author.Tests.{ltb-true, lt-ltb}
 use lib.Dec.{ltb}
 use Rattle.meaning.specs.Meaning.{same, upd}
 use Rattle.meaning.specs.Count.{tally, one}
-use Rattle.meaning.specs.Count.Laws.{tally-cong, tally-scale, tally-le, tally-mono, tally-zero, tally-front}
+use Rattle.meaning.specs.Count.Laws.{tally-cong, tally-scale, tally-le, tally-mono, tally-zero, tally-front, tally-ones}
 use Rattle.meaning.specs.Laws.Bools.{and-l, and-r, and-i, same-refl, same→≡, same-≢}
 use Rattle.meaning.specs.Laws.Choices.{upd-at}
 use Rattle.wiring.specs.Product.{times, times-cong, times-pos, times-le, times-part, times-factor, grow}
@@ -63,15 +63,8 @@ module _ (N : ℕ) (enc : ℕ → Option ℕ) (sc : ℕ → ℕ) (lower : (c i :
   all-places =
       tally-front B (λ v. one (allRule true 0 v))
       ∙ ap (λ z. 0 + z) (tally-cong B (λ k. one (allRule true 0 (suc k))) (λ k. 1)
-      (λ k l. ap one (and-i (lt-ltb 0 (suc k) (omega arith)) (lt-ltb (suc k) (suc B) (omega arith)))) ∙ ones B)
+      (λ k l. ap one (and-i (lt-ltb 0 (suc k) (omega arith)) (lt-ltb (suc k) (suc B) (omega arith)))) ∙ tally-ones B)
       ∙ omega arith
-    where
-      ones : (n : ℕ) → tally n (λ k. 1) ≡ n
-      ones zero = unfold tally in refl
-      ones (suc n) = step n (ones n)
-        where
-          step : (n : ℕ) → tally n (λ k. 1) ≡ n → tally (suc n) (λ k. 1) ≡ suc n
-          step n h = unfold tally in omega arith
 
   most-completions : (n k : ℕ) (ch : ℕ → ℕ) → completions (λ c. B) allRule (λ ch c. true) n k ch ≡ B ^ n
   unfolding completions local

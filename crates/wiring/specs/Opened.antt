@@ -21,6 +21,7 @@ use Rattle.meaning.specs.Laws.Bools.{every}
 use Rattle.meaning.specs.Laws.Choices.{upd-off}
 use Rattle.meaning.specs.Laws.Editions.{places-one, places-two, stay-last}
 use Rattle.meaning.specs.Laws.Open.{howMany-next, howMany-last}
+pub use Rattle.meaning.specs.Active.Laws.{nth-near, nth-behind}
 use Rattle.wiring.specs.Wire.{each, eachs, Held, Helds, Enc, Encs, awakeBy}
 use Rattle.wiring.specs.Wired.{awake, awake-by, each-every, Stands}
 use Rattle.wiring.specs.Sure.{open?}
@@ -69,18 +70,6 @@ module _ (E : ℕ → Chart) (state : ℕ → ℕ) (cfg : ℕ → ℕ) (M : ℕ 
         (e (state i) ∙ ap (λ c. act c && meets (cfg c) (M c) (state i)) (sym (k .1))))
 
 -- ── a place of a list, and one behind its end ──
-
-pub nth-near : (m n : Move) (ts : List Transition) (k : ℕ) → k < length ts → nth m ts k ≡ nth n ts k
-unfolding nth
-nth-near m n [] k l = absurd (omega arith)
-nth-near m n (t ∷ ts) zero l = refl
-nth-near m n (t ∷ ts) (suc k) l = nth-near m n ts k (omega arith)
-
-pub nth-behind : (m : Move) (ts : List Transition) (k : ℕ) → length ts ≤ k → nth m ts k ≡ m
-unfolding nth
-nth-behind m [] k l = refl
-nth-behind m (t ∷ ts) zero l = absurd (omega arith)
-nth-behind m (t ∷ ts) (suc k) l = nth-behind m ts k (omega arith)
 
 -- ── what a chart may do ──
 

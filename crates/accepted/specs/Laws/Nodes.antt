@@ -10,10 +10,11 @@ use lib.Dec.{lit<}
 use lib.ListN.{length, length-append}
 use Rattle.layout.specs.Body.{nodeAt}
 use Rattle.layout.specs.declared.record.Node.{Node}
-use Rattle.meaning.specs.Count.Laws.{any-all}
+use Rattle.meaning.specs.Count.Laws.{any-all, or-left, or-right}
 use Rattle.meaning.specs.File.{File, shapeOf, fileAt}
 use Rattle.meaning.specs.Check.{notBelow, nodeOfKind?, nodes?}
-use Rattle.agreement.specs.Again.{neither, equal, lower}
+use Rattle.meaning.specs.Check.Laws.{neither, is-below}
+use Rattle.agreement.specs.Again.{equal}
 use Rattle.notation.specs.Syntax.{Sequential, Single, sequential, decomposed, hidden, Chart, single, composed, Slaves}
 use Rattle.notation.specs.Syntax.{firstSlave, moreSlaves}
 use Rattle.reading.specs.Numbers.{namedStates}
@@ -21,7 +22,6 @@ use Rattle.reading.specs.Names.{set?, optional?, sequential?, nameOf, sequentia
 use Rattle.reading.specs.Names.{names?}
 use Rattle.reading.specs.Meant.{sortedBy, optionalOf, setOf, Laid, lastOf, Placed, laySlaves, withNode, beside}
 use Rattle.reading.specs.Meant.{layHidden, layBoth, laySingle, layChart, placed, chartsOf, nodesOf, bodyFor, trailerFor}
-use Rattle.lists.specs.Laws.States.{or-left, or-right}
 use Rattle.outline.specs.Tree.{lacking, refusedSingle?, refused?, refusedSlaves?}
 use Rattle.outline.specs.Laws.Sorted.{Each, none, more, each-append, each-sorted}
 use Rattle.outline.specs.Laws.Laid.{nodes-some, laid}
@@ -137,7 +137,7 @@ module _ (n : ℕ) where
 -- ── those of the file ──
 
 lower-is : (m c k : ℕ) → m ≡ c → c < k → notBelow m k ≡ false
-lower-is m c k e l = lower m k (omega arith)
+lower-is m c k e l = is-below m k (omega arith)
 
 module _ (t : Chart) (e : names? t ≡ false) where
   pub all-formed : FormedFrom (length (chartsOf t)) 0 (nodesOf t)

@@ -16,13 +16,13 @@ use Rattle.layout.specs.declared.record.Node.{Node}
 use Rattle.meaning.specs.Count.{one}
 use Rattle.meaning.specs.Meaning.{Set, ∅, same}
 use Rattle.meaning.specs.Laws.Bools.{same-refl, same-≢}
+use Rattle.meaning.specs.Count.Laws.{or-left, or-right}
 use Rattle.notation.specs.Syntax.{Signals, Sequential, Single, sequential, decomposed, hidden, Chart, single}
 use Rattle.notation.specs.Syntax.{composed, Slaves, firstSlave, moreSlaves}
 use Rattle.reading.specs.Numbers.{namedStates}
 use Rattle.reading.specs.Names.{set?, optional?, sequential?, nameOf, sequentialsIn, sequentialsOf}
 use Rattle.reading.specs.Meant.{setOf, optionalOf, Laid, lastOf, laySlaves, withNode, beside, chartNode, layHidden}
 use Rattle.reading.specs.Meant.{layBoth, laySingle, layChart}
-use Rattle.lists.specs.Laws.States.{or-left, or-right}
 use Rattle.forms.specs.Laws.Slaves.{Pair}
 use Rattle.outline.specs.Tree.{lacking, refusedSingle?, refused?, refusedSlaves?}
 use Rattle.outline.specs.Laws.Sorted.{Each, none, more, each-of, each-append, each-sorted, total, total-append}

@@ -15,8 +15,8 @@ use Rattle.meaning.specs.Numbers.{firstEdition}
 use Rattle.meaning.specs.Count.Laws.{any-all}
 use Rattle.meaning.specs.File.{endOf, trailer, shapeOf}
 use Rattle.meaning.specs.Check.{edition?, counts?, distance?, nonzero, zeros?}
-use Rattle.meaning.specs.Check.Laws.{counted}
-use Rattle.agreement.specs.Again.{neither, equal, head-zero, transition-zero, slave-zero, node-zero, trailer-zero}
+use Rattle.meaning.specs.Check.Laws.{counted, neither}
+use Rattle.agreement.specs.Again.{equal, head-zero, transition-zero, slave-zero, node-zero, trailer-zero}
 use Rattle.agreement.specs.Again.{zeros-at}
 use Rattle.notation.specs.Syntax.{Chart}
 use Rattle.reading.specs.Meant.{headFor, transitionFor, chartsOf, transitionsOf, slavesOf, nodesOf, bodyFor}

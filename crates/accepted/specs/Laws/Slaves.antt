@@ -22,8 +22,8 @@ use Rattle.meaning.specs.Laws.Bools.{same-refl, same-≢, same→≡, or-r, and
 use Rattle.meaning.specs.File.{File, wholeOf, trailer, shapeOf, fileAt, fileOf}
 use Rattle.meaning.specs.Laws.Names.{Rule10}
 use Rattle.meaning.specs.Laws.Alike.{accepted-node}
-use Rattle.meaning.specs.Check.{notBelow, rising, inOrder, slave?, slaves?, holds, held, refusalOf}
-use Rattle.agreement.specs.Again.{neither}
+use Rattle.meaning.specs.Check.{rising, inOrder, slave?, slaves?, holds, held, refusalOf}
+use Rattle.meaning.specs.Check.Laws.{neither, is-below}
 use Rattle.whole.specs.Weigh.{weight, weights, ofSlaves}
 use Rattle.whole.specs.Laws.Whole.{accepted-sound, slaves-sum}
 use Rattle.notation.specs.Syntax.{Chart}
@@ -384,13 +384,10 @@ module _ (f : List ℕ) (bytes : AllBytes f) (ok : refusalOf f ≡ 0) where
         subst (λ k. G .state i < F .chart k .states) (sym (a .2)) (omega (arith, a .3, p .1)) in
         neither _ _
         (neither _ _
-        (neither _ _ (in-range (G .master i) (G .charts) (omega (arith, as-many, c)))
-        (in-range (G .state i) (G .chart (G .master i) .states) (omega (arith, b, g))))
-        (in-range (G .node i) (G .nodes) (node-low i l (omega (arith, as-many, c)))))
+        (neither _ _ (is-below (G .master i) (G .charts) (omega (arith, as-many, c)))
+        (is-below (G .state i) (G .chart (G .master i) .states) (omega (arith, b, g))))
+        (is-below (G .node i) (G .nodes) (node-low i l (omega (arith, as-many, c)))))
         (order i l)
-      where
-        in-range : (m n : ℕ) → m < n → notBelow m n ≡ false
-        in-range m n l = ap not (lt-ltb m n l)
 
     pub slaves-pass : slaves? G ≡ false
     unfolding slaves?

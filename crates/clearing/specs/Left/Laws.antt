@@ -2,9 +2,8 @@
 -- is left of the first k; the bytes; a chart's head and list; all charts.
 use mathlib.Core.Path.{_≡_, refl, sym, _∙_, ap, ap₂}
 use mathlib.Core.Bool.{Bool, true, false, cond}
-use mathlib.Core.List.{List, [], _∷_, _++_, append-nil, append-assoc}
-use Prim.Native.Nat.{ℕ, zero, suc, _+_, _≤_, _<_}
-use native.Mathlib.Nat.{add-zero}
+use mathlib.Core.List.{List, [], _∷_, _++_, append-nil}
+use Prim.Native.Nat.{ℕ, zero, suc, _+_, _≤_}
 use native.Mathlib.Numerals.{add-one}
 use native.Mathlib.Omega.{arith}
 use lib.ListN.{length, length-append}
@@ -13,7 +12,7 @@ use Rattle.signals.specs.Decide.{sets, A, B, C, ∅ₑ, _∪ₑ_, _≐_}
 use Rattle.layout.specs.Record.{transitionBytes}
 use Rattle.layout.specs.Record.Laws.{length-transition}
 use Rattle.layout.specs.Body.{headAt, transitionAt, startOf, from, transitionsOf}
-use Rattle.layout.specs.Body.Laws.{length-from}
+use Rattle.layout.specs.Body.Laws.{length-from, from-more}
 use Rattle.layout.specs.declared.body.Shape.{Shape}
 use Rattle.layout.specs.declared.record.Head.{Head}
 use Rattle.layout.specs.declared.record.Transition.{Transition}
@@ -21,6 +20,7 @@ use Rattle.meaning.specs.Count.{tally}
 use Rattle.meaning.specs.Meaning.{Set, guards}
 use Rattle.meaning.specs.File.{fileAt, chartOf}
 use Rattle.meaning.specs.Rewriting.{headFor, inTurn, transitionsBytes, transitionsIn, shapeIn}
+use Rattle.agreement.specs.Encoded.{transitions-append}
 use Rattle.checks.specs.Known.{Sized, Summed}
 use Rattle.laying.specs.Trailer.{Small}
 use Rattle.clearing.specs.declared.Left.{Left}
@@ -47,21 +47,6 @@ guards-append [] ys = sets (guards ys ∷ []) [] (A ≐ ∅ₑ ∪ₑ A) tt
 guards-append (t ∷ xs) ys =
     ap (λ z. (t .needed ∪ t .barred) ∪ z) (guards-append xs ys)
     ∙ sets ((t .needed ∪ t .barred) ∷ guards xs ∷ guards ys ∷ []) [] (A ∪ₑ (B ∪ₑ C) ≐ A ∪ₑ B ∪ₑ C) tt
-
-bytes-append : (xs ys : List Transition) → transitionsBytes (xs ++ ys) ≡ transitionsBytes xs ++ transitionsBytes ys
-unfolding transitionsBytes
-bytes-append [] ys = refl
-bytes-append (t ∷ xs) ys =
-    ap (λ z. transitionBytes t ++ z) (bytes-append xs ys)
-    ∙ sym (append-assoc (transitionBytes t) (transitionsBytes xs) (transitionsBytes ys))
-
-from-more : (f : ℕ → Transition) (s k : ℕ) → from f s (suc k) ≡ from f s k ++ (f (s + k) ∷ [])
-unfolding from
-from-more f s zero = ap (λ z. f z ∷ []) (sym (add-zero s))
-from-more f s (suc k) =
-    ap (λ z. f s ∷ z)
-    (from-more f (suc s) k
-    ∙ ap (λ z. from f (suc s) k ++ (f z ∷ [])) (let e : suc s + k ≡ s + suc k = omega arith in e))
 
 -- ── what is left of the first k, from s on ──
 
@@ -110,7 +95,7 @@ module _ (fed : Set) (f : ℕ → Transition) (s : ℕ) where
   kept-turn zero = unfold alive in unfold from in unfold transitionsBytes in refl
   kept-turn (suc k) =
       ap transitionsBytes (alive-more k)
-      ∙ bytes-append (alive fed (from f s k)) (alive fed (f (s + k) ∷ []))
+      ∙ transitions-append (alive fed (from f s k)) (alive fed (f (s + k) ∷ []))
       ∙ ap (λ z. z ++ transitionsBytes (alive fed (f (s + k) ∷ []))) (kept-turn k)
 
 module _ (fed : Set) (t : Transition) where

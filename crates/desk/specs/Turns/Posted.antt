@@ -2,24 +2,24 @@
 -- record's first bytes; the entries; the file and the cases looked at; a case posted; the book posted; what is decided
 -- (`verdict-is`); what posting asks (`postable`); the whole (`cases-are`, `rows-are`).
 use mathlib.Core.Path.{_≡_, refl, sym, ap, ap₂, _∙_}
-use mathlib.Core.Bool.{Bool, true, false, cond, _||_}
+use mathlib.Core.Bool.{Bool, true, false, cond, _||_, or-assoc, or-false}
 use mathlib.Core.Logic.{_⊎_, inl, inr}
 use mathlib.Core.List.{List, [], _∷_, _++_, append-assoc, append-nil}
-use Prim.Native.Nat.{ℕ, zero, suc, _+_, _*_, _-_, _≤_, _<_}
+use Prim.Native.Nat.{ℕ, zero, suc, _+_, _*_, _≤_, _<_}
 use native.Mathlib.Omega.{arith}
 use borrow.Author.Tests.{lt-ltb, le-ltb, eq-eqb, ne-eqb, ltb-false, eqb-false, leb-false}
 use lib.Dec.{ltb, leb, eqb, lit<}
-use lib.ListN.{length, getD, take, drop, set, replicate, length-set, length-replicate, getD-replicate, length-append}
+use lib.ListN.{length, getD, take, drop, set, length-set, length-replicate, getD-replicate, length-append}
 use lib.ListN.{List·getD-append}
 use lib.Seq.{getD-set-same, getD-set-other, take-at, take-suc}
 use Rattle.signals.specs.Mask.{_∪_}
 use Rattle.signals.specs.Decide.{sets, A, B, C, _∪ₑ_, ∅ₑ, _≐_}
-use Rattle.meaning.specs.Numbers.{mostCharts, wrongLength, badState, manyOpen}
-use Rattle.meaning.specs.Count.{one, anyUpTo}
+use Rattle.meaning.specs.Numbers.{mostCharts, wrongLength, manyOpen}
+use Rattle.meaning.specs.Count.{anyUpTo}
 use Rattle.meaning.specs.Count.Laws.{any-cong}
 use Rattle.meaning.specs.Meaning.{Set, ∅, same, Outcome, Answer, refused, given, answer}
 use Rattle.meaning.specs.File.{File, trailer, shapeOf, fileAt, fileOf}
-use Rattle.meaning.specs.Check.{Test, firstOf, fileTests, refusalOf, differ, notBelow}
+use Rattle.meaning.specs.Check.{Test, firstOf, fileTests, refusalOf, notBelow}
 use Rattle.meaning.specs.Check.Laws.{eq-or-not, firstOf-++, firstOf-before, firstOf-passes, Passes, passed, counted}
 use Rattle.meaning.specs.Check.Laws.{call-refused, call-passed}
 use Rattle.meaning.specs.Calls.{made, laidOver, configTests, Valid, stepRefusal, outcomesIn, foundIn, manyOpen?}
@@ -32,13 +32,12 @@ use Rattle.desk.specs.declared.Case.{Case}
 use Rattle.desk.specs.declared.Entry.{Entry}
 use Rattle.desk.specs.declared.Day.{Day}
 use Rattle.desk.specs.declared.Seen.{Seen}
-use Rattle.desk.specs.declared.Reply.{Reply}
 use Rattle.desk.specs.declared.Plan.{Plan}
 use Rattle.desk.specs.Posting.{mostCases, lastRow, width, badBook, noSuchCase, rowsEnd, shortBook, configOf}
-use Rattle.desk.specs.Posting.{joined, bookTests, outside?, ended?, dayTests, postRefusal, answerTo, postedRow}
+use Rattle.desk.specs.Posting.{joined, bookTests, outside?, ended?, dayTests, postRefusal, postedRow}
 use Rattle.desk.specs.Posting.{postedCase, rowsFrom, casesFrom, postCases, postRows}
 use Rattle.desk.specs.Turns.{firstBytes, joinedAt, takenOf, noDay, allTaken, badOf, seenOf, unseenOf, allSeen}
-use Rattle.desk.specs.Turns.{verdictOf, planOf, replyOf, offeredTo, replyTo, keptOf, turnCase, rowBytes, turnRow}
+use Rattle.desk.specs.Turns.{verdictOf, planOf, replyOf, turnCase, rowBytes, turnRow}
 use Rattle.desk.specs.Turns.{turnCases, turnRows, Postable}
 
 -- the first bytes of a record that has them
@@ -46,14 +45,6 @@ pub first-bytes : (n : ℕ) (l : List ℕ) → n ≤ length l → take n l ≡ f
 unfolding made
 first-bytes zero l h = refl
 first-bytes (suc n) l h = rw (take-suc l n 0 h, first-bytes n l (omega arith))
-
-or-assoc : (a b c : Bool) → ((a || b) || c) ≡ (a || (b || c))
-or-assoc true b c = refl
-or-assoc false b c = refl
-
-or-none : (a : Bool) → a ≡ (a || false)
-or-none true = refl
-or-none false = refl
 
 or-none-left : (a b : Bool) → (a || b) ≡ false → (a ≡ false) × (b ≡ false)
 or-none-left true b h = absurd (let z : _≡_ {A = ℕ} 0 1 = cc in omega arith)
@@ -99,7 +90,7 @@ sets-of-day n es k l =
 
 pub outside-all : (n : ℕ) (d : Day) (es : List Entry) → allTaken n d es .outside ≡ (d .outside || outside? n es)
 unfolding allTaken takenOf outside?
-outside-all n d [] = or-none (d .outside)
+outside-all n d [] = sym (or-false (d .outside))
 outside-all n d (e ∷ es) = outside-all n (takenOf n d e) es ∙ or-assoc (d .outside) (leb n (e .number)) (outside? n es)
 
 pub outside-of-day : (n : ℕ) (es : List Entry) → allTaken n noDay es .outside ≡ outside? n es
@@ -170,7 +161,7 @@ seen-refused f cs h = seen-kept (unseenOf f) cs (λ z. h (sym (unseen-refusal f)
 
 seen-ended : (s : Seen) (cs : List Case) → allSeen s cs .ended ≡ (s .ended || ended? cs)
 unfolding allSeen seenOf ended?
-seen-ended s [] = or-none (s .ended)
+seen-ended s [] = sym (or-false (s .ended))
 seen-ended s (c ∷ cs) = seen-ended (seenOf s c) cs ∙ or-assoc (s .ended) (leb lastRow (c .last)) (ended? cs)
 
 pub book-ended : (f : List ℕ) (cs : List Case) → allSeen (unseenOf f) cs .ended ≡ ended? cs

@@ -7,7 +7,7 @@ use mathlib.Core.List.{List, [], _∷_, _++_, append-assoc, append-nil}
 use Prim.Native.Nat.{ℕ, _+_, _*_, _-_, _^_, _<_}
 use native.Mathlib.Omega.{arith}
 use lib.ListN.{length, take, drop, length-append}
-use lib.Seq.{drop-at, take-at, drop-append-add}
+use lib.Seq.{drop-at, take-at}
 use Rattle.layout.specs.Record.{trailerOf, headOf, transitionOf, slaveOf, nodeOf, trailerBytes, headBytes}
 use Rattle.layout.specs.Record.{transitionBytes, slaveBytes, nodeBytes}
 use Rattle.layout.specs.Record.Laws.{length-trailer, length-head, length-transition, length-slave, length-node}
@@ -18,13 +18,14 @@ use Rattle.layout.specs.declared.record.Slave.{Slave}
 use Rattle.layout.specs.declared.record.Node.{Node}
 use Rattle.meaning.specs.Check.Laws.{Counted}
 use Rattle.meaning.specs.File.{endOf, trailer, bodyOf, shapeOf, fileAt, fileOf}
+use Rattle.agreement.specs.Encoded.{past}
 use Rattle.notation.specs.Syntax.{Transition, Sequential, Chart}
 use Rattle.reading.specs.Names.{sequential?}
 use Rattle.reading.specs.Meant.{all, transitionFor, headFor, chartsOf, transitionsOf, slavesOf, nodesOf, bodyFor}
 use Rattle.reading.specs.Meant.{trailerFor, fileFor}
 use Rattle.reading.specs.Laws.Body.{length-all, headsFor, linesFor, slavesFor, nodesFor, body-for, length-heads}
 use Rattle.reading.specs.Laws.Body.{length-lines, length-slaves, length-body}
-use Rattle.roster.specs.Laws.Laid.{all-append}
+use Rattle.reading.specs.Laws.Lists.{all-append}
 use Rattle.faithful.specs.Laws.Small.{head-small}
 
 -- ── a member of a list ──
@@ -53,9 +54,6 @@ all-at w g h l i a m rest =
           ∙ drop-at p ((g a ++ q) ++ rest) (w * i) (length-all w g h (m .before) ∙ ap (w *_) (m .counted))
           ∙ append-assoc (g a) q rest,
     )
-
-past : (p q : List ℕ) (m k : ℕ) → length p ≡ m → drop (m + k) (p ++ q) ≡ drop k q
-past p q m k e = ap (λ z. drop (z + k) (p ++ q)) (sym e) ∙ drop-append-add p q k
 
 -- ── the trailer and the body ──
 

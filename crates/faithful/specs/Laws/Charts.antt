@@ -14,13 +14,14 @@ use Rattle.meaning.specs.Meaning.{same}
 use Rattle.meaning.specs.File.{shapeOf, chartOf, fileAt, fileOf}
 use Rattle.meaning.specs.Check.{counts?}
 use Rattle.meaning.specs.Check.Laws.{counted}
+use Rattle.meaning.specs.Count.Laws.{or-left, or-right}
 use Rattle.notation.specs.Syntax.{Transition, Sequential, Chart}
 use Rattle.reading.specs.Numbers.{namedCharts}
 use Rattle.reading.specs.Names.{membersOf, any, notAll?, transition?, sequential?, sequentialsOf, parts?, nameOf}
 use Rattle.reading.specs.Names.{names?}
 use Rattle.reading.specs.Meant.{gathered, transitionFor, transitionsIn, headFor, chartsOf, transitionsOf, bodyFor}
 use Rattle.reading.specs.Meant.{trailerFor, fileFor}
-use Rattle.lists.specs.Laws.States.{or-left, or-right, length-snoc}
+use Rattle.lists.specs.Laws.States.{length-snoc}
 use Rattle.reading.specs.Laws.Lists.{any-append}
 use Rattle.roster.specs.Laws.Sorted.{InOrder, sorted-same, sorted-order, any-perm, length-perm, gathered-snoc}
 use Rattle.faithful.specs.Typed.{ChartIs, ChartsTyped}

@@ -10,13 +10,13 @@ use lib.Dec.{eqb}
 use lib.ListN.{length}
 use Rattle.layout.specs.declared.record.Slave.{Slave}
 use Rattle.meaning.specs.Count.{one}
+use Rattle.meaning.specs.Count.Laws.{or-left, or-right}
 use Rattle.notation.specs.Syntax.{Sequential, Single, sequential, decomposed, hidden, Chart, single, composed, Slaves}
 use Rattle.notation.specs.Syntax.{firstSlave, moreSlaves}
 use Rattle.reading.specs.Numbers.{namedStates}
 use Rattle.reading.specs.Names.{any, has, twice?, nameOf, sequentialsIn, sequentialsOf, sequentialsOfSlaves}
 use Rattle.reading.specs.Meant.{withKey, sortedBy, lastOf, Placed, laySlaves, withNode, beside, layHidden}
 use Rattle.reading.specs.Meant.{layBoth, laySingle, layChart, placed}
-use Rattle.lists.specs.Laws.States.{or-left, or-right}
 use Rattle.forms.specs.Laws.Slaves.{Pair}
 use Rattle.outline.specs.Tree.{refused?, refusedSlaves?}
 use Rattle.outline.specs.Laws.Sorted.{Each, none, more, each-append, each-sorted, total, total-append, total-sorted}

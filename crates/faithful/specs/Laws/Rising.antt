@@ -5,7 +5,7 @@ use mathlib.Core.List.{List, [], _∷_, _++_, append-assoc}
 use mathlib.Core.Logic.{_⊎_, inl, inr}
 use Prim.Native.Nat.{ℕ, suc, _<_}
 use native.Mathlib.Omega.{arith}
-use borrow.Author.Tests.{ltb-true, eqb-true}
+use borrow.Author.Tests.{ltb-true, eqb-true, not-false}
 use lib.Dec.{ltb, eqb}
 use lib.ListN.{length, length-append}
 use Rattle.layout.specs.declared.record.Slave.{Slave}
@@ -16,7 +16,7 @@ use Rattle.meaning.specs.File.{File}
 use Rattle.meaning.specs.Check.{notBelow, rising, inOrder, slave?, slaves?}
 use Rattle.agreement.specs.Encoded.{slaveIn}
 use Rattle.reading.specs.Meant.{withKey}
-use Rattle.lists.specs.Laws.States.{not-false, length-snoc}
+use Rattle.lists.specs.Laws.States.{length-snoc}
 use Rattle.outline.specs.Laws.Sorted.{Each, none, more, each-with}
 use Rattle.faithful.specs.Typed.{Rising}
 use Rattle.faithful.specs.Laws.Back.{At}

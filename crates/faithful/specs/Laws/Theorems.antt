@@ -11,6 +11,7 @@ use Rattle.meaning.specs.Check.{notBelow, counts?, slaves?, refusalOf}
 use Rattle.meaning.specs.Check.Laws.{counted, passed, front, in-front}
 use Rattle.meaning.specs.Check.Nodes.{Treed, treed}
 use Rattle.meaning.specs.File.{File, treeOf, wholeOf, shapeOf, fileAt, fileOf}
+use Rattle.meaning.specs.Count.Laws.{or-left, or-right}
 use Rattle.notation.specs.Syntax.{Chart}
 use Rattle.notation.specs.Spelling.{Spells}
 use Rattle.notation.specs.Reader.{Reading, spelt, wrongAt, reader}
@@ -20,7 +21,6 @@ use Rattle.reading.specs.Names.{any, twice?, leftOut?, notAll?, sequentialsOf, 
 use Rattle.reading.specs.Meant.{chartsOf, layChart, nodesOf, bodyFor, trailerFor, fileFor}
 use Rattle.reading.specs.Read.{chartTests, refusalIn, readRefusal, readFile}
 use Rattle.reading.specs.Laws.Read.{read-spells}
-use Rattle.lists.specs.Laws.States.{or-left, or-right}
 use Rattle.outline.specs.Laws.Filed.{not-refused}
 use Rattle.roster.specs.Laws.Sorted.{few-names, length-perm}
 use Rattle.faithful.specs.Typed.{Means, Faithful}

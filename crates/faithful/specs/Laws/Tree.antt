@@ -17,6 +17,7 @@ use Rattle.meaning.specs.Meaning.{Slaves as Held}
 use Rattle.meaning.specs.File.{File, whole, gather, treeOf}
 use Rattle.meaning.specs.Check.{slaves?}
 use Rattle.meaning.specs.Laws.Trees.{Ordered, tree₀, tree₁, tree₂}
+use Rattle.meaning.specs.Count.Laws.{or-left, or-right}
 use Rattle.agreement.specs.Encoded.{slaveIn, nodeIn}
 use Rattle.notation.specs.Syntax.{Signals, Sequential, Single, sequential, decomposed, hidden, Chart, single}
 use Rattle.notation.specs.Syntax.{composed, Slaves, firstSlave, moreSlaves}
@@ -24,7 +25,7 @@ use Rattle.reading.specs.Numbers.{namedCharts, namedStates}
 use Rattle.reading.specs.Names.{set?, optional?, sequential?, nameOf, sequentialsIn, sequentialsOf, sequentialsOfSlaves}
 use Rattle.reading.specs.Meant.{withKey, sortedBy, setOf, optionalOf, Laid, lastOf, laySlaves, withNode, beside}
 use Rattle.reading.specs.Meant.{chartNode, layHidden, layBoth, laySingle, layChart}
-use Rattle.lists.specs.Laws.States.{or-left, or-right, length-snoc}
+use Rattle.lists.specs.Laws.States.{length-snoc}
 use Rattle.forms.specs.Laws.Slaves.{Pair}
 use Rattle.outline.specs.Tree.{lacking, refusedSingle?, refused?, refusedSlaves?}
 use Rattle.outline.specs.Laws.Sorted.{Each, none, more, each-append, each-sorted, total, total-append, length-sorted}

@@ -1,25 +1,17 @@
 -- `with_signal` meets its contract.
-use mathlib.Core.Path.{_≡_, refl, sym, ap, _∙_}
-use mathlib.Core.Bool.{Bool, true, false, _||_, not}
+use mathlib.Core.Path.{sym, ap, _∙_}
+use mathlib.Core.Bool.{_||_, not, or-false, or-true}
 use native.Mathlib.Omega.{arith}
 use borrow.Author.Needs.{needs}
 use borrow.Author.Tests.{lt-ltb, le-ltb}
 use Rattle.fields.proofs.with_signal.Statement.{statement}
 use Rattle.fields.proofs.with_signal.Tie as tie
 
-or-false : (b : Bool) → b ≡ (b || false)
-or-false true = refl
-or-false false = refl
-
-or-true : (b : Bool) → true ≡ (b || true)
-or-true true = refl
-or-true false = refl
-
 returns : tie.Need-returns
 returns c =
     let a = c .before .before .args in
     record {
-      is-bad = or-false (a .bad) ∙ sym (ap (λ b. a .bad || not b) (lt-ltb (a .n) 64 (c .before .if1 .taken)));
+      is-bad = sym (or-false (a .bad)) ∙ sym (ap (λ b. a .bad || not b) (lt-ltb (a .n) 64 (c .before .if1 .taken)));
       is-mask = λ l. c .with .ensures;
     }
 
@@ -28,7 +20,7 @@ returns-2 c =
     let a = c .before .args in
     let h = c .if1 .left in
     record {
-      is-bad = or-true (a .bad) ∙ sym (ap (λ b. a .bad || not b) (le-ltb (a .n) 64 h));
+      is-bad = sym (or-true (a .bad)) ∙ sym (ap (λ b. a .bad || not b) (le-ltb (a .n) 64 h));
       is-mask = λ l. absurd (omega arith);
     }
 

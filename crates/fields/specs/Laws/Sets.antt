@@ -4,15 +4,16 @@ use mathlib.Core.Path.{_≡_, refl, sym, ap, _∙_, subst}
 use mathlib.Core.Bool.{Bool, true, false, _||_, not, cond, true≢false}
 use mathlib.Core.Option.{none, some}
 use mathlib.Core.List.{List, [], _∷_, _++_, append-assoc, append-nil}
-use Prim.Native.Nat.{ℕ, zero, suc, _+_, _≤_, _<_}
+use Prim.Native.Nat.{ℕ, _<_}
 use native.Mathlib.Decide.{decLt}
 use native.Mathlib.Omega.{arith}
-use borrow.Author.Tests.{lt-ltb, le-ltb, ltb-true, ltb-false}
+use borrow.Author.Tests.{lt-ltb, le-ltb, ltb-true}
 use lib.Dec.{ltb}
-use lib.ListN.{length, drop, getD}
+use lib.ListN.{drop, getD}
 use Rattle.signals.specs.Mask.{_∪_, single}
 use Rattle.signals.specs.Decide.{sets, A, B, C, _∪ₑ_, ∅ₑ, _≐_}
 use Rattle.meaning.specs.Check.{notBelow}
+use Rattle.meaning.specs.Count.Laws.{or-left, or-right}
 use Rattle.notation.specs.Syntax.{OneOrMore, one, _▸_, Signals}
 use Rattle.notation.specs.Spelling.{comma, rbrace, lbrace, letS, letter, sign, signBytes, Tokens, ofNames, ofSet, Text}
 use Rattle.notation.specs.Reader.{firstByte}
@@ -21,7 +22,7 @@ use Rattle.reading.specs.Names.{membersOf, membersOr, any, signals?}
 use Rattle.reading.specs.Meant.{maskOf}
 use Rattle.reading.specs.Laws.Lists.{any-snoc}
 use Rattle.tokens.specs.declared.Name.{Name}
-use Rattle.tokens.specs.Tokens.{blanks, cap, afterBlanks, BehindSign, NameFrom}
+use Rattle.tokens.specs.Tokens.{cap, afterBlanks, BehindSign, NameFrom}
 use Rattle.tokens.specs.Laws.Text.{behind-right, named-right}
 use Rattle.tokens.specs.Laws.Lists.{firstName, restNames, moreNames, names-cons, peek-sign, peek-name}
 use Rattle.fields.specs.declared.SignalSet.{SignalSet}
@@ -64,14 +65,6 @@ pub so-far-none : SoFar 0 false []
 unfolding signals? any maskOf
 so-far-none = record { is-bad = refl; is-mask = λ e. refl }
 
-or-left : (a b : Bool) → (a || b) ≡ false → a ≡ false
-or-left true b e = e
-or-left false b e = refl
-
-or-right : (a b : Bool) → (a || b) ≡ false → b ≡ false
-or-right true b e = absurd (true≢false e)
-or-right false b e = e
-
 below : (n : ℕ) → notBelow n namedSignals ≡ false → n < namedSignals
 below n e = go (ltb n 64) refl e
   where
@@ -107,7 +100,7 @@ so-far-more mask bad done n v r e s j =
 
 -- ── names ──
 
-members-cons : (ks : OneOrMore ℕ) → membersOf ks ≡ firstName ks ∷ restNames ks
+pub members-cons : (ks : OneOrMore ℕ) → membersOf ks ≡ firstName ks ∷ restNames ks
 unfolding membersOf firstName restNames
 members-cons (one k) = refl
 members-cons (ks ▸ k) = ap (_++ (k ∷ [])) (members-cons ks)
@@ -188,7 +181,7 @@ some-text w at i ks ts b t =
     (b .behind)
 
 -- the byte that comes next tells whether the set is empty
-none-next : (w : List ℕ) (i : ℕ) (ts : Tokens) → Text (sign rbrace ∷ ts) (drop i w)
+pub none-next : (w : List ℕ) (i : ℕ) (ts : Tokens) → Text (sign rbrace ∷ ts) (drop i w)
     → getD (afterBlanks (drop i w)) 0 0 ≡ 125
 unfolding firstByte
 none-next w i ts t = peek-sign rbrace t

@@ -1,10 +1,11 @@
 -- A transition is read if its parts are read one after another: `transition-right`.
-use mathlib.Core.Path.{_≡_, refl, sym, ap, _∙_, subst}
-use mathlib.Core.Bool.{Bool, true, false, _||_, true≢false}
+use mathlib.Core.Path.{_≡_, sym, ap, _∙_, subst}
+use mathlib.Core.Bool.{_||_}
 use mathlib.Core.List.{List, [], _∷_, _++_, map, append-assoc}
 use Prim.Native.Nat.{ℕ, _≤_}
 use native.Mathlib.Omega.{arith}
-use lib.ListN.{length, drop}
+use lib.ListN.{drop}
+use Rattle.meaning.specs.Count.Laws.{or-left, or-right}
 use Rattle.notation.specs.Syntax.{Transition}
 use Rattle.notation.specs.Spelling.{lpar, rpar, comma, slash, letQ, sign, signBytes, name, Tokens, ofSet, ofGuard}
 use Rattle.notation.specs.Spelling.{ofTransition, Text}
@@ -16,15 +17,7 @@ use Rattle.tokens.specs.Laws.Text.{behind-right, named-right}
 use Rattle.fields.specs.declared.SignalSet.{SignalSet}
 use Rattle.fields.specs.declared.Guard.{Guard}
 use Rattle.fields.specs.declared.Passage.{Passage}
-use Rattle.fields.specs.Fields.{Gives, Means, SetAt, GuardAt, Passes, TransitionAt}
-
-left : (a b : Bool) → (a || b) ≡ false → a ≡ false
-left true b e = e
-left false b e = refl
-
-right : (a b : Bool) → (a || b) ≡ false → b ≡ false
-right true b e = absurd (true≢false e)
-right false b e = e
+use Rattle.fields.specs.Fields.{SetAt, GuardAt, Passes, TransitionAt}
 
 -- the tokens of a transition with others behind them, part by part
 unfoldable parts : Transition → Tokens → Tokens
@@ -67,7 +60,7 @@ module _ (w : List ℕ) (at i j k : ℕ) (a b : Name) (g : Guard) (s : SignalSet
             is-bad =
                 eb ∙ ap (_|| s .bad) (m .is-bad)
                 ∙ ap (λ c. signals? (map signalOf (membersOr (t .guard))) || c) (t₄ .is-bad);
-            is-needed = λ e. en ∙ m .is-needed (left (g .bad) (s .bad) (sym eb ∙ e));
-            is-barred = λ e. er ∙ m .is-barred (left (g .bad) (s .bad) (sym eb ∙ e));
-            is-action = λ e. ea ∙ t₄ .is-mask (right (g .bad) (s .bad) (sym eb ∙ e));
+            is-needed = λ e. en ∙ m .is-needed (or-left (g .bad) (s .bad) (sym eb ∙ e));
+            is-barred = λ e. er ∙ m .is-barred (or-left (g .bad) (s .bad) (sym eb ∙ e));
+            is-action = λ e. ea ∙ t₄ .is-mask (or-right (g .bad) (s .bad) (sym eb ∙ e));
           }

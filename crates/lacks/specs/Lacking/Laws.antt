@@ -3,39 +3,34 @@
 -- code goes (`in-file`); the test is met exactly if the chart could take the transition, were it offered that set
 -- (`met-exactly`, `met-permits`); and every answer says what it should, in words (`says`, of files `answers`).
 use mathlib.Core.Path.{_≡_, refl, sym, ap, subst, _∙_}
-use mathlib.Core.Bool.{Bool, true, false, _&&_, not, cond}
-use mathlib.Core.List.{List, [], _∷_, _++_}
+use mathlib.Core.Bool.{true, _&&_, not}
+use mathlib.Core.List.{List, [], _∷_}
 use Prim.Native.Nat.{ℕ, zero, suc, _≤_, _<_, _^_}
 use native.Mathlib.Omega.{arith}
-use borrow.Author.Tests.{lt-ltb, le-ltb, ne-eqb}
-use lib.Dec.{ltb}
+use borrow.Author.Tests.{le-ltb, ne-eqb}
 use lib.ListN.{length}
 use Rattle.signals.specs.Mask.{_∪_, _∩_}
 use Rattle.signals.specs.Guard.{isMet, Shows}
 use Rattle.signals.specs.Guard.Laws.{guard-shows}
 use Rattle.layout.specs.Le.{AllBytes}
-use Rattle.layout.specs.Body.{transitionsOf}
 use Rattle.layout.specs.declared.record.Transition.{Transition}
 use Rattle.meaning.specs.Numbers.{noSuchChart, noSuchPlace}
-use Rattle.meaning.specs.Meaning.{Set, same, Chart, Move, noMove, takes, nth, met?, okChart}
-use Rattle.meaning.specs.File.{File, trailer, shapeOf, bodyOf, fileAt, fileOf, chartOf}
-use Rattle.meaning.specs.Check.{Test, firstOf, fileTests, refusalOf, notBelow}
+use Rattle.meaning.specs.Meaning.{Set, same, Chart, noMove, takes, nth, met?, okChart}
+use Rattle.meaning.specs.File.{File, fileAt, fileOf, chartOf}
+use Rattle.meaning.specs.Check.{firstOf, refusalOf, notBelow}
 use Rattle.meaning.specs.Check.Laws.{firstOf-here, firstOf-next, firstOf-[], call-refused, call-passed, passed}
+use Rattle.meaning.specs.Check.Laws.{is-below}
 use Rattle.meaning.specs.Laws.Bools.{same-refl}
 use Rattle.agreement.specs.Every.{Every}
 use Rattle.agreement.specs.Encoded.{Small}
 use Rattle.agreement.specs.Passed.{smalls}
 use Rattle.lacks.specs.Lacking.{testOf, testAt, placeTests, lackingRefusal, lackingOf, lackingIn, Answers}
-use Rattle.lacks.specs.declared.Lacking.{Lacking}
 use Rattle.lacks.specs.declared.Lacking.the-variants.{Refused, Shown}
 
 -- ── which answer ──
 
 not-below : (m n : ℕ) → n ≤ m → notBelow m n ≡ true
 not-below m n l = ap not (le-ltb m n l)
-
-is-below : (m n : ℕ) → m < n → notBelow m n ≡ false
-is-below m n l = ap not (lt-ltb m n l)
 
 module _ (F : File) (chart place : ℕ) where
   pub no-chart : F .charts ≤ chart → firstOf (placeTests F chart place) ≡ noSuchChart

@@ -2,7 +2,7 @@
 -- below their widths.
 use mathlib.Core.Path.{_≡_, refl, sym, ap, _∙_}
 use mathlib.Core.Logic.{⊎-elim}
-use mathlib.Core.List.{List}
+use mathlib.Core.List.{List, [], _∷_, _++_}
 use Prim.Native.Nat.{ℕ, zero, suc, _+_, _*_, _≤_, _<_}
 use native.Mathlib.Nat.{not-suc-le-zero, le-of-suc-le-suc, eq-or-lt-of-le, add-zero}
 use native.Mathlib.Numerals.{add-one}
@@ -29,6 +29,12 @@ module _ {A : Type 0} (f : ℕ → A) where
   getD-from k zero i d h = absurd (not-suc-le-zero h)
   getD-from k (suc n) zero d h = ap f (sym (add-zero k))
   getD-from k (suc n) (suc i) d h = getD-from (suc k) n i d (le-of-suc-le-suc h) ∙ ap f (omega arith)
+
+  pub from-more : (k n : ℕ) → from f k (suc n) ≡ from f k n ++ (f (k + n) ∷ [])
+  unfolding from
+  from-more k zero = ap (λ i. f i ∷ []) (omega arith)
+  from-more k (suc n) =
+      ap (f k ∷_) (from-more (suc k) n ∙ ap (λ i. from f (suc k) n ++ (f i ∷ [])) (omega arith))
 
 -- ---- startOf
 

@@ -1,16 +1,12 @@
 -- `with_name` meets its contract.
-use mathlib.Core.Path.{_≡_, refl, sym, ap, _∙_}
-use mathlib.Core.Bool.{Bool, true, false, _||_, not}
+use mathlib.Core.Path.{sym, ap, _∙_}
+use mathlib.Core.Bool.{_||_, not, or-true}
 use native.Mathlib.Omega.{arith}
 use borrow.Author.Needs.{needs}
 use borrow.Author.Tests.{lt-ltb, le-ltb}
 use Rattle.signals.specs.Mask.{bit}
 use Rattle.lists.proofs.with_name.Statement.{statement}
 use Rattle.lists.proofs.with_name.Tie as tie
-
-or-true : (b : Bool) → true ≡ (b || true)
-or-true true = refl
-or-true false = refl
 
 returns : tie.Need-returns
 returns c =
@@ -31,7 +27,7 @@ returns-2 c =
     let h = c .if1 .left in
     record {
       is-bad =
-          or-true (a .bad) ∙ sym (ap (λ b. a .bad || (not b || bit (a .mask) (a .n))) (le-ltb (a .n) (a .limit) h));
+          sym (or-true (a .bad)) ∙ sym (ap (λ b. a .bad || (not b || bit (a .mask) (a .n))) (le-ltb (a .n) (a .limit) h));
       is-mask = λ l. absurd (omega arith);
     }
 

@@ -10,6 +10,7 @@ use lib.Dec.{ltb, eqb}
 use lib.ListN.{length, drop}
 use Rattle.meaning.specs.Meaning.{same}
 use Rattle.meaning.specs.Check.{notBelow, differ}
+use Rattle.meaning.specs.Count.Laws.{or-left, or-right}
 use Rattle.notation.specs.Syntax.{OneOrMore, Heading}
 use Rattle.notation.specs.Spelling.{lpar, comma, lbrace, rbrace, letC, letQ, sign, signBytes, name, Tokens, ofNames}
 use Rattle.notation.specs.Spelling.{ofSet, ofHeading, Text}
@@ -21,10 +22,11 @@ use Rattle.tokens.specs.Laws.Text.{behind-right, named-right}
 use Rattle.tokens.specs.Laws.Steps.{cap-below, cap-above}
 use Rattle.fields.specs.declared.SignalSet.{SignalSet}
 use Rattle.fields.specs.Fields.{SetAt}
+use Rattle.fields.specs.Laws.Sets.{members-cons}
 use Rattle.lists.specs.declared.StateList.{StateList}
 use Rattle.lists.specs.declared.Heading.{Heading as Headed}
 use Rattle.lists.specs.Lists.{StatesAt, heading?, GivesHeading, HeadingAt}
-use Rattle.lists.specs.Laws.States.{or-left, or-right, cap-in, members-cons, first-is}
+use Rattle.lists.specs.Laws.States.{cap-in, first-is}
 
 -- ── the initial state ──
 

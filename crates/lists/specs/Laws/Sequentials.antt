@@ -6,11 +6,12 @@ use mathlib.Core.Option.{Option, none, some}
 use mathlib.Core.List.{List, [], _∷_, _++_, append-assoc}
 use Prim.Native.Nat.{ℕ, _≤_}
 use native.Mathlib.Omega.{arith}
-use borrow.Author.Tests.{eqb-true}
+use borrow.Author.Tests.{eqb-true, not-false}
 use lib.Dec.{eqb}
 use lib.ListN.{length, drop, getD}
 use Rattle.meaning.specs.Meaning.{same}
 use Rattle.meaning.specs.Check.{notBelow, differ}
+use Rattle.meaning.specs.Count.Laws.{or-left, or-right}
 use Rattle.notation.specs.Syntax.{Signals, Heading, Sequential}
 use Rattle.notation.specs.Spelling.{comma, rpar, sign, signBytes, Tokens, ofSet, ofHeading, ofTransitions, ofExtra}
 use Rattle.notation.specs.Spelling.{ofSequential, Text}
@@ -28,7 +29,7 @@ use Rattle.lists.specs.declared.TransitionList.{TransitionList}
 use Rattle.lists.specs.declared.Sequential.{Sequential as Drawn}
 use Rattle.lists.specs.Lists.{heading?, HeadingAt, TransitionsAt, GivesExtra, ExtraAt, GivesSequential}
 use Rattle.lists.specs.Lists.{SequentialAt}
-use Rattle.lists.specs.Laws.States.{or-left, or-right, not-false, cap-in}
+use Rattle.lists.specs.Laws.States.{cap-in}
 use Rattle.lists.specs.Laws.Headings.{first-in}
 
 -- ── the extra set ──

@@ -6,12 +6,13 @@ use mathlib.Core.List.{List, [], _∷_, _++_, append-assoc, append-nil}
 use Prim.Native.Nat.{ℕ, zero, suc, _+_, _/_, _≤_, _<_}
 use native.Mathlib.Decide.{decLt}
 use native.Mathlib.Omega.{arith}
-use borrow.Author.Tests.{lt-ltb, le-ltb, eqb-true, eq-eqb}
+use borrow.Author.Tests.{lt-ltb, le-ltb, eqb-true, eq-eqb, not-false}
 use lib.Dec.{ltb, eqb}
 use lib.ListN.{length, drop, getD}
 use Rattle.signals.specs.Mask.{_∪_, bit, single, within}
-use Rattle.signals.specs.Mask.Laws.{bit-union, bit-none, bit-single, bit-suc, within-at, within-of}
+use Rattle.signals.specs.Mask.Laws.{bit-suc, within-at, within-of}
 use Rattle.meaning.specs.Check.{notBelow}
+use Rattle.meaning.specs.Count.Laws.{or-left, or-right}
 use Rattle.notation.specs.Syntax.{OneOrMore, one, _▸_}
 use Rattle.notation.specs.Spelling.{comma, rbrace, lbrace, letQ, sign, signBytes, Tokens, ofNames, Text}
 use Rattle.notation.specs.Reader.{firstByte}
@@ -22,25 +23,13 @@ use Rattle.tokens.specs.declared.Name.{Name}
 use Rattle.tokens.specs.Tokens.{cap, afterBlanks, BehindSign, NameFrom}
 use Rattle.tokens.specs.Laws.Text.{behind-right, named-right}
 use Rattle.tokens.specs.Laws.Lists.{firstName, restNames, moreNames, names-cons, peek-sign}
-use Rattle.fields.specs.Laws.Sets.{mask-snoc}
+use Rattle.fields.specs.Laws.Sets.{mask-snoc, members-cons}
 use Rattle.reading.specs.Laws.Lists.{any-of, any-snoc, bit-mask, twice-snoc}
 use Rattle.lists.specs.declared.Listed.{Listed}
 use Rattle.lists.specs.declared.StateList.{StateList}
 use Rattle.lists.specs.Lists.{Lists, SoFar, gap, GivesStates, StatesFrom, StatesAt}
 
 -- ── left out ──
-
-pub or-left : (a b : Bool) → (a || b) ≡ false → a ≡ false
-or-left true b e = e
-or-left false b e = refl
-
-pub or-right : (a b : Bool) → (a || b) ≡ false → b ≡ false
-or-right true b e = absurd (true≢false e)
-or-right false b e = e
-
-pub not-false : (b : Bool) → not b ≡ false → b ≡ true
-not-false true e = refl
-not-false false e = absurd (true≢false e)
 
 -- no member passes a test exactly if none that the list has does
 pub any-at : (p : ℕ → Bool) (a : List ℕ) (n : ℕ) → any p a ≡ false → has a n ≡ true → p n ≡ false
@@ -151,11 +140,6 @@ refused-more false false true c g f h = absurd (false≢true f)
 refused-more false false false c g f h = h refl
 
 -- ── names ──
-
-pub members-cons : (ks : OneOrMore ℕ) → membersOf ks ≡ firstName ks ∷ restNames ks
-unfolding membersOf firstName restNames
-members-cons (one k) = refl
-members-cons (ks ▸ k) = ap (_++ (k ∷ [])) (members-cons ks)
 
 pub first-is : (ks : OneOrMore ℕ) → firstName ks ≡ first ks
 unfolding firstName first

@@ -1,14 +1,15 @@
 -- Laws of transitions read one after another: what 52 asks of one (`passage-is`), a list of them as a loop reads it
 -- (`list-cons`), the loop (`along-..`), and a list in braces (`transitions-..`).
 use mathlib.Core.Path.{_≡_, refl, sym, ap, ap₂, _∙_, subst}
-use mathlib.Core.Bool.{Bool, true, false, _||_, not, true≢false, false≢true}
+use mathlib.Core.Bool.{Bool, true, false, _||_, not}
 use mathlib.Core.Option.{Option, none, some}
 use mathlib.Core.List.{List, [], _∷_, _++_, map, append-assoc, append-nil}
-use Prim.Native.Nat.{ℕ, suc, _+_, _≤_}
+use Prim.Native.Nat.{ℕ, suc, _+_}
 use native.Mathlib.Omega.{arith}
 use lib.ListN.{length, drop, getD}
 use Rattle.signals.specs.Mask.{bit}
 use Rattle.meaning.specs.Check.{notBelow}
+use Rattle.meaning.specs.Count.Laws.{or-left}
 use Rattle.notation.specs.Syntax.{OneOrMore, one, _▸_, Transition}
 use Rattle.notation.specs.Spelling.{lpar, comma, lbrace, rbrace, sign, signBytes, Tokens, ofTransition}
 use Rattle.notation.specs.Spelling.{ofTransitionList, ofTransitions, Text}
@@ -22,9 +23,10 @@ use Rattle.tokens.specs.Laws.Text.{behind-right}
 use Rattle.tokens.specs.Laws.Lists.{peek-sign}
 use Rattle.fields.specs.declared.Passage.{Passage}
 use Rattle.fields.specs.Fields.{Passes, TransitionAt}
+use Rattle.fields.specs.Laws.Sets.{none-next}
 use Rattle.lists.specs.declared.TransitionList.{TransitionList}
 use Rattle.lists.specs.Lists.{lacks, moreOf, GivesTransitions, TransitionsFrom, TransitionsAt}
-use Rattle.lists.specs.Laws.States.{or-left, any-at, cap-test, length-snoc}
+use Rattle.lists.specs.Laws.States.{any-at, cap-test, length-snoc}
 use Rattle.reading.specs.Laws.Lists.{bit-mask}
 
 -- ── what 52 asks of a transition ──
@@ -216,12 +218,6 @@ some-text w at i ts us b t =
     behind-right w at lbrace i
     (subst (λ u. Text (sign lbrace ∷ u) (drop at w)) (append-assoc (ofTransitionList ts) (sign rbrace ∷ []) us) t)
     (b .behind)
-
--- the byte that comes next tells whether the list is empty
-pub none-next : (w : List ℕ) (i : ℕ) (us : Tokens) → Text (sign rbrace ∷ us) (drop i w)
-    → getD (afterBlanks (drop i w)) 0 0 ≡ 125
-unfolding firstByte
-none-next w i us t = peek-sign rbrace t
 
 pub some-next : (w : List ℕ) (i : ℕ) (ts : OneOrMore Transition) (us : Tokens)
     → Text (ofTransitionList ts ++ (sign rbrace ∷ us)) (drop i w) → getD (afterBlanks (drop i w)) 0 0 ≡ 40

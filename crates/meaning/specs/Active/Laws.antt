@@ -313,25 +313,25 @@ out-none M t h =
 
 -- ── the places of a step ──
 
-nth-past : (m : Move) (ts : List Transition) (k : ℕ) → length ts ≤ k → nth m ts k ≡ m
+pub nth-behind : (m : Move) (ts : List Transition) (k : ℕ) → length ts ≤ k → nth m ts k ≡ m
 unfolding nth
-nth-past m [] k l = refl
-nth-past m (t ∷ ts) zero l = absurd (omega arith)
-nth-past m (t ∷ ts) (suc k) l = nth-past m ts k (omega arith)
+nth-behind m [] k l = refl
+nth-behind m (t ∷ ts) zero l = absurd (omega arith)
+nth-behind m (t ∷ ts) (suc k) l = nth-behind m ts k (omega arith)
 
-nth-own : (m m₂ : Move) (ts : List Transition) (k : ℕ) → k < length ts → nth m ts k ≡ nth m₂ ts k
+pub nth-near : (m m₂ : Move) (ts : List Transition) (k : ℕ) → k < length ts → nth m ts k ≡ nth m₂ ts k
 unfolding nth
-nth-own m m₂ [] k l = absurd (omega arith)
-nth-own m m₂ (t ∷ ts) zero l = refl
-nth-own m m₂ (t ∷ ts) (suc k) l = nth-own m m₂ ts k (omega arith)
+nth-near m m₂ [] k l = absurd (omega arith)
+nth-near m m₂ (t ∷ ts) zero l = refl
+nth-near m m₂ (t ∷ ts) (suc k) l = nth-near m m₂ ts k (omega arith)
 
 -- C: a chart that is not too long
 module _ (C : Chart) (few : length (C .transitions) ≤ mostInChart) where
   behind-action : (b : Bool) (v : ℕ)
       → actionOf (nth noMove (C .transitions) (placeOf (cond b stay noMove) v)) ≡ actionOf (cond b stay noMove)
   unfolding placeOf actionOf
-  behind-action true v = ap actionOf (nth-past noMove (C .transitions) stayPlace (omega arith))
-  behind-action false v = ap actionOf (nth-past noMove (C .transitions) noPlace (omega arith))
+  behind-action true v = ap actionOf (nth-behind noMove (C .transitions) stayPlace (omega arith))
+  behind-action false v = ap actionOf (nth-behind noMove (C .transitions) noPlace (omega arith))
 
   -- a place says what is put out
   pub place-action : (v : ℕ) → actionOf (nth noMove (C .transitions) (placeOf (pick C v) v)) ≡ actionOf (pick C v)
@@ -341,8 +341,8 @@ module _ (C : Chart) (few : length (C .transitions) ≤ mostInChart) where
     where
       go : Dec (k < length (C .transitions))
           → actionOf (nth noMove (C .transitions) (placeOf (pick C (suc k)) (suc k))) ≡ actionOf (pick C (suc k))
-      go (yes l) = rw (place-own C k l) (ap actionOf (nth-own noMove (behind C) (C .transitions) k l))
-      go (no l) = rw (nth-past (behind C) (C .transitions) k (omega arith)) (behind-action (C .stays) (suc k))
+      go (yes l) = rw (place-own C k l) (ap actionOf (nth-near noMove (behind C) (C .transitions) k l))
+      go (no l) = rw (nth-behind (behind C) (C .transitions) k (omega arith)) (behind-action (C .stays) (suc k))
 
   -- and whether the chart moved
   pub place-some : (v : ℕ) → some? (pick C v) ≡ true → placeOf (pick C v) v ≢ noPlace
@@ -357,5 +357,5 @@ module _ (C : Chart) (few : length (C .transitions) ≤ mostInChart) where
       go : Dec (k < length (C .transitions)) → ⊥
       go (yes l) = let p = place-own C k l in omega arith
       go (no l) =
-          let p = nth-past (behind C) (C .transitions) k (omega arith) in
+          let p = nth-behind (behind C) (C .transitions) k (omega arith) in
           stays (C .stays) (rw p at e) (rw p at q)

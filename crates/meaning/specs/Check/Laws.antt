@@ -3,12 +3,12 @@
 -- that more than 8 transitions from a state are found as a walk goes, and that transitions lead to states of their
 -- chart (`transitions?`). Those of 8 to 11 are in Check/Nodes.antt.
 use mathlib.Core.Path.{_≡_, refl, sym, _∙_, ap}
-use mathlib.Core.Bool.{Bool, true, false, _||_}
+use mathlib.Core.Bool.{Bool, true, false, _||_, not, true≢false}
 use mathlib.Core.List.{List, [], _∷_, _++_, append-nil, List·Memᴰ, List·Memᴰ·cases-cons, List·Memᴰ·not-nil}
 use mathlib.Core.Logic.{_⊎_, inl, inr, ⊎-elim}
 use Prim.Native.Nat.{ℕ, zero, suc, _+_, _≤_, _<_}
 use native.Mathlib.Omega.{arith}
-use borrow.Author.Tests.{le-ltb, ltb-true, ltb-false, eq-eqb, ne-eqb, eqb-true, eqb-false, not-false}
+use borrow.Author.Tests.{le-ltb, ltb-true, ltb-false, eq-eqb, ne-eqb, eqb-true, eqb-false, not-false, lt-ltb}
 use lib.Dec.{ltb, eqb, lit<}
 use lib.ListN.{length}
 use Rattle.layout.specs.Body.{headAt, transitionAt, startOf, from, transitionsOf}
@@ -29,8 +29,9 @@ use Rattle.meaning.specs.Check.{inside?, fileTests, refusalOf}
 
 -- ── Bool ──
 
-or-both : {a b : Bool} → a ≡ false → b ≡ false → (a || b) ≡ false
-or-both h g = rw (h, g)
+pub neither : (a b : Bool) → a ≡ false → b ≡ false → (a || b) ≡ false
+neither true b p q = absurd (true≢false p)
+neither false b p q = q
 
 pub decided : (a : Bool) → (a ≡ true) ⊎ (a ≡ false)
 decided true = inl refl
@@ -46,6 +47,9 @@ both-pass false b h g = sym (h refl)
 
 pub below : (m n : ℕ) → notBelow m n ≡ false → m < n
 below m n h = ltb-true m n (not-false (ltb m n) h)
+
+pub is-below : (m n : ℕ) → m < n → notBelow m n ≡ false
+is-below m n l = ap not (lt-ltb m n l)
 
 pub alike : (m n : ℕ) → differ m n ≡ false → m ≡ n
 alike m n h = same→≡ m n (not-false (same m n) h)
@@ -297,7 +301,7 @@ module _ (n : Shape) (b : List ℕ) (c : ℕ) where
   walked-there : (k : ℕ) → anyUpTo k badAt ≡ false → upTo k ≡ false
   unfolding badAt
   walked-there k h =
-      or-both
+      neither _ _
       (any-all k (ends? n b c) (λ u l. or-left _ _ (any-never k badAt h u l)))
       (any-all (headAt n b c .states) _
       (λ s _. le-ltb _ _
@@ -312,7 +316,7 @@ module _ (n : Shape) (b : List ℕ) (c : ℕ) where
       let r = below _ _ (or-left _ _ e) in
       let m : ltb mostFromState (leaving n b c (fromAt u) k) ≡ false =
       any-never (headAt n b c .states) _ (or-right (anyUpTo k (ends? n b c)) _ h) (fromAt u) r in
-      or-both e
+      neither _ _ e
       (le-ltb mostFromState (leaving n b c (fromAt u) (suc u))
       (omega (arith, ltb-false, leaving-mono (fromAt u) (suc u) k (omega arith)))))
 

@@ -1,7 +1,7 @@
 -- Laws of `anyUpTo` and `tally`, grouped under each: first the forms that a loop which counts up uses, none passed, one
--- more passed, one found, all passed; then, of sums, those of the same, of nothing, of sums, in another order, from the
--- front, of one place only, of fewer, of no more than so much each, of two places, of multiples, of no more at each
--- place.
+-- more passed, one found, all passed; then, of sums, those of the same, of nothing, of ones, of sums, in another order,
+-- from the front, of one place only, of fewer, of no more than so much each, of two places, of multiples, of no more at
+-- each place.
 use mathlib.Core.Path.{_≡_, refl, sym, _∙_, ap, ap₂}
 use mathlib.Core.Bool.{Bool, true, false, _||_, false≢true}
 use mathlib.Core.Logic.{_≢_, _⊎_, inl, inr, ⊎-elim}
@@ -90,6 +90,11 @@ pub tally-zero : (n : ℕ) (f : ℕ → ℕ) → ((i : ℕ) → i < n → f i �
 unfolding tally
 tally-zero zero f h = refl
 tally-zero (suc n) f h = let a = h n (omega arith) in let b = tally-zero n f (λ i l. h i (omega arith)) in omega arith
+
+pub tally-ones : (n : ℕ) → tally n (λ i. 1) ≡ n
+unfolding tally
+tally-ones zero = refl
+tally-ones (suc n) = let h = tally-ones n in omega arith
 
 pub tally-add : (n : ℕ) (f g : ℕ → ℕ) → tally n (λ i. f i + g i) ≡ tally n f + tally n g
 unfolding tally

@@ -5,26 +5,14 @@ use mathlib.Core.Logic.{_≢_}
 use Prim.Native.Nat.{ℕ, zero, suc, _<_}
 use native.Mathlib.Omega.{arith}
 use lib.Dec.{T, eqb, eqb→eq, eqb-refl}
+pub use Rattle.signals.specs.Bools.{and-l, and-r, and-second}
 use Rattle.meaning.specs.Meaning.{same}
 
 -- ── Bool ──
 
-pub and-l : (a b : Bool) → (a && b) ≡ true → a ≡ true
-and-l true b h = refl
-and-l false b h = absurd (false≢true h)
-
-pub and-r : (a b : Bool) → (a && b) ≡ true → b ≡ true
-and-r true b h = h
-and-r false b h = absurd (false≢true h)
-
 pub and-i : {a b : Bool} → a ≡ true → b ≡ true → (a && b) ≡ true
 and-i {a = true} h e = e
 and-i {a = false} h e = absurd (false≢true h)
-
--- where the first part holds, the second does not
-pub and-second : (a b : Bool) → (a && b) ≡ false → a ≡ true → b ≡ false
-and-second true b h e = h
-and-second false b h e = absurd (false≢true e)
 
 -- the second part is compared only where the first holds
 pub and-cong : (a a′ b b′ : Bool) → a ≡ a′ → (a′ ≡ true → b ≡ b′) → (a && b) ≡ (a′ && b′)
@@ -44,6 +32,11 @@ or-r false b e = e
 pub or-elim : (a b : Bool) (P : Type 0) → (a ≡ true → P) → (b ≡ true → P) → (a || b) ≡ true → P
 or-elim true b P f g h = f refl
 or-elim false b P f g h = g h
+
+pub or-swap : (a b c : Bool) → (a || (b || c)) ≡ (b || (a || c))
+or-swap true true c = refl
+or-swap true false c = refl
+or-swap false b c = refl
 
 pub bool-eq : (a b : Bool) → (a ≡ true → b ≡ true) → (b ≡ true → a ≡ true) → a ≡ b
 bool-eq true true f g = refl
@@ -81,6 +74,10 @@ same→≢ m n e q = false≢true (sym e ∙ rw q (same-refl n))
 
 pub same-comm : (m n : ℕ) → same m n ≡ same n m
 same-comm m n = bool-eq _ _ (λ e. rw (same→≡ m n e) (same-refl n)) (λ e. rw (same→≡ n m e) (same-refl m))
+
+pub eqb-sym : (m n : ℕ) → eqb m n ≡ eqb n m
+unfolding same
+eqb-sym m n = same-comm m n
 
 pub differs : (m n : ℕ) → (m ≡ n → ⊥) → not (same m n) ≡ true
 differs m n h = ap not (same-≢ m n h)

@@ -3,19 +3,19 @@
 -- looks at its own signals alone (`met-cut`); the same of a chart that nothing triggers (`quiet-wider`, `quiet-cut`),
 -- and that this is what it says (`quiet-out`, `quiet-in`).
 use mathlib.Core.Path.{_≡_, refl, sym, _∙_, ap, ap₂}
-use mathlib.Core.Bool.{Bool, true, false, _&&_, not, true≢false, false≢true}
+use mathlib.Core.Bool.{true, false, _&&_, not, true≢false}
 use mathlib.Core.List.{List, [], _∷_, List·Memᴰ, List·Memᴰ·head, List·Memᴰ·tail, List·Memᴰ·cases-cons}
 use mathlib.Core.List.{List·Memᴰ·not-nil}
 use mathlib.Core.Logic.{_⊎_, inl, inr}
 use Prim.Native.Nat.{ℕ}
-use borrow.Author.Tests.{eqb-true, eq-eqb}
+use borrow.Author.Tests.{eqb-true, eq-eqb, not-true as of-not}
 use lib.Dec.{eqb}
 use Rattle.signals.specs.Mask.{_∪_, _∩_, _∖_, within, apart, Within}
 use Rattle.signals.specs.Guard.Laws.{guard-is}
 use Rattle.signals.specs.Decide.{sets, A, B, C, D, E as Eₑ, _∪ₑ_, _∩ₑ_, _∖ₑ_, _≐_, _⊑_, _⊥ₑ_}
 use Rattle.layout.specs.declared.record.Transition.{Transition}
 use Rattle.meaning.specs.Meaning.{Set, same, guards, met?, untriggered}
-use Rattle.meaning.specs.Laws.Bools.{and-l, and-r, and-i, bool-eq, not-true, same-refl}
+use Rattle.meaning.specs.Laws.Bools.{and-l, and-r, and-i, not-true, same-refl}
 
 -- ── a transition's guard ──
 
@@ -47,10 +47,6 @@ met-cut t I i k w e =
 
 -- ── a chart that nothing triggers ──
 
-not-false : (b : Bool) → not b ≡ true → b ≡ false
-not-false true h = absurd (false≢true h)
-not-false false h = refl
-
 -- less may be there of what is needed, and more of what is barred
 pub quiet-wider : (ts : List Transition) (s : ℕ) (i i′ j j′ : Set) → Within i′ i → Within j j′
     → untriggered ts s i j ≡ true
@@ -61,7 +57,7 @@ quiet-wider (t ∷ ts) s i i′ j j′ p q e =
     and-i (ap not (not-true (λ h.
     true≢false (sym (and-i (and-l (same (t .from) s) (met? t i′ j′) h)
     (met-wider t i′ i j′ j p q (and-r (same (t .from) s) (met? t i′ j′) h)))
-    ∙ not-false (same (t .from) s && met? t i j) (and-l _ _ e)))))
+    ∙ of-not (same (t .from) s && met? t i j) (and-l _ _ e)))))
     (quiet-wider ts s i i′ j j′ p q (and-r (not (same (t .from) s && met? t i j)) _ e))
 
 pub quiet-cut : (ts : List Transition) (s : ℕ) (I i k : Set) → guards ts ∖ I ≡ 0 → i ∩ I ≡ k ∩ I
@@ -86,7 +82,7 @@ quiet-out (u ∷ ts) s i j h t m e =
     go (inl q) r =
         not-true (λ z.
         true≢false (sym (and-i (ap (λ (v : Transition). same (v .from) s) (sym q) ∙ ap (λ k. same k s) e ∙ same-refl s)
-        (ap (λ v. met? v i j) (sym q) ∙ z)) ∙ not-false _ (and-l _ _ h)))
+        (ap (λ v. met? v i j) (sym q) ∙ z)) ∙ of-not _ (and-l _ _ h)))
     go (inr n) r = r n e
 
 pub quiet-in : (ts : List Transition) (s : ℕ) (i j : Set)

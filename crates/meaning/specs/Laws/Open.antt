@@ -4,7 +4,7 @@
 -- (`howMany-next`), and one of them where there are any (`howMany-find`); where none is open, none is permitted
 -- (`none-open`); and a small file counted by the definition (`open-one`, `open-two`).
 use mathlib.Core.Path.{_≡_, refl, sym, _∙_, ap, ap₂}
-use mathlib.Core.Bool.{Bool, true, false, _&&_, cond, false≢true}
+use mathlib.Core.Bool.{Bool, true, false, _&&_, cond, false≢true, and-true}
 use mathlib.Core.List.{List, [], _∷_, _++_, append-assoc, append-nil}
 use Prim.Native.Nat.{ℕ, zero, suc, _+_, _<_}
 use native.Mathlib.Omega.{arith}
@@ -80,10 +80,6 @@ calm C =
       extra = C .extra;
       stays = C .stays;
     }
-
-and-true : (b : Bool) → (b && true) ≡ b
-and-true true = refl
-and-true false = refl
 
 -- no guard is met by every set
 met-unguarded : (t : Transition) (i j : Set) → t .needed ≡ ∅ → t .barred ≡ ∅ → met? t i j ≡ true

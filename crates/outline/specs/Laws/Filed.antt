@@ -5,11 +5,12 @@ use mathlib.Core.Path.{_≡_, refl, sym, ap, _∙_}
 use mathlib.Core.Bool.{Bool, false, _||_}
 use mathlib.Core.List.{List, [], _∷_, _++_, map}
 use Prim.Native.Nat.{ℕ, _+_, _<_}
-use borrow.Author.Tests.{ltb-true}
+use borrow.Author.Tests.{ltb-true, not-false}
 use lib.Dec.{ltb}
 use lib.ListN.{length}
 use Rattle.layout.specs.declared.record.Slave.{Slave}
 use Rattle.meaning.specs.Check.{notBelow}
+use Rattle.meaning.specs.Count.Laws.{or-left, or-right}
 use Rattle.notation.specs.Syntax.{Sequential, Single, sequential, decomposed, hidden, Chart, single, composed, Slaves}
 use Rattle.notation.specs.Syntax.{firstSlave, moreSlaves}
 use Rattle.reading.specs.Numbers.{namedCharts, namedStates}
@@ -17,7 +18,6 @@ use Rattle.reading.specs.Names.{any, set?, optional?, notAll?, twice?, leftOut?
 use Rattle.reading.specs.Names.{sequentialsOf, sequentialsOfSlaves, parts?, nameOf, names?}
 use Rattle.reading.specs.Meant.{sortedBy, Placed, laySlaves, withNode, beside, layHidden, layBoth, laySingle, layChart}
 use Rattle.reading.specs.Meant.{placed, nodesOf, slavesOf}
-use Rattle.lists.specs.Laws.States.{or-left, or-right, not-false}
 use Rattle.outline.specs.Tree.{lacking, refusedSingle?, refused?, refusedSlaves?, nodesIn, slavesIn}
 use Rattle.outline.specs.Laws.Trees.{refused-is}
 use Rattle.reading.specs.Laws.Lists.{any-append}
@@ -27,7 +27,7 @@ use Rattle.outline.specs.Laws.Laid.{has-below, laid}
 -- ── every chart has a name ──
 
 -- a chart's name is out of range
-abbrev unnamed : Sequential → Bool
+abbrev pub unnamed : Sequential → Bool
 unnamed s = notBelow (nameOf s) namedCharts
 
 any-left : (a b : List Sequential) → any unnamed (a ++ b) ≡ false → any unnamed a ≡ false
@@ -36,7 +36,7 @@ any-left a b e = or-left (any unnamed a) (any unnamed b) (sym (any-append unname
 any-right : (a b : List Sequential) → any unnamed (a ++ b) ≡ false → any unnamed b ≡ false
 any-right a b e = or-right (any unnamed a) (any unnamed b) (sym (any-append unnamed a b) ∙ e)
 
-any-map : (p : ℕ → Bool) (l : List Sequential) → any p (map nameOf l) ≡ any (λ s. p (nameOf s)) l
+pub any-map : (p : ℕ → Bool) (l : List Sequential) → any p (map nameOf l) ≡ any (λ s. p (nameOf s)) l
 unfolding any
 any-map p [] = refl
 any-map p (s ∷ l) = ap (p (nameOf s) ||_) (any-map p l)

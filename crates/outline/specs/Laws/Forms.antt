@@ -10,6 +10,7 @@ use native.Mathlib.Omega.{arith}
 use borrow.Author.Tests.{lt-ltb, le-ltb, ltb-true}
 use lib.Dec.{ltb}
 use lib.ListN.{length, drop, getD}
+use Rattle.meaning.specs.Count.Laws.{or-left}
 use Rattle.notation.specs.Syntax.{Signals, Sequential as Tree, sequential, decomposed, hidden, Chart, single, composed}
 use Rattle.notation.specs.Syntax.{Slaves, firstSlave, larger, depth, depthSlaves}
 use Rattle.notation.specs.Spelling.{lpar, rpar, lbrace, lsq, rsq, comma, bar, wordDec, wordBy, letQ, sign}
@@ -26,7 +27,6 @@ use Rattle.fields.specs.declared.SignalSet.{SignalSet}
 use Rattle.fields.specs.Fields.{SetAt}
 use Rattle.lists.specs.declared.Sequential.{Sequential as Drawn}
 use Rattle.lists.specs.Lists.{lacks, SequentialAt}
-use Rattle.lists.specs.Laws.States.{or-left}
 use Rattle.lists.specs.Laws.Transitions.{cap-lacks, lacks-is}
 use Rattle.lists.specs.Laws.Found.{pairText, master-text, hidden-text, both-text, part-text}
 use Rattle.forms.specs.declared.Form.{Form}

@@ -5,18 +5,19 @@ use mathlib.Core.Bool.{Bool, false, _||_}
 use mathlib.Core.List.{List, [], _∷_}
 use Prim.Native.Nat.{ℕ, _+_, _<_}
 use native.Mathlib.Omega.{arith}
-use borrow.Author.Tests.{ltb-true}
+use borrow.Author.Tests.{ltb-true, not-false}
 use lib.Dec.{ltb}
 use lib.ListN.{length, length-append}
 use Rattle.layout.specs.declared.record.Node.{Node}
 use Rattle.meaning.specs.Check.{notBelow}
+use Rattle.meaning.specs.Count.Laws.{or-left, or-right}
 use Rattle.notation.specs.Syntax.{Sequential, Single, sequential, decomposed, hidden, Chart, single, composed, Slaves}
 use Rattle.notation.specs.Syntax.{firstSlave, moreSlaves}
 use Rattle.reading.specs.Numbers.{namedStates}
 use Rattle.reading.specs.Names.{membersOf, any, has, set?, optional?, notAll?, twice?, leftOut?, sequential?, nameOf}
 use Rattle.reading.specs.Meant.{sortedBy, Laid, Placed, laySlaves, withNode, beside, layHidden, layBoth}
 use Rattle.reading.specs.Meant.{laySingle, layChart, placed}
-use Rattle.lists.specs.Laws.States.{or-left, or-right, not-false, any-at}
+use Rattle.lists.specs.Laws.States.{any-at}
 use Rattle.outline.specs.Tree.{lacking, refusedSingle?, refused?, refusedSlaves?, nodesInSingle, nodesIn}
 use Rattle.outline.specs.Tree.{nodesInSlaves, slavesInSingle, slavesIn, slavesInSlaves}
 use Rattle.outline.specs.Laws.Forms.{states-fine}

@@ -2,9 +2,9 @@
 -- (`depth-some`).
 use mathlib.Core.Path.{_≡_, refl, sym, ap, ap₂, _∙_}
 use mathlib.Core.Bool.{Bool, true, false, _||_}
-use mathlib.Core.List.{List, [], _∷_, _++_}
 use Prim.Native.Nat.{ℕ, _<_}
 use native.Mathlib.Omega.{arith}
+use Rattle.meaning.specs.Laws.Bools.{or-swap}
 use Rattle.notation.specs.Syntax.{Sequential, Single, sequential, decomposed, hidden, Chart, single, composed, Slaves}
 use Rattle.notation.specs.Syntax.{firstSlave, moreSlaves, depthSingle, depth}
 use Rattle.reading.specs.Names.{membersOf, any, set?, optional?, sequential?, sequentialsIn, sequentialsOf}
@@ -42,11 +42,6 @@ inside true false p y = refl
 inside false true p y = refl
 inside false false p y = refl
 
-behind : (q s p : Bool) → (q || (s || p)) ≡ (s || (q || p))
-behind true true p = refl
-behind true false p = refl
-behind false s p = refl
-
 beyond : (m s p : Bool) → (m || (s || p)) ≡ ((m || s) || p)
 beyond true s p = refl
 beyond false s p = refl
@@ -78,7 +73,7 @@ mutual
   slaves-are : (s : Sequential) (ps : Slaves) → refusedSlaves? (lacking s) ps
       ≡ (any sequential? (sequentialsOfSlaves ps) || slaveParts? (membersOf (s .heading .states)) ps)
   slaves-are s (firstSlave q t) =
-      ap (lacking s q ||_) (refused-is t) ∙ behind (lacking s q) (any sequential? (sequentialsOf t)) (parts? t)
+      ap (lacking s q ||_) (refused-is t) ∙ or-swap (lacking s q) (any sequential? (sequentialsOf t)) (parts? t)
   slaves-are s (moreSlaves ps q t) =
       ap₂ (λ a b. a || (lacking s q || b)) (slaves-are s ps) (refused-is t)
       ∙ regroup (any sequential? (sequentialsOfSlaves ps)) (slaveParts? (membersOf (s .heading .states)) ps)

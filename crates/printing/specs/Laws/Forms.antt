@@ -2,13 +2,14 @@
 -- members from 0 on; a sequential chart in its parts.
 use mathlib.Core.Path.{_≡_, refl, sym, ap, _∙_}
 use mathlib.Core.List.{List, [], _∷_, _++_, map, map-append, append-assoc, append-nil}
-use Prim.Native.Nat.{ℕ, zero, suc, _+_}
+use Prim.Native.Nat.{ℕ, suc, _+_}
 use native.Mathlib.Omega.{arith}
 use borrow.Author.Tests.{eq-eqb, ne-eqb}
 use Rattle.layout.specs.Body.{headAt, from}
 use Rattle.layout.specs.declared.body.Shape.{Shape}
 use Rattle.layout.specs.declared.record.Head.{Head}
 use Rattle.layout.specs.declared.record.Transition.{Transition as Record}
+use Rattle.layout.specs.Body.Laws.{from-more}
 use Rattle.meaning.specs.Meaning.{same}
 use Rattle.meaning.specs.File.{fileAt, chartOf}
 use Rattle.notation.specs.Syntax.{OneOrMore, one, _▸_, Literal, needed, barred, Transition}
@@ -81,11 +82,6 @@ unfolding fromAll
 fromAll-more n f = refl
 
 -- ── a chart ──
-
-pub from-more : {A : Type 0} (f : ℕ → A) (k n : ℕ) → from f k (suc n) ≡ from f k n ++ (f (k + n) ∷ [])
-unfolding from
-from-more f k zero = ap (λ i. f i ∷ []) (omega arith)
-from-more f k (suc n) = ap (f k ∷_) (from-more f (suc k) n ∙ ap (λ i. from f (suc k) n ++ (f i ∷ [])) (omega arith))
 
 -- no transitions; one more of those from s on
 module _ (f : ℕ → Record) (s : ℕ) where

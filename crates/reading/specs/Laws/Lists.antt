@@ -1,15 +1,16 @@
 -- Laws of the lists of names: some member passes a test (`any-..`), the mask of a list (`bit-mask`), a number given
--- twice (`twice-snoc`).
-use mathlib.Core.Path.{_≡_, refl, sym, ap, _∙_}
-use mathlib.Core.Bool.{Bool, true, false, _||_, true≢false}
-use mathlib.Core.List.{List, [], _∷_, _++_}
+-- twice (`twice-snoc`). The bytes of two lists (`all-append`).
+use mathlib.Core.Path.{_≡_, refl, ap, _∙_, sym}
+use mathlib.Core.Bool.{Bool, true, false, _||_, or-false, or-true}
+use mathlib.Core.List.{List, [], _∷_, _++_, append-assoc}
 use Prim.Native.Nat.{ℕ}
-use borrow.Author.Tests.{eqb-true, eq-eqb}
+use borrow.Author.Tests.{eq-eqb}
 use lib.Dec.{eqb}
 use Rattle.signals.specs.Mask.{bit, single}
 use Rattle.signals.specs.Mask.Laws.{bit-union, bit-none, bit-single}
+use Rattle.meaning.specs.Laws.Bools.{eqb-sym}
 use Rattle.reading.specs.Names.{any, has, twice?}
-use Rattle.reading.specs.Meant.{maskOf}
+use Rattle.reading.specs.Meant.{maskOf, all}
 
 -- ── some member passes a test ──
 
@@ -22,17 +23,9 @@ any-append p (u ∷ a) b = ap (p u ||_) (any-append p a b) ∙ go (p u)
     go true = refl
     go false = refl
 
-or-none : (c : Bool) → (c || false) ≡ c
-or-none true = refl
-or-none false = refl
-
 pub any-snoc : (p : ℕ → Bool) (a : List ℕ) (n : ℕ) → any p (a ++ (n ∷ [])) ≡ (any p a || p n)
 unfolding any
-any-snoc p a n = any-append p a (n ∷ []) ∙ ap (any p a ||_) (or-none (p n))
-
-or-true : (a : Bool) → (a || true) ≡ true
-or-true true = refl
-or-true false = refl
+any-snoc p a n = any-append p a (n ∷ []) ∙ ap (any p a ||_) (or-false (p n))
 
 -- none does if none of its numbers does
 pub any-of : (p : ℕ → Bool) (a : List ℕ) → ((n : ℕ) → has a n ≡ true → p n ≡ false) → any p a ≡ false
@@ -53,15 +46,6 @@ bit-mask (m ∷ ns) n = bit-union n (single m) (maskOf ns) ∙ ap (_|| bit (mask
 
 -- ── given twice ──
 
-eqb-sym : (m n : ℕ) → eqb m n ≡ eqb n m
-eqb-sym m n = go (eqb m n) (eqb n m) refl refl
-  where
-    go : (a b : Bool) → eqb m n ≡ a → eqb n m ≡ b → a ≡ b
-    go true true e f = refl
-    go false false e f = refl
-    go true false e f = absurd (true≢false (sym (eq-eqb n m (sym (eqb-true m n e))) ∙ f))
-    go false true e f = absurd (true≢false (sym (eq-eqb m n (sym (eqb-true n m f))) ∙ e))
-
 shuffle : (h t e k : Bool) → ((h || e) || (t || k)) ≡ ((h || t) || (e || k))
 shuffle true t e k = refl
 shuffle false true true k = refl
@@ -75,3 +59,10 @@ twice-snoc (m ∷ a) n =
     ap (_|| twice? (a ++ (n ∷ []))) (any-snoc (λ k. eqb k m) a n) ∙ ap ((has a m || eqb n m) ||_) (twice-snoc a n)
     ∙ ap (λ e. (has a m || e) || (twice? a || has a n)) (eqb-sym n m)
     ∙ shuffle (has a m) (twice? a) (eqb m n) (has a n)
+
+-- ── the bytes of a list ──
+
+pub all-append : {A : Type 0} (f : A → List ℕ) (a b : List A) → all f (a ++ b) ≡ all f a ++ all f b
+unfolding all
+all-append f [] b = refl
+all-append f (x ∷ a) b = ap (f x ++_) (all-append f a b) ∙ sym (append-assoc (f x) (all f a) (all f b))

@@ -10,26 +10,24 @@ use native.Mathlib.Omega.{arith}
 use lib.ListN.{length, length-append}
 use Rattle.layout.specs.Put.{Room, Put}
 use Rattle.layout.specs.Put.Laws.{put-none, put-append, room-first, room-next}
+use Rattle.meaning.specs.Count.Laws.{or-left, or-right}
 use Rattle.notation.specs.Syntax.{Sequential}
 use Rattle.notation.specs.Spelling.{ofSequential, Text}
 use Rattle.reading.specs.Names.{any}
 use Rattle.reading.specs.Meant.{all, gathered}
-use Rattle.lists.specs.Laws.States.{or-left, or-right, length-snoc}
+use Rattle.reading.specs.Laws.Lists.{all-append}
+use Rattle.lists.specs.Laws.States.{length-snoc}
+use Rattle.laying.specs.Room.{Tries}
 use Rattle.roster.specs.declared.Roster.{Roster}
 use Rattle.roster.specs.Roster.{StandsAt, Stand, Charted}
 use Rattle.roster.specs.Walk.{Every}
-use Rattle.roster.specs.Records.{Puts, PlaceOf}
+use Rattle.roster.specs.Records.{PlaceOf}
 
 -- ── the bytes of a list ──
 
 module _ {A : Type 0} (g : A → List ℕ) where
-  pub all-append : (l m : List A) → all g (l ++ m) ≡ all g l ++ all g m
-  unfolding all
-  all-append [] m = refl
-  all-append (a ∷ l) m = ap (g a ++_) (all-append l m) ∙ sym (append-assoc (g a) (all g l) (all g m))
-
   pub all-snoc : (l : List A) (a : A) → all g (l ++ (a ∷ [])) ≡ all g l ++ g a
-  all-snoc l a = all-append l (a ∷ []) ∙ ap (all g l ++_) (unfold all in append-nil (g a))
+  all-snoc l a = all-append g l (a ∷ []) ∙ ap (all g l ++_) (unfold all in append-nil (g a))
 
   module _ {before after : List ℕ} {at p : ℕ} (done : List A) where
     pub room-of : {ss : List A} (s : A) (rest : List A) → ss ≡ done ++ (s ∷ rest) → Room before at (all g ss)
@@ -38,7 +36,7 @@ module _ {A : Type 0} (g : A → List ℕ) where
     room-of {ss} s rest e r h =
         room-first after p (g s) (all g rest)
         (room-next before at (all g done) (g s ++ all g rest)
-        (subst (Room before at) (ap (all g) e ∙ all-append done (s ∷ rest)) r) h)
+        (subst (Room before at) (ap (all g) e ∙ all-append g done (s ∷ rest)) r) h)
 
     pub put-of : {later : List ℕ} {q : ℕ} (s : A) → Put before at (all g done) after p → Put after p (g s) later q
         → Put before at (all g (done ++ (s ∷ []))) later q
@@ -97,7 +95,7 @@ module _ (g : Sequential → List ℕ) (Good : Sequential → Type 0) (w : List 
         }
 
     pub laid-more : (c place : ℕ) (after later : List ℕ) (p q : ℕ) → Charted w r ss → c < r .charts
-        → PlaceOf w r c place → ((s : Sequential) → StandsAt w place s → Good s → Puts after p (g s) later q)
+        → PlaceOf w r c place → ((s : Sequential) → StandsAt w place s → Good s → Tries after p (g s) later q)
         → Room before at (all g ss) → Laid g Good w r ss before at c after p
         → Laid g Good w r ss before at (c + 1) later q
     unfolding Stand Every

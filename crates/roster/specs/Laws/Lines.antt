@@ -3,7 +3,7 @@
 use mathlib.Core.Path.{_≡_, refl, sym, ap, _∙_, subst}
 use mathlib.Core.Option.{Option, none, some}
 use mathlib.Core.List.{List, [], _∷_, _++_, append-nil, append-assoc}
-use Prim.Native.Nat.{ℕ, _+_}
+use Prim.Native.Nat.{ℕ}
 use native.Mathlib.Omega.{arith}
 use lib.ListN.{drop, getD}
 use Rattle.layout.specs.Record.{transitionBytes}
@@ -21,14 +21,16 @@ use Rattle.tokens.specs.Laws.Text.{behind-right}
 use Rattle.tokens.specs.Laws.Lists.{peek-sign}
 use Rattle.fields.specs.declared.Passage.{Passage}
 use Rattle.fields.specs.Fields.{Passes, TransitionAt}
+use Rattle.fields.specs.Laws.Sets.{none-next}
 use Rattle.lists.specs.declared.Heading.{Heading as Headed}
 use Rattle.lists.specs.Lists.{moreOf, HeadingAt}
 use Rattle.lists.specs.Laws.Transitions.{firstIn, restIn, first-text, members-list, none-text, some-text}
-use Rattle.lists.specs.Laws.Transitions.{none-next, some-next}
+use Rattle.lists.specs.Laws.Transitions.{some-next}
 use Rattle.lists.specs.Laws.Sequentials.{parts, parts-are}
+use Rattle.laying.specs.Room.{Tries}
 use Rattle.roster.specs.Roster.{StandsAt}
 use Rattle.roster.specs.Walk.{Every}
-use Rattle.roster.specs.Records.{lineOf, linesOf, Puts, recordOf, InRange, LinesMore, LinesFrom}
+use Rattle.roster.specs.Records.{lineOf, linesOf, recordOf, InRange, LinesMore, LinesFrom}
 use Rattle.roster.specs.Records.{LinesAt}
 use Rattle.roster.specs.Laws.Laid.{room-of, put-of, all-gathered}
 use Rattle.roster.specs.Laws.Right.{lines-in-range, record-right}
@@ -48,11 +50,11 @@ pub record Going (w : List ℕ) (i : ℕ) (ts : List Transition) (us : Tokens) (
 
 -- one transition, written as it is read
 line-put : (w : List ℕ) (u : Passage) (m : Record) (t : Transition) (us : Tokens) (after later : List ℕ) (p q : ℕ)
-    → m ≡ recordOf u → Passes w u t us → InRange t → Puts after p (transitionBytes m) later q
-    → Puts after p (lineOf t) later q
+    → m ≡ recordOf u → Passes w u t us → InRange t → Tries after p (transitionBytes m) later q
+    → Tries after p (lineOf t) later q
 unfolding lineOf
 line-put w u m t us after later p q e g i f =
-    subst (λ r. Puts after p (transitionBytes r) later q) (e ∙ record-right w u t us g i) f
+    subst (λ r. Tries after p (transitionBytes r) later q) (e ∙ record-right w u t us g i) f
 
 module _ (w : List ℕ) (ts : List Transition) (us : Tokens) (before : List ℕ) (to : ℕ) where
   pub lines-start : (i : ℕ) → Text (moreOf ts ++ (sign rbrace ∷ us)) (drop i w) → Every InRange ts
@@ -63,7 +65,7 @@ module _ (w : List ℕ) (ts : List Transition) (us : Tokens) (before : List ℕ)
 
   pub lines-next : (i j : ℕ) (u : Passage) (m : Record) (after later : List ℕ) (p q : ℕ)
       → getD (afterBlanks (drop i w)) 0 0 ≡ 44 → BehindSign w i 1 j → TransitionAt w j u → m ≡ recordOf u
-      → Puts after p (transitionBytes m) later q → Room before to (all lineOf ts)
+      → Tries after p (transitionBytes m) later q → Room before to (all lineOf ts)
       → Going w i ts us before to after p → Going w (u .next) ts us before to later q
   unfolding moreOf firstByte signBytes Every
   lines-next i j u m after later p q s o a n f room g = go (g .rest) (g .all-of) (g .text) (g .in-range)
@@ -99,7 +101,7 @@ module _ (w : List ℕ) (ts : List Transition) (us : Tokens) (before : List ℕ)
 -- ── the first one ──
 
 pub lines-all : (w : List ℕ) (at : ℕ) (u : Passage) (m : Record) (before after later : List ℕ) (to p q : ℕ)
-    → TransitionAt w at u → m ≡ recordOf u → Puts before to (transitionBytes m) after p
+    → TransitionAt w at u → m ≡ recordOf u → Tries before to (transitionBytes m) after p
     → LinesMore w (u .next) after p later q → LinesFrom w at before to later q
 unfolding all Every
 lines-all w at u m before after later to p q a n f more ts us x i room =

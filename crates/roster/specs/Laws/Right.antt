@@ -5,13 +5,14 @@ use mathlib.Core.Bool.{false, _||_, not}
 use mathlib.Core.List.{List, [], _∷_, map-id}
 use Prim.Native.Nat.{ℕ, _≤_, _<_, _%_}
 use native.Mathlib.Omega.{arith}
-use borrow.Author.Tests.{lt-ltb, ltb-false, eqb-true}
+use borrow.Author.Tests.{lt-ltb, ltb-false, eqb-true, not-false}
 use lib.ListN.{length}
 use Rattle.layout.specs.Record.{headBytes}
 use Rattle.layout.specs.declared.record.Head.{Head}
 use Rattle.meaning.specs.Meaning.{same}
 use Rattle.meaning.specs.Numbers.{mostInChart}
 use Rattle.meaning.specs.Check.{notBelow, differ}
+use Rattle.meaning.specs.Count.Laws.{or-left, or-right}
 use Rattle.notation.specs.Syntax.{Transition, Sequential}
 use Rattle.notation.specs.Spelling.{Tokens}
 use Rattle.reading.specs.Numbers.{namedStates}
@@ -23,11 +24,12 @@ use Rattle.fields.specs.declared.Passage.{Passage}
 use Rattle.fields.specs.Fields.{Passes}
 use Rattle.lists.specs.declared.Sequential.{Sequential as Drawn}
 use Rattle.lists.specs.Lists.{SequentialAt}
-use Rattle.lists.specs.Laws.States.{or-left, or-right, not-false, any-at, cap-in}
+use Rattle.lists.specs.Laws.States.{any-at, cap-in}
 use Rattle.lists.specs.Laws.Headings.{first-in}
+use Rattle.laying.specs.Room.{Tries}
 use Rattle.roster.specs.Roster.{crowded?, StandsAt}
 use Rattle.roster.specs.Walk.{Every}
-use Rattle.roster.specs.Records.{Puts, HeadAt, recordOf, InRange}
+use Rattle.roster.specs.Records.{HeadAt, recordOf, InRange}
 use Rattle.roster.specs.Laws.Sorted.{few-names}
 
 -- ── a chart ──
@@ -115,10 +117,10 @@ module _ (w : List ℕ) (at : ℕ) (v : Drawn) (r : Head) where
 
 -- a head is written
 pub head-put : {w : List ℕ} {at : ℕ} {r : Head} {before after : List ℕ} {to next : ℕ} → HeadAt w at r
-    → Puts before to (headBytes r) after next → (s : Sequential) → StandsAt w at s
-    → (sequential? s ≡ false) × (crowded? s ≡ false) → Puts before to (headBytes (headFor s)) after next
+    → Tries before to (headBytes r) after next → (s : Sequential) → StandsAt w at s
+    → (sequential? s ≡ false) × (crowded? s ≡ false) → Tries before to (headBytes (headFor s)) after next
 head-put {before} {after} {to} {next} a f s x g =
-    subst (λ h. Puts before to (headBytes h) after next) (a s x (g .0) (g .1)) f
+    subst (λ h. Tries before to (headBytes h) after next) (a s x (g .0) (g .1)) f
 
 pub record-right : (w : List ℕ) (p : Passage) (t : Transition) (us : Tokens) → Passes w p t us → InRange t
     → recordOf p ≡ transitionFor t

@@ -9,13 +9,15 @@ use mathlib.Core.Logic.{_⊎_, inl, inr, ⊎-elim}
 use Prim.Native.Nat.{ℕ, zero, suc, _+_, _≤_, _<_}
 use native.Mathlib.Decide.{decLt}
 use native.Mathlib.Omega.{arith}
-use borrow.Author.Tests.{ltb-true, eqb-true, eq-eqb}
+use borrow.Author.Tests.{ltb-true, eqb-true, eq-eqb, not-false}
 use lib.Dec.{ltb, eqb}
 use lib.ListN.{length, length-append}
 use Rattle.meaning.specs.Check.{notBelow}
+use Rattle.meaning.specs.Laws.Bools.{or-swap}
+use Rattle.meaning.specs.Count.Laws.{or-left, or-right}
 use Rattle.reading.specs.Names.{any, has, twice?, lacksBefore, leftOut?, notAll?}
 use Rattle.reading.specs.Meant.{withKey, sortedBy, gathered}
-use Rattle.lists.specs.Laws.States.{or-left, or-right, not-false, any-at, length-snoc}
+use Rattle.lists.specs.Laws.States.{any-at, length-snoc}
 use Rattle.roster.specs.Walk.{Every}
 
 -- ── tests ──
@@ -92,11 +94,6 @@ module _ {A : Type 0} (key : A → ℕ) where
       List·Permᴰ·trans (insert-perm n a l (p .0)) (List·Permᴰ·cons refl (sorted-perm n l (p .1)))
 
 -- ── what does not depend on the order ──
-
-or-swap : (a b c : Bool) → (a || (b || c)) ≡ (b || (a || c))
-or-swap true true c = refl
-or-swap true false c = refl
-or-swap false b c = refl
 
 module _ {A : Type 0} where
   pub length-perm : {l m : List A} → List·Permᴰ l m → length l ≡ length m

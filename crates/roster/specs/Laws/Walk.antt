@@ -15,6 +15,7 @@ use lib.Seq.{getD-set-same, getD-set-other}
 use Rattle.signals.specs.Mask.{bit}
 use Rattle.meaning.specs.Check.{notBelow}
 use Rattle.meaning.specs.Numbers.{mostInChart}
+use Rattle.meaning.specs.Count.Laws.{or-left, or-right}
 use Rattle.notation.specs.Syntax.{Sequential, Chart}
 use Rattle.notation.specs.Spelling.{Token, Tokens, ofHeading, ofSequential, ofChart, Text}
 use Rattle.reading.specs.Numbers.{namedCharts}
@@ -25,7 +26,7 @@ use Rattle.lists.specs.declared.Sequential.{Sequential as Drawn}
 use Rattle.lists.specs.Lists.{gap, SoFar, GivesSequential, SequentialAt}
 use Rattle.lists.specs.Found.{Found, nothing, passed, found, begins?, named?, TokenAt, BeginsAt}
 use Rattle.lists.specs.Laws.Found.{found-all}
-use Rattle.lists.specs.Laws.States.{so-far-more, or-left, or-right, gap-is}
+use Rattle.lists.specs.Laws.States.{so-far-more, gap-is}
 use Rattle.reading.specs.Laws.Lists.{bit-mask}
 use Rattle.lists.specs.Laws.States.{refused-more, cap-test, cap-in, length-snoc}
 use Rattle.lists.specs.Laws.Tokens.{text-end, text-some}

@@ -23,7 +23,7 @@ use Rattle.reading.specs.Names.{nameOf, names?}
 use Rattle.reading.specs.Meant.{all, gathered, transitionFor, transitionsIn, headFor, chartsOf, layChart, slavesOf}
 use Rattle.reading.specs.Meant.{setOf, optionalOf, nodesOf, transitionsOf, bodyFor, trailerFor, fileFor}
 use Rattle.reading.specs.Laws.Body.{headsFor, linesFor, slavesFor, nodesFor, body-for}
-use Rattle.roster.specs.Laws.Laid.{all-append}
+use Rattle.reading.specs.Laws.Lists.{all-append}
 use Rattle.roster.specs.Laws.Sorted.{InOrder, length-perm}
 use Rattle.writing.specs.Write.{chartIn}
 use Rattle.faithful.specs.Typed.{ChartIs}

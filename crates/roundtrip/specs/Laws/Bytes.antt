@@ -11,7 +11,7 @@ use Rattle.layout.specs.Record.{nodeOf, headBytes, transitionBytes, slaveBytes,
 use Rattle.layout.specs.Body.{nodeAt}
 use Rattle.layout.specs.declared.record.Slave.{Slave}
 use Rattle.layout.specs.declared.record.Node.{Node}
-use Rattle.meaning.specs.Count.Laws.{or-three, or-four}
+use Rattle.meaning.specs.Count.Laws.{or-three, or-four, or-left, or-right}
 use Rattle.meaning.specs.Check.{notBelow, differ, counts?, charts?, nodeOfKind?, nodes?, refusalOf}
 use Rattle.meaning.specs.Check.Laws.{Counted, alike, below, passed, counted, charted}
 use Rattle.meaning.specs.Check.Nodes.{node-passes}
@@ -23,9 +23,8 @@ use Rattle.reading.specs.Names.{membersOf, has, any, transition?, sequential?, 
 use Rattle.reading.specs.Meant.{all, gathered, transitionFor, transitionsIn, headFor, chartsOf, slavesOf}
 use Rattle.reading.specs.Meant.{nodesOf, bodyFor, trailerFor, fileFor}
 use Rattle.reading.specs.Laws.Body.{headsFor, linesFor, slavesFor, nodesFor, body-for}
-use Rattle.lists.specs.Laws.States.{or-left, or-right}
+use Rattle.reading.specs.Laws.Lists.{all-append}
 use Rattle.outline.specs.Laws.Laid.{has-below}
-use Rattle.roster.specs.Laws.Laid.{all-append}
 use Rattle.faithful.specs.Laws.Small.{transitions-fine}
 use Rattle.faithful.specs.Laws.Back.{At, at-below, shapeFor, trailer-back-is, body-back, file-back, head-is, slave-is}
 use Rattle.faithful.specs.Laws.Back.{node-there}

@@ -6,8 +6,9 @@ use mathlib.Core.Option.{Option, none, some}
 use mathlib.Core.List.{List, [], _∷_, _++_}
 use Prim.Native.Nat.{ℕ, suc, _+_, _*_, _-_, _/_, _%_, _≤_, _<_}
 use native.Mathlib.Omega.{arith}
-use borrow.Author.Tests.{eqb-true, eqb-false, eq-eqb, ne-eqb}
+use borrow.Author.Tests.{eqb-true, eq-eqb, ne-eqb}
 use lib.Dec.{eqb}
+use Rattle.meaning.specs.Laws.Bools.{eqb-sym}
 use Rattle.notation.specs.Spelling.{letter, blank, Spells, Sign, lpar, rpar, lbrace, rbrace, lsq, rsq, comma, bar}
 use Rattle.notation.specs.Spelling.{slash, amp, minus, wordDec, wordBy, Letter, letC, letQ, letS, FirstWrong}
 use Rattle.notation.specs.Laws.Backward.{nothing}
@@ -469,13 +470,6 @@ whole-right (setMore w ns) = other-whole (79 + slotNumber w) (omega arith) (omeg
 whole-right (setComma w ns) = other-whole (88 + slotNumber w) (omega arith) (omega (arith, slot-le w))
 
 -- ── all bytes ──
-
-eqb-sym : (a b : ℕ) → eqb a b ≡ eqb b a
-eqb-sym a b = go (eqb a b) refl
-  where
-    go : (c : Bool) → eqb a b ≡ c → c ≡ eqb b a
-    go true e = sym (eq-eqb b a (sym (eqb-true a b e)))
-    go false e = sym (ne-eqb b a (λ h. eqb-false a b e (sym h)))
 
 -- a is what the look back finds, where it matters
 unfoldable Seen : Position → ℕ → Type 0

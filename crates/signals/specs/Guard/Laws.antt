@@ -6,13 +6,12 @@ use mathlib.Core.Bool.{Bool, true, false, _&&_, not, cond, true≢false, false�
 use Prim.Native.Nat.{ℕ, zero, suc, _+_, _≤_, _<_, _^_}
 use native.Mathlib.Omega.{arith}
 use native.Mathlib.Decide.{decLt}
-use borrow.Author.Tests.{eqb-true, eqb-false}
-use lib.Dec.{eqb}
+use borrow.Author.Tests.{eqb-true, eqb-false, not-true}
 use Rattle.signals.specs.Mask.{_∩_, _∖_, bit, within, apart}
 use Rattle.signals.specs.Mask.Laws.{bit-cut, bit-less, bit-none, bit-high, ext}
 use Rattle.signals.specs.Guard.{lowestFrom, lowest, guard, isMet, LowestAbsent, LowestPresent, Shows}
-use Rattle.signals.specs.declared.guard.Tested.{Tested}
 use Rattle.signals.specs.declared.guard.Tested.the-variants.{Met, Absent, Present}
+use Rattle.signals.specs.Bools.{and-l, and-r, and-second}
 
 -- ── the lowest signal of a set ──
 
@@ -79,27 +78,11 @@ guard-is needed barred i j = go (within needed i) (apart barred j) _ _
     go true false x y = refl
     go false b x y = refl
 
-and-l : (a b : Bool) → (a && b) ≡ true → a ≡ true
-and-l true b e = refl
-and-l false b e = e
-
-and-r : (a b : Bool) → (a && b) ≡ true → b ≡ true
-and-r true b e = e
-and-r false b e = absurd (false≢true e)
-
-not-of : (b : Bool) → not b ≡ true → b ≡ false
-not-of true e = absurd (false≢true e)
-not-of false e = refl
-
 -- what is known of a digit of both, where one of them is 0
 off-but : (a b : Bool) → (a && not b) ≡ false → a ≡ true → b ≡ true
 off-but true true h e = refl
 off-but true false h e = absurd (true≢false h)
 off-but false b h e = absurd (false≢true e)
-
-off-both : (a b : Bool) → (a && b) ≡ false → a ≡ true → b ≡ false
-off-both true b h e = h
-off-both false b h e = absurd (false≢true e)
 
 and-off : (a b : Bool) → a ≡ false → (a && b) ≡ false
 and-off true b h = absurd (true≢false h)
@@ -110,7 +93,7 @@ module _ (needed barred i j : ℕ) (n-lt : needed < 2 ^ 64) (b-lt : barred < 2 ^
   lowest-absent h =
       record {
         wanted = and-l _ _ there;
-        missing = not-of _ (and-r (bit needed (lowest (needed ∖ i))) _ there);
+        missing = not-true _ (and-r (bit needed (lowest (needed ∖ i))) _ there);
         none-lower =
             λ k l. off-but (bit needed k) (bit i k)
             (sym (bit-less k needed i) ∙ lowest-first 64 0 k (needed ∖ i) (omega arith) l);
@@ -128,7 +111,7 @@ module _ (needed barred i j : ℕ) (n-lt : needed < 2 ^ 64) (b-lt : barred < 2 ^
         unwanted = and-l _ _ there;
         there = and-r (bit barred (lowest (barred ∩ j))) _ there;
         none-lower =
-            λ k l. off-both (bit barred k) (bit j k)
+            λ k l. and-second (bit barred k) (bit j k)
             (sym (bit-cut k barred j) ∙ lowest-first 64 0 k (barred ∩ j) (omega arith) l);
       }
     where

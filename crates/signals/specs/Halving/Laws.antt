@@ -1,8 +1,8 @@
 -- Passing over signals keeps what is known of the rest (`halved`, `kept`), and the search by halves ends at the lowest
 -- signal (`led`).
 use mathlib.Core.Path.{_≡_, refl, sym, ap, _∙_}
-use mathlib.Core.Bool.{Bool, true, false, _&&_}
-use Prim.Native.Nat.{ℕ, zero, suc, _+_, _-_, _*_, _/_, _%_, _^_, _≤_, _<_, suc-le-suc, zero-le}
+use mathlib.Core.Bool.{false, _&&_, and-true}
+use Prim.Native.Nat.{ℕ, zero, suc, _+_, _-_, _*_, _/_, _%_, _^_, _<_, suc-le-suc, zero-le}
 use native.Mathlib.Nat.{add-zero, div-add-mod', div-div-eq-div-mul, mul-mod-left, mod-lt, mul-assoc, mod-eq-of-lt}
 use native.Mathlib.Nat.{div-one}
 use native.Mathlib.Omega.{arith}
@@ -11,7 +11,7 @@ use lib.Pow.{pow-add}
 use lib.Bits.{and-mask}
 use lib.Dec.{eqb}
 use borrow.Author.Tests.{eq-eqb}
-use Rattle.signals.specs.Mask.{_∩_, bit}
+use Rattle.signals.specs.Mask.{bit}
 use Rattle.signals.specs.Mask.Laws.{bit-cut, bit-none}
 use Rattle.signals.specs.All.{bit-all}
 use Rattle.signals.specs.Guard.{lowest}
@@ -25,10 +25,6 @@ unfolding bit
 bit-past s p i = ap (λ x. eqb (x % 2) 1) (div-div-eq-div-mul s (2 ^ p) (2 ^ i) ∙ ap (λ x. s / x) (sym (pow-add 2 p i)))
 
 -- none of the first k signals is there
-and-true : (b : Bool) → (b && true) ≡ b
-and-true true = refl
-and-true false = refl
-
 none-below : (s k i : ℕ) → s % 2 ^ k ≡ 0 → i < k → bit s i ≡ false
 none-below s k i h l =
     sym (bit-cut i s (2 ^ k - 1) ∙ ap (λ b. bit s i && b) (bit-all k i l) ∙ and-true (bit s i))

@@ -16,9 +16,9 @@ use Rattle.meaning.specs.Check.{refusalOf}
 use Rattle.meaning.specs.Check.Laws.{firstOf-here, firstOf-next, firstOf-[], call-refused, call-passed}
 use Rattle.meaning.specs.Calls.{laidOver}
 use Rattle.meaning.specs.Rewriting.{shapeIn, encode, stayTest}
+use Rattle.agreement.specs.Encoded.{length-encode}
 use Rattle.clearing.specs.Clearing.{clear, clearBytes, clearRefusal, clearLength, clearOut}
 use Rattle.transforms.specs.declared.clear.Cleared.{Cleared}
-use Rattle.transforms.specs.Rewriting.Laws.{length-all}
 use Rattle.transforms.specs.Contracts.{ClearSays}
 use Rattle.transforms.specs.Clearing.{clearAfter, ClearsBody}
 
@@ -81,4 +81,4 @@ module _ (F : File) (buffer : List ℕ) where
 
 -- the result's size
 pub cleared-size : (F : File) (m : Shape) → m ≡ shapeIn (clear F) → sizeOf m + 12 ≡ length (encode (clear F))
-cleared-size F m e = ap (λ (s : Shape). sizeOf s + 12) e ∙ sym (length-all (clear F))
+cleared-size F m e = ap (λ (s : Shape). sizeOf s + 12) e ∙ sym (length-encode (clear F))

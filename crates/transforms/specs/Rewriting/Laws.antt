@@ -5,16 +5,12 @@ use mathlib.Core.Bool.{true, false}
 use mathlib.Core.List.{List, [], _∷_, _++_, append-assoc}
 use mathlib.Core.Logic.{_≢_}
 use Prim.Native.Nat.{ℕ, _+_, _≤_, _<_}
-use native.Mathlib.Omega.{arith}
 use borrow.Author.Tests.{ne-eqb, lt-ltb, le-ltb, ltb-false}
 use lib.Dec.{ltb, lit<}
-use lib.ListN.{length, length-append}
+use lib.ListN.{length}
 use Rattle.layout.specs.Body.{sizeOf}
-use Rattle.layout.specs.Record.{trailerBytes}
-use Rattle.layout.specs.Record.Laws.{length-trailer}
-use Rattle.layout.specs.declared.record.Trailer.{Trailer}
 use Rattle.layout.specs.declared.body.Shape.{Shape}
-use Rattle.meaning.specs.Numbers.{firstEdition, stayEdition, mostNodes, noFreeSignal, shortOut, mayStay}
+use Rattle.meaning.specs.Numbers.{stayEdition, mostNodes, noFreeSignal, shortOut, mayStay}
 use Rattle.meaning.specs.Meaning.{same}
 use Rattle.meaning.specs.Laws.Bools.{same-refl, same-≢}
 use Rattle.meaning.specs.File.{File, trailer, fileOf}
@@ -22,10 +18,10 @@ use Rattle.meaning.specs.Check.{Test, firstOf, fileTests, refusalOf}
 use Rattle.meaning.specs.Check.Laws.{firstOf-here, firstOf-next, firstOf-[], firstOf-++, firstOf-before, Passes}
 use Rattle.meaning.specs.Check.Laws.{firstOf-passes, call-refused, call-passed}
 use Rattle.meaning.specs.Calls.{laidOver}
-use Rattle.meaning.specs.Rewriting.{free, start, rewrite, noFree?, transitionsIn, rewriteTests, shapeIn, bodyBytes}
+use Rattle.meaning.specs.Rewriting.{free, start, rewrite, noFree?, rewriteTests, shapeIn}
 use Rattle.meaning.specs.Rewriting.{encode, rewriteBytes, stayTest, rewriteRefusal, rewriteLength, rewriteOut}
 use Rattle.meaning.specs.Rewriting.Laws.{list-most}
-use Rattle.agreement.specs.Encoded.{length-body}
+use Rattle.agreement.specs.Encoded.{length-encode}
 use Rattle.assembly.specs.Known.{Fits}
 use Rattle.transforms.specs.declared.rewriting.Rewritten.{Rewritten}
 use Rattle.transforms.specs.Rewriting.{limitTests, rewriteAfter, lengthAfter, outAfter}
@@ -107,23 +103,8 @@ module _ (F : File) (room : ℕ) where
 
 -- ── the result's size ──
 
-pub length-all : (F : File) → length (encode F) ≡ sizeOf (shapeIn F) + 12
-unfolding encode
-length-all F = length-append (bodyBytes F) (trailerBytes end) ∙ omega (arith, length-body F, length-trailer end)
-  where
-    end : Trailer
-    end =
-        record {
-          distance = sizeOf (shapeIn F);
-          charts = F .charts;
-          slaves = F .slaves;
-          nodes = F .nodes;
-          edition = firstEdition;
-          transitions = transitionsIn F;
-        }
-
 pub size-is : (F : File) (m : Shape) → m ≡ shapeIn (rewrite F) → sizeOf m + 12 ≡ length (encode (rewrite F))
-size-is F m e = ap (λ (s : Shape). sizeOf s + 12) e ∙ sym (length-all (rewrite F))
+size-is F m e = ap (λ (s : Shape). sizeOf s + 12) e ∙ sym (length-encode (rewrite F))
 
 -- ── what the call answers ──
 

@@ -2,7 +2,7 @@
 -- (`fits-..`) and that they are written (`adds-..`).
 use mathlib.Core.Path.{_≡_, refl, sym, ap, ap₂, _∙_, subst}
 use mathlib.Core.List.{List, [], _∷_, _++_, append-assoc, append-nil}
-use Prim.Native.Nat.{ℕ, _+_, _-_}
+use Prim.Native.Nat.{ℕ, _+_}
 use native.Mathlib.Nat.{add-zero, add-assoc}
 use native.Mathlib.Omega.{arith}
 use lib.ListN.{length, length-append}
@@ -11,9 +11,9 @@ use Rattle.layout.specs.declared.record.Node.{Node}
 use Rattle.layout.specs.Put.{Room}
 use Rattle.layout.specs.Put.Laws.{put-none, put-append, room-first, room-next}
 use Rattle.reading.specs.Meant.{all, Laid, lastOf, Placed, laySlaves, withNode, beside}
+use Rattle.reading.specs.Laws.Lists.{all-append}
 use Rattle.laying.specs.Turn.{put-is}
 use Rattle.walk.specs.Walk.{Sheet, Fits, Adds, oneNode, oneSlave}
-use Rattle.walk.specs.Laws.Order.{all-append}
 
 -- ── parts beside each other ──
 

@@ -1,9 +1,9 @@
 -- A text as a whole: a chart to which 52 does not apply can be laid down (`drawable`), the walk from the beginning of a
 -- text lays it down (`text-laid`), and its slaves stand in order once they are sorted (`slaves-sorted`).
-use mathlib.Core.Path.{_≡_, refl, sym, ap, _∙_, subst}
-use mathlib.Core.Bool.{Bool, false, _||_, not}
-use mathlib.Core.List.{List, [], _∷_, _++_, map, append-nil}
-use Prim.Native.Nat.{ℕ, _+_, _<_}
+use mathlib.Core.Path.{_≡_, sym, _∙_, subst}
+use mathlib.Core.Bool.{false, _||_, not}
+use mathlib.Core.List.{List, [], _++_, map, append-nil}
+use Prim.Native.Nat.{ℕ, _<_}
 use native.Mathlib.Omega.{arith}
 use borrow.Author.Tests.{not-false, ltb-true}
 use lib.Dec.{ltb}
@@ -11,6 +11,7 @@ use Rattle.layout.specs.Record.{slaveBytes}
 use Rattle.layout.specs.Put.{Room, Put}
 use Rattle.layout.specs.Put.Laws.{put-over}
 use Rattle.meaning.specs.Check.{notBelow}
+use Rattle.meaning.specs.Count.Laws.{or-left, or-right}
 use Rattle.notation.specs.Syntax.{Sequential, Single, sequential, decomposed, hidden, Chart, single, composed, Slaves}
 use Rattle.notation.specs.Syntax.{firstSlave, moreSlaves}
 use Rattle.notation.specs.Spelling.{ofChart, Text}
@@ -19,46 +20,37 @@ use Rattle.reading.specs.Names.{membersOf, any, twice?, leftOut?, notAll?, set?
 use Rattle.reading.specs.Names.{sequentialsOf, sequentialsOfSlaves, singleParts?, parts?, slaveParts?, nameOf, names?}
 use Rattle.reading.specs.Names.{has}
 use Rattle.reading.specs.Meant.{all, layChart, slavesOf}
-use Rattle.lists.specs.Laws.States.{or-left, or-right}
 use Rattle.forms.specs.Laws.Bytes.{calm-end}
 use Rattle.reading.specs.Laws.Lists.{any-append}
+use Rattle.outline.specs.Laws.Filed.{unnamed, any-map}
 use Rattle.walk.specs.declared.Cursor.{Cursor}
-use Rattle.walk.specs.Room.{Tries}
+use Rattle.laying.specs.Room.{Tries}
 use Rattle.walk.specs.Order.{PutsAll}
 use Rattle.walk.specs.Walk.{sheet, DrawableSingle, Drawable, DrawableSlaves, ChartAt, TextLaid}
 
 -- ── 52 ──
 
--- a chart's name is out of range
-abbrev outside : Sequential → Bool
-outside s = notBelow (nameOf s) namedCharts
-
-any-map : (p : ℕ → Bool) (l : List Sequential) → any p (map nameOf l) ≡ any (λ s. p (nameOf s)) l
-unfolding any
-any-map p [] = refl
-any-map p (s ∷ l) = ap (p (nameOf s) ||_) (any-map p l)
-
-inside : (s : Sequential) → outside s ≡ false → nameOf s < namedCharts
+inside : (s : Sequential) → unnamed s ≡ false → nameOf s < namedCharts
 inside s e = ltb-true (nameOf s) namedCharts (not-false (ltb (nameOf s) namedCharts) e)
 
 -- of two lists, each
-both-inside : (a b : List Sequential) → any outside (a ++ b) ≡ false → (any outside a ≡ false) × (any outside b ≡ false)
+both-inside : (a b : List Sequential) → any unnamed (a ++ b) ≡ false → (any unnamed a ≡ false) × (any unnamed b ≡ false)
 both-inside a b e =
-    let z = sym (any-append outside a b) ∙ e in
-    (or-left (any outside a) (any outside b) z, or-right (any outside a) (any outside b) z)
+    let z = sym (any-append unnamed a b) ∙ e in
+    (or-left (any unnamed a) (any unnamed b) z, or-right (any unnamed a) (any unnamed b) z)
 
 mutual
   unfolding any sequentialsIn singleParts? DrawableSingle
 
-  single-drawable : (s : Single) → any outside (sequentialsIn s) ≡ false → singleParts? s ≡ false → DrawableSingle s
+  single-drawable : (s : Single) → any unnamed (sequentialsIn s) ≡ false → singleParts? s ≡ false → DrawableSingle s
   single-drawable (sequential s) e p = inside s (or-left _ _ e)
   single-drawable (decomposed s ps) e p =
-      (inside s (or-left _ _ e), slaves-drawable (membersOf (s .heading .states)) ps (or-right (outside s) _ e) p)
+      (inside s (or-left _ _ e), slaves-drawable (membersOf (s .heading .states)) ps (or-right (unnamed s) _ e) p)
   single-drawable (hidden x t y) e p =
       let q = or-right (optional? x) _ p in
       (or-left (optional? x) _ p, chart-drawable t e (or-left (parts? t) _ q), or-right (parts? t) _ q)
 
-  chart-drawable : (t : Chart) → any outside (sequentialsOf t) ≡ false → parts? t ≡ false → Drawable t
+  chart-drawable : (t : Chart) → any unnamed (sequentialsOf t) ≡ false → parts? t ≡ false → Drawable t
   chart-drawable (single s) e p = single-drawable s e p
   chart-drawable (composed a x b) e p =
       let z = both-inside (sequentialsOf a) (sequentialsOf b) e in
@@ -67,7 +59,7 @@ mutual
       let right = chart-drawable b (z .1) (or-right (set? x) _ q) in
       (left, or-left (set? x) _ q, right)
 
-  slaves-drawable : (states : List ℕ) (ps : Slaves) → any outside (sequentialsOfSlaves ps) ≡ false
+  slaves-drawable : (states : List ℕ) (ps : Slaves) → any unnamed (sequentialsOfSlaves ps) ≡ false
       → slaveParts? states ps ≡ false → DrawableSlaves ps
   slaves-drawable states (firstSlave q t) e p = chart-drawable t e (or-right (not (has states q)) _ p)
   slaves-drawable states (moreSlaves ps q t) e p =

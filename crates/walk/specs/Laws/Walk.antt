@@ -38,7 +38,7 @@ use Rattle.forms.specs.Forms.{formOf, formOfSingle, FormAt, NoBrace, Calm, Opti
 use Rattle.forms.specs.Laws.Bytes.{next-seen, calm-rpar, calm-rsq, no-brace-bar, no-brace-lsq}
 use Rattle.outline.specs.Outline.{partDepth}
 use Rattle.outline.specs.Laws.Forms.{larger-left, larger-right, part-some, part-at-most}
-use Rattle.walk.specs.Room.{Tries}
+use Rattle.laying.specs.Room.{Tries}
 use Rattle.walk.specs.Walk.{Sheet, Fits, Adds, oneNode, oneSlave, Writes, WritesChart, DrawableSingle, Drawable}
 use Rattle.walk.specs.Walk.{Lays, SequentialAt, ChartAt, PartAt, HiddenAt}
 use Rattle.walk.specs.Walk.{BracketedAt, MasterAt}

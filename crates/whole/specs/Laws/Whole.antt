@@ -11,7 +11,7 @@ use native.Mathlib.Omega.{arith}
 use Rattle.signals.specs.Mask.{bit}
 use Rattle.signals.specs.Mask.Laws.{bit-union, bit-none, ext}
 use Rattle.meaning.specs.Count.{tally, one}
-use Rattle.meaning.specs.Count.Laws.{tally-cong, tally-zero, tally-add, tally-swap, tally-only, tally-scale}
+use Rattle.meaning.specs.Count.Laws.{tally-cong, tally-zero, tally-add, tally-swap, tally-only, tally-scale, tally-ones}
 use Rattle.meaning.specs.Meaning.{Set, ∅, same, Tree, Slaves, leaf, comp, hide, dec, nil, snoc}
 use Rattle.meaning.specs.File.{File, byKind, gather, whole, build, treeOf, wholeOf, fileOf}
 use Rattle.meaning.specs.Check.{holds, held, refusalOf}
@@ -29,11 +29,6 @@ pub accepted-sound : (f : List ℕ) → refusalOf f ≡ 0 → Sound (fileOf f)
 accepted-sound f ok = let p = passed f ok in sound (fileOf f) (p .slaves) (p .nodes) (p .naming) (p .inside)
 
 -- ── sums of ones ──
-
-pub tally-ones : (n : ℕ) → tally n (λ i. 1) ≡ n
-unfolding tally
-tally-ones zero = refl
-tally-ones (suc n) = let h = tally-ones n in omega arith
 
 once-below : (n a : ℕ) → a < n → tally n (λ i. one (same i a)) ≡ 1
 once-below n a l =

@@ -1,9 +1,9 @@
--- `put_slave` meets its contract.
+-- `room::put_slave` meets its contract: without room nothing is asked.
 use native.Mathlib.Omega.{arith}
 use borrow.Author.Needs.{needs}
 use Rattle.layout.specs.Record.Laws.{length-slave}
-use Rattle.walk.proofs.room.put_slave.Statement.{statement}
-use Rattle.walk.proofs.room.put_slave.Tie as tie
+use Rattle.laying.proofs.room.put_slave.Statement.{statement}
+use Rattle.laying.proofs.room.put_slave.Tie as tie
 
 pub put-slave-spec : {M : Type 1} → statement M
 put-slave-spec =

@@ -1,9 +1,9 @@
--- `put_node` meets its contract.
+-- `room::put_node` meets its contract: without room nothing is asked.
 use native.Mathlib.Omega.{arith}
 use borrow.Author.Needs.{needs}
 use Rattle.layout.specs.Record.Laws.{length-node}
-use Rattle.walk.proofs.room.put_node.Statement.{statement}
-use Rattle.walk.proofs.room.put_node.Tie as tie
+use Rattle.laying.proofs.room.put_node.Statement.{statement}
+use Rattle.laying.proofs.room.put_node.Tie as tie
 
 pub put-node-spec : {M : Type 1} → statement M
 put-node-spec =
