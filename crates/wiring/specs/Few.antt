@@ -8,7 +8,7 @@ use mathlib.Core.Path.{_≡_, refl, sym, _∙_, ap, ap₂}
 use mathlib.Core.Bool.{Bool, true, false, cond, true≢false}
 use mathlib.Core.List.{List}
 use mathlib.Core.Logic.{_≢_}
-use Prim.Native.Nat.{ℕ, zero, suc, _+_, _-_, _^_, _≤_, _<_}
+use Prim.Native.Nat.{ℕ, suc, _+_, _-_, _^_, _≤_, _<_}
 use native.Mathlib.Nat.{mul-one, pow-le-pow-right}
 use native.Mathlib.Omega.{arith}
 use borrow.Author.Tests.{ltb-false}
@@ -17,15 +17,14 @@ use lib.ListN.{length, getD}
 use Rattle.layout.specs.Body.{headAt, transitionAt, startOf, from, transitionsOf}
 use Rattle.layout.specs.Body.Laws.{length-from}
 use Rattle.layout.specs.declared.body.Shape.{Shape}
-use Rattle.layout.specs.declared.record.Transition.{Transition}
 use Rattle.meaning.specs.Numbers.{mostFromState, mostOpen, firstEdition, manyOpen}
 use Rattle.meaning.specs.Count.{anyUpTo, tally, one}
 use Rattle.meaning.specs.Count.Laws.{or-right, any-never, tally-cong}
 use Rattle.meaning.specs.Meaning.{Set, Chart, noMove, nth, lastPlace, refused}
 use Rattle.meaning.specs.File.{File, trailer, bodyOf, shapeOf, chartOf, fileAt, fileOf, wholeOf}
 use Rattle.meaning.specs.Check.{ends?, leaving, transitions?, refusalOf}
-use Rattle.meaning.specs.Check.Laws.{passed, counted}
-use Rattle.meaning.specs.Check.Nodes.{Sound, sound}
+use Rattle.meaning.specs.Check.Laws.{passed}
+use Rattle.meaning.specs.Check.Nodes.{Sound}
 use Rattle.meaning.specs.Open.{openChart, openIn}
 use Rattle.meaning.specs.Calls.{Valid, foundIn, stepOf, placesFound, placesOf}
 use Rattle.meaning.specs.Words.{Allowed}
@@ -34,6 +33,7 @@ use Rattle.meaning.specs.Laws.Names.{kap}
 use Rattle.meaning.specs.Laws.Editions.{one-stays}
 use Rattle.wiring.specs.Wired.{Stands}
 use Rattle.meaning.specs.Laws.Choices.{nth-from}
+use Rattle.meaning.specs.Laws.Alike.{accepted-sound, accepted-node}
 use Rattle.wiring.specs.Stand.{stands}
 use Rattle.wiring.specs.Counted.{Counts, totalOf}
 use Rattle.wiring.specs.Fits.{count-fits}
@@ -176,13 +176,6 @@ module _ (F : File) (so : Sound F) (some-node : 0 < F .nodes) where
 -- ── a file that passes 1 to 11 ──
 
 module _ (f : List ℕ) (ok : refusalOf f ≡ 0) where
-  pub passed-sound : Sound (fileOf f)
-  passed-sound = let p = passed f ok in sound (fileOf f) (p .slaves) (p .nodes) (p .naming) (p .inside)
-
-  pub passed-node : 0 < fileOf f .nodes
-  unfolding fileOf fileAt shapeOf
-  passed-node = counted (trailer f) (passed f ok .counts) .some-node
-
   pub passed-few : FewFrom (fileOf f)
   unfolding fileOf
   passed-few = few-from (shapeOf (trailer f)) (bodyOf f) (passed f ok .transitions)
@@ -191,7 +184,7 @@ module _ (f : List ℕ) (ok : refusalOf f ≡ 0) where
   pub passed-never-many : trailer f .edition ≡ firstEdition → fileOf f .charts ≤ 8 → (config : List ℕ)
       → Valid (fileOf f) config → openIn (fileOf f) config ≤ mostOpen
   passed-never-many e l config v =
-      never-many (fileOf f) passed-sound passed-node config passed-few v (λ c m. one-stays f e c) l
+      never-many (fileOf f) (accepted-sound f ok) (accepted-node f ok) config passed-few v (λ c m. one-stays f e c) l
 
 -- edition 1 and 8 charts, as many as a file had before it could have 16
 module _ (f : List ℕ) (e : trailer f .edition ≡ firstEdition) (l : fileOf f .charts ≤ 8) (config : List ℕ) (i : Set)

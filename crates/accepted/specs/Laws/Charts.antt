@@ -21,10 +21,9 @@ use Rattle.meaning.specs.Meaning.{Set, same}
 use Rattle.meaning.specs.Meaning.{Chart as Part}
 use Rattle.meaning.specs.File.{File, wholeOf, trailer, bodyOf, shapeOf, chartOf, fileAt, fileOf}
 use Rattle.meaning.specs.Laws.Editions.{one-stays}
-use Rattle.meaning.specs.Laws.Alike.{accepted-node}
+use Rattle.meaning.specs.Laws.Alike.{accepted-node, accepted-sound}
 use Rattle.meaning.specs.Check.{notBelow, differ, chart?, charts?, inChart, ends?, leaving, transitions?, refusalOf}
 use Rattle.meaning.specs.Check.Laws.{passed, counted}
-use Rattle.whole.specs.Laws.Whole.{accepted-sound}
 use Rattle.notation.specs.Syntax.{Sequential, Chart}
 use Rattle.reading.specs.Names.{nameOf}
 use Rattle.reading.specs.Meant.{bodyFor, trailerFor}

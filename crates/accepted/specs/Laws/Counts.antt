@@ -17,14 +17,14 @@ use Rattle.meaning.specs.Count.{tally}
 use Rattle.meaning.specs.Meaning.{same, Tree, leaf, comp, hide, dec, nil, snoc}
 use Rattle.meaning.specs.Meaning.{Slaves as Held}
 use Rattle.meaning.specs.File.{File, wholeOf, trailer, bodyOf, shapeOf, chartOf, fileAt, fileOf}
-use Rattle.meaning.specs.Laws.Alike.{accepted-node}
+use Rattle.meaning.specs.Laws.Alike.{accepted-node, accepted-sound}
 use Rattle.meaning.specs.Check.{counts?, refusalOf}
 use Rattle.meaning.specs.Check.Laws.{passed, counted, charted, summed}
 use Rattle.meaning.specs.Check.Nodes.{Sound}
 use Rattle.meaning.specs.Count.Laws.{tally-ones}
 use Rattle.whole.specs.Weigh.{weight, weights, ofSlaves}
 use Rattle.whole.specs.Weigh.{everyNode, nodesIn as nodesOfTree, slavesIn as slavesOfTree}
-use Rattle.whole.specs.Laws.Whole.{accepted-sound, whole-nodes, whole-charts, whole-slaves}
+use Rattle.whole.specs.Laws.Whole.{whole-nodes, whole-charts, whole-slaves}
 use Rattle.notation.specs.Syntax.{Chart}
 use Rattle.reading.specs.Names.{any, names?}
 use Rattle.reading.specs.Meant.{gathered, transitionsIn, chartsOf, nodesOf, slavesOf, transitionsOf, trailerFor}

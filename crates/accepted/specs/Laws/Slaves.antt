@@ -21,11 +21,11 @@ use Rattle.meaning.specs.Meaning.{Slaves as Held}
 use Rattle.meaning.specs.Laws.Bools.{same-refl, same-≢, same→≡, or-r, and-l, and-r, and-i}
 use Rattle.meaning.specs.File.{File, wholeOf, trailer, shapeOf, fileAt, fileOf}
 use Rattle.meaning.specs.Laws.Names.{Rule10}
-use Rattle.meaning.specs.Laws.Alike.{accepted-node}
+use Rattle.meaning.specs.Laws.Alike.{accepted-node, accepted-sound}
 use Rattle.meaning.specs.Check.{rising, inOrder, slave?, slaves?, holds, held, refusalOf}
 use Rattle.meaning.specs.Check.Laws.{neither, is-below}
 use Rattle.whole.specs.Weigh.{weight, weights, ofSlaves}
-use Rattle.whole.specs.Laws.Whole.{accepted-sound, slaves-sum}
+use Rattle.whole.specs.Laws.Whole.{slaves-sum}
 use Rattle.notation.specs.Syntax.{Chart}
 use Rattle.reading.specs.Numbers.{namedCharts, namedStates}
 use Rattle.reading.specs.Meant.{withKey, sortedBy, Placed, laySlaves, withNode, beside, layHidden, layBoth, laySingle}
@@ -170,7 +170,7 @@ total-none key v (a ∷ l) e =
     more (λ q. let z : one (same (key a) v) ≡ 1 = ap (λ k. one (same k v)) q ∙ ap one (same-refl v) in omega arith)
     (total-none key v l (omega arith))
 
-level-rising : {A : Type 0} (key : A → ℕ) (l : List A) → NotFalling key l
+pub level-rising : {A : Type 0} (key : A → ℕ) (l : List A) → NotFalling key l
     → ((v : ℕ) → total (λ a. one (same (key a) v)) l ≤ 1) → Rising key l
 unfolding NotFalling Rising total
 level-rising key [] h f = tt

@@ -18,7 +18,7 @@ use Rattle.meaning.specs.Meaning.{Set, ∅, same, refused}
 use Rattle.meaning.specs.File.{File, trailer, shapeOf, fileAt, fileOf}
 use Rattle.meaning.specs.Check.{Test, firstOf, differ, notBelow, fileTests, refusalOf}
 use Rattle.meaning.specs.Check.Laws.{eq-or-not, call-refused, call-passed, in-front, passed, counted}
-use Rattle.meaning.specs.Check.Nodes.{Treed, treed}
+use Rattle.meaning.specs.Check.Nodes.{Treed, treed, Sound, sound}
 use Rattle.meaning.specs.Calls.{made, laidOver, firstRefusal, initials, firstBytes, configTests, stepRefusal}
 use Rattle.meaning.specs.Calls.{stepIn, stepOf, runRefusal, afterStep, carriedAfter, rowOf, rowsOf, carriedOf}
 use Rattle.meaning.specs.Calls.{runBytes, runCarried}
@@ -33,6 +33,9 @@ module _ (f : List ℕ) (e : refusalOf f ≡ 0) where
   accepted-treed = let p = passed f e in treed (fileOf f) (p .slaves) (p .nodes) (p .naming)
 
   -- and there is a last node, the whole
+  pub accepted-sound : Sound (fileOf f)
+  accepted-sound = let p = passed f e in sound (fileOf f) (p .slaves) (p .nodes) (p .naming) (p .inside)
+
   pub accepted-node : 1 ≤ fileOf f .nodes
   unfolding fileOf fileAt shapeOf
   accepted-node = counted (trailer f) (passed f e .counts) .some-node

@@ -9,12 +9,11 @@ use lib.ListN.{length}
 use Rattle.layout.specs.Le.{AllBytes}
 use Rattle.meaning.specs.Numbers.{firstEdition}
 use Rattle.meaning.specs.File.{File, trailer, shapeOf, fileAt, fileOf}
-use Rattle.meaning.specs.Laws.Alike.{accepted-treed, accepted-node}
+use Rattle.meaning.specs.Laws.Alike.{accepted-treed, accepted-node, accepted-sound}
 use Rattle.meaning.specs.Check.{charts?, transitions?, slaves?, nodes?, naming?, inside?, fileTests}
 use Rattle.meaning.specs.Check.{refusalOf}
 use Rattle.meaning.specs.Check.Laws.{Passed, passed, counted, file-passes, firstOf-++, firstOf-next, firstOf-[]}
 use Rattle.agreement.specs.Passed.{passes}
-use Rattle.whole.specs.Laws.Whole.{accepted-sound}
 use Rattle.notation.specs.Syntax.{Chart, depth}
 use Rattle.notation.specs.Laws.Write.{write-spells}
 use Rattle.reading.specs.Numbers.{mostDepth}

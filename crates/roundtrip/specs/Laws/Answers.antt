@@ -18,7 +18,7 @@ use Rattle.meaning.specs.Calls.{firstRefusal, firstBytes, inputOf, outputOf, st
 use Rattle.meaning.specs.Calls.{runBytes, runCarried, laidOver}
 use Rattle.meaning.specs.Rewriting.{stayTest}
 use Rattle.meaning.specs.Plain.{plainOf}
-use Rattle.meaning.specs.Laws.Alike.{accepted-node}
+use Rattle.meaning.specs.Laws.Alike.{accepted-node, accepted-sound}
 use Rattle.notation.specs.Syntax.{depth}
 use Rattle.notation.specs.Spelling.{write}
 use Rattle.notation.specs.Laws.Write.{write-spells}
@@ -31,7 +31,6 @@ use Rattle.propositions.specs.Exchange.Answers.{answer-output, answer-step, ans
 use Rattle.propositions.specs.Exchange.Answers.{answer-run-refusal, answer-run, answer-carried, answer-plain}
 use Rattle.lacks.specs.Lacking.{lackingOf}
 use Rattle.lacks.specs.Exchanged.{answer-lacking}
-use Rattle.whole.specs.Laws.Whole.{accepted-sound}
 use Rattle.writing.specs.Write.{chartIn, textIn, textOf, deepTest, writeRefusal, writeLength, writeOut}
 use Rattle.faithful.specs.Laws.Back.{trailer-back-is}
 use Rattle.accepted.specs.Laws.Counts.{counts-right}

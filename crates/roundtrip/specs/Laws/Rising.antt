@@ -10,18 +10,20 @@ use mathlib.Core.Logic.{_⊎_, inl, inr, ⊎-elim}
 use Prim.Native.Nat.{ℕ, zero, suc, _+_, _≤_, _<_}
 use native.Mathlib.Decide.{decLt}
 use native.Mathlib.Omega.{arith}
-use borrow.Author.Tests.{lt-ltb, le-ltb, eq-eqb, ne-eqb, eqb-true, eqb-false}
+use borrow.Author.Tests.{lt-ltb, le-ltb, ne-eqb, eqb-true}
 use lib.Dec.{eqb, ltb}
 use Rattle.meaning.specs.Count.{tally, one}
 use Rattle.meaning.specs.Count.Laws.{tally-most}
+use Rattle.meaning.specs.Meaning.{same}
 use Rattle.reading.specs.Meant.{sortedBy}
 use Rattle.outline.specs.Laws.Sorted.{Each, none, more, each-append, total}
 use Rattle.roster.specs.Laws.Sorted.{sorted-perm}
 use Rattle.faithful.specs.Typed.{Rising}
 use Rattle.faithful.specs.Laws.Charts.{mem-perm}
-use Rattle.faithful.specs.Laws.Order.{each-every, NotFalling, sorted-level}
+use Rattle.faithful.specs.Laws.Order.{each-every, sorted-level}
 use Rattle.accepted.specs.Tree.{Climbs}
 use Rattle.accepted.specs.Laws.Records.{climbs-all}
+use Rattle.accepted.specs.Laws.Slaves.{level-rising}
 
 -- ── lists ──
 
@@ -101,31 +103,13 @@ module _ {A : Type 0} (key : A → ℕ) where
           let z = times-above k l (subst (λ k. Each (λ b. k < key b) l) (eqb-true (key a) k e) (r .0)) in omega arith
       go false e h = omega arith
 
-  no-more : (k : ℕ) (l : List A) → Each (λ a. k ≤ key a) l → times k l ≡ 0 → Each (λ a. k < key a) l
-  unfolding total
-  no-more k [] e z = none
-  no-more k (a ∷ l) (more p e) z = go (eqb (key a) k) refl z (no-more k l e)
-    where
-      go : (b : Bool) → eqb (key a) k ≡ b → one b + times k l ≡ 0 → (times k l ≡ 0 → Each (λ a. k < key a) l)
-          → Each (λ a. k < key a) (a ∷ l)
-      go true q z f = absurd (omega arith)
-      go false q z f =
-          let d = eqb-false (key a) k q in let h : k < key a = omega (arith, p, d) in more h (f (omega arith))
-
-  level-rising : (l : List A) → NotFalling key l → ((k : ℕ) → times k l ≤ 1) → Rising key l
-  unfolding NotFalling Rising total
-  level-rising [] r h = tt
-  level-rising (a ∷ l) r h =
-      let o = ap one (eq-eqb (key a) (key a) refl) in
-      let z = h (key a) in
-      (no-more (key a) l (r .0) (omega arith), level-rising l (r .1) (λ k. let y = h k in omega arith))
-
   pub sorted-rising : (n : ℕ) (l m : List A) → List·Permᴰ l m → Rising key l → Each (λ a. key a < n) l
       → sortedBy key n m ≡ l
+  unfolding same
   sorted-rising n l m d r e =
       let p = sorted-perm key n m (each-every m (mem-each m (λ a w. each-mem l a e (mem-perm (Permᴰ·symm d) w)))) in
       rising-unique (sortedBy key n m) l
-      (level-rising (sortedBy key n m) (sorted-level key n m)
+      (level-rising key (sortedBy key n m) (sorted-level key n m)
       (λ k. let a = times-perm k p in let b = times-perm k d in let c = times-rising l r k in omega arith))
       r (λ a w. mem-perm (Permᴰ·symm d) (mem-perm p w)) (λ a w. mem-perm (Permᴰ·symm p) (mem-perm d w))
 

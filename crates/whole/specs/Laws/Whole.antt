@@ -5,7 +5,6 @@
 -- (`whole-master`).
 use mathlib.Core.Path.{_≡_, refl, sym, _∙_, ap}
 use mathlib.Core.Bool.{Bool, true, false, _&&_, _||_, cond, or-comm}
-use mathlib.Core.List.{List}
 use Prim.Native.Nat.{ℕ, zero, suc, _+_, _-_, _*_, _≤_, _<_}
 use native.Mathlib.Omega.{arith}
 use Rattle.signals.specs.Mask.{bit}
@@ -13,22 +12,14 @@ use Rattle.signals.specs.Mask.Laws.{bit-union, bit-none, ext}
 use Rattle.meaning.specs.Count.{tally, one}
 use Rattle.meaning.specs.Count.Laws.{tally-cong, tally-zero, tally-add, tally-swap, tally-only, tally-scale, tally-ones}
 use Rattle.meaning.specs.Meaning.{Set, ∅, same, Tree, Slaves, leaf, comp, hide, dec, nil, snoc}
-use Rattle.meaning.specs.File.{File, byKind, gather, whole, build, treeOf, wholeOf, fileOf}
-use Rattle.meaning.specs.Check.{holds, held, refusalOf}
-use Rattle.meaning.specs.Check.Laws.{passed}
-use Rattle.meaning.specs.Check.Nodes.{Sound, sound}
+use Rattle.meaning.specs.File.{File, byKind, gather, whole, build, treeOf, wholeOf}
+use Rattle.meaning.specs.Check.{holds, held}
+use Rattle.meaning.specs.Check.Nodes.{Sound}
 use Rattle.meaning.specs.Rewriting.{unionUpTo}
 use Rattle.meaning.specs.Laws.Bools.{same-refl, same-≢, same→≡}
 use Rattle.whole.specs.Weigh.{Weights, weight, weights, ofCharts, ofSlaves, everyNode, nodesIn, chartsSum}
 use Rattle.whole.specs.Weigh.{timesChart, timesSlave, slavesIn, Owned, OwnedBy, fedIn, fedInAll}
 use Rattle.whole.specs.Laws.Double.{pick, double, ofKind, nodeWeight, tree-additive}
-
--- ── an accepted file ──
-
-pub accepted-sound : (f : List ℕ) → refusalOf f ≡ 0 → Sound (fileOf f)
-accepted-sound f ok = let p = passed f ok in sound (fileOf f) (p .slaves) (p .nodes) (p .naming) (p .inside)
-
--- ── sums of ones ──
 
 once-below : (n a : ℕ) → a < n → tally n (λ i. one (same i a)) ≡ 1
 once-below n a l =

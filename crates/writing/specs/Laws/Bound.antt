@@ -18,14 +18,14 @@ use Rattle.meaning.specs.Meaning.{Slaves as Held}
 use Rattle.meaning.specs.File.{File, trailer, bodyOf, shapeOf, chartOf, fileAt, fileOf, wholeOf}
 use Rattle.meaning.specs.Check.{notBelow, inOrder, ends?, transitions?, slave?, slaves?, refusalOf}
 use Rattle.meaning.specs.Check.Laws.{below, passed, counted, charted, summed}
-use Rattle.meaning.specs.Laws.Alike.{accepted-node}
+use Rattle.meaning.specs.Laws.Alike.{accepted-node, accepted-sound}
 use Rattle.notation.specs.Syntax.{Chart, single, composed}
 use Rattle.notation.specs.Spelling.{lpar, rpar, lbrace, rbrace, lsq, rsq, comma, bar, wordBy, letQ, sign₁, name₁}
 use Rattle.notation.specs.Spelling.{ofSet, ofOptional, ofTransition, ofSequential, ofSingle, ofChart, ofPart, ofSlaves}
 use Rattle.notation.specs.Spelling.{signBytes, bytesOf, write}
 use Rattle.whole.specs.Weigh.{Weights, weight, weights}
 use Rattle.whole.specs.Laws.Double.{ofKind}
-use Rattle.whole.specs.Laws.Whole.{accepted-sound, partWeight, whole-weight}
+use Rattle.whole.specs.Laws.Whole.{partWeight, whole-weight}
 use Rattle.writing.specs.Numbers.{mostText}
 use Rattle.writing.specs.Typed.{signalsOf, transitionOf, sequentialOf, typedOf, masterOf, slavesOf}
 use Rattle.writing.specs.Write.{chartIn, textIn, textOf}
