@@ -43,15 +43,16 @@ loop-holds c = (omega arith, union-none _)
 loop-again : tie.Need-loop-again Inv-loop μ-loop
 unfolding fileAt
 loop-again c =
+    let s = c .before .before .before .before .before .before .before .before .before .before in
     let i = c .before .before .before .before .before .before .before .before .loop in
-    let a = c .before .before .before .before .before .before .before .before .before .before .args in
+    let a = s .args in
     let e = test-is (a .n) (a .body .now) (a .c) (i .i) (a .t) _
     (c .before .before .before .before .before .before .slave-at .ensures) in
     let given : (b : Bool) → Set = λ b. cond b (single (call (fileAt (a .n) (a .body .now)) (i .i))) ∅ in (
       omega arith,
       ⊎-elim
           (λ w. w .2 ∙ union-taken (i .i) _ (i .inv .1)
-          (c .before .before .before .before .before .before .before .before .before .before .pre .1 (i .i)
+          (s .pre .1 (i .i)
           (c .before .before .before .before .before .before .before .loop-test .taken)
           ∙ sym (ap given (sym e ∙ w .0 .taken))))
           (λ w. w .1 ∙ union-left (i .i) _ (i .inv .1) (ap given (sym e ∙ w .0 .left)))

@@ -30,15 +30,16 @@ loop-holds c = (omega arith, union-none _)
 loop-again : tie.Need-loop-again Inv-loop μ-loop
 unfolding fileAt
 loop-again c =
+    let s = c .before .before .before .before .before .before in
     let i = c .before .before .before .before .loop in
     let e = c .before .before .slave-at .ensures in
     let given : (b : Bool) → Set =
-    λ b. cond b (single (call (fileAt (c .before .before .before .before .before .before .args .n)
-    (c .before .before .before .before .before .before .args .body .now)) (i .i))) ∅ in (
+    λ b. cond b (single (call (fileAt (s .args .n)
+    (s .args .body .now)) (i .i))) ∅ in (
       omega arith,
       ⊎-elim
           (λ w. w .2 ∙ union-taken (i .i) _ (i .inv .1)
-          (c .before .before .before .before .before .before .pre .1 (i .i)
+          (s .pre .1 (i .i)
           (c .before .before .before .loop-test .taken)
           ∙ sym (ap given (is-of _ _ _ _ e (w .0 .taken)))))
           (λ w. w .1 ∙ union-left (i .i) _ (i .inv .1) (ap given (is-not _ _ _ _ e (w .0 .left))))

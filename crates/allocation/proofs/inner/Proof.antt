@@ -121,15 +121,16 @@ loop-holds c = (omega arith, record { long = refl; has = λ k h. absurd (omega a
 loop-again : tie.Need-loop-again Inv-loop μ-loop
 unfolding fileAt
 loop-again c =
+    let s = c .before .before .before .before .before .before .before .before in
     let i = c .before .before .before .before .before .loop in
-    let p = c .before .before .before .before .before .before .before .before .pre in
+    let p = s .pre in
     let e = c .before .before .before .node-at .ensures in
     let t = c .before .before .before .before .loop-test .taken in (
       omega arith,
       ⊎-elim
           (λ w. rw (w .2) (filled-own _ _ (p .0) (i .j) t _ e (i .inner) (i .inv .1) _
           (w .1 .ensures ∙ call-is _ (p .0 .sound)
-          (c .before .before .before .before .before .before .before .before .args .calls .now) (p .1)
+          (s .args .calls .now) (p .1)
           (p .0 .sized .slaves) (i .j) _
           (c .before .before .before .before .before .before .enclosers .ensures (i .j) t)) (w .0 .taken)))
           (λ w. rw (w .1) (filled-other _ _ (p .0) (i .j) t _ e (i .inner) (i .inv .1) (w .0 .left)))
@@ -137,7 +138,9 @@ loop-again c =
     )
 
 returns : tie.Need-returns Inv-loop μ-loop
-returns c = filled-all _ _ (c .before .before .before .before .pre .0) (c .before .before .before .before .pre .2)
+returns c =
+    let s = c .before .before .before .before in
+    filled-all _ _ (s .pre .0) (s .pre .2)
     (c .before .loop .j)
     (c .before .loop .inner) (omega arith) (c .before .loop .inv .1)
 

@@ -49,8 +49,9 @@ module _ (n : Shape) (b : List ℕ) (c : ℕ) (h : Head) (s κ idle : ℕ) (t : 
 
 own-requires : tie.Need-own-requires
 own-requires c κs =
-    let p = c .before .before .before .before .before .before .pre in
-    let a = c .before .before .before .before .before .before .args in
+    let s = c .before .before .before .before .before .before in
+    let p = s .pre in
+    let a = s .args in
     let w = p .3 in (
       p .0,
       p .1,
@@ -62,10 +63,12 @@ own-requires c κs =
 
 idles-requires : tie.Need-idles-requires
 idles-requires c κs =
-    let p = c .before .before .before .before .before .before .before .before .before .before .pre in
-    let a = c .before .before .before .before .before .before .before .before .before .before .args in
-    room-next _ _ _ (rests (a .inner) (c .before .before .before .before .before .before .idle-count .result))
-    (room-are _ _ _ _ _ _ _ (p .2) (p .3) (c .before .before .before .before .before .before .idle-count .ensures)
+    let s = c .before .before .before .before .before .before in
+    let t = s .before .before .before .before in
+    let p = t .pre in
+    let a = t .args in
+    room-next _ _ _ (rests (a .inner) (s .idle-count .result))
+    (room-are _ _ _ _ _ _ _ (p .2) (p .3) (s .idle-count .ensures)
     (a .at) (a .out .now) (p .4))
     (c .before .before .before .own .ensures)
 

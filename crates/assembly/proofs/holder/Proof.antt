@@ -28,11 +28,12 @@ module _ (F : File) (c at s k : ℕ) (e : s ≡ k) where
 
 put-node-requires : tie.Need-put-node-requires
 put-node-requires c κs =
-    let a = c .before .before .before .before .before .args in
+    let s = c .before .before .before .before .before in
+    let a = s .args in
     let F = fileAt (a .n) (a .body .now) in
     room-all (heldBytes F (a .c) (a .first) (count F (a .c) (a .n .slaves))) (nodeBytes (holding (a .c))) 20
     (none F (a .c) (a .first) _ _ (c .before .before .slaves-of .ensures .0) (c .before .if1 .taken))
-    (length-node (holding (a .c))) (a .at) (a .out .now) (c .before .before .before .before .before .pre .4)
+    (length-node (holding (a .c))) (a .at) (a .out .now) (s .pre .4)
 
 returns : tie.Need-returns
 returns c = put-is (sym (none _ _ _ _ _ (c .before .before .before .before .before .slaves-of .ensures .0)
@@ -41,8 +42,9 @@ returns c = put-is (sym (none _ _ _ _ _ (c .before .before .before .before .befo
 master-requires : tie.Need-master-requires
 unfolding fileAt
 master-requires c κs =
-    let p = c .before .before .before .before .before .pre in
-    let a = c .before .before .before .before .before .args in
+    let s = c .before .before .before .before .before in
+    let p = s .pre in
+    let a = s .args in
     let e = c .before .before .slaves-of .ensures .0 in
     let m = p .3 .named in
     let z = c .before .if1 .left in (

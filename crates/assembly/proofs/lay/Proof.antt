@@ -79,8 +79,9 @@ module _ (n : Shape) (b : List ℕ) (m : Shape) (edition : ℕ) (em : m ≡ shap
 heads-requires : tie.Need-heads-requires
 unfolding fileAt
 heads-requires c κs =
-    let p = c .before .before .before .before .pre in
-    let a = c .before .before .before .before .args in
+    let s = c .before .before .before .before in
+    let p = s .pre in
+    let a = s .args in
     let F = fileAt (a .n) (a .body .now) in (
       p .0,
       p .2,
@@ -92,8 +93,9 @@ heads-requires c κs =
 transitions-requires : tie.Need-transitions-requires
 unfolding fileAt
 transitions-requires c κs =
-    let p = c .before .before .before .before .before .before .before .before .pre in
-    let a = c .before .before .before .before .before .before .before .before .args in
+    let s = c .before .before .before .before .before .before .before .before in
+    let p = s .pre in
+    let a = s .args in
     let F = fileAt (a .n) (a .body .now) in (
       p .0,
       p .1,
@@ -107,75 +109,73 @@ transitions-requires c κs =
 nodes-requires : tie.Need-nodes-requires
 unfolding fileAt
 nodes-requires c κs =
-    let p =
-    c .before .before .before .before .before .before .before .before .before .before .before .before .before .pre in
-    let a =
-    c .before .before .before .before .before .before .before .before .before .before .before .before .before .args in
+    let s = c .before .before .before .before in
+    let t = s .before .before .before .before in
+    let u = t .before .before .before .before .before in
+    let p = u .pre in
+    let a = u .args in
     let F = fileAt (a .n) (a .body .now) in (
       p .0,
       p .1,
-      c .before .before .before .before .before .before .before .before .before .before .names .ensures,
+      t .before .before .names .ensures,
       p .3,
-      room-first (c .before .before .before .before .transitions .last .1 .1 .1 .1 .0) _ (ns F)
+      room-first (s .transitions .last .1 .1 .1 .1 .0) _ (ns F)
           (end (a .m) (a .edition))
           (room₂ (a .n) (a .body .now) (a .m) (a .edition) (p .4) (p .5) (a .out .now) (p .6)
-          (c .before .before .before .before .before .before .before .before .heads .last .1 .1 .1 .0) _
-          (c .before .before .before .before .before .before .before .before .heads .ensures)
-          (c .before .before .before .before .transitions .last .1 .1 .1 .1 .0) _
-          (c .before .before .before .before .transitions .ensures)),
+          (t .heads .last .1 .1 .1 .0) _
+          (t .heads .ensures)
+          (s .transitions .last .1 .1 .1 .1 .0) _
+          (s .transitions .ensures)),
     )
 
 trailer-requires : tie.Need-trailer-requires
 unfolding fileAt
 trailer-requires c κs =
-    let p = c .before .before .before .before .before .before .before .before .before .before .before .before .before
-    .before .before .before .before .pre in
-    let a = c .before .before .before .before .before .before .before .before .before .before .before .before .before
-    .before .before .before .before .args in (
+    let s = c .before .before .before .before .before .before .before .before in
+    let t = s .before .before .before .before in
+    let u = t .before .before .before .before .before in
+    let p = u .pre in
+    let a = u .args in (
       small (a .n) (a .body .now) (a .m) (a .edition) (p .4) (p .5) (p .0) (p .3),
       room₃ (a .n) (a .body .now) (a .m) (a .edition) (p .4) (p .5) (a .out .now) (p .6)
-          (c .before .before .before .before .before .before .before .before .before .before .before .before .heads
-          .last .1 .1 .1 .0) _
-          (c .before .before .before .before .before .before .before .before .before .before .before .before
-          .heads .ensures)
-          (c .before .before .before .before .before .before .before .before .transitions .last .1 .1 .1 .1 .0) _
-          (c .before .before .before .before .before .before .before .before .transitions .ensures)
+          (t .heads .last .1 .1 .1 .0) _
+          (t .heads .ensures)
+          (s .transitions .last .1 .1 .1 .1 .0) _
+          (s .transitions .ensures)
           (c .before .before .before .nodes .last .1 .1 .1 .1 .0) _ (c .before .before .before .nodes .ensures),
     )
 
 returns : tie.Need-returns
 unfolding fileAt
 returns c =
-    let p = c .before .before .before .before .before .before .before .before .before .before .before .before .before
-    .before .before .before .before .before .before .before .pre in
-    let a = c .before .before .before .before .before .before .before .before .before .before .before .before .before
-    .before .before .before .before .before .before .before .args in
-    laid (a .n) (a .body .now) (a .m) (a .edition) (p .4) (p .5) (a .out .now) (p .6) (c .before .before .before .before
-    .before .before .before .before .before .before .before .before .before .before .before .heads .last .1 .1 .1 .0) _
-    (c .before .before .before .before .before .before .before .before .before .before .before .before .before .before
-    .before .heads .ensures)
-    (c .before .before .before .before .before .before .before .before .before .before .before .transitions .last .1
-    .1 .1 .1 .0) _
-    (c .before .before .before .before .before .before .before .before .before .before .before .transitions .ensures)
-    (c .before .before .before .before .before .before .nodes .last .1 .1 .1 .1 .0) _
-    (c .before .before .before .before .before .before .nodes .ensures) _ (c .before .before .trailer .ensures)
+    let s = c .before .before .before .before .before .before in
+    let t = s .before .before .before .before .before in
+    let u = t .before .before .before .before in
+    let v = u .before .before .before .before .before in
+    let p = v .pre in
+    let a = v .args in
+    laid (a .n) (a .body .now) (a .m) (a .edition) (p .4) (p .5) (a .out .now) (p .6) (u .heads .last .1 .1 .1 .0) _
+    (u .heads .ensures)
+    (t .transitions .last .1 .1 .1 .1 .0) _
+    (t .transitions .ensures)
+    (s .nodes .last .1 .1 .1 .1 .0) _
+    (s .nodes .ensures) _ (c .before .before .trailer .ensures)
 
 same-length : tie.Need-same-length
 unfolding fileAt
 same-length c =
-    let p = c .before .before .before .before .before .before .before .before .before .before .before .before .before
-    .before .before .before .before .before .before .before .pre in
-    let a = c .before .before .before .before .before .before .before .before .before .before .before .before .before
-    .before .before .before .before .before .before .before .args in
-    same (a .n) (a .body .now) (a .m) (a .edition) (p .4) (p .5) (a .out .now) (p .6) (c .before .before .before .before
-    .before .before .before .before .before .before .before .before .before .before .before .heads .last .1 .1 .1 .0) _
-    (c .before .before .before .before .before .before .before .before .before .before .before .before .before .before
-    .before .heads .ensures)
-    (c .before .before .before .before .before .before .before .before .before .before .before .transitions .last .1
-    .1 .1 .1 .0) _
-    (c .before .before .before .before .before .before .before .before .before .before .before .transitions .ensures)
-    (c .before .before .before .before .before .before .nodes .last .1 .1 .1 .1 .0) _
-    (c .before .before .before .before .before .before .nodes .ensures) (c .before .before .trailer .last .1 .1 .0)
+    let s = c .before .before .before .before .before .before in
+    let t = s .before .before .before .before .before in
+    let u = t .before .before .before .before in
+    let v = u .before .before .before .before .before in
+    let p = v .pre in
+    let a = v .args in
+    same (a .n) (a .body .now) (a .m) (a .edition) (p .4) (p .5) (a .out .now) (p .6) (u .heads .last .1 .1 .1 .0) _
+    (u .heads .ensures)
+    (t .transitions .last .1 .1 .1 .1 .0) _
+    (t .transitions .ensures)
+    (s .nodes .last .1 .1 .1 .1 .0) _
+    (s .nodes .ensures) (c .before .before .trailer .last .1 .1 .0)
     (c .before .before .trailer .ensures)
 
 pub lay-spec : {M : Type 1} → statement M

@@ -40,8 +40,9 @@ module _ (n : Shape) (b : List ℕ) (c slaves first : ℕ) (h : Head) (hidden : 
 
 put-node-requires : tie.Need-put-node-requires
 put-node-requires c κs =
-    let p = c .before .before .before .before .before .pre in
-    let a = c .before .before .before .before .before .args in
+    let s = c .before .before .before .before .before in
+    let p = s .pre in
+    let a = s .args in
     room-one (nodeBytes (holding (a .c))) _ 20 (length-node (holding (a .c))) (a .at) (a .out .now)
     (room-are (a .n) (a .body .now) (a .c) (a .slaves) (a .first) _ _ (c .before .head-at .ensures)
     (c .before .before .calls-of .ensures) (a .at)
@@ -50,43 +51,46 @@ put-node-requires c κs =
 parts-requires : tie.Need-parts-requires
 unfolding fileAt
 parts-requires c κs =
-    let p = c .before .before .before .before .before .before .before .before .before .before .pre in
-    let a = c .before .before .before .before .before .before .before .before .before .before .args in
-    let x = c .before .before .before .before .before .before .head-at .result .feedback
-    ∪ c .before .before .before .before .before .before .before .calls-of .result in
+    let s = c .before .before .before .before in
+    let t = s .before .before .before in
+    let u = t .before .before .before in
+    let p = u .pre in
+    let a = u .args in
+    let x = s .before .before .head-at .result .feedback
+    ∪ t .calls-of .result in
     let m = p .3 .named in (
       p .0,
       p .2,
       omega arith,
-      room-first (c .before .before .before .before .put-node .last .0) _
+      room-first (s .put-node .last .0) _
           (middle (fileAt (a .n) (a .body .now)) (a .c) (a .first) x)
-          (last (a .first + a .slaves) (c .before .before .before .before .before .before .before .calls-of .result))
+          (last (a .first + a .slaves) (t .calls-of .result))
           (room-next _ _ _ (middle (fileAt (a .n) (a .body .now)) (a .c) (a .first) x
-          ++ last (a .first + a .slaves) (c .before .before .before .before .before .before .before .calls-of .result))
+          ++ last (a .first + a .slaves) (t .calls-of .result))
           (room-are (a .n) (a .body .now) (a .c) (a .slaves) (a .first) _ _
-          (c .before .before .before .before .before .before .head-at .ensures)
-          (c .before .before .before .before .before .before .before .calls-of .ensures) (a .at) (a .out .now) (p .4))
-          (c .before .before .before .before .put-node .ensures)),
+          (s .before .before .head-at .ensures)
+          (t .calls-of .ensures) (a .at) (a .out .now) (p .4))
+          (s .put-node .ensures)),
     )
 
 put-node-requires-2 : tie.Need-put-node-requires-2
 unfolding fileAt
 put-node-requires-2 c κs =
-    let p = c .before .before .before .before .before .before .before .before .before .before .before .before .before
-    .before .pre in
-    let a = c .before .before .before .before .before .before .before .before .before .before .before .before .before
-    .before .args in
-    let x = c .before .before .before .before .before .before .before .before .before .before .head-at .result .feedback
-    ∪ c .before .before .before .before .before .before .before .before .before .before .before .calls-of .result in
+    let s = c .before .before .before .before .before .before .before .before .before .before in
+    let t = s .before .before .before .before in
+    let p = t .pre in
+    let a = t .args in
+    let x = s .head-at .result .feedback
+    ∪ s .before .calls-of .result in
     room-last (last (a .first + a .slaves)
-    (c .before .before .before .before .before .before .before .before .before .before .before .calls-of .result)) 20
+    (s .before .calls-of .result)) 20
     (length-node _) (c .before .before .before .parts .ensures)
     (room-next _ _ _ (middle (fileAt (a .n) (a .body .now)) (a .c) (a .first) x
     ++ last (a .first + a .slaves)
-    (c .before .before .before .before .before .before .before .before .before .before .before .calls-of .result))
+    (s .before .calls-of .result))
     (room-are (a .n) (a .body .now) (a .c) (a .slaves) (a .first) _ _
-    (c .before .before .before .before .before .before .before .before .before .before .head-at .ensures)
-    (c .before .before .before .before .before .before .before .before .before .before .before .calls-of .ensures)
+    (s .head-at .ensures)
+    (s .before .calls-of .ensures)
     (a .at) (a .out .now) (p .4))
     (c .before .before .before .before .before .before .before .before .put-node .ensures))
 

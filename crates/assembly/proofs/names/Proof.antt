@@ -48,11 +48,12 @@ loop-holds c = (omega arith, record { long = refl; next = nodes-none _; names = 
 small : (c : tie.After-before-last Inv-loop μ-loop) → c .before .before .loop .first + c .before-last .result < 64
 unfolding fileAt
 small c =
-    let a = c .before .before .before .before .args in
+    let s = c .before .before .before .before in
+    let a = s .args in
     let F = fileAt (a .n) (a .body .now) in
     let e =
     name-is F (c .before .before .loop .j) _ _ (c .before .before .loop .inv .1 .next) (c .before-last .ensures .0) in
-    let h = c .before .before .before .before .pre .1 .nodes in
+    let h = s .pre .1 .nodes in
     omega (arith, ren-inside F (a .n .nodes) (c .before .before .loop .j) (c .before .loop-test .taken))
 
 loop-again : tie.Need-loop-again Inv-loop μ-loop

@@ -99,8 +99,9 @@ module _ (n : Shape) (b : List ℕ) (j : ℕ) (r : Node) (e : r ≡ nodeAt n b j
 
 holder-requires : tie.Need-holder-requires
 holder-requires c κs =
-    let p = c .before .before .before .before .before .before .before .pre in
-    let a = c .before .before .before .before .before .before .before .args in
+    let s = c .before .before .before .before .before .before .before in
+    let p = s .pre in
+    let a = s .args in
     let e = c .before .before .before .before .node-at .ensures in
     let k = c .before .if1 .taken in (
       p .0,
@@ -135,8 +136,9 @@ element-copy-out-t23 c =
 
 put-node-requires : tie.Need-put-node-requires
 put-node-requires c κs =
-    let p = c .before .before .before .before .before .before .before .before .before .before .pre in
-    let a = c .before .before .before .before .before .before .before .before .before .before .args in
+    let s = c .before .before .before .before .before .before .before .before .before .before in
+    let p = s .pre in
+    let a = s .args in
     room-all _ _ 20 (both-bytes (a .n) (a .body .now) (a .j) _
     (c .before .before .before .before .before .before .before .node-at .ensures) (p .0)
     (p .3 .there) (c .before .before .before .if2 .taken) (a .names .now) (p .2)) (length-node _) (a .at)
@@ -144,10 +146,9 @@ put-node-requires c κs =
 
 returns-2 : tie.Need-returns-2
 returns-2 c =
-    let p =
-    c .before .before .before .before .before .before .before .before .before .before .before .before .before .pre in
-    let a =
-    c .before .before .before .before .before .before .before .before .before .before .before .before .before .args in
+    let s = c .before .before .before .before .before .before .before .before .before .before .before .before .before in
+    let p = s .pre in
+    let a = s .args in
     put-is (sym (both-bytes (a .n) (a .body .now) (a .j) _
     (c .before .before .before .before .before .before .before .before .before .before .node-at .ensures) (p .0)
     (p .3 .there)
@@ -165,8 +166,9 @@ element-copy-out-t28 c =
 
 put-node-requires-2 : tie.Need-put-node-requires-2
 put-node-requires-2 c κs =
-    let p = c .before .before .before .before .before .before .before .before .before .pre in
-    let a = c .before .before .before .before .before .before .before .before .before .args in
+    let s = c .before .before .before .before .before .before .before .before .before in
+    let p = s .pre in
+    let a = s .args in
     room-all _ _ 20 (hidden-bytes (a .n) (a .body .now) (a .j) _
     (c .before .before .before .before .before .before .node-at .ensures) (p .0)
     (p .3 .there) (c .before .before .before .if1 .left) (c .before .before .if2 .left) (a .names .now) (p .2))
@@ -175,8 +177,9 @@ put-node-requires-2 c κs =
 
 returns-3 : tie.Need-returns-3
 returns-3 c =
-    let p = c .before .before .before .before .before .before .before .before .before .before .before .before .pre in
-    let a = c .before .before .before .before .before .before .before .before .before .before .before .before .args in
+    let s = c .before .before .before .before .before .before .before .before .before .before .before .before in
+    let p = s .pre in
+    let a = s .args in
     put-is (sym (hidden-bytes (a .n) (a .body .now) (a .j) _
     (c .before .before .before .before .before .before .before .before .before .node-at .ensures) (p .0) (p .3 .there)
     (c .before .before .before .before .before .before .if1 .left)

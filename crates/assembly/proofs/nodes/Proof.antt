@@ -40,8 +40,9 @@ loop-holds c = (omega arith, nodes-none _, put-start _)
 node-requires : tie.Need-node-requires Inv-loop μ-loop
 unfolding fileAt
 node-requires c κs =
-    let p = c .before .before .before .before .before .pre in
-    let a = c .before .before .before .before .before .args in
+    let s = c .before .before .before .before .before in
+    let p = s .pre in
+    let a = s .args in
     let i = c .before .before .loop in
     let t = c .before .loop-test .taken in (
       p .0,
@@ -57,8 +58,9 @@ small : (c : tie.After-first Inv-loop μ-loop)
     (c .before .before .before .before .before .before .loop .j) 0 < 64
 unfolding fileAt
 small c =
-    let p = c .before .before .before .before .before .before .before .before .before .pre in
-    let a = c .before .before .before .before .before .before .before .before .before .args in
+    let s = c .before .before .before .before .before .before .before .before .before in
+    let p = s .pre in
+    let a = s .args in
     let j = c .before .before .before .before .before .before .loop .j in
     let t = c .before .before .before .before .before .loop-test .taken in
     omega (arith, p .2 j t, ren-inside (fileAt (a .n) (a .body .now)) (a .n .nodes) j t, p .3 .nodes)

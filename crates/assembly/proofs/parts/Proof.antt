@@ -108,19 +108,21 @@ room : (c : tie.Then1 Inv-loop μ-loop)
     → c .before .before .before .before .before .loop .p + 20
     ≤ length (c .before .before .before .before .before .loop .out)
 room c =
-    let a = c .before .before .before .before .before .before .before .before .args in
-    let e =
-    part-own (a .n) (a .body .now) (a .c) (a .x) (a .first) (c .before .before .before .before .before .loop .i) _
+    let s = c .before .before .before .before .before in
+    let t = s .before .before .before in
+    let a = t .args in
+    let e = part-own (a .n) (a .body .now) (a .c) (a .x) (a .first) (s .loop .i) _
     (c .before .before .before .slave-at .ensures) (c .if1 .taken) in
     room-record (partBytes (fileAt (a .n) (a .body .now)) (a .c) (a .first) (a .x)) 20 (ap length e ∙ length-node _)
-    (c .before .before .before .before .before .before .before .before .pre .3)
+    (t .pre .3)
     (c .before .before .before .before .loop-test .taken)
-    (c .before .before .before .before .before .loop .inv .1 .puts)
+    (s .loop .inv .1 .puts)
 
 loop-again : tie.Need-loop-again Inv-loop μ-loop
 loop-again c =
+    let s = c .before .before .before .before .before .before .before .before in
     let i = c .before .before .before .before .before .loop in
-    let a = c .before .before .before .before .before .before .before .before .args in
+    let a = s .args in
     let e = c .before .before .before .slave-at .ensures in
     let t = c .before .before .before .before .loop-test .taken in (
       omega arith,
@@ -133,8 +135,8 @@ loop-again c =
             kind = 1;
             a = i .inv .1 .last j;
             b = name (a .n) (a .body .now) (a .c) (a .x) (a .first) (i .i) _ e
-                (c .before .before .before .before .before .before .before .before .pre .0) t (a .names .now)
-                (c .before .before .before .before .before .before .before .before .pre .1) j;
+                (s .pre .0) t (a .names .now)
+                (s .pre .1) j;
             x = a .x;
             y = 0;
           })

@@ -33,9 +33,10 @@ loop-holds c = (omega arith, sym (startOf-none _ _), put-start _)
 chart-requires : tie.Need-chart-requires Inv-loop μ-loop
 unfolding fileAt
 chart-requires c κs =
-    let p = c .before .before .before .before .before .before .before .pre in
+    let s = c .before .before .before .before .before .before .before in
+    let p = s .pre in
     let i = c .before .before .before .before .loop in
-    let a = c .before .before .before .before .before .before .before .args in
+    let a = s .args in
     let t = c .before .before .before .loop-test .taken in (
       p .0,
       p .1,

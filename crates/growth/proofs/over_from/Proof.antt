@@ -63,11 +63,12 @@ asked : (c : tie.After-over-from-states Inv-loop μ-loop)
     (c .before .before .before .before .before .loop .c)
 unfolding fileAt
 asked c =
+    let s = c .before .before .before .before .before in
     c .over-from-states .ensures
-    ∙ over-is _ _ _ (c .before .before .before .before .before .loop .c) _ _ _ _
+    ∙ over-is _ _ _ (s .loop .c) _ _ _ _
     (c .before .before .before .head-at .ensures)
-    (c .before .before .before .before .before .loop .inv .1)
-    (c .before .before .before .before .before .before .before .pre .1 _
+    (s .loop .inv .1)
+    (s .before .before .pre .1 _
     (c .before .before .before .before .loop-test .taken))
     (c .before .idle-count .ensures)
 

@@ -27,7 +27,8 @@ returns-2 c =
     let h = c .if1 .left in
     record {
       is-bad =
-          sym (or-true (a .bad)) ∙ sym (ap (λ b. a .bad || (not b || bit (a .mask) (a .n))) (le-ltb (a .n) (a .limit) h));
+          sym (or-true (a .bad))
+          ∙ sym (ap (λ b. a .bad || (not b || bit (a .mask) (a .n))) (le-ltb (a .n) (a .limit) h));
       is-mask = λ l. absurd (omega arith);
     }
 

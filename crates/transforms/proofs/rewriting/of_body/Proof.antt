@@ -50,8 +50,10 @@ returns c =
 
 -- the file that was read
 abbrev at : tie.Else1 → File
-at c = fileAt (c .before .before .before .before .before .before .args .n)
-    (c .before .before .before .before .before .before .args .body .now)
+at c =
+    let s = c .before .before .before .before .before .before in
+    fileAt (s .args .n)
+    (s .args .body .now)
 
 -- 40 does not apply, and slaves have their calls
 free-left : (c : tie.Else1) → ltb (length (free (at c))) (at c .slaves) ≡ false
@@ -70,15 +72,18 @@ in-limits : (c : tie.Else2)
 in-limits c = sym (c .before .limit-refusal .ensures) ∙ c .if2 .left
 
 fitting : (c : tie.Else2) → Fits (at (c .before .before .before .before .before .before .before .before))
-fitting c = fits (at (c .before .before .before .before .before .before .before .before)) 0
-    (free-left (c .before .before .before .before .before .before .before .before)) (in-limits c)
+fitting c =
+    let s = c .before .before .before .before .before .before .before .before in
+    fits (at (s)) 0
+    (free-left (s)) (in-limits c)
 
 inner-requires : tie.Need-inner-requires
-inner-requires c κs = (
-  c .before .before .before .before .before .before .before .before .pre .0,
-  have-calls (c .before .before),
-  c .before .before .before .before .before .before .before .before .pre .1,
-)
+inner-requires c κs =
+    let s = c .before .before .before .before .before .before .before .before in (
+      s .pre .0,
+      have-calls (c .before .before),
+      s .pre .1,
+    )
 
 limit-refusal-requires : tie.Need-limit-refusal-requires
 limit-refusal-requires c κs = (
