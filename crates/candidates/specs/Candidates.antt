@@ -5,17 +5,21 @@ use mathlib.Core.List.{List}
 use Prim.Native.Nat.{ℕ, _+_, _≤_, _<_}
 use lib.ListN.{length, getD}
 use Rattle.signals.specs.Mask.{_∪_, _∩_}
-use Rattle.layout.specs.Body.{headAt, transitionAt, transitionsOf}
+use Rattle.layout.specs.Body.{headAt, transitionAt, startOf, transitionsOf}
+use Rattle.layout.specs.Body.{from as fromOn}
 use Rattle.layout.specs.declared.body.Shape.{Shape}
 use Rattle.layout.specs.declared.record.Transition.{Transition}
-use Rattle.meaning.specs.Numbers.{mostFromState}
-use Rattle.meaning.specs.Meaning.{Set, Chart}
+use Rattle.meaning.specs.Numbers.{mostCharts, mostFromState, stayEdition}
+use Rattle.meaning.specs.Count.{tally, one}
+use Rattle.meaning.specs.Meaning.{Set, same, Chart}
 use Rattle.meaning.specs.File.{chartOf}
 use Rattle.meaning.specs.Check.{leaving}
+use Rattle.wiring.specs.Wire.{join}
+use Rattle.wiring.specs.Sure.{sureOf, sureIn}
 use Rattle.wiring.specs.Hunt.{mayOf}
-use Rattle.cells.specs.Table.{SameWiring, masksFor, masterFrom, stateFrom, smallSize, stateAt}
+use Rattle.cells.specs.Table.{SameWiring, masksFor, backAt, masterFrom, stateFrom, smallSize, stateAt}
 use Rattle.tables.specs.Read.{narrow, narrowAll, narrowed}
-use Rattle.tables.specs.Fill.{Filling, considered, listing, Raised, Until, Chosen}
+use Rattle.tables.specs.Fill.{Filling, considered, listing, sureAt, Raised, Until, Chosen}
 use Rattle.checks.specs.Known.{Sized, Summed}
 use Rattle.candidates.specs.declared.Around.{Around}
 use Rattle.candidates.specs.declared.Puts.{Puts}
@@ -63,18 +67,41 @@ readCharts n b reads = narrowed (λ c. getD reads c 0) (chartOf n b)
 
 -- one transition with the action a more
 abbrev pub withOne : Bool → Set → Puts → Puts
-withOne true a p = record { may = p .may ∪ a; sure = p .sure ∩ a }
+withOne true a p = record { may = p .may ∪ a; sure = p .sure ∩ a; count = p .count + 1 }
 withOne false a p = p
+
+-- what those of `count` transitions from `start` on that leave state q put out, and how many they are
+pub record PutsOf (f : ℕ → Transition) (start count q : ℕ) (u : Puts) : Type 0 where
+  pub may : u .may ≡ mayOf (fromOn f start count) q
+  pub sure : u .sure ≡ sureOf (fromOn f start count) q
+  pub many : u .count ≡ tally count (λ j. one (same (f (start + j) .from) q))
 
 -- may has what each of the first k charts might put out
 abbrev pub Mays : Shape → List ℕ → List ℕ → List ℕ → ℕ → List ℕ → Type 0
 Mays n b config reads k may =
     (c : ℕ) → c < k → getD may c 0 ≡ mayOf (narrowAll (getD reads c 0) (transitionsOf n b c)) (getD config c 0)
 
--- of the first k charts, and what each chart is surely offered by them, lows
-pub record Sided (n : Shape) (b config reads base m s : List ℕ) (k : ℕ) (may lows : List ℕ) : Type 0 where
+-- sures has what all transitions from its state of each of the first k charts put out
+abbrev pub Sures : Shape → List ℕ → List ℕ → List ℕ → ℕ → List ℕ → Type 0
+Sures n b config reads k sures =
+    (c : ℕ) → c < k → getD sures c 0 ≡ sureOf (narrowAll (getD reads c 0) (transitionsOf n b c)) (getD config c 0)
+
+-- both, and counts has how many these transitions are
+pub record PutsBy (n : Shape) (b config reads : List ℕ) (k : ℕ) (may sures counts : List ℕ) : Type 0 where
   pub mays : Mays n b config reads k may
-  pub raised : Raised (readCharts n b reads) (λ c. getD config c 0) k m s base lows
+  pub sure : Sures n b config reads k sures
+  pub many : (c : ℕ) → c < k → getD counts c 0
+      ≡ tally (headAt n b c .transitions) (λ j. one (same (transitionAt n b (startOf n b c + j) .from) (getD config c 0)))
+  pub may-long : length may ≡ mostCharts
+  pub sures-long : length sures ≡ mostCharts
+  pub counts-long : length counts ≡ mostCharts
+
+-- lows has what base has, and what the first k charts surely put in, if u has what all their transitions do
+abbrev pub RaisedBy : Shape → List ℕ → List ℕ → List ℕ → ℕ → List ℕ → List ℕ → Type 0
+RaisedBy n m s u k base lows =
+    (c : ℕ) → c < mostCharts
+    → getD lows c 0
+    ≡ getD base c 0 ∪ join k (λ e. sureAt s e (sureIn (same (n .edition) stayEdition) (getD u e 0)) ∩ backAt m c e)
 
 -- the first k charts have their candidates
 abbrev pub UntilChart : Shape → List ℕ → List ℕ → List ℕ → List ℕ → List ℕ → List ℕ → List ℕ → ℕ → List ℕ → List ℕ

@@ -18,7 +18,8 @@ ghost use Rattle.cells.specs.Table.{masksFor, backAt, putMasks, Row, smallSize,
 ghost use Rattle.tables.specs.Filled.{mayAt};
 ghost use Rattle.tables.specs.Read.{narrow};
 ghost use Rattle.tables.specs.Fill.{lastsBy, othersAt, sureAt, isAt, isAgain, AheadRow, aheadBy, AheadFrom, stuck};
-ghost use Rattle.candidates.specs.Candidates.{Ready, Tabled, Left, filling, consideredBy, listingBy, readAs, fromStart, withOne, Mays, Sided, NextChart, UntilChart, Stated, Chooses};
+ghost use Rattle.candidates.specs.Candidates.{Ready, Tabled, Left, filling, consideredBy, listingBy, readAs, fromStart, withOne, PutsOf, Mays, Sures, PutsBy, RaisedBy};
+ghost use Rattle.candidates.specs.Candidates.{NextChart, UntilChart, Stated, Chooses};
 use cells::CHARTS;
 use cells::masks;
 use cells::small;
@@ -43,16 +44,11 @@ pub struct Around {
 // The states that a mask has room for.
 const BITS: u8 = 64;
 
-// What the transitions from a state put out: some of them, and all of them.
+// What the transitions from a state put out, some of them and all of them, and how many they are.
 pub struct Puts {
     pub may: u64,
     pub sure: u64,
-}
-
-// What each chart might put out, and what each is surely offered.
-pub struct Sides {
-    pub may: [u64; CHARTS],
-    pub low: [u64; CHARTS],
+    pub count: u64,
 }
 
 // Where transition t starts.
@@ -80,7 +76,7 @@ fn read_at(n: Shape, body: &[u8], t: usize, read: u64) -> Transition
 
 // One transition more, if it is from the state.
 fn with_one(n: Shape, body: &[u8], t: usize, state: u8, read: u64, p: Puts) -> Puts
-    requires { ⌜ Holds n (now body) × (t < n .transitions) ⌝ }
+    requires { ⌜ Holds n (now body) × (t < n .transitions) × (p .count < 18446744073709551615) ⌝ }
     ensures { λ r. ⌜ r ≡ withOne (same (transitionAt n (now (body .entry)) t .from) state)
         (narrow read (transitionAt n (now (body .entry)) t) .action) p ⌝ }
 {
@@ -89,20 +85,21 @@ fn with_one(n: Shape, body: &[u8], t: usize, state: u8, read: u64, p: Puts) -> P
         return Puts {
             may: p.may | r.action,
             sure: p.sure & r.action,
+            count: p.count + 1,
         };
     }
     p
 }
 
-// What the transitions from a state put out that is read, of `count` from `start` on.
+// What the transitions from a state put out that is read, of `count` from `start` on, and how many they are.
 fn puts_of(n: Shape, body: &[u8], start: usize, count: usize, state: u8, read: u64) -> Puts
     requires { ⌜ Holds n (now body) × (start + count ≤ n .transitions) ⌝ }
-    ensures { λ r. ⌜ (r .may ≡ mayOf (fromOn (readAs n (now (body .entry)) read) start count) state)
-        × (r .sure ≡ sureOf (fromOn (readAs n (now (body .entry)) read) start count) state) ⌝ }
+    ensures { λ r. ⌜ PutsOf (readAs n (now (body .entry)) read) start count state r ⌝ }
 {
     let mut puts = Puts {
         may: 0,
         sure: signals::ALL,
+        count: 0,
     };
     let mut p: usize = 0;
     while p < count {
@@ -112,10 +109,40 @@ fn puts_of(n: Shape, body: &[u8], start: usize, count: usize, state: u8, read: u
     puts
 }
 
+// What each chart's transitions from its present state put out that is read, and how many they are.
+pub fn puts_all(
+    n: Shape,
+    body: &[u8],
+    config: &[u8],
+    reads: &[u64; CHARTS],
+    may: &mut [u64; CHARTS],
+    sures: &mut [u64; CHARTS],
+    counts: &mut [u64; CHARTS],
+)
+    requires { ⌜ Ready n (now body) (now config) × (length (now may) ≡ mostCharts) × (length (now sures) ≡ mostCharts)
+        × (length (now counts) ≡ mostCharts) ⌝ }
+    ensures { λ _. ⌜ PutsBy n (now (body .entry)) (now (config .entry)) (now (reads .entry)) (n .charts)
+        (now (may .exit)) (now (sures .exit)) (now (counts .exit)) ⌝ }
+{
+    let mut start: usize = 0;
+    let mut c: usize = 0;
+    while c < n.charts {
+        let head = layout::body::head_at(n, body, c);
+        let count = head.transitions as usize;
+        let puts = puts_of(n, body, start, count, config[c], reads[c]);
+        may[c] = puts.may;
+        sures[c] = puts.sure;
+        counts[c] = puts.count;
+        start += count;
+        c += 1;
+    }
+}
+
 // Each chart is surely offered what it gets of u, which chart c puts out.
-fn raise_all(masks: &[u64], low: &mut [u64], c: usize, u: u64)
+fn raise_all(masks: &[u64], low: &mut [u64; CHARTS], c: usize, u: u64)
     requires { ⌜ (masksFor (c + 1) ≤ length (now masks)) × (length (now low) ≡ mostCharts) × (c < mostCharts) ⌝ }
-    ensures { λ _. ⌜ Row (now (low .exit)) (λ d. getD (now (low .entry)) d 0 ∪ u ∩ backAt (now (masks .entry)) d c) ⌝ }
+    ensures { λ _. ⌜ (length (now (low .exit)) ≡ mostCharts)
+        × Row (now (low .exit)) (λ d. getD (now (low .entry)) d 0 ∪ u ∩ backAt (now (masks .entry)) d c) ⌝ }
 {
     let mut d: usize = 0;
     while d < CHARTS {
@@ -125,9 +152,10 @@ fn raise_all(masks: &[u64], low: &mut [u64], c: usize, u: u64)
 }
 
 // The same where u is what chart c puts out if it is active: in a slave it need not be.
-fn raise(masks: &[u64], small: &[u8], low: &mut [u64], c: usize, u: u64)
+fn raise(masks: &[u64], small: &[u8], low: &mut [u64; CHARTS], c: usize, u: u64)
     requires { ⌜ Tabled (c + 1) (now masks) (now small) × (length (now low) ≡ mostCharts) × (c < mostCharts) ⌝ }
-    ensures { λ _. ⌜ Row (now (low .exit)) (λ d. getD (now (low .entry)) d 0 ∪ sureAt (now (small .entry)) c u ∩ backAt (now (masks .entry)) d c) ⌝ }
+    ensures { λ _. ⌜ (length (now (low .exit)) ≡ mostCharts)
+        × Row (now (low .exit)) (λ d. getD (now (low .entry)) d 0 ∪ sureAt (now (small .entry)) c u ∩ backAt (now (masks .entry)) d c) ⌝ }
 {
     if small::master(small, c) < CHARTS {
         return;
@@ -147,35 +175,19 @@ fn surely(n: Shape, u: u64) -> u64
     u
 }
 
-// What each chart might put out from its present state that is read, and what each is surely offered; `base` has what
-// it is of the input.
-fn sides_of(
-    n: Shape,
-    body: &[u8],
-    config: &[u8],
-    reads: &[u64; CHARTS],
-    base: [u64; CHARTS],
-    masks: &[u64],
-    small: &[u8],
-) -> Sides
-    requires { ⌜ Ready n (now body) (now config) × Tabled (n .charts) (now masks) (now small) ⌝ }
-    ensures { λ r. ⌜ Sided n (now (body .entry)) (now (config .entry)) (now (reads .entry)) base (now (masks .entry)) (now (small .entry)) (n .charts) (r .may) (r .low) ⌝ }
+// Each chart is surely offered, besides what `low` has, what other charts put out whatever they do; `sures` has what all
+// transitions of each do.
+fn raise_sure(n: Shape, sures: &[u64; CHARTS], masks: &[u64], small: &[u8], low: &mut [u64; CHARTS])
+    requires { ⌜ (n .charts ≤ mostCharts) × Tabled (n .charts) (now masks) (now small) × (length (now low) ≡ mostCharts) ⌝ }
+    ensures { λ _. ⌜ RaisedBy n (now (masks .entry)) (now (small .entry)) (now (sures .entry)) (n .charts)
+        (now (low .entry)) (now (low .exit)) ⌝ }
 {
-    let mut may = [0u64; CHARTS];
-    let mut low = base;
-    let mut start: usize = 0;
     let mut c: usize = 0;
     while c < n.charts {
-        let head = layout::body::head_at(n, body, c);
-        let count = head.transitions as usize;
-        let puts = puts_of(n, body, start, count, config[c], reads[c]);
-        may[c] = puts.may;
-        let sure = surely(n, puts.sure);
-        raise(masks, small, &mut low, c, sure);
-        start += count;
+        let sure = surely(n, sures[c]);
+        raise(masks, small, low, c, sure);
         c += 1;
     }
-    Sides { may, low }
 }
 
 // What chart e might put out, if it is not chart c.
@@ -442,31 +454,33 @@ fn put_states(small: &mut [u8], config: &[u8], charts: usize)
     }
 }
 
-// Fills in all that a search needs of a configuration and of what each chart is offered of the input, `base`. `reads`
-// has what is read of each chart's actions: the rest is left out, so candidates that differ in it alone are one. `shuts`
-// has the states that each chart must not go to, since no open choice begins so. The wiring and the masters are there.
-// The result has what each chart might put out, and what each is surely offered: of the input, and of what other charts put out whatever they do.
+// Fills in all that a search needs of a configuration and of what each chart is offered of the input, in `low`. There it
+// leaves what each is surely offered: of the input, and of what other charts put out whatever they do. `reads` has what
+// is read of each chart's actions: the rest is left out, so candidates that differ in it alone are one. `may` and
+// `sures` have what its transitions put out of that. `shuts` has the states that each chart must not go to, since no
+// open choice begins so. The wiring and the masters are there.
 pub fn choose(
     n: Shape,
     body: &[u8],
     config: &[u8],
     reads: &[u64; CHARTS],
-    base: [u64; CHARTS],
-    shuts: [u64; CHARTS],
+    may: &[u64; CHARTS],
+    sures: &[u64; CHARTS],
+    shuts: &[u64; CHARTS],
+    low: &mut [u64; CHARTS],
     masks: &mut [u64],
     small: &mut [u8],
-) -> Sides
-    requires { ⌜ Ready n (now body) (now config) × Tabled (n .charts) (now masks) (now small) ⌝ }
-    ensures { λ r. ⌜ Mays n (now (body .entry)) (now (config .entry)) (now (reads .entry)) (n .charts) (r .may)
-        × Chooses n (now (body .entry)) (now (config .entry)) (now (reads .entry)) base shuts (r .low) (now (masks .entry)) (now (small .entry)) (now (masks .exit)) (now (small .exit)) ⌝ }
+)
+    requires { ⌜ Ready n (now body) (now config) × Tabled (n .charts) (now masks) (now small)
+        × Mays n (now body) (now config) (now reads) (n .charts) (now may)
+        × Sures n (now body) (now config) (now reads) (n .charts) (now sures) × (length (now low) ≡ mostCharts) ⌝ }
+    ensures { λ _. ⌜ Chooses n (now (body .entry)) (now (config .entry)) (now (reads .entry)) (now (low .entry))
+        (now (shuts .entry)) (now (low .exit)) (now (masks .entry)) (now (small .entry)) (now (masks .exit)) (now (small .exit)) ⌝ }
 {
     put_states(small, config, n.charts);
-    let known = sides_of(n, body, config, reads, base, masks, small);
-    let low = known.low;
-    let may = known.may;
-    list_all(n, body, config, reads, &low, &may, &shuts, masks, small);
+    raise_sure(n, sures, masks, small, low);
+    list_all(n, body, config, reads, low, may, shuts, masks, small);
     ahead_all(masks, small, n.charts);
-    known
 }
 
 // Whether a chart that is surely active has no candidate, and cannot stay.

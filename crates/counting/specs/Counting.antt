@@ -92,6 +92,11 @@ sumIn n b m s t c q p = sumAt (n .charts) (at m) (at s) (at t) (chartOf n b c) c
 abbrev pub leavingIn : Shape → List ℕ → ℕ → ℕ → ℕ → ℕ
 leavingIn n b start q p = tally p (λ j. one (same (transitionAt n b (start + j) .from) q))
 
+-- of the first k charts, t has how many transitions leave the present state
+abbrev pub LeavesTo : Shape → List ℕ → List ℕ → ℕ → List ℕ → Type 0
+LeavesTo n b config k t =
+    (c : ℕ) → c < k → at t c ≡ leavingIn n b (startOf n b c) (at config c) (headAt n b c .transitions)
+
 -- some chart stands nearest in a slave of chart c
 abbrev pub enclosesIn : ℕ → List ℕ → ℕ → Bool
 enclosesIn n m c = anyUpTo n (λ d. same (at m d) c)
@@ -130,9 +135,10 @@ abbrev pub CountsOn : Shape → List ℕ → List ℕ → ℕ → List ℕ → T
 CountsOn n b config k t =
     (c : ℕ) → k ≤ c → c < fileAt n b .charts → at t c ≡ rightAt (fileAt n b) config t c
 
--- chart k's entry is stored
+-- chart k's entry is stored, and the charts below it still have what they had
 pub record Stored (n : Shape) (b config : List ℕ) (k : ℕ) (t₀ t : List ℕ) (start : ℕ) : Type 0 where
   pub long : length t ≡ length t₀
+  pub below : (c : ℕ) → c < k → at t c ≡ at t₀ c
   pub starts : start ≡ startOf n b k
   pub right : CountsOn n b config k t
 

@@ -2,15 +2,13 @@
 // is open is said in the crate meaning (Open); that this is its number, in the crate wiring (Counted to Few).
 ghost use mathlib.Core.Path.{_≡_};
 ghost use Prim.Native.Nat.{_+_, _≤_, _<_};
-ghost use lib.ListN.{length};
+ghost use lib.ListN.{length, replicate};
 ghost use Rattle.layout.specs.Body.{Holds, headAt, transitionAt, startOf};
 ghost use Rattle.meaning.specs.Numbers.{mostCharts};
-ghost use Rattle.meaning.specs.Count.{one};
-ghost use Rattle.meaning.specs.Meaning.{same};
 ghost use Rattle.meaning.specs.File.{fileAt};
 ghost use Rattle.meaning.specs.Open.{openIn};
 ghost use Rattle.counting.specs.Counting.{Countable, Roomy, factorIn, branchIn, Small, stayingIn, addedIn, sumIn};
-ghost use Rattle.counting.specs.Counting.{leavingIn, enclosesIn};
+ghost use Rattle.counting.specs.Counting.{leavingIn, LeavesTo, enclosesIn};
 ghost use Rattle.counting.specs.Counting.{Smalls, totalIn};
 ghost use Rattle.counting.specs.Counting.{outsideIn, TotalSmall, CountsOn, Stored, Filled, ShutTo, ShutOne, Shuts};
 use layout::body::Shape;
@@ -132,33 +130,6 @@ fn summed(
     total
 }
 
-// 1 if transition t leaves state q, else 0.
-fn leaves(n: Shape, body: &[u8], t: usize, q: u8) -> u64
-    requires { ⌜ Holds n (now body) × (t < n .transitions) ⌝ }
-    ensures { λ r. ⌜ r ≡ one (same (transitionAt n (now (body .entry)) t .from) q) ⌝ }
-{
-    let r = layout::body::transition_at(n, body, t);
-    let from = r.from;
-    if from == q {
-        return 1;
-    }
-    0
-}
-
-// How many of a chart's transitions, `count` from `start` on, leave state q.
-fn leaving(n: Shape, body: &[u8], start: usize, count: usize, q: u8) -> u64
-    requires { ⌜ Holds n (now body) × (start + count ≤ n .transitions) ⌝ }
-    ensures { λ r. ⌜ r ≡ leavingIn n (now (body .entry)) start q count ⌝ }
-{
-    let mut total: u64 = 0;
-    let mut p: usize = 0;
-    while p < count {
-        total = leaves(n, body, start + p, q) + total;
-        p += 1;
-    }
-    total
-}
-
 // Whether some chart stands nearest in a slave of chart c.
 fn encloses(charts: usize, masters: &[u8], c: usize) -> bool
     requires { ⌜ charts ≤ length (now masters) ⌝ }
@@ -174,12 +145,14 @@ fn encloses(charts: usize, masters: &[u8], c: usize) -> bool
     false
 }
 
-// The entry of chart c in state q. Where it encloses no other chart, each of its moves counts once.
+// The entry of chart c in state q, which `left` of its transitions leave. Where it encloses no other chart, each of its
+// moves counts once.
 fn entry(
     n: Shape,
     body: &[u8],
     start: usize,
     count: usize,
+    left: u64,
     masters: &[u8],
     states: &[u8],
     counts: &[u64],
@@ -188,7 +161,8 @@ fn entry(
 ) -> u64
     requires { ⌜ Holds n (now body) × (start ≡ startOf n (now body) c) × (count ≡ headAt n (now body) c .transitions)
         × (start + count ≤ n .transitions) × Roomy (n .charts) (now masters) (now states) (now counts)
-        × Smalls n (now body) (now masters) (now states) (now counts) c q ⌝ }
+        × Smalls n (now body) (now masters) (now states) (now counts) c q
+        × (left ≡ leavingIn n (now body) (startOf n (now body) c) q (headAt n (now body) c .transitions)) ⌝ }
     ensures { λ r. ⌜ r ≡ sumIn n (now (body .entry)) (now (masters .entry)) (now (states .entry))
         (now (counts .entry)) c q count ⌝ }
 {
@@ -197,11 +171,11 @@ fn entry(
         return summed(n, body, start, count, masters, states, counts, c, q);
     }
     let stays = staying(n, masters, states, counts, c, q);
-    leaving(n, body, start, count, q) + stays
+    left + stays
 }
 
-// Stores chart k's entry, made of those above it. Answers where its transitions start; `end` is where the next chart's
-// do.
+// Stores chart k's entry, made of those above it, in place of how many of its transitions leave its state. Answers where
+// its transitions start; `end` is where the next chart's do.
 fn store(
     n: Shape,
     body: &[u8],
@@ -214,7 +188,8 @@ fn store(
 ) -> usize
     requires { ⌜ Countable n (now body) (now config) (now masters) (now states) × (k < n .charts)
         × (n .charts ≤ length (now counts)) × (end ≡ startOf n (now body) (k + 1))
-        × CountsOn n (now body) (now config) (k + 1) (now counts) ⌝ }
+        × CountsOn n (now body) (now config) (k + 1) (now counts)
+        × LeavesTo n (now body) (now config) (k + 1) (now counts) ⌝ }
     ensures { λ r. ⌜ Stored n (now (body .entry)) (now (config .entry)) k (now (counts .entry))
         (now (counts .exit)) r ⌝ }
 {
@@ -222,14 +197,16 @@ fn store(
     let count = wide(head.transitions);
     let start = end - count;
     let q = config[k];
-    let sum = entry(n, body, start, count, masters, states, counts, k, q);
+    let left = counts[k];
+    let sum = entry(n, body, start, count, left, masters, states, counts, k, q);
     counts[k] = sum;
     start
 }
 
-// Stores each chart's entry, from the highest down.
+// Stores each chart's entry, from the highest down, in place of how many of its transitions leave its state.
 pub fn fill(n: Shape, body: &[u8], config: &[u8], masters: &[u8], states: &[u8], counts: &mut [u64])
-    requires { ⌜ Countable n (now body) (now config) (now masters) (now states) × (n .charts ≤ length (now counts)) ⌝ }
+    requires { ⌜ Countable n (now body) (now config) (now masters) (now states) × (n .charts ≤ length (now counts))
+        × LeavesTo n (now body) (now config) (n .charts) (now counts) ⌝ }
     ensures { λ _. ⌜ Filled n (now (body .entry)) (now (config .entry)) (now (counts .entry)) (now (counts .exit)) ⌝ }
 {
     let mut k = n.charts;
@@ -268,7 +245,7 @@ fn total(n: Shape, masters: &[u8], counts: &[u64]) -> u64
 }
 
 // How many choices are open, from a configuration: those that keep the present states and the rules of activity, guards
-// aside. Leaves the counts of all charts in `counts`.
+// aside. `counts` has how many transitions of each chart leave its state, and is left with the charts' own counts.
 pub fn open_choices(
     n: Shape,
     body: &[u8],
@@ -277,7 +254,8 @@ pub fn open_choices(
     states: &[u8],
     counts: &mut [u64],
 ) -> u64
-    requires { ⌜ Countable n (now body) (now config) (now masters) (now states) × (n .charts ≤ length (now counts)) ⌝ }
+    requires { ⌜ Countable n (now body) (now config) (now masters) (now states) × (n .charts ≤ length (now counts))
+        × LeavesTo n (now body) (now config) (n .charts) (now counts) ⌝ }
     ensures { λ r. ⌜ (r ≡ openIn (fileAt n (now (body .entry))) (now (config .entry)))
         × Filled n (now (body .entry)) (now (config .entry)) (now (counts .entry)) (now (counts .exit)) ⌝ }
 {
@@ -324,24 +302,23 @@ fn shut_one(
     shut[c] = shut[c] | shut_by(config[c], states[d]);
 }
 
-// For each chart the states to which it must not go, as a mask: no open choice begins that way.
+// For each chart the states to which it must not go, as a mask: no open choice begins that way. `shut` is lent empty.
 pub fn shut(
     charts: usize,
     config: &[u8],
     masters: &[u8],
     states: &[u8],
     counts: &[u64],
-) -> [u64; CHARTS]
+    shut: &mut [u64; CHARTS],
+)
     requires { ⌜ Roomy charts (now masters) (now states) (now counts) × (charts ≤ length (now config))
-        × (charts ≤ mostCharts) ⌝ }
-    ensures { λ r. ⌜ Shuts charts (now (config .entry)) (now (masters .entry)) (now (states .entry))
-        (now (counts .entry)) charts r ⌝ }
+        × (charts ≤ mostCharts) × (now shut ≡ replicate mostCharts 0) ⌝ }
+    ensures { λ _. ⌜ Shuts charts (now (config .entry)) (now (masters .entry)) (now (states .entry))
+        (now (counts .entry)) charts (now (shut .exit)) ⌝ }
 {
-    let mut shut = [0u64; CHARTS];
     let mut d: usize = 0;
     while d < charts {
-        shut_one(charts, config, masters, states, counts, d, &mut shut);
+        shut_one(charts, config, masters, states, counts, d, shut);
         d += 1;
     }
-    shut
 }

@@ -24,7 +24,7 @@ use Rattle.tables.specs.Read.{Reads}
 use Rattle.tables.specs.Whole.{Opens}
 use Rattle.checks.specs.Known.{Sized, Summed}
 use Rattle.plan.specs.Wired.{Wired}
-use Rattle.candidates.specs.Candidates.{Tabled}
+use Rattle.candidates.specs.Candidates.{Tabled, Mays, Sures}
 use Rattle.staying.specs.Staying.{Stays}
 use Rattle.stepping.specs.Answer.{steppedOf}
 use Rattle.stepping.specs.declared.step.Stepped.{Stepped}
@@ -78,6 +78,12 @@ Shut n b config shuts = (i : Set) → Opens (fileAt n b) (fileAt n b .chart) (λ
 abbrev pub AllRead : Shape → List ℕ → List ℕ → List ℕ → Type 0
 AllRead n b config reads =
     Reads (fileAt n b .chart) (λ c. getD config c 0) (n .charts) (wholeOf (fileAt n b)) (λ c. getD reads c 0)
+
+-- and may and sures have what its transitions from its state put out of that: some of them, and all of them
+pub record Narrowed (n : Shape) (b config reads may sures : List ℕ) : Type 0 where
+  pub read : AllRead n b config reads
+  pub mays : Mays n b config reads (n .charts) may
+  pub sure : Sures n b config reads (n .charts) sures
 
 -- what a search over tables finds, low being what each chart is surely offered before any is settled
 abbrev pub searchedOf : ℕ → List ℕ → List ℕ → List ℕ → List ℕ → List ℕ → Found

@@ -2,7 +2,7 @@
 ghost use mathlib.Core.Path.{_≡_};
 ghost use mathlib.Core.List.{List};
 ghost use Prim.Native.Nat.{ℕ, _≤_, _<_};
-ghost use lib.ListN.{length, take, getD};
+ghost use lib.ListN.{length, take, getD, replicate};
 ghost use Rattle.signals.specs.Mask.{_∩_};
 ghost use Rattle.layout.specs.Body.{Holds, headAt};
 ghost use Rattle.meaning.specs.Numbers.{mostCharts};
@@ -18,8 +18,9 @@ ghost use Rattle.plan.specs.Noted.{NearestIn};
 ghost use Rattle.plan.specs.Wire.{Blank};
 ghost use Rattle.candidates.specs.Candidates.{Ready};
 ghost use Rattle.stepping.specs.Answer.{refusedOf};
-ghost use Rattle.stepping.specs.Step.{configTestsIn, BodySteps, Checked, Prepared, Shut, AllRead, searchedOf, Searched, Finds, triedRefusal, Tries};
-use candidates::Sides;
+ghost use Rattle.counting.specs.Counting.{LeavesTo};
+ghost use Rattle.stepping.specs.Step.{configTestsIn, BodySteps, Checked, Prepared, Shut, Narrowed};
+ghost use Rattle.stepping.specs.Step.{searchedOf, Searched, Finds, triedRefusal, Tries};
 use cells::CHARTS;
 use cells::masks;
 use cells::small;
@@ -117,39 +118,54 @@ fn found_staying(
     n: Shape,
     body: &[u8],
     config: &[u8],
-    sides: Sides,
-    shuts: [u64; CHARTS],
+    low: [u64; CHARTS],
+    may: &[u64; CHARTS],
+    shuts: &[u64; CHARTS],
     masks: &[u64],
     small: &[u8],
 ) -> Found
     requires { ⌜ Ready n (now body) (now config) × Tables (n .charts) (now masks) (now small) ⌝ }
-    ensures { λ r. ⌜ Searched n (now (body .entry)) (now (config .entry)) (sides .may) (sides .low) shuts (now (masks .entry)) (now (small .entry)) r ⌝ }
+    ensures { λ r. ⌜ Searched n (now (body .entry)) (now (config .entry)) (now (may .entry)) low (now (shuts .entry))
+        (now (masks .entry)) (now (small .entry)) r ⌝ }
 {
-    let low = sides.low;
-    let may = sides.may;
     let mut guards = [0u64; triggers::SIZE];
-    let stays = staying::stays(n, body, config, low, may, shuts, masks, &mut guards);
+    let stays = staying::stays(n, body, config, low, *may, *shuts, masks, &mut guards);
     searched(masks, small, &guards, &stays, n.charts, low)
 }
 
 // Up to so many open choices every search is short, and what is read is not looked for.
 const FEW_OPEN: u64 = 4096;
 
-// What is read of each chart's actions; where few choices are open, all signals stand for it.
-fn read_by(n: Shape, body: &[u8], config: &[u8], masks: &[u64], open_choices: u64) -> [u64; CHARTS]
-    requires { ⌜ Ready n (now body) (now config) × (masksFor (n .charts) ≤ length (now masks)) ⌝ }
-    ensures { λ r. ⌜ ((a s : List ℕ) → Prepared n (now (body .entry)) a (now (masks .entry)) s
-        → AllRead n (now (body .entry)) (now (config .entry)) r) ⌝ }
+// What is read of each chart's actions, and what its transitions put out of that, where many choices are open. Where
+// few are, all signals stand for what is read.
+fn read_by(
+    n: Shape,
+    body: &[u8],
+    config: &[u8],
+    masks: &[u64],
+    open_choices: u64,
+    reads: &mut [u64; CHARTS],
+    may: &mut [u64; CHARTS],
+    sures: &mut [u64; CHARTS],
+    counts: &mut [u64; CHARTS],
+)
+    requires { ⌜ Ready n (now body) (now config) × (masksFor (n .charts) ≤ length (now masks))
+        × Narrowed n (now body) (now config) (now reads) (now may) (now sures) × (length (now may) ≡ mostCharts)
+        × (length (now sures) ≡ mostCharts) × (length (now counts) ≡ mostCharts) ⌝ }
+    ensures { λ _. ⌜ ((a s : List ℕ) → Prepared n (now (body .entry)) a (now (masks .entry)) s
+        → Narrowed n (now (body .entry)) (now (config .entry)) (now (reads .exit)) (now (may .exit)) (now (sures .exit))) ⌝ }
 {
     if open_choices <= FEW_OPEN {
-        return [signals::ALL; CHARTS];
+        return;
     }
-    relevance::rows(n, body, config, masks)
+    let rows = relevance::rows(n, body, config, masks);
+    *reads = rows;
+    candidates::puts_all(n, body, config, &rows, may, sures, counts);
 }
 
-// What is found for a wired body from a configuration, where each chart must not go to the states that are shut, and
-// `reads` has what is read of its actions. The tables are ready for another. Where no chart may stay there is no trigger
-// to make room for.
+// What is found for a wired body from a configuration, where each chart must not go to the states that are shut, `reads`
+// has what is read of its actions, and `may` and `sures` what its transitions put out of that. The tables are ready for
+// another. Where no chart may stay there is no trigger to make room for.
 fn found(
     n: Shape,
     body: &[u8],
@@ -157,46 +173,59 @@ fn found(
     reads: &[u64; CHARTS],
     input: u64,
     down: [u64; CHARTS],
-    shuts: [u64; CHARTS],
+    may: &[u64; CHARTS],
+    sures: &[u64; CHARTS],
+    shuts: &[u64; CHARTS],
     masks: &mut [u64],
     small: &mut [u8],
 ) -> Found
     requires { ⌜ Checked n (now body) × Ready n (now body) (now config) × Prepared n (now body) down (now masks) (now small)
-        × Shut n (now body) (now config) shuts × AllRead n (now body) (now config) (now reads) ⌝ }
+        × Shut n (now body) (now config) (now shuts)
+        × Narrowed n (now body) (now config) (now reads) (now may) (now sures) ⌝ }
     ensures { λ r. ⌜ Finds n (now (body .entry)) (now (config .entry)) input r × Prepared n (now (body .entry)) down (now (masks .exit)) (now (small .exit)) ⌝ }
 {
-    let base = lows(down, input);
-    let sides = candidates::choose(n, body, config, reads, base, shuts, masks, small);
+    let mut low = lows(down, input);
+    candidates::choose(
+        n,
+        body,
+        config,
+        reads,
+        may,
+        sures,
+        shuts,
+        &mut low,
+        masks,
+        small,
+    );
     if n.edition == limits::STAY_EDITION as usize {
-        return found_staying(n, body, config, sides, shuts, masks, small);
+        return found_staying(n, body, config, low, may, shuts, masks, small);
     }
-    let low = sides.low;
     let guards = [0u64; 0];
     let stays = [0u8; triggers::STAYS];
     searched(masks, small, &guards, &stays, n.charts, low)
 }
 
-// How many choices are open from a configuration, and the states that each chart must not go to, since none begins so.
-struct Ways {
-    open_choices: u64,
-    shuts: [u64; CHARTS],
-}
-
-fn counted(n: Shape, body: &[u8], config: &[u8], small: &[u8]) -> Ways
+// How many choices are open from a configuration; `shuts` gets the states that each chart must not go to, since none
+// begins so. `counts` has how many transitions of each chart leave its state.
+fn counted(
+    n: Shape,
+    body: &[u8],
+    config: &[u8],
+    small: &[u8],
+    counts: &mut [u64; CHARTS],
+    shuts: &mut [u64; CHARTS],
+) -> u64
     requires { ⌜ Checked n (now body) × Valid (fileAt n (now body)) (now config) × NearestIn (fileAt n (now body)) (now small)
-        × (length (now small) ≡ smallSize) ⌝ }
-    ensures { λ r. ⌜ (r .open_choices ≡ openIn (fileAt n (now (body .entry))) (now (config .entry)))
-        × Shut n (now (body .entry)) (now (config .entry)) (r .shuts) ⌝ }
+        × (length (now small) ≡ smallSize) × (length (now counts) ≡ mostCharts)
+        × LeavesTo n (now body) (now config) (n .charts) (now counts) × (now shuts ≡ replicate mostCharts 0) ⌝ }
+    ensures { λ r. ⌜ (r ≡ openIn (fileAt n (now (body .entry))) (now (config .entry)))
+        × Shut n (now (body .entry)) (now (config .entry)) (now (shuts .exit)) × (length (now (counts .exit)) ≡ mostCharts) ⌝ }
 {
     let masters = small::masters(small);
     let states = small::slave_states(small);
-    let mut counts = [0u64; CHARTS];
-    let open_choices = counting::open_choices(n, body, config, masters, states, &mut counts);
-    let shuts = counting::shut(n.charts, config, masters, states, &counts);
-    Ways {
-        open_choices,
-        shuts,
-    }
+    let open_choices = counting::open_choices(n, body, config, masters, states, counts);
+    counting::shut(n.charts, config, masters, states, counts, shuts);
+    open_choices
 }
 
 // What a step comes to: how many choices are open, and what was found among them.
@@ -242,17 +271,43 @@ pub fn try_wired(
     requires { ⌜ Checked n (now body) × Valid (fileAt n (now body)) (now config) × Prepared n (now body) down (now masks) (now small) ⌝ }
     ensures { λ r. ⌜ Tries n (now (body .entry)) (now (config .entry)) input r × Prepared n (now (body .entry)) down (now (masks .exit)) (now (small .exit)) ⌝ }
 {
-    let count = counted(n, body, config, small);
-    let open_choices = count.open_choices;
+    let mut reads = [signals::ALL; CHARTS];
+    let mut may = [0u64; CHARTS];
+    let mut sures = [0u64; CHARTS];
+    let mut counts = [0u64; CHARTS];
+    candidates::puts_all(n, body, config, &reads, &mut may, &mut sures, &mut counts);
+    let mut shuts = [0u64; CHARTS];
+    let open_choices = counted(n, body, config, small, &mut counts, &mut shuts);
     if open_choices == 0 {
         return untried(open_choices);
     }
     if open_choices > limits::MOST_OPEN {
         return untried(open_choices);
     }
-    let shuts = count.shuts;
-    let reads = read_by(n, body, config, masks, open_choices);
-    let found = found(n, body, config, &reads, input, down, shuts, masks, small);
+    read_by(
+        n,
+        body,
+        config,
+        masks,
+        open_choices,
+        &mut reads,
+        &mut may,
+        &mut sures,
+        &mut counts,
+    );
+    let found = found(
+        n,
+        body,
+        config,
+        &reads,
+        input,
+        down,
+        &may,
+        &sures,
+        &shuts,
+        masks,
+        small,
+    );
     Tried {
         open_choices,
         found,

@@ -39,18 +39,19 @@ module _ (s : List ℕ) (c u : ℕ) where
 
 returns : tie.Need-returns
 returns c =
-    let a = c .before .before .before .before .before .args in
-    stays (a .small .now) (a .c) (a .u) (a .masks .now) (a .low .now) (in-slave (a .small .now) (a .c) (a .u) (rw (c .before .master .ensures) at (c .if1 .taken)))
+    let s = c .before .before .before .before in
+    let a = s .args in
+    (s .pre .1, stays (a .small .now) (a .c) (a .u) (a .masks .now) (a .low .now) (in-slave (a .small .now) (a .c) (a .u) (rw (c .before .master .ensures) at (c .if1 .taken))))
 
 returns-2 : tie.Need-returns-2
 returns-2 c =
-    let r = c .before .before in
-    let e = r .before .before .before in
-    let a = e .before .before .before .before .before .args in
-    outside (a .small .now) (a .c) (a .u) (a .masks .now) (a .low .now) (r .raise-all .last .1 .0) (rw (e .before .master .ensures) at (e .if1 .left)) (r .raise-all .ensures)
+    let e = c .before .before .before in
+    let a = e .before .before .before .before .args in
+    (c .raise-all .ensures .0, outside (a .small .now) (a .c) (a .u) (a .masks .now) (a .low .now) (c .raise-all .last .1 .0) (rw (e .before .master .ensures) at (e .if1 .left)) (c .raise-all .ensures .1))
 
 returns-3 : tie.Need-returns-3
-returns-3 c = let a = c .before .before .before .before .before .before .args in stays (a .small .now) (a .c) (a .u) (a .masks .now) (a .low .now) (nothing (a .small .now) (a .c) (a .u) (c .if2 .left))
+returns-3 c = let s = c .before .before .before .before .before in let a = s .args in
+    (s .pre .1, stays (a .small .now) (a .c) (a .u) (a .masks .now) (a .low .now) (nothing (a .small .now) (a .c) (a .u) (c .if2 .left)))
 
 pub raise-spec : {M : Type 1} → statement M
 raise-spec =
@@ -59,6 +60,5 @@ raise-spec =
     (λ c κs. search needs)
     returns
     (λ c κs. search needs)
-    (λ c. search needs)
     returns-2
     returns-3)

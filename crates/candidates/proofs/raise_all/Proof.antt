@@ -25,7 +25,7 @@ loop-holds c = (omega arith, refl, λ k l. refl, λ k l. absurd (omega arith))
 loop-again : tie.Need-loop-again Inv-loop μ-loop
 loop-again c =
     let l = c .before .before .before .loop in
-    let a = c .before .before .before .before .before .before .args in
+    let a = c .before .before .before .before .before .args in
     let i = l .inv in (
       omega arith,
       simp length-set (i .1),
@@ -34,7 +34,8 @@ loop-again c =
     )
 
 returns : tie.Need-returns Inv-loop μ-loop
-returns c k l = c .before .loop .inv .3 k (omega arith)
+returns c = let l = c .before in
+    (l .loop .inv .1 ∙ l .before .before .pre .1, λ k p. l .loop .inv .3 k (omega arith))
 
 pub raise-all-spec : {M : Type 1} → statement M
 raise-all-spec =
@@ -51,5 +52,4 @@ raise-all-spec =
     (λ c. omega arith)
     (λ c. omega arith)
     loop-again
-    (λ c. omega arith)
     returns)

@@ -1,6 +1,6 @@
 -- `with_one` meets its contract, by whether the transition is from the state. Assumes nothing.
 use mathlib.Core.Path.{_≡_}
-use Prim.Native.Nat.{ℕ}
+use Prim.Native.Nat.{ℕ, _+_}
 use borrow.Author.Needs.{needs}
 use denote.Ref.{now}
 use Rattle.signals.specs.Mask.{_∪_, _∩_}
@@ -15,7 +15,8 @@ use Rattle.candidates.proofs.with_one.Statement.{statement}
 use Rattle.candidates.proofs.with_one.Tie as tie
 
 module _ (t : Transition) (q x u : ℕ) (e : x ≡ t .from) (p : Puts) where
-  from-here : x ≡ q → (r : Transition) → r ≡ narrow u t → record { may = p .may ∪ r .action; sure = p .sure ∩ r .action } ≡ withOne (same (t .from) q) (t .action ∩ u) p
+  from-here : x ≡ q → (r : Transition) → r ≡ narrow u t → record { may = p .may ∪ r .action; sure = p .sure ∩ r .action; count = p .count + 1 }
+      ≡ withOne (same (t .from) q) (t .action ∩ u) p
   from-here h r i = rw (← e, h, same-refl q, i)
 
   from-elsewhere : (x ≡ q → ⊥) → p ≡ withOne (same (t .from) q) (t .action ∩ u) p
@@ -23,7 +24,7 @@ module _ (t : Transition) (q x u : ℕ) (e : x ≡ t .from) (p : Puts) where
 
 returns : tie.Need-returns
 returns c =
-    let r = c .before .before .before .before in
+    let r = c .before .before .before .before .before in
     let a = r .before .before .before .before .args in
     from-here (transitionAt (a .n) (now (a .body)) (a .t)) (a .state) _ (a .read) (r .before .before .from-at .ensures) (a .p) (r .before .if1 .taken) _ (r .read-at .ensures)
 
@@ -31,4 +32,4 @@ returns-2 : tie.Need-returns-2
 returns-2 c = let a = c .before .before .before .args in from-elsewhere (transitionAt (a .n) (now (a .body)) (a .t)) (a .state) _ (a .read) (c .before .from-at .ensures) _ (c .if1 .left)
 
 pub with-one-spec : {M : Type 1} → statement M
-with-one-spec = tie.close (tie.spec (λ c κs. search needs) (λ c κs. search needs) returns returns-2)
+with-one-spec = tie.close (tie.spec (λ c κs. search needs) (λ c κs. search needs) (λ c. search needs) returns returns-2)

@@ -25,8 +25,9 @@ use Rattle.layout.specs.declared.body.Shape.{Shape}
 use Rattle.layout.specs.declared.record.Transition.{Transition}
 use Rattle.layout.specs.declared.record.Head.{Head}
 use Rattle.meaning.specs.Count.{tally, one}
+use Rattle.meaning.specs.Count.Laws.{tally-more, tally-most}
 use Rattle.meaning.specs.Check.{leaving}
-use Rattle.meaning.specs.Numbers.{mostFromState, stayEdition}
+use Rattle.meaning.specs.Numbers.{mostCharts, mostFromState, stayEdition}
 use Rattle.meaning.specs.Meaning.{Set, same, Move, noMove, stay, nth, pick, actionOf, moves}
 use Rattle.meaning.specs.File.{chartOf, fileAt}
 use Rattle.meaning.specs.Laws.Bools.{same-refl, same→≡, same-≢}
@@ -39,10 +40,11 @@ use Rattle.cells.specs.Table.{backAt, putMasks, Row, countCell, stateCell, putS
 use Rattle.tables.specs.Read.{narrowAll}
 use Rattle.tables.specs.Read.Laws.{length-narrowed, narrow-from}
 use Rattle.tables.specs.Fill.{Filling, considered, listing, lastsBy, isAgain, put, pickFilling, othersAt, sureAt, Raised, Until, AheadFrom}
-use Rattle.tables.specs.Fill.Laws.{wiring-trans, length-masks, length-small, leave-room, count-few, until-next, chosen, raised-none, raised-next, raised-same}
+use Rattle.tables.specs.Fill.Laws.{wiring-trans, length-masks, length-small, leave-room, count-few, until-next, chosen, raised-same}
 use Rattle.candidates.specs.declared.Around.{Around}
 use Rattle.candidates.specs.declared.Puts.{Puts}
-use Rattle.candidates.specs.Candidates.{Ready, Tabled, Left, filling, consideredBy, listingBy, readAs, fromStart, readCharts, withOne, Mays, Sided, UntilChart, NextChart, Stated, Chooses}
+use Rattle.candidates.specs.Candidates.{Ready, Tabled, Left, filling, consideredBy, listingBy, readAs, fromStart, readCharts, withOne, PutsOf, Mays, Sures, PutsBy, RaisedBy}
+use Rattle.candidates.specs.Candidates.{UntilChart, NextChart, Stated, Chooses}
 
 -- ── where transitions stand ──
 
@@ -61,12 +63,15 @@ module _ (f : ℕ → Transition) (start count q : ℕ) where
     pub may : u .may ∪ mayOf (left p) q ≡ mayOf (fromOn f start count) q
     pub sure : u .sure ∩ sureOf (left p) q ≡ sureOf (fromOn f start count) q
     pub few : Small (u .sure)
+    pub many : u .count ≡ tally p (λ j. one (same (f (start + j) .from) q))
 
-  pub puts-none : PutsLeft 0 (record { may = 0; sure = full })
+  pub puts-none : PutsLeft 0 (record { may = 0; sure = full; count = 0 })
+  unfolding tally
   puts-none = record {
     may = sets (mayOf (left 0) q ∷ mayOf (fromOn f start count) q ∷ []) (A ≐ B ∷ []) (∅ₑ ∪ₑ A ≐ B) tt (ap (λ ts. mayOf ts q) all);
     sure = sets (sureOf (left 0) q ∷ sureOf (fromOn f start count) q ∷ full ∷ []) (A ≐ B ∷ B ∩ₑ C ≐ B ∷ []) (C ∩ₑ A ≐ B) tt (ap (λ ts. sureOf ts q) all) (sure-small (fromOn f start count) q);
     few = sets (full ∷ []) [] (A ∩ₑ A ≐ A) tt;
+    many = refl;
   }
     where
       all : left 0 ≡ fromOn f start count
@@ -82,33 +87,55 @@ module _ (f : ℕ → Transition) (start count q : ℕ) where
       rest : List Transition
       rest = left (p + 1)
 
-      one : left p ≡ f (start + p) ∷ rest
-      one = ap (fromOn f (start + p)) (let x : count - p ≡ suc (count - (p + 1)) = omega arith in x) ∙ ap (λ k. f (start + p) ∷ fromOn f k (count - (p + 1))) (let x : suc (start + p) ≡ start + (p + 1) = omega arith in x)
+      first : left p ≡ f (start + p) ∷ rest
+      first = ap (fromOn f (start + p)) (let x : count - p ≡ suc (count - (p + 1)) = omega arith in x) ∙ ap (λ k. f (start + p) ∷ fromOn f k (count - (p + 1))) (let x : suc (start + p) ≡ start + (p + 1) = omega arith in x)
+
+      more : (b : Bool) → same (f (start + p) .from) q ≡ b
+          → tally (p + 1) (λ j. one (same (f (start + j) .from) q))
+          ≡ one b + tally p (λ j. one (same (f (start + j) .from) q))
+      more b x = tally-more p _ ∙ ap (λ z. one z + tally p (λ j. one (same (f (start + j) .from) q))) x
 
       go : (b : Bool) → same (f (start + p) .from) q ≡ b → PutsLeft (p + 1) (withOne b a u)
       go true x = record {
         may = sets (u .may ∷ a ∷ mayOf rest q ∷ mayOf (fromOn f start count) q ∷ cond (same (f (start + p) .from) q) a 0 ∷ []) (A ∪ₑ (C ∪ₑ Eₑ) ≐ D ∷ Eₑ ≐ B ∷ []) (A ∪ₑ B ∪ₑ C ≐ D) tt
-            (ap (λ ts. u .may ∪ mayOf ts q) (sym one) ∙ h .may) (rw x);
+            (ap (λ ts. u .may ∪ mayOf ts q) (sym first) ∙ h .may) (rw x);
         sure = sets (u .sure ∷ a ∷ sureOf rest q ∷ sureOf (fromOn f start count) q ∷ []) (A ∩ₑ (C ∩ₑ B) ≐ D ∷ []) (A ∩ₑ B ∩ₑ C ≐ D) tt
-            (ap (λ b. u .sure ∩ cond b (sureOf rest q ∩ a) (sureOf rest q)) (sym x) ∙ ap (λ ts. u .sure ∩ sureOf ts q) (sym one) ∙ h .sure);
+            (ap (λ b. u .sure ∩ cond b (sureOf rest q ∩ a) (sureOf rest q)) (sym x) ∙ ap (λ ts. u .sure ∩ sureOf ts q) (sym first) ∙ h .sure);
         few = sets (u .sure ∷ a ∷ full ∷ []) (A ∩ₑ C ≐ A ∷ []) (A ∩ₑ B ∩ₑ C ≐ A ∩ₑ B) tt (h .few);
+        many = let e = more true x in let k = h .many in omega arith;
       }
       go false x = record {
         may = sets (u .may ∷ mayOf rest q ∷ mayOf (fromOn f start count) q ∷ cond (same (f (start + p) .from) q) a 0 ∷ []) (A ∪ₑ (B ∪ₑ D) ≐ C ∷ D ≐ ∅ₑ ∷ []) (A ∪ₑ B ≐ C) tt
-            (ap (λ ts. u .may ∪ mayOf ts q) (sym one) ∙ h .may) (rw x);
-        sure = ap (λ b. u .sure ∩ cond b (sureOf rest q ∩ a) (sureOf rest q)) (sym x) ∙ ap (λ ts. u .sure ∩ sureOf ts q) (sym one) ∙ h .sure;
+            (ap (λ ts. u .may ∪ mayOf ts q) (sym first) ∙ h .may) (rw x);
+        sure = ap (λ b. u .sure ∩ cond b (sureOf rest q ∩ a) (sureOf rest q)) (sym x) ∙ ap (λ ts. u .sure ∩ sureOf ts q) (sym first) ∙ h .sure;
         few = h .few;
+        many = let e = more false x in let k = h .many in omega arith;
       }
 
-  pub puts-done : (p : ℕ) (u : Puts) → PutsLeft p u → count ≤ p → (u .may ≡ mayOf (fromOn f start count) q) × (u .sure ≡ sureOf (fromOn f start count) q)
+  pub puts-few : (p : ℕ) (u : Puts) → PutsLeft p u → u .count ≤ p
+  puts-few p u h =
+      let m = tally-most 1 p (λ j. one (same (f (start + j) .from) q)) (λ k l. one-most (same (f (start + k) .from) q)) in
+      let e = h .many in
+      omega arith
+    where
+      one-most : (x : Bool) → one x ≤ 1
+      one-most true = omega arith
+      one-most false = omega arith
+
+  pub puts-done : (p : ℕ) (u : Puts) → PutsLeft p u → p ≤ count → count ≤ p → PutsOf f start count q u
   unfolding mayOf sureOf fromOn
-  puts-done p u h l = (
-    sets (u .may ∷ mayOf (fromOn f start count) q ∷ []) (A ∪ₑ ∅ₑ ≐ B ∷ []) (A ≐ B) tt (ap (λ n. u .may ∪ mayOf (fromOn f (start + p) n) q) none ∙ h .may),
-    sym (h .few) ∙ ap (λ n. u .sure ∩ sureOf (fromOn f (start + p) n) q) none ∙ h .sure,
-  )
+  puts-done p u h k l = record {
+    may = sets (u .may ∷ mayOf (fromOn f start count) q ∷ []) (A ∪ₑ ∅ₑ ≐ B ∷ []) (A ≐ B) tt
+        (ap (λ n. u .may ∪ mayOf (fromOn f (start + p) n) q) none ∙ h .may);
+    sure = sym (h .few) ∙ ap (λ n. u .sure ∩ sureOf (fromOn f (start + p) n) q) none ∙ h .sure;
+    many = h .many ∙ ap (λ z. tally z (λ j. one (same (f (start + j) .from) q))) all;
+  }
     where
       none : 0 ≡ count - p
       none = omega arith
+
+      all : p ≡ count
+      all = omega arith
 
 -- ── a row of charts ──
 
@@ -222,27 +249,67 @@ module _ (n : Shape) (b config reads : List ℕ) where
       row-more (λ d. mayOf (narrowAll (getD reads d 0) (transitionsOf n b d)) (getD config d 0)) c may v h l
       (ev ∙ ap (λ ts. mayOf ts (getD config c 0)) (read-list c start head es eh))
 
-  module _ (base m s : List ℕ) where
-    pub sided-none : (may : List ℕ) → Sided n b config reads base m s 0 may base
-    sided-none may = record { mays = λ c l. absurd (omega arith); raised = raised-none (readCharts n b reads) (λ c. getD config c 0) base m s }
+  pub puts-by-none : (may sures counts : List ℕ) → length may ≡ mostCharts → length sures ≡ mostCharts
+      → length counts ≡ mostCharts → PutsBy n b config reads 0 may sures counts
+  puts-by-none may sures counts k l m =
+      record {
+        mays = λ c r. absurd (omega arith);
+        sure = λ c r. absurd (omega arith);
+        many = λ c r. absurd (omega arith);
+        may-long = k;
+        sures-long = l;
+        counts-long = m;
+      }
 
-    -- chart c puts in what its transitions do
-    pub sided-next : (c : ℕ) (may lows lows′ : List ℕ) (start : ℕ) (head : Head) (v : Puts) (u : Set)
-        → Sided n b config reads base m s c may lows → c < length may → start ≡ startOf n b c → head ≡ headAt n b c
-        → (v .may ≡ mayOf (fromOn (readAs n b (getD reads c 0)) start (head .transitions)) (getD config c 0))
-        × (v .sure ≡ sureOf (fromOn (readAs n b (getD reads c 0)) start (head .transitions)) (getD config c 0))
-        → u ≡ sureIn (same (n .edition) stayEdition) (v .sure)
-        → Row lows′ (λ d. getD lows d 0 ∪ sureAt s c u ∩ backAt m d c)
-        → Sided n b config reads base m s (c + 1) (set may c (v .may)) lows′
-    unfolding chartOf
-    sided-next c may lows lows′ start head v u h l es eh ev eu f = rw (add-one c) (
-        record {
-          mays = rw (add-one c) at (mays-next c may (v .may) start head (h .mays) l es eh (ev .0));
-          raised = raised-next (readCharts n b reads) (λ d. getD config d 0) base c m s lows lows′ (h .raised)
-              (λ d r. f d r ∙ ap (λ z. getD lows d 0 ∪ sureAt s c z ∩ backAt m d c)
-              (eu ∙ ap (sureIn (same (n .edition) stayEdition)) (ev .1 ∙ ap (λ ts. sureOf ts (getD config c 0)) (read-list c start head es eh))));
-        })
+  -- chart c puts in what its transitions do
+  pub puts-by-next : (c : ℕ) (may sures counts : List ℕ) (start : ℕ) (head : Head) (v : Puts)
+      → PutsBy n b config reads c may sures counts → c < mostCharts → start ≡ startOf n b c → head ≡ headAt n b c
+      → PutsOf (readAs n b (getD reads c 0)) start (head .transitions) (getD config c 0) v
+      → PutsBy n b config reads (c + 1) (set may c (v .may)) (set sures c (v .sure)) (set counts c (v .count))
+  puts-by-next c may sures counts start head v h l es eh e =
+      record {
+        mays = mays-next c may (v .may) start head (h .mays) (rw (h .may-long) l) es eh (e .may);
+        sure = row-more (λ d. sureOf (narrowAll (getD reads d 0) (transitionsOf n b d)) (getD config d 0)) c sures
+            (v .sure) (h .sure) (rw (h .sures-long) l)
+            (e .sure ∙ ap (λ ts. sureOf ts (getD config c 0)) (read-list c start head es eh));
+        many = row-more (λ d. leaves d (startOf n b d) (headAt n b d)) c counts (v .count) (h .many)
+            (rw (h .counts-long) l) (e .many ∙ ap₂ (leaves c) es eh);
+        may-long = length-set may c (v .may) ∙ h .may-long;
+        sures-long = length-set sures c (v .sure) ∙ h .sures-long;
+        counts-long = length-set counts c (v .count) ∙ h .counts-long;
+      }
+    where
+      leaves : ℕ → ℕ → Head → ℕ
+      leaves d k x = tally (x .transitions) (λ j. one (same (transitionAt n b (k + j) .from) (getD config d 0)))
 
+-- ── what charts are surely offered ──
+
+module _ (n : Shape) (m s u base : List ℕ) where
+  pub raised-by-none : RaisedBy n m s u 0 base base
+  unfolding join
+  raised-by-none c l = sets (getD base c 0 ∷ []) [] (A ≐ A ∪ₑ ∅ₑ) tt
+
+  pub raised-by-next : (k : ℕ) (x : Set) (lows lows′ : List ℕ) → RaisedBy n m s u k base lows
+      → x ≡ sureIn (same (n .edition) stayEdition) (getD u k 0)
+      → Row lows′ (λ d. getD lows d 0 ∪ sureAt s k x ∩ backAt m d k) → RaisedBy n m s u (k + 1) base lows′
+  unfolding join
+  raised-by-next k x lows lows′ h e f c l = rw (add-one k)
+      (f c l ∙ sets (getD lows c 0 ∷ getD base c 0 ∷ join k put ∷ (sureAt s k x ∩ backAt m c k) ∷ put k ∷ [])
+      (A ≐ B ∪ₑ C ∷ D ≐ Eₑ ∷ []) (A ∪ₑ D ≐ B ∪ₑ (C ∪ₑ Eₑ)) tt (h c l) (ap (λ z. sureAt s k z ∩ backAt m c k) e))
+    where
+      put : ℕ → Set
+      put e = sureAt s e (sureIn (same (n .edition) stayEdition) (getD u e 0)) ∩ backAt m c e
+
+-- the row is what the charts of a file surely put out
+pub raised-is : (n : Shape) (b config reads m s u base lows : List ℕ) → Sures n b config reads (n .charts) u
+    → RaisedBy n m s u (n .charts) base lows
+    → Raised (readCharts n b reads) (λ c. getD config c 0) (n .charts) m s base lows
+unfolding chartOf
+raised-is n b config reads m s u base lows f h c l =
+    h c l ∙ ap (λ z. getD base c 0 ∪ z) (join-cong (n .charts) _ _ (λ e r.
+    ap (λ z. sureAt s e (sureIn (same (n .edition) stayEdition) z) ∩ backAt m c e) (f e r)))
+
+module _ (n : Shape) (b config reads : List ℕ) where
   -- the table of chart c's candidates is made by its transitions
   pub chart-next : Ready n b config → (lows may shuts : List ℕ) → Mays n b config reads (n .charts) may
       → (m s : List ℕ) (c start : ℕ) (head : Head) (own others : Set) (m′ s′ : List ℕ) (k : ℕ)

@@ -9,23 +9,23 @@ use Rattle.counting.proofs.entry.Statement.{statement}
 use Rattle.counting.proofs.entry.Tie as tie
 
 -- staying and the transitions that leave the state are all
-all : (c : tie.After-leaving) → let a = c .before .before .before .before .before .before .before .before .args in
-    c .leaving .result + c .before .staying .result
+all : (c : tie.After-staying) → let a = c .before .before .before .before .before .before .before .args in
+    a .left + c .staying .result
     ≡ sumIn (a .n) (a .body .now) (a .masters .now) (a .states .now) (a .counts .now) (a .c) (a .q) (a .count)
 all c =
-    let k = c .before .before in
-    let s = c .before .before .before .before .before .before .before .before in
+    let k = c .before in
+    let s = c .before .before .before .before .before .before .before in
     let a = s .args in
     sum-alone (a .n) (a .body .now) (a .masters .now) (a .states .now) (a .counts .now) (a .c) (a .q)
     (sym (k .before .encloses .ensures) ∙ k .if1 .left) (a .start) (a .count) _ _ (s .pre .1) (s .pre .2)
-    (c .before .staying .ensures) (c .leaving .ensures)
+    (c .staying .ensures) (rw (s .pre .1, s .pre .2) (s .pre .6))
 
 staying-requires : tie.Need-staying-requires
 staying-requires c κs = let r = c .before .before .before .before .before .before .pre in (r .4, r .5 .staying)
 
 add-result : tie.Need-add-result
 add-result c =
-    let s = c .before .before .before .before .before .before .before .before in
+    let s = c .before .before .before .before .before .before .before in
     let a = s .args in
     let e = all c in
     let f = s .pre .5 .sums (a .count) (omega (arith, s .pre .2)) in
@@ -39,6 +39,5 @@ entry-spec =
     (λ c κs. search needs)
     (λ c. search needs)
     staying-requires
-    (λ c κs. search needs)
     add-result
     all)

@@ -4,14 +4,15 @@ use Prim.Native.Nat.{_+_, _-_, _≤_}
 use native.Mathlib.Omega.{arith}
 use lib.ListN.{length}
 use Rattle.layout.specs.Body.{startOf}
-use Rattle.counting.specs.Counting.{CountsOn}
+use Rattle.counting.specs.Counting.{CountsOn, LeavesTo}
 use Rattle.counting.specs.Counting.Laws.{none-stored}
 use Rattle.counting.proofs.fill.Statement.{statement}
 use Rattle.counting.proofs.fill.Tie as tie
 
 abbrev Inv-loop : tie.InvT-loop
 Inv-loop n body config masters states counts₀ k₀ start₀ counts k start =
-    (k ≤ n .charts) × (length counts ≡ length counts₀) × (start ≡ startOf n body k) × CountsOn n body config k counts
+    (k ≤ n .charts) × (length counts ≡ length counts₀) × (start ≡ startOf n body k)
+    × CountsOn n body config k counts × LeavesTo n body config k counts
 
 abbrev μ-loop : tie.MeasureT-loop
 μ-loop n body config masters states counts₀ k₀ start₀ counts k start = k
@@ -20,7 +21,7 @@ loop-holds : tie.Need-loop-holds Inv-loop μ-loop
 loop-holds c =
     let s = c .before .before .before .before .before in
     let a = s .args in
-    (omega arith, refl, sym (s .pre .0 .summed), none-stored (a .n) (a .body .now) (a .config .now) (a .counts .now))
+    (omega arith, refl, sym (s .pre .0 .summed), none-stored (a .n) (a .body .now) (a .config .now) (a .counts .now), s .pre .2)
 
 store-requires : tie.Need-store-requires Inv-loop μ-loop
 store-requires c κs =
@@ -33,13 +34,14 @@ store-requires c κs =
       omega (arith, l .inv .1, s .pre .1),
       l .inv .2 ∙ ap (startOf (a .n) (a .body .now)) next,
       λ d q r. l .inv .3 d (omega arith) r,
+      λ d q. l .inv .4 d (omega arith),
     )
 
 loop-again : tie.Need-loop-again Inv-loop μ-loop
 loop-again c =
     let e = c .before .before .store .ensures in
     let l = c .before .before .before .before .before .loop in
-    (omega arith, e .long ∙ l .inv .1, e .starts, e .right)
+    (omega arith, e .long ∙ l .inv .1, e .starts, e .right, λ d q. e .below d q ∙ l .inv .4 d (omega arith))
 
 same-length : tie.Need-same-length Inv-loop μ-loop
 same-length c = c .before .loop .inv .1

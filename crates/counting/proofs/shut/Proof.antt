@@ -1,5 +1,5 @@
 -- `shut` meets its contract. The loop has the states that are shut by the charts passed.
-use mathlib.Core.Path.{_≡_}
+use mathlib.Core.Path.{_≡_, ap}
 use Prim.Native.Nat.{_-_, _≤_}
 use native.Mathlib.Omega.{arith}
 use borrow.Author.Needs.{needs}
@@ -21,7 +21,7 @@ loop-holds : tie.Need-loop-holds Inv-loop μ-loop
 loop-holds c =
     let s = c .before .before .before .before in
     let a = s .args in
-    (omega arith, search needs, shuts-none (a .charts) (a .config .now) (a .masters .now) (a .states .now) (a .counts .now) (s .pre .2))
+    (omega arith, ap length (s .pre .3), rw (s .pre .3) (shuts-none (a .charts) (a .config .now) (a .masters .now) (a .states .now) (a .counts .now) (s .pre .2)))
 
 shut-one-requires : tie.Need-shut-one-requires Inv-loop μ-loop
 shut-one-requires c κs =

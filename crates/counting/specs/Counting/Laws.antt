@@ -1,7 +1,7 @@
 -- Laws of the loops that count, in this order: a factor by what a move activates (`factor-other` to `factor-none`); a
 -- product one factor longer (`branch-none` to `branch-done`); what staying and a transition add (`staying-no` to
--- `adds-small`), a sum one transition longer (`sum-none` to `sum-done`), that of a chart that encloses none
--- (`sum-alone`), and how many transitions leave a state (`leaving-none` to `leaving-done`); of a file, where a chart's
+-- `adds-small`), a sum one transition longer (`sum-none` to `sum-done`), and that of a chart that encloses none
+-- (`sum-alone`); of a file, where a chart's
 -- transitions start (`starts-at`), that nothing on the way is too large (`smalls`, `total-small`), an entry stored
 -- (`stores`), that the total is the number of open choices (`total-is`), and that no place that begins an open choice
 -- leads to a state that is shut (`begins-open`); the total one factor longer (`total-none` to `total-done`). The states
@@ -166,27 +166,6 @@ module _ (n : Shape) (b m s t : List ℕ) (c q : ℕ) where
 
   pub sum-done : (count p x : ℕ) → p ≤ count → count ≤ p → x ≡ sumIn n b m s t c q p → x ≡ sumIn n b m s t c q count
   sum-done count p x l k e = let z : p ≡ count = omega arith in e ∙ ap (sumIn n b m s t c q) z
-
--- ── how many transitions leave a state ──
-
-module _ (n : Shape) (b : List ℕ) (start q : ℕ) where
-  pub leaving-none : 0 ≡ leavingIn n b start q 0
-  unfolding tally
-  leaving-none = refl
-
-  pub leaving-more : (p x y : ℕ) → x ≡ leavingIn n b start q p → y ≡ one (same (transitionAt n b (start + p) .from) q)
-      → y + x ≡ leavingIn n b start q (p + 1)
-  leaving-more p x y e f = rw (e, f) (sym (tally-more p (λ j. one (same (transitionAt n b (start + j) .from) q))))
-
-  one-most : (x : Bool) → one x ≤ 1
-  one-most true = omega arith
-  one-most false = omega arith
-
-  pub leaving-few : (p : ℕ) → leavingIn n b start q p ≤ p
-  leaving-few p = let h = tally-most 1 p _ (λ k l. one-most (same (transitionAt n b (start + k) .from) q)) in omega arith
-
-  pub leaving-done : (count p x : ℕ) → p ≤ count → count ≤ p → x ≡ leavingIn n b start q p → x ≡ leavingIn n b start q count
-  leaving-done count p x l k e = let z : p ≡ count = omega arith in e ∙ ap (leavingIn n b start q) z
 
 -- ── states that are shut ──
 
