@@ -22,14 +22,26 @@ fn without_blanks(text: &str) -> String {
     text.split_whitespace().collect()
 }
 
+/// Also the text of each file that is read from one.
 #[test]
 fn the_named_files_have_the_texts_beside_them() {
+    let (mut texts, mut refusals) = (0, 0);
     for known in known() {
-        let (name, file) = (&known.name, known.model.file());
-        assert_eq!(text_of(&file).as_ref(), Ok(&known.text), "{name}");
-        let read = file_of(known.text.as_bytes()).expect(name);
-        assert_eq!(text_of(&read).as_ref(), Ok(&known.text), "{name}");
+        let (name, file) = (&known.name, &known.file);
+        let mut lent = vec![0xA5; known.room];
+        let answer = write(file, &mut lent);
+        let Ok(text) = known.told else {
+            assert_eq!(known.told, Err(answer.refusal), "{name}");
+            refusals += 1;
+            continue;
+        };
+        assert_eq!((answer.refusal, answer.length), (0, text.len()), "{name}");
+        assert_eq!(&lent[..text.len()], text.as_bytes(), "{name}");
+        let read = file_of(text.as_bytes()).expect(name);
+        assert_eq!(text_of(&read).as_ref(), Ok(&text), "{name}");
+        texts += 1;
     }
+    assert_eq!((texts, refusals), (86, 46));
 }
 
 /// The samples with a text: what is written is that text without its blanks, and the text means the
@@ -299,7 +311,10 @@ fn laid_out_as_the_page_shows() {
 #[test]
 fn laid_out_in_one_pass() {
     let mut random = Random::new(4);
-    let mut texts: Vec<String> = known().into_iter().map(|known| known.text).collect();
+    let mut texts: Vec<String> = known()
+        .into_iter()
+        .filter_map(|known| known.told.ok())
+        .collect();
     texts.extend((0..1_500).map(|_| written(&any(&mut random, CHARTS).1)));
     for text in texts {
         let shown = laid_out(&text);

@@ -1,4 +1,5 @@
-//! Named cases of writing (RULES 15). The text of each file is written by hand beside it.
+//! Named cases of writing (RULES 15). Beside each file is its refusal or its text, by hand; the texts of the
+//! largest files are put together from pieces.
 
 use super::charts::*;
 use super::damage::behind;
@@ -7,53 +8,56 @@ use super::Case;
 use crate::command::Command;
 use crate::limits::*;
 use crate::model::{Chart, Edition, Model, Node, Slave, Transition};
-use crate::notation::write::written;
 use crate::set::Set;
 
 /// All named cases of writing.
 pub fn cases() -> Vec<Case> {
-    let given = known().into_iter().map(|known| known.case());
-    let others = [depths(), rooms(), files(), second_edition()];
-    given.chain(others.into_iter().flatten()).collect()
+    known().into_iter().map(|known| known.case()).collect()
 }
 
-/// A file, and its text by hand.
+/// A file, the buffer that it is written to, and its text or its refusal, by hand.
 pub struct Known {
     pub name: String,
-    pub model: Model,
-    pub text: String,
+    pub file: Vec<u8>,
+    pub room: usize,
+    pub told: Result<String, u8>,
 }
 
 impl Known {
-    /// The writing, in a buffer that is three bytes longer than needed.
+    /// The writing.
     fn case(self) -> Case {
-        let room = self.text.len() + 3;
-        let command = Command::write(&self.name, self.model.file(), room);
-        Case::new(command, refusal::SUCCESS)
+        let command = Command::write(&self.name, self.file, self.room);
+        Case::new(command, self.told.err().unwrap_or(refusal::SUCCESS))
     }
 }
 
-/// A file that has this text; blanks are only here.
+/// A file that has this text, and a buffer that is three bytes longer than needed; blanks are only here.
 fn has(name: &str, model: Model, text: &str) -> Known {
+    let text: String = text.split_whitespace().collect();
+    accepted(name, model.file(), text.len() + 3, text)
+}
+
+/// A file that has this text, and a buffer of this length.
+fn accepted(name: &str, file: Vec<u8>, room: usize, text: String) -> Known {
     Known {
         name: format!("write-{name}"),
-        model,
-        text: text.split_whitespace().collect(),
+        file,
+        room,
+        told: Ok(text),
     }
-}
-
-/// A file that is written.
-fn accepted(name: &str, model: Model, room: usize) -> Case {
-    let command = Command::write(&format!("write-{name}"), model.file(), room);
-    Case::new(command, refusal::SUCCESS)
 }
 
 /// A file that is refused.
-fn refused(name: &str, number: u8, file: Vec<u8>, room: usize) -> Case {
-    Case::new(Command::write(&format!("write-{name}"), file, room), number)
+fn refused(name: &str, number: u8, file: Vec<u8>, room: usize) -> Known {
+    Known {
+        name: format!("write-{name}"),
+        file,
+        room,
+        told: Err(number),
+    }
 }
 
-/// All files that are written, with their texts.
+/// All files with their texts and refusals.
 pub fn known() -> Vec<Known> {
     let lists = [
         samples(),
@@ -65,6 +69,10 @@ pub fn known() -> Vec<Known> {
         hidings(),
         orders(),
         sixteen(),
+        depths(),
+        rooms(),
+        files(),
+        second_edition(),
     ];
     lists.into_iter().flatten().collect()
 }
@@ -493,9 +501,6 @@ fn sixteen() -> Vec<Known> {
     let four = |n: usize| format!("({}|{{}}|{})", two(n), two(n + 2));
     let eight = |n: usize| format!("({}|{{}}|{})", four(n), four(n + 4));
     let whole = format!("{}|{{}}|{}", eight(0), eight(8));
-    let nest = (0..15).rev().fold(small_text(15), |inner, master| {
-        format!("Dec{}by{{(q0,{inner})}}", small_text(master))
-    });
     vec![
         has("sixteen-charts", under(16, nodes), &whole),
         has(
@@ -505,13 +510,21 @@ fn sixteen() -> Vec<Known> {
                 nodes: row.into_iter().rev().collect(),
                 ..under(16, vec![])
             },
-            &nest,
+            &nest_text(0, (0..16).map(small_text)),
         ),
     ]
 }
 
+/// A text hidden by two empty sets, so many times.
+fn hidden_text(times: usize, text: &str) -> String {
+    format!("{}{text}{}", "{}[".repeat(times), "]{}".repeat(times))
+}
+
 /// 51: fifteen operators around a chart are written, sixteen are not.
-fn depths() -> Vec<Case> {
+fn depths() -> Vec<Known> {
+    let written = |name: &str, model: Model, room: usize, text: String| {
+        accepted(&format!("depth-{name}"), model.file(), room, text)
+    };
     let deep = |name: &str, model: Model| {
         refused(
             &format!("depth-{name}"),
@@ -544,21 +557,49 @@ fn depths() -> Vec<Case> {
         }
     };
     let row = |charts: usize| row_of_charts(vec![small(); charts]);
+    let ticking = "(c0,{q0},q0,{},{(q0,q0,/{s5})})";
+    let c0_hidden = hidden_text(14, "(c0,{q0},q0,{},{})");
+    let c1_hidden = hidden_text(14, "(c1,{q0},q0,{},{})");
     vec![
-        accepted("depth-15", hidden_deep(15), 150),
-        accepted("depth-16", hidden_deep(16), 150),
+        written("15", hidden_deep(15), 150, hidden_text(14, ticking)),
+        written("16", hidden_deep(16), 150, hidden_text(15, ticking)),
         deep("17", hidden_deep(17)),
         deep("18", hidden_deep(18)),
         deep("64", hidden_deep(64)),
-        accepted("depth-16-compositions", row(16), 500),
+        written(
+            "16-compositions",
+            row(16),
+            500,
+            row_text((0..16).map(small_text)),
+        ),
         deep("17-compositions", hides(row(16), 1)),
-        accepted("depth-16-masters", nest_of_small(16), 600),
+        written(
+            "16-masters",
+            nest_of_small(16),
+            600,
+            nest_text(0, (0..16).map(small_text)),
+        ),
         deep("17-masters", hides(nest_of_small(16), 1)),
-        accepted("depth-16-left-part", beside_hidden(14, true), 150),
+        written(
+            "16-left-part",
+            beside_hidden(14, true),
+            150,
+            format!("{c0_hidden}|{{}}|(c1,{{q0}},q0,{{}},{{}})"),
+        ),
         deep("17-left-part", beside_hidden(15, true)),
-        accepted("depth-16-right-part", beside_hidden(14, false), 150),
+        written(
+            "16-right-part",
+            beside_hidden(14, false),
+            150,
+            format!("(c1,{{q0}},q0,{{}},{{}})|{{}}|{c0_hidden}"),
+        ),
         deep("17-right-part", beside_hidden(15, false)),
-        accepted("depth-16-slave", inside_hidden(14), 150),
+        written(
+            "16-slave",
+            inside_hidden(14),
+            150,
+            format!("Dec(c0,{{q0}},q0,{{}},{{}})by{{(q0,{c1_hidden})}}"),
+        ),
         deep("17-slave", inside_hidden(15)),
         deep("64-composed-last", hides(beside_hidden(12, true), 40)),
         // a buffer that is too short as well: 51 comes before 45
@@ -569,6 +610,21 @@ fn depths() -> Vec<Case> {
             5,
         ),
     ]
+}
+
+/// The text of charts composed one after the other, without feedback.
+fn row_text(charts: impl Iterator<Item = String>) -> String {
+    let longer = |row: String, next: String| match row.contains('|') {
+        true => format!("({row})|{{}}|{next}"),
+        false => format!("{row}|{{}}|{next}"),
+    };
+    charts.reduce(longer).unwrap_or_default()
+}
+
+/// The text of charts of which each is the slave of this state of the one before.
+fn nest_text(state: u8, charts: impl DoubleEndedIterator<Item = String>) -> String {
+    let around = |inner: String, master: String| format!("Dec{master}by{{(q{state},{inner})}}");
+    charts.rev().reduce(around).unwrap_or_default()
 }
 
 /// Charts of one state, each the slave of the one before.
@@ -583,31 +639,40 @@ fn nest_of_small(charts: u8) -> Model {
 }
 
 /// 45: a buffer that is too short for the text.
-fn rooms() -> Vec<Case> {
-    let models = [("smallest", alone(small())), ("D", d()), ("P4", p4())];
+fn rooms() -> Vec<Known> {
+    let known = [
+        has("smallest", alone(small()), "(c0,{q0},q0,{},{})"),
+        has("D", d(), include_str!("../../../samples/decomposed.text")),
+        has("P4", p4(), include_str!("../../../samples/P4.text")),
+    ];
     let mut cases = vec![];
-    for (word, model) in models {
-        let needed = written(&model).len();
-        let short = refusal::REWRITING_ROOM;
-        for (room, length, number) in [
-            ("empty", 0, short),
-            ("one-byte", 1, short),
-            ("one-short", needed - 1, short),
-            ("exact", needed, refusal::SUCCESS),
-            ("one-longer", needed + 1, refusal::SUCCESS),
+    for Known {
+        name, file, told, ..
+    } in known
+    {
+        let word = name.trim_start_matches("write-");
+        let needed = told.as_ref().map_or(0, String::len);
+        let short = Err(refusal::REWRITING_ROOM);
+        for (room, length, told) in [
+            ("empty", 0, &short),
+            ("one-byte", 1, &short),
+            ("one-short", needed - 1, &short),
+            ("exact", needed, &told),
+            ("one-longer", needed + 1, &told),
         ] {
-            let name = format!("write-room-{word}-{room}");
-            cases.push(Case::new(
-                Command::write(&name, model.file(), length),
-                number,
-            ));
+            cases.push(Known {
+                name: format!("write-room-{word}-{room}"),
+                file: file.clone(),
+                room: length,
+                told: told.clone(),
+            });
         }
     }
     cases
 }
 
 /// Refused files; a front, which is not written; large files.
-fn files() -> Vec<Case> {
+fn files() -> Vec<Known> {
     let sample = include_bytes!("../../../samples/29-february");
     let fronted = behind(&[0x77; 29], d().file());
     let many = || {
@@ -616,21 +681,46 @@ fn files() -> Vec<Case> {
             .collect();
         alone(chart(8, &[1, 2], moves))
     };
+    let without_blanks = |text: &str| text.split_whitespace().collect::<String>();
     let mut cases = vec![
-        Case::new(
-            Command::write("write-sample-29-february", sample.to_vec(), 500),
-            refusal::SUCCESS,
+        accepted(
+            "sample-29-february",
+            sample.to_vec(),
+            500,
+            without_blanks(include_str!("../../../samples/29-february.text")),
         ),
-        Case::new(
-            Command::write("write-behind-front", fronted.clone(), 200),
-            refusal::SUCCESS,
+        accepted(
+            "behind-front",
+            fronted.clone(),
+            200,
+            without_blanks(include_str!("../../../samples/decomposed.text")),
         ),
         refused("behind-front-short", refusal::REWRITING_ROOM, fronted, 100),
-        accepted("64-transitions", many(), 1_500),
-        accepted("nest-of-16", nest(16), 2_000),
-        accepted("master-of-15", master_of(15), 1_500),
-        accepted("fullest-chart", alone(spread(16, 64)), 1_500),
-        accepted("eight-full-charts", full_charts(8), 8_000),
+        accepted("64-transitions", many().file(), 1_500, many_text()),
+        accepted(
+            "nest-of-16",
+            nest(16).file(),
+            2_000,
+            nest_text(1, (0..16).map(moving_text)),
+        ),
+        accepted(
+            "master-of-15",
+            master_of(15).file(),
+            1_500,
+            master_of_15_text(),
+        ),
+        accepted(
+            "fullest-chart",
+            alone(spread(16, 64)).file(),
+            1_500,
+            full_text(0),
+        ),
+        accepted(
+            "eight-full-charts",
+            full_charts(8).file(),
+            8_000,
+            row_text((0..8).map(full_text)),
+        ),
     ];
     for (number, file) in one_fault() {
         cases.push(refused(&format!("file-refused-{number}"), number, file, 6));
@@ -638,8 +728,67 @@ fn files() -> Vec<Case> {
     cases
 }
 
+/// States or signals with commas between: the names with the first number up to the one with the last.
+fn names(letter: char, first: usize, last: usize) -> String {
+    let names: Vec<String> = (first..=last).map(|n| format!("{letter}{n}")).collect();
+    names.join(",")
+}
+
+/// A chart with 64 transitions, from each of eight states to each. Each needs the signal of its place and
+/// bars 9, so the one at place 9 needs and bars the same signal.
+fn many_text() -> String {
+    let guard = |place: usize| match place {
+        0..=8 => format!("s{place}&-s9"),
+        9 => "s9&-s9".to_string(),
+        _ => format!("-s9&s{place}"),
+    };
+    let moves: Vec<String> = (0..64)
+        .map(|place| {
+            let (from, to) = (place / 8, place % 8);
+            format!("(q{from},q{to},{}/{{s63}})", guard(place))
+        })
+        .collect();
+    let (states, moves) = (names('q', 0, 7), moves.join(","));
+    format!("(c0,{{{states}}},q0,{{s1,s2}},{{{moves}}})")
+}
+
+/// A chart of the nest, which moves when its own signal comes.
+fn moving_text(chart: usize) -> String {
+    let (entered, left) = (chart + 16, chart + 32);
+    format!(
+        "(c{chart},{{q0,q1}},q0,{{}},{{(q0,q1,s{chart}/{{s{entered}}}),(q0,q0,-s{chart}/{{}}),\
+         (q1,q0,s{chart}/{{}}),(q1,q1,-s{chart}/{{s{left}}})}})"
+    )
+}
+
+/// A master of fifteen states with a slave in each.
+fn master_of_15_text() -> String {
+    let slave = |state: usize| {
+        let chart = state + 1;
+        format!("(q{state},(c{chart},{{q0}},q0,{{}},{{(q0,q0,/{{s{chart}}})}}))")
+    };
+    let slaves: Vec<String> = (0..15).map(slave).collect();
+    format!(
+        "Dec(c0,{{{}}},q0,{{}},{{(q0,q0,/{{}}),(q0,q1,/{{}}),(q0,q2,/{{}}),(q0,q3,/{{}}),(q0,q4,/{{}}),\
+         (q0,q5,/{{}}),(q0,q6,/{{}}),(q0,q7,/{{}})}})by{{{}}}",
+        names('q', 0, 14),
+        slaves.join(",")
+    )
+}
+
+/// A chart that goes round its sixteen states, by four transitions from each.
+fn full_text(chart: usize) -> String {
+    let mut round: Vec<String> = (0..15)
+        .map(|q| format!("(q{q},q{},/{{}})", q + 1))
+        .collect();
+    round.push("(q15,q0,/{})".to_string());
+    let round = round.join(",");
+    let states = names('q', 0, 15);
+    format!("(c{chart},{{{states}}},q0,{{}},{{{round},{round},{round},{round}}})")
+}
+
 /// 46 comes behind 1 to 11 and before 51 and 45.
-fn second_edition() -> Vec<Case> {
+fn second_edition() -> Vec<Known> {
     let second = |model: Model| model.under(Edition::Second).file();
     let bad = refusal::REWRITING_EDITION;
     let sample = include_bytes!("../../../samples/29-february-edition-2");
