@@ -3,15 +3,15 @@
 
 use crate::check::accept;
 use crate::clearing::{clear_model, is_dead, new_place};
-use crate::command::{hex, Command};
-use crate::generate::{deaden, Random, Shape};
+use crate::command::{hex, Command, Numbers};
+use crate::generate::{deaden, Random};
 use crate::laws::Engine;
 use crate::limits::refusal;
 use crate::model::{Chart, Model};
-use crate::pair::{self, is_small, made, Drawn, Pair, Steps};
+use crate::pair::{self, made, Drawn, Pair, Steps};
 use crate::set::Set;
 use crate::step::Places;
-use crate::walk::{any_size, is_nested};
+use crate::walk::is_nested;
 use std::fmt::{self, Display, Formatter};
 
 /// How much was compared.
@@ -26,7 +26,6 @@ pub struct Compared {
     pub dead: usize,
     /// Of the cleared files those with a smaller output interface.
     pub smaller: usize,
-    pub configurations: usize,
     pub steps: Steps,
     /// Of the steps given those with another place in the new file.
     pub moved: usize,
@@ -43,7 +42,7 @@ impl Display for Compared {
             self.dead,
             self.nested,
             self.smaller,
-            self.configurations,
+            self.steps.configurations,
             self.steps.given,
             self.steps.doubtful,
             self.moved,
@@ -52,20 +51,10 @@ impl Display for Compared {
     }
 }
 
-/// Compares so many random files with their cleared ones; the first difference, in words.
+/// Compares so many random files, mostly with dead transitions, with their cleared ones; the first difference,
+/// in words.
 pub fn hold(seed: u64, count: usize, engines: &[Engine]) -> Result<Compared, String> {
-    pair::hold(seed, count, engines, small_file)
-}
-
-/// A random file of edition 1, mostly with dead transitions, small enough for every configuration.
-fn small_file(random: &mut Random) -> (Shape, Model) {
-    loop {
-        let (shape, mut model) = any_size(random);
-        deaden(random, &shape, &mut model);
-        if is_small(&model) {
-            return (shape, model);
-        }
-    }
+    pair::hold(seed, count, engines, deaden)
 }
 
 impl pair::Compared for Compared {
@@ -75,7 +64,6 @@ impl pair::Compared for Compared {
         self.nested += one.nested;
         self.dead += one.dead;
         self.smaller += one.smaller;
-        self.configurations += one.configurations;
         self.steps.add(one.steps);
         self.moved += one.moved;
     }
@@ -89,16 +77,11 @@ impl pair::Compared for Compared {
             && self.moved >= self.steps.given / 10
     }
 
-    fn hold_file(
-        &mut self,
-        random: &mut Random,
-        drawn: &Drawn,
-        engine: Engine,
-    ) -> Result<(), String> {
-        let (model, old) = (&drawn.model, &drawn.file[..]);
-        let new = cleared(engine, old)?;
+    fn make(&mut self, drawn: &Drawn, engine: Engine) -> Result<Option<Vec<u8>>, String> {
+        let model = &drawn.model;
+        let new = cleared(engine, &drawn.file)?;
         let expected = clear_model(model);
-        if new != expected.file() || accept(&new) != Ok(expected.clone()) {
+        if new != expected.file() || accept(&new) != Ok(expected) {
             return Err(format!("cleared into {}", hex(&new)));
         }
         let dead: usize = model.charts.iter().map(dead_in).sum();
@@ -106,18 +89,50 @@ impl pair::Compared for Compared {
         self.dead += dead;
         self.cleared += usize::from(dead > 0);
         self.nested += usize::from(dead > 0 && is_nested(model));
-        let pair = Pair {
-            engine,
-            model,
-            old,
-            new,
-        };
-        self.smaller += usize::from(hold_questions(&pair)?);
-        pair.hold_run(random, &drawn.shape)?;
-        let step = |at: &[u8], input| hold_step(&pair, at, input, self);
-        let configurations = pair.hold_steps(random, &drawn.shape, step)?;
-        self.configurations += configurations;
-        Ok(())
+        Ok(Some(new))
+    }
+
+    /// First configuration and input interface are the same, the output interface has nothing new, a
+    /// plain file stays plain, what can be rewritten still can, and clearing twice is clearing once.
+    fn hold_questions(&mut self, _: &mut Random, pair: &Pair) -> Result<(), String> {
+        pair.hold_first()?;
+        let [old, new] = pair.told(&Command::interface("interface", vec![]));
+        let outputs = [old.1, new.1].map(|numbers| Set(numbers.two[1]));
+        if old.1.two[0] != new.1.two[0] || !outputs[0].holds_all(outputs[1]) {
+            return Err(format!("interface {old:x?}, cleared {new:x?}"));
+        }
+        self.smaller += usize::from(outputs[0] != outputs[1]);
+        let [old, new] = pair.told(&Command::plain("plain", vec![]));
+        if old.1.two[0] > new.1.two[0] {
+            return Err("plain, and not plain when cleared".to_string());
+        }
+        let [old, new] = pair.told(&Command::rewrite("rewrite", vec![], 20_000));
+        if old.0 == refusal::SUCCESS && new.0 != refusal::SUCCESS {
+            return Err(format!("rewritten, and refused {} when cleared", new.0));
+        }
+        match cleared(pair.engine, &pair.new)? == pair.new {
+            true => Ok(()),
+            false => Err("cleared again, it is another file".to_string()),
+        }
+    }
+
+    /// A step's refusal, output, mark and buffer are the same, its places are those of the new lists,
+    /// and no more choices are open. No file here is large enough for 24.
+    fn hold_step(&mut self, pair: &Pair, at: &[u8], input: Set) -> Result<(u8, Numbers), String> {
+        let step = Command::step("step", vec![], at, input, at.len() + 1);
+        let [mut old, new] = pair.told(&step);
+        let (before, open) = (old.1.places, old.1.open);
+        old.1.places = new_places(&pair.drawn.model, &before);
+        old.1.open = new.1.open;
+        if old != new || new.1.open > open {
+            return Err(format!("{step:?}: {old:x?}, {open} open, cleared {new:x?}"));
+        }
+        self.moved += usize::from(before != new.1.places);
+        Ok((old.0, old.1))
+    }
+
+    fn steps(&mut self) -> &mut Steps {
+        &mut self.steps
     }
 }
 
@@ -134,49 +149,6 @@ fn dead_in(chart: &Chart) -> usize {
 fn cleared(engine: Engine, file: &[u8]) -> Result<Vec<u8>, String> {
     made(engine, Command::clear("", file.to_vec(), file.len()))
         .map_err(|number| format!("refused {number}"))
-}
-
-/// First configuration and input interface are the same, the output interface has nothing new, a
-/// plain file stays plain, what can be rewritten still can, and clearing twice is clearing once.
-/// Whether the output interface is smaller.
-fn hold_questions(pair: &Pair) -> Result<bool, String> {
-    let file = Vec::new;
-    let charts = pair.model.charts.len();
-    pair.same(Command::check("check", file()))?;
-    pair.same(Command::first("first", file(), charts + 1))?;
-    let [old, new] = pair.told(&Command::interface("interface", file()));
-    let outputs = [old.1, new.1].map(|numbers| Set(numbers.two[1]));
-    if old.1.two[0] != new.1.two[0] || !outputs[0].holds_all(outputs[1]) {
-        return Err(format!("interface {old:x?}, cleared {new:x?}"));
-    }
-    let [old, new] = pair.told(&Command::plain("plain", file()));
-    if old.1.two[0] > new.1.two[0] {
-        return Err("plain, and not plain when cleared".to_string());
-    }
-    let [old, new] = pair.told(&Command::rewrite("rewrite", file(), 20_000));
-    if old.0 == refusal::SUCCESS && new.0 != refusal::SUCCESS {
-        return Err(format!("rewritten, and refused {} when cleared", new.0));
-    }
-    match cleared(pair.engine, &pair.new)? == pair.new {
-        true => Ok(outputs[0] != outputs[1]),
-        false => Err("cleared again, it is another file".to_string()),
-    }
-}
-
-/// A step's refusal, output, mark and buffer are the same, its places are those of the new lists,
-/// and no more choices are open. No file here is large enough for 24.
-fn hold_step(pair: &Pair, at: &[u8], input: Set, compared: &mut Compared) -> Result<(), String> {
-    let step = Command::step("step", vec![], at, input, at.len() + 1);
-    let [mut old, new] = pair.told(&step);
-    let (before, open) = (old.1.places, old.1.open);
-    old.1.places = new_places(pair.model, &before);
-    old.1.open = new.1.open;
-    if old != new || new.1.open > open {
-        return Err(format!("{step:?}: {old:x?}, {open} open, cleared {new:x?}"));
-    }
-    compared.steps.count(old.0, &old.1);
-    compared.moved += usize::from(before != new.1.places);
-    Ok(())
 }
 
 /// The places of a step of the old file, in the new lists.

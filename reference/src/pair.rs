@@ -8,7 +8,7 @@ use crate::laws::Engine;
 use crate::limits::refusal;
 use crate::model::Model;
 use crate::set::Set;
-use crate::walk::{configurations, from_any_state, has_few_configurations, inputs};
+use crate::walk::{any_size, configurations, from_any_state, has_few_configurations, inputs};
 use std::fmt::Display;
 
 /// The most configurations of a file.
@@ -18,7 +18,7 @@ const CHOICES: usize = 512;
 /// The rows of a run.
 const ROWS: usize = 20;
 
-/// How much was compared.
+/// How much was compared, and how one file is.
 pub trait Compared: Default + Display {
     /// Adds what was counted for one file.
     fn add(&mut self, one: &Self);
@@ -26,13 +26,17 @@ pub trait Compared: Default + Display {
     /// Whether so much was compared that it tells something.
     fn tells(&self) -> bool;
 
-    /// Makes a file of a file by an engine, and compares the two.
-    fn hold_file(
-        &mut self,
-        random: &mut Random,
-        drawn: &Drawn,
-        engine: Engine,
-    ) -> Result<(), String>;
+    /// The file that an engine makes of a file; none if it refuses, as it has to.
+    fn make(&mut self, drawn: &Drawn, engine: Engine) -> Result<Option<Vec<u8>>, String>;
+
+    /// Compares the answers to what is asked about a file alone.
+    fn hold_questions(&mut self, random: &mut Random, pair: &Pair) -> Result<(), String>;
+
+    /// Compares a step of either file: its refusal, and its numbers for the old file.
+    fn hold_step(&mut self, pair: &Pair, at: &[u8], input: Set) -> Result<(u8, Numbers), String>;
+
+    /// The steps that were compared.
+    fn steps(&mut self) -> &mut Steps;
 }
 
 /// A random file, its bytes with some in front, and the shape that it was drawn by.
@@ -42,17 +46,18 @@ pub struct Drawn {
     pub file: Vec<u8>,
 }
 
-/// Compares so many random files with what engines make of them; the first difference, in words.
+/// Compares so many random files with what engines make of them; the first difference, in words. Each file
+/// is changed by this before it is looked at.
 pub fn hold<C: Compared>(
     seed: u64,
     count: usize,
     engines: &[Engine],
-    draw: impl Fn(&mut Random) -> (Shape, Model),
+    change: impl Fn(&mut Random, &Shape, &mut Model),
 ) -> Result<C, String> {
     let mut random = Random::new(seed);
     let mut compared = C::default();
     for place in 0..count {
-        let (shape, model) = draw(&mut random);
+        let (shape, model) = small_file(&mut random, &change);
         let file = [front(&mut random), model.file()].concat();
         let drawn = Drawn { shape, model, file };
         let mut counted = C::default();
@@ -60,7 +65,7 @@ pub fn hold<C: Compared>(
             // each engine is asked the same, and what is compared is counted once
             counted = C::default();
             let mut again = Random::new(seed ^ place as u64);
-            let done = counted.hold_file(&mut again, &drawn, engine);
+            let done = hold_file(&mut counted, &mut again, &drawn, engine);
             let (who, bytes) = (engine.0, hex(&drawn.file));
             done.map_err(|what| format!("seed {seed}, file {place}, {who}: {what}\n{bytes}"))?;
         }
@@ -72,8 +77,47 @@ pub fn hold<C: Compared>(
     }
 }
 
+/// A random file of edition 1, changed by this, small enough for every configuration.
+fn small_file(
+    random: &mut Random,
+    change: impl Fn(&mut Random, &Shape, &mut Model),
+) -> (Shape, Model) {
+    loop {
+        let (shape, mut model) = any_size(random);
+        change(random, &shape, &mut model);
+        if is_small(&model) {
+            return (shape, model);
+        }
+    }
+}
+
+/// Makes a file of a file by an engine, and compares the two: what is asked about a file alone, a run, and
+/// steps from every configuration.
+fn hold_file<C: Compared>(
+    compared: &mut C,
+    random: &mut Random,
+    drawn: &Drawn,
+    engine: Engine,
+) -> Result<(), String> {
+    let Some(new) = compared.make(drawn, engine)? else {
+        return Ok(());
+    };
+    let pair = Pair { engine, drawn, new };
+    compared.hold_questions(random, &pair)?;
+    pair.hold_run(random)?;
+    let inputs = inputs(random, &drawn.shape, &drawn.model);
+    for at in configurations(&drawn.model) {
+        for &input in &inputs {
+            let (refusal, numbers) = compared.hold_step(&pair, &at, input)?;
+            compared.steps().count(refusal, &numbers);
+        }
+        compared.steps().configurations += 1;
+    }
+    Ok(())
+}
+
 /// Whether a file is small enough for every configuration and every choice.
-pub fn is_small(model: &Model) -> bool {
+fn is_small(model: &Model) -> bool {
     has_few_configurations(model, CONFIGURATIONS) && from_any_state(model) <= CHOICES
 }
 
@@ -98,15 +142,14 @@ pub fn made((_, call): Engine, command: Command) -> Result<Vec<u8>, u8> {
 /// A file, and the file that an engine makes of it.
 pub struct Pair<'a> {
     pub engine: Engine,
-    pub model: &'a Model,
-    pub old: &'a [u8],
+    pub drawn: &'a Drawn,
     pub new: Vec<u8>,
 }
 
 impl Pair<'_> {
     /// What the engine tells of a call of either file.
     pub fn told(&self, command: &Command) -> [Told; 2] {
-        [self.old, &self.new].map(|file| {
+        [&self.drawn.file, &self.new].map(|file| {
             let command = Command {
                 file: file.to_vec(),
                 ..command.clone()
@@ -126,36 +169,29 @@ impl Pair<'_> {
         }
     }
 
+    /// Whether a file is accepted, and its first configuration, are the same.
+    pub fn hold_first(&self) -> Result<(), String> {
+        self.same(Command::check("check", vec![]))?;
+        let room = self.drawn.model.charts.len() + 1;
+        self.same(Command::first("first", vec![], room)).map(drop)
+    }
+
     /// The rows of a run and what it carries are the same.
-    pub fn hold_run(&self, random: &mut Random, shape: &Shape) -> Result<(), String> {
-        let at = configuration(random, self.model);
+    fn hold_run(&self, random: &mut Random) -> Result<(), String> {
+        let Drawn { shape, model, .. } = self.drawn;
+        let at = configuration(random, model);
         let inputs: Vec<Set> = (0..ROWS).map(|_| input(random, shape)).collect();
         let room = rows_bytes(ROWS, at.len()) + 1;
         let run = Command::run("run", vec![], &at, &inputs, room);
         self.same(run.carrying(input(random, shape))).map(drop)
     }
-
-    /// Compares steps from every configuration. How many configurations there are.
-    pub fn hold_steps(
-        &self,
-        random: &mut Random,
-        shape: &Shape,
-        mut hold_step: impl FnMut(&[u8], Set) -> Result<(), String>,
-    ) -> Result<usize, String> {
-        let inputs = inputs(random, shape, self.model);
-        let all = configurations(self.model);
-        for at in &all {
-            for &input in &inputs {
-                hold_step(at, input)?;
-            }
-        }
-        Ok(all.len())
-    }
 }
 
-/// How many steps were given, how many of these were marked no, and how many were refused.
+/// From how many configurations steps were made, how many were given, how many of these were marked no, and how
+/// many were refused.
 #[derive(Clone, Copy, PartialEq, Eq, Debug, Default)]
 pub struct Steps {
+    pub configurations: usize,
     pub given: usize,
     pub doubtful: usize,
     pub refused: usize,
@@ -163,7 +199,7 @@ pub struct Steps {
 
 impl Steps {
     /// One step more.
-    pub fn count(&mut self, refusal: u8, numbers: &Numbers) {
+    fn count(&mut self, refusal: u8, numbers: &Numbers) {
         let is_given = refusal == refusal::SUCCESS;
         self.given += usize::from(is_given);
         self.refused += usize::from(!is_given);
@@ -172,6 +208,7 @@ impl Steps {
 
     /// Adds those of another file.
     pub fn add(&mut self, one: Steps) {
+        self.configurations += one.configurations;
         self.given += one.given;
         self.doubtful += one.doubtful;
         self.refused += one.refused;

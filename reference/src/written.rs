@@ -1,16 +1,16 @@
 //! RULES 15.4 on random files: a file of edition 1 is written as text by every engine and read back, and
 //! then each answers for the old file and for the new one, from every configuration.
 
-use crate::command::{hex, Command};
+use crate::command::{hex, Command, Numbers};
 use crate::generate::{deaden, hide_again, Random, Shape};
 use crate::laws::Engine;
 use crate::limits::*;
 use crate::model::Model;
 use crate::notation::file_of;
 use crate::notation::write::{depth, written};
-use crate::pair::{self, is_small, made, Drawn, Pair, Steps};
+use crate::pair::{self, made, Drawn, Pair, Steps};
 use crate::set::Set;
-use crate::walk::{any_size, is_nested};
+use crate::walk::is_nested;
 use std::fmt::{self, Display, Formatter};
 
 /// How much longer than its text a buffer is.
@@ -30,7 +30,6 @@ pub struct Compared {
     pub reordered: usize,
     /// The bytes of all texts.
     pub bytes: usize,
-    pub configurations: usize,
     pub steps: Steps,
 }
 
@@ -46,7 +45,7 @@ impl Display for Compared {
             self.nested,
             self.large,
             self.reordered,
-            self.configurations,
+            self.steps.configurations,
             self.steps.given,
             self.steps.doubtful,
             self.steps.refused
@@ -56,23 +55,16 @@ impl Display for Compared {
 
 /// Compares so many random files with what is read back of their texts; the first difference, in words.
 pub fn hold(seed: u64, count: usize, engines: &[Engine]) -> Result<Compared, String> {
-    pair::hold(seed, count, engines, small_file)
+    pair::hold(seed, count, engines, change)
 }
 
-/// A random file of edition 1, small enough for every configuration; some are about as deep as they may
-/// be.
-fn small_file(random: &mut Random) -> (Shape, Model) {
-    loop {
-        let (shape, mut model) = any_size(random);
-        if random.chance(50) {
-            deaden(random, &shape, &mut model);
-        }
-        if random.chance(15) {
-            hide_again(random, &shape, &mut model);
-        }
-        if is_small(&model) {
-            return (shape, model);
-        }
+/// Dead transitions in every other file; some are hidden until they are about as deep as they may be.
+fn change(random: &mut Random, shape: &Shape, model: &mut Model) {
+    if random.chance(50) {
+        deaden(random, shape, model);
+    }
+    if random.chance(15) {
+        hide_again(random, shape, model);
     }
 }
 
@@ -84,7 +76,6 @@ impl pair::Compared for Compared {
         self.large += one.large;
         self.reordered += one.reordered;
         self.bytes += one.bytes;
-        self.configurations += one.configurations;
         self.steps.add(one.steps);
     }
 
@@ -98,40 +89,62 @@ impl pair::Compared for Compared {
         kinds.iter().all(|&files| files >= self.files) && self.steps.tells()
     }
 
-    fn hold_file(
-        &mut self,
-        random: &mut Random,
-        drawn: &Drawn,
-        engine: Engine,
-    ) -> Result<(), String> {
-        let (model, old) = (&drawn.model, &drawn.file[..]);
-        self.files += 1;
+    fn make(&mut self, drawn: &Drawn, engine: Engine) -> Result<Option<Vec<u8>>, String> {
+        let model = &drawn.model;
         let expected = written(model);
-        let room = expected.len() + SPARE;
+        self.files += 1;
         if depth(model) > NESTING {
             self.deep += 1;
-            return match made(engine, Command::write("", old.to_vec(), room)) {
-                Err(refusal::NESTING) => Ok(()),
+            let room = expected.len() + SPARE;
+            return match made(engine, Command::write("", drawn.file.clone(), room)) {
+                Err(refusal::NESTING) => Ok(None),
                 told => Err(format!("too deep: {told:?}")),
             };
         }
-        let new = read_back(engine, old, &expected, model.file().len())?;
+        let new = read_back(engine, &drawn.file, &expected, model.file().len())?;
         self.bytes += expected.len();
         self.nested += usize::from(is_nested(model));
         self.large += usize::from(model.charts.len() > EARLIER_CHARTS);
         self.reordered += usize::from(new != model.file());
-        let pair = Pair {
-            engine,
-            model,
-            old,
-            new,
-        };
-        hold_questions(&pair, &expected)?;
-        pair.hold_run(random, &drawn.shape)?;
-        let step = |at: &[u8], input| hold_step(&pair, at, input, self);
-        let configurations = pair.hold_steps(random, &drawn.shape, step)?;
-        self.configurations += configurations;
-        Ok(())
+        Ok(Some(new))
+    }
+
+    /// First configuration, interface and plainness are the same, and so is the text; the lengths of the
+    /// cleared and the rewritten file too, whose nodes may have another order. Read back, the text of the new
+    /// file is the new file again.
+    fn hold_questions(&mut self, _: &mut Random, pair: &Pair) -> Result<(), String> {
+        let text = written(&pair.drawn.model);
+        pair.hold_first()?;
+        pair.same(Command::interface("interface", vec![]))?;
+        pair.same(Command::plain("plain", vec![]))?;
+        pair.same(Command::write("write", vec![], text.len() + SPARE))?;
+        for command in [
+            Command::clear("clear", vec![], pair.drawn.file.len()),
+            Command::rewrite("rewrite", vec![], 20_000),
+        ] {
+            let [old, new] = pair.told(&command);
+            if (old.0, old.1) != (new.0, new.1) {
+                return Err(format!("{command:?}: {old:x?}, read back {new:x?}"));
+            }
+        }
+        let again = Command::write("", pair.new.clone(), text.len());
+        let again = made(pair.engine, again).map_err(|number| format!("again: {number}"))?;
+        let read = made(pair.engine, Command::read("", again, pair.new.len()));
+        match read.as_deref() == Ok(&pair.new[..]) {
+            true => Ok(()),
+            false => Err(format!("written and read again, it is {read:x?}")),
+        }
+    }
+
+    /// All that a step answers is the same. No file here is large enough for 24.
+    fn hold_step(&mut self, pair: &Pair, at: &[u8], input: Set) -> Result<(u8, Numbers), String> {
+        let step = Command::step("step", vec![], at, input, at.len() + 1);
+        let (refusal, numbers, _) = pair.same(step)?;
+        Ok((refusal, numbers))
+    }
+
+    fn steps(&mut self) -> &mut Steps {
+        &mut self.steps
     }
 }
 
@@ -153,41 +166,4 @@ fn read_back(engine: Engine, old: &[u8], expected: &str, room: usize) -> Result<
         true => Ok(new),
         false => Err(format!("{expected} is read as {}", hex(&new))),
     }
-}
-
-/// First configuration, interface and plainness are the same; so are the lengths of the cleared and
-/// the rewritten file, whose nodes may have another order. The text of the new file is the same, and
-/// read back it is the new file again.
-fn hold_questions(pair: &Pair, text: &str) -> Result<(), String> {
-    let file = Vec::new;
-    let charts = pair.model.charts.len();
-    pair.same(Command::check("check", file()))?;
-    pair.same(Command::first("first", file(), charts + 1))?;
-    pair.same(Command::interface("interface", file()))?;
-    pair.same(Command::plain("plain", file()))?;
-    pair.same(Command::write("write", file(), text.len() + SPARE))?;
-    for command in [
-        Command::clear("clear", file(), pair.old.len()),
-        Command::rewrite("rewrite", file(), 20_000),
-    ] {
-        let [old, new] = pair.told(&command);
-        if (old.0, old.1) != (new.0, new.1) {
-            return Err(format!("{command:?}: {old:x?}, read back {new:x?}"));
-        }
-    }
-    let again = Command::write("", pair.new.clone(), text.len());
-    let again = made(pair.engine, again).map_err(|number| format!("again: {number}"))?;
-    let read = made(pair.engine, Command::read("", again, pair.new.len()));
-    match read.as_deref() == Ok(&pair.new[..]) {
-        true => Ok(()),
-        false => Err(format!("written and read again, it is {read:x?}")),
-    }
-}
-
-/// All that a step answers is the same. No file here is large enough for 24.
-fn hold_step(pair: &Pair, at: &[u8], input: Set, compared: &mut Compared) -> Result<(), String> {
-    let step = Command::step("step", vec![], at, input, at.len() + 1);
-    let (refusal, numbers, _) = pair.same(step)?;
-    compared.steps.count(refusal, &numbers);
-    Ok(())
 }
