@@ -1,15 +1,18 @@
 //! RULES 15.4 on random files: a file of edition 1 is written as text by every engine and read back, and
 //! then each answers for the old file and for the new one, from every configuration.
 
+use crate::check::accept;
 use crate::command::{hex, Command, Numbers};
 use crate::generate::{deaden, hide_again, Random, Shape};
 use crate::laws::Engine;
 use crate::limits::*;
-use crate::model::Model;
+use crate::model::{Model, Node};
 use crate::notation::file_of;
+use crate::notation::laid_out::laid_out;
 use crate::notation::write::{depth, written};
 use crate::pair::{self, made, Drawn, Pair, Steps};
 use crate::set::Set;
+use crate::texts::typed::right_text;
 use crate::walk::is_nested;
 use std::fmt::{self, Display, Formatter};
 
@@ -110,9 +113,9 @@ impl pair::Compared for Compared {
     }
 
     /// First configuration, interface and plainness are the same, and so is the text; the lengths of the
-    /// cleared and the rewritten file too, whose nodes may have another order. Read back, the text of the new
-    /// file is the new file again.
-    fn hold_questions(&mut self, _: &mut Random, pair: &Pair) -> Result<(), String> {
+    /// cleared and the rewritten file too, whose nodes may have another order. The new file holds the same
+    /// chart, and is what the text means if it is typed in another way.
+    fn hold_questions(&mut self, random: &mut Random, pair: &Pair) -> Result<(), String> {
         let text = written(&pair.drawn.model);
         pair.hold_first()?;
         pair.same(Command::interface("interface", vec![]))?;
@@ -127,13 +130,9 @@ impl pair::Compared for Compared {
                 return Err(format!("{command:?}: {old:x?}, read back {new:x?}"));
             }
         }
-        let again = Command::write("", pair.new.clone(), text.len());
-        let again = made(pair.engine, again).map_err(|number| format!("again: {number}"))?;
-        let read = made(pair.engine, Command::read("", again, pair.new.len()));
-        match read.as_deref() == Ok(&pair.new[..]) {
-            true => Ok(()),
-            false => Err(format!("written and read again, it is {read:x?}")),
-        }
+        hold_chart(&pair.drawn.model, &pair.new)?;
+        hold_read("laid out", laid_out(&text).into_bytes(), pair)?;
+        hold_read("typed", right_text(random, &pair.drawn.model), pair)
     }
 
     /// All that a step answers is the same. No file here is large enough for 24.
@@ -165,5 +164,47 @@ fn read_back(engine: Engine, old: &[u8], expected: &str, room: usize) -> Result<
     match file_of(expected.as_bytes()).as_deref() == Ok(&new) {
         true => Ok(new),
         false => Err(format!("{expected} is read as {}", hex(&new))),
+    }
+}
+
+/// The file read back has the same charts, with their transitions in the same order, and the same tree. No
+/// call would tell two parts of a composition exchanged.
+fn hold_chart(model: &Model, new: &[u8]) -> Result<(), String> {
+    let back = accept(new).map_err(|number| format!("read back, it is refused {number}"))?;
+    match back.charts == model.charts && tree(&back) == tree(model) {
+        true => Ok(()),
+        false => Err(format!("read back, it is another chart: {}", hex(new))),
+    }
+}
+
+/// The tree of a file as a term, with the slaves of a master by state. The numbers of nodes are not in it.
+pub fn tree(model: &Model) -> String {
+    fn of(model: &Model, node: u8) -> String {
+        match &model.nodes[usize::from(node)] {
+            Node::Chart { chart } => {
+                let slaves = model.slaves_of(*chart);
+                let slaves = slaves.map(|s| format!("{}:{}", s.state, of(model, s.node)));
+                format!("{chart}<{}>", slaves.collect::<Vec<_>>().join(","))
+            }
+            Node::Composed { a, b, feedback } => {
+                format!("({} {} {})", of(model, *a), feedback.hex(), of(model, *b))
+            }
+            Node::Hidden {
+                part,
+                filtered,
+                hidden,
+            } => format!("{}[{}]{}", filtered.hex(), of(model, *part), hidden.hex()),
+        }
+    }
+    of(model, model.whole() as u8)
+}
+
+/// A text of the same chart, of this kind, is read as the new file too.
+fn hold_read(kind: &str, text: Vec<u8>, pair: &Pair) -> Result<(), String> {
+    let told = made(pair.engine, Command::read("", text.clone(), pair.new.len()));
+    let text = String::from_utf8_lossy(&text);
+    match told.as_deref() == Ok(&pair.new[..]) {
+        true => Ok(()),
+        false => Err(format!("{kind}, {text} is read as {told:x?}")),
     }
 }

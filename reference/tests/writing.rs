@@ -4,16 +4,17 @@
 use reference::cases::charts::*;
 use reference::cases::write::known;
 use reference::check::accept;
-use reference::command::{Command, Numbers, Op};
+use reference::command::{Call, Command, Numbers, Op};
 use reference::generate::{any, configuration, deaden, hide_again, input, tried, Random};
 use reference::laws::REFERENCE;
 use reference::limits::*;
-use reference::model::{Edition, Model, Node};
+use reference::model::{Edition, Model};
 use reference::notation::file_of;
 use reference::notation::laid_out::laid_out;
 use reference::notation::write::{depth, text_of, written};
 use reference::texts::typed::right_text;
 use reference::walk::any_size;
+use reference::written::tree;
 use reference::{step, write, written as comparison, Set};
 use std::collections::BTreeMap;
 
@@ -165,7 +166,8 @@ fn no_text_and_no_file_is_longer_than_the_page_says() {
 }
 
 /// Random files are written, read back, written again. The text read back is the same chart by chart and
-/// as a tree, the text of that the same text, and a file that was read is the same byte for byte.
+/// as a tree, and the text of that the same text. Another text of the chart is read as the same file, so a file
+/// that was read from any text is, written and read again, the same byte for byte.
 #[test]
 fn random_files_are_read_back() {
     let mut random = Random::new(3);
@@ -185,35 +187,12 @@ fn random_files_are_read_back() {
         let file = file_of(text.as_bytes()).expect("a text that is accepted");
         let back = accept(&file).expect("a file that is accepted");
         assert_eq!(back.charts, model.charts);
-        assert_eq!(term(&back), term(&model));
+        assert_eq!(tree(&back), tree(&model));
         assert_eq!(text_of(&file), Ok(text.clone()));
         let typed = right_text(&mut random, &model);
-        assert_eq!(file_of(&typed), Ok(file.clone()));
-        assert_eq!(file_of(written(&back).as_bytes()), Ok(file));
+        assert_eq!(file_of(&typed), Ok(file));
     }
     assert!(found[&0] > 2_500 && found[&51] > 20, "{found:?}");
-}
-
-/// A file's nodes as a term, slaves by state.
-fn term(model: &Model) -> String {
-    fn of(model: &Model, node: u8) -> String {
-        match &model.nodes[usize::from(node)] {
-            Node::Chart { chart } => {
-                let slaves = model.slaves_of(*chart);
-                let slaves = slaves.map(|s| format!("{}:{}", s.state, of(model, s.node)));
-                format!("{chart}<{}>", slaves.collect::<Vec<_>>().join(","))
-            }
-            Node::Composed { a, b, feedback } => {
-                format!("({} {} {})", of(model, *a), feedback.hex(), of(model, *b))
-            }
-            Node::Hidden {
-                part,
-                filtered,
-                hidden,
-            } => format!("{}[{}]{}", filtered.hex(), of(model, *part), hidden.hex()),
-        }
-    }
-    of(model, model.whole() as u8)
 }
 
 /// The answers of a file and of the file that its text means, from every configuration.
@@ -338,8 +317,44 @@ fn careless(command: &Command, lent: &mut [u8]) -> (u8, Numbers) {
     (refusal, numbers)
 }
 
+/// An engine that refuses a text with a byte in it.
+fn refusing(byte: u8, command: &Command, lent: &mut [u8]) -> (u8, Numbers) {
+    match command.op == Op::Read && command.file.contains(&byte) {
+        true => (refusal::NOTATION, Numbers::two(0, 0)),
+        false => command.call(lent),
+    }
+}
+
+/// An engine that knows no line end, and one that does not know the blank that no layout has.
+fn one_line(command: &Command, lent: &mut [u8]) -> (u8, Numbers) {
+    refusing(b'\n', command, lent)
+}
+fn no_return(command: &Command, lent: &mut [u8]) -> (u8, Numbers) {
+    refusing(b'\r', command, lent)
+}
+
 #[test]
 fn a_careless_engine_is_caught() {
-    let told = comparison::hold(7, 150, &[REFERENCE, ("other", careless)]);
-    assert!(told.unwrap_err().contains("other: written as"));
+    let engines: [(Call, &str); 3] = [
+        (careless, "other: written as"),
+        (one_line, "other: laid out, "),
+        (no_return, "other: typed, "),
+    ];
+    for (engine, what) in engines {
+        let told = comparison::hold(7, 150, &[REFERENCE, ("other", engine)]);
+        assert!(told.unwrap_err().contains(what), "{what}");
+    }
+}
+
+/// Parts exchanged give every answer as before; the tree tells.
+#[test]
+fn the_tree_tells_what_no_step_does() {
+    let old = p1();
+    let mut exchanged = p1();
+    exchanged.nodes[2] = composed(1, 0, &[1]);
+    assert_ne!(tree(&old), tree(&exchanged));
+    let mut renumbered = p1();
+    renumbered.nodes = vec![leaf(1), leaf(0), composed(1, 0, &[1])];
+    assert_eq!(tree(&old), tree(&renumbered));
+    assert_ne!(tree(&d()), tree(&d_hidden()));
 }
