@@ -161,38 +161,14 @@ pub fn run(
 /// its length (RULES 9). Files of edition 2 can't be rewritten. Refusals 1 to 11, 46, 40 to 42, 44,
 /// 45.
 pub fn rewrite(file: &[u8], buffer: &mut [u8]) -> Result<usize, Refusal> {
-    let mut length = 0;
-    // SAFETY: the pointers are those of slices with these lengths and of a number of our own; the slice
-    // written overlaps nothing else.
-    Refusal::unless_zero(unsafe {
-        raw::mestecur_rewrite(
-            file.as_ptr(),
-            file.len(),
-            buffer.as_mut_ptr(),
-            buffer.len(),
-            &mut length,
-        )
-    })?;
-    Ok(length)
+    writing::made(raw::mestecur_rewrite, file, buffer)
 }
 
 /// Writes the file without its dead transitions to the front of the buffer, and returns its length
 /// (RULES 12). The new file makes the same steps; places count in its shorter lists. A buffer of the
 /// file's length is always enough. Files of edition 2 can't be cleared. Refusals 1 to 11, 46, 45.
 pub fn clear(file: &[u8], buffer: &mut [u8]) -> Result<usize, Refusal> {
-    let mut length = 0;
-    // SAFETY: the pointers are those of slices with these lengths and of a number of our own; the slice
-    // written overlaps nothing else.
-    Refusal::unless_zero(unsafe {
-        raw::mestecur_clear(
-            file.as_ptr(),
-            file.len(),
-            buffer.as_mut_ptr(),
-            buffer.len(),
-            &mut length,
-        )
-    })?;
-    Ok(length)
+    writing::made(raw::mestecur_clear, file, buffer)
 }
 
 /// Whether a file is plain (RULES 8). Every step of a plain file that is given has the mark yes.
