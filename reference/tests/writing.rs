@@ -130,33 +130,10 @@ fn the_buffer_is_tested_last_and_kept_behind_the_text() {
     }
 }
 
-/// Every set full, as many transitions as there can be and most of them between states of two digits, a
-/// slave for each state but one, and hidings for the nodes that are left. RULES 14.5 and 15.4 have the
-/// lengths.
+/// RULES 14.5 and 15.3 have the lengths.
 #[test]
 fn no_text_and_no_file_is_longer_than_the_page_says() {
-    let mut model = master_of(15);
-    for chart in &mut model.charts {
-        *chart = spread(STATES as u8, CHART_TRANSITIONS);
-        (chart.initial, chart.feedback, chart.extra) = (15, Set::FULL, Set::FULL);
-        for (place, transition) in chart.transitions.iter_mut().enumerate() {
-            transition.from = (8 + place / STATE_TRANSITIONS) as u8;
-            transition.to = 15;
-            (transition.needed, transition.barred) = (Set::FULL, Set::FULL);
-            transition.action = Set::FULL;
-        }
-    }
-    let all: Vec<u32> = (0..SIGNALS).collect();
-    model.nodes.pop();
-    for slave in &mut model.slaves {
-        slave.state += 1;
-    }
-    for spare in 0..NODES - 16 {
-        let slave = &mut model.slaves[spare % 15];
-        model.nodes.push(hidden(slave.node, &all, &all));
-        slave.node = model.nodes.len() as u8 - 1;
-    }
-    model.nodes.push(leaf(0));
+    let model = longest();
     assert_eq!(accept(&model.file()), Ok(model.clone()));
     assert_eq!(model.file().len(), FILE_ROOM);
     let text = text_of(&model.file()).unwrap();

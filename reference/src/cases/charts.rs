@@ -286,6 +286,34 @@ pub fn full_charts(charts: usize) -> Model {
     row_of_charts(vec![full; charts])
 }
 
+/// The longest file, with about the longest text: every set full, as many transitions as there can be and most
+/// of them between states of two digits, a slave for each state but one, and hidings for the nodes that are left.
+pub fn longest() -> Model {
+    let mut model = master_of(15);
+    for chart in &mut model.charts {
+        *chart = spread(STATES as u8, CHART_TRANSITIONS);
+        (chart.initial, chart.feedback, chart.extra) = (15, Set::FULL, Set::FULL);
+        for (place, transition) in chart.transitions.iter_mut().enumerate() {
+            transition.from = (8 + place / STATE_TRANSITIONS) as u8;
+            transition.to = 15;
+            (transition.needed, transition.barred) = (Set::FULL, Set::FULL);
+            transition.action = Set::FULL;
+        }
+    }
+    let all: Vec<u32> = (0..SIGNALS).collect();
+    model.nodes.pop();
+    for slave in &mut model.slaves {
+        slave.state += 1;
+    }
+    for spare in 0..NODES - 16 {
+        let slave = &mut model.slaves[spare % 15];
+        model.nodes.push(hidden(slave.node, &all, &all));
+        slave.node = model.nodes.len() as u8 - 1;
+    }
+    model.nodes.push(leaf(0));
+    model
+}
+
 /// A chart of one state with this many transitions, whose guards are empty and whose actions differ.
 pub fn free(transitions: u32) -> Chart {
     let moves = (0..transitions).map(|signal| go(0, 0, &[], &[], &[signal]));

@@ -5,12 +5,24 @@ pub mod engine;
 pub mod post;
 pub mod same;
 
-use crate::cases::charts::whole_case;
+use crate::cases::charts::{longest, whole_case};
 use crate::cases::run::rows_bytes;
 use crate::command::{hex, Call, Command, Numbers, Op};
 use crate::draw::Draw;
 use crate::generate::Random;
+use crate::limits::*;
+use crate::notation::write::written;
 use crate::Set;
+
+// The limits that the binding has under its own names are those of RULES.
+const _: () = {
+    assert!(mestecur::CHARTS == CHARTS);
+    assert!(mestecur::OPEN_CHOICES == OPEN_CHOICES);
+    assert!(mestecur::CASES == CASES);
+    assert!(mestecur::CONFIGURATION == CASE_CONFIGURATION);
+    assert!(mestecur::FILE_BYTES == FILE_ROOM);
+    assert!(mestecur::TEXT_BYTES == TEXT_ROOM);
+};
 
 /// The bytes around a buffer, before it and after it; the engine may not touch them.
 const MARGIN: usize = 21;
@@ -34,10 +46,11 @@ const LONG_RUN: usize = 8_189;
 const BRACKETS: usize = 250_000;
 const TYPED_TRANSITIONS: usize = 65_536;
 
-/// Makes a long run, reads long texts, and makes so many random calls and postings in both engines; the first one that differs,
-/// in words. Gives the number of postings.
+/// Makes a long run, reads long texts, writes and reads the longest file, and makes so many random calls and postings in
+/// both engines; the first one that differs, in words. Gives the number of postings.
 pub fn agree(seed: u64, count: usize) -> Result<usize, String> {
     compare(&long_run(seed))?;
+    hold_longest()?;
     for text in long_texts() {
         compare(&Command::read("long-text", text.into_bytes(), 8))?;
     }
@@ -59,6 +72,22 @@ fn long_run(seed: u64) -> Command {
     let inputs: Vec<Set> = (0..LONG_RUN).map(|_| Set(random.bits() & 3)).collect();
     let room = rows_bytes(LONG_RUN, 1);
     Command::run("long-run", whole_case().file(), &[0], &inputs, room)
+}
+
+/// The longest file is written as its text and read from it, in the buffers that are always enough; so does the
+/// binding, in a buffer of its own.
+fn hold_longest() -> Result<(), String> {
+    let (file, text) = (longest().file(), written(&longest()));
+    compare(&Command::write("longest", file.clone(), TEXT_ROOM))?;
+    compare(&Command::read(
+        "longest-text",
+        text.clone().into_bytes(),
+        FILE_ROOM,
+    ))?;
+    match mestecur::text(&file) == Ok(text) {
+        true => Ok(()),
+        false => Err("the binding has another text of the longest file".to_string()),
+    }
 }
 
 /// Long texts: brackets that are open, closed, and closed once too often; more transitions in
