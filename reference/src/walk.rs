@@ -6,6 +6,7 @@ use crate::interface::node_input;
 use crate::model::{Model, Node, Slave};
 use crate::rewriting::calls;
 use crate::set::Set;
+use crate::step::Place;
 
 /// A random file with slaves, and its shape; it has at most so many configurations.
 pub fn with_slaves(random: &mut Random, most: usize) -> (Shape, Model) {
@@ -57,6 +58,17 @@ pub fn every<T: Clone>(lists: Vec<Vec<T>>) -> Vec<Vec<T>> {
         all.into_iter().flat_map(one).collect()
     };
     lists.into_iter().fold(vec![vec![]], longer)
+}
+
+/// Every choice there is, in order: for each chart none, then each of its transitions, then staying,
+/// which edition 1 never permits.
+pub fn all_choices(model: &Model) -> Vec<Vec<Place>> {
+    let places = model.charts.iter().map(|chart| {
+        let taken = (0..chart.transitions.len()).map(Place::Transition);
+        let none = [Place::None].into_iter();
+        none.chain(taken).chain([Place::Stay]).collect()
+    });
+    every(places.collect())
 }
 
 /// No signal, all of them, each of the interface alone, the call signals that the rewriting would

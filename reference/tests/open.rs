@@ -9,8 +9,8 @@ use reference::limits::*;
 use reference::model::{Edition, Model};
 use reference::open::{by_parts, one_by_one, open_choices, FEW};
 use reference::run::{run_model, Row};
-use reference::step::{Place, Situation, NO_PLACES};
-use reference::walk::every;
+use reference::step::{Situation, NO_PLACES};
+use reference::walk::all_choices;
 use reference::{clear, rewrite, step, Set};
 
 /// The number of open choices of a step that is given or refused with 24, and its refusal.
@@ -147,16 +147,6 @@ fn rewriting_and_clearing_move_the_number() {
     let length = clear(&dead.file(), &mut new).length;
     let new = accept(&new[..length]).expect("a file");
     assert_eq!(answered(&new, &[0; 9], &[]), (0, 1));
-}
-
-/// Every choice there is, of which the literal count takes the open ones.
-fn all_choices(model: &Model) -> Vec<Vec<Place>> {
-    let places = model.charts.iter().map(|chart| {
-        let taken = (0..chart.transitions.len()).map(Place::Transition);
-        let none = [Place::None].into_iter();
-        none.chain(taken).chain([Place::Stay]).collect()
-    });
-    every(places.collect())
 }
 
 /// A random file of a size and either edition, and a configuration of it.

@@ -2,20 +2,9 @@
 //! the order.
 
 use reference::generate::{any, configuration, input, most_choices, Random};
-use reference::model::{Edition, Model};
+use reference::model::Edition;
 use reference::step::{enumerate, step_model, Outcome, Place, Situation};
-use reference::walk::every;
-
-/// Every choice there is, in order: for each chart none, then each of its transitions, then staying,
-/// which edition 1 never permits.
-fn all_choices(model: &Model) -> Vec<Vec<Place>> {
-    let places = model.charts.iter().map(|chart| {
-        let taken = (0..chart.transitions.len()).map(Place::Transition);
-        let none = [Place::None].into_iter();
-        none.chain(taken).chain([Place::Stay]).collect()
-    });
-    every(places.collect())
-}
+use reference::walk::all_choices;
 
 /// The permitted ones of some choices, with what they lead to.
 fn permitted(situation: &Situation, choices: &[Vec<Place>]) -> Vec<(Vec<Place>, Outcome)> {

@@ -124,6 +124,22 @@ pub fn p2() -> Model {
     p1_with(&[])
 }
 
+/// P1 with its first chart hidden.
+pub fn p1_first_hidden(x: &[u32], y: &[u32]) -> Model {
+    Model {
+        nodes: vec![leaf(0), hidden(0, x, y), leaf(1), composed(1, 2, &[1])],
+        ..p1()
+    }
+}
+
+/// P1 with its second chart hidden.
+pub fn p1_second_hidden(x: &[u32], y: &[u32]) -> Model {
+    Model {
+        nodes: vec![leaf(0), leaf(1), hidden(1, x, y), composed(0, 2, &[1])],
+        ..p1()
+    }
+}
+
 /// P1 with any feedback of the composed node.
 fn p1_with(feedback: &[u32]) -> Model {
     beside(

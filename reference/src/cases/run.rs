@@ -21,6 +21,19 @@ pub fn whole_case_inputs() -> [Set; 3] {
     [Set(1), Set(0), Set(2)]
 }
 
+/// Inputs for D: each of its guards is met by one of them, and some are outside its interface.
+pub const D_DAY: [&[u32]; 9] = [
+    &[],
+    &[0],
+    &[3],
+    &[0],
+    &[0, 3],
+    &[0],
+    &[3, 9],
+    &[],
+    &[0, 1, 3],
+];
+
 /// The bytes of a run's rows.
 pub fn rows_bytes(inputs: usize, charts: usize) -> usize {
     inputs * (ROW_HEAD_BYTES + charts)
@@ -38,17 +51,7 @@ fn whole() -> Vec<Case> {
             .map(|signals| Set::of(signals))
             .collect::<Vec<_>>()
     };
-    let day = sets(&[
-        &[],
-        &[0],
-        &[3],
-        &[0],
-        &[0, 3],
-        &[0],
-        &[3, 9],
-        &[],
-        &[0, 1, 3],
-    ]);
+    let day = sets(&D_DAY);
     vec![
         run("run-whole-case", whole_case(), &[0], &whole_case_inputs()),
         run(

@@ -365,47 +365,39 @@ fn feedback() -> Vec<RowAnswer> {
 /// What the part of a hidden node is offered, what the node outputs, and feedback inside it
 /// (RULES 5.4, 5.5).
 fn hiding() -> Vec<RowAnswer> {
-    let first_hidden = |x: &[u32], y: &[u32]| Model {
-        nodes: vec![leaf(0), hidden(0, x, y), leaf(1), composed(1, 2, &[1])],
-        ..p1()
-    };
-    let second_hidden = |x: &[u32], y: &[u32]| Model {
-        nodes: vec![leaf(0), leaf(1), hidden(1, x, y), composed(0, 2, &[1])],
-        ..p1()
-    };
     let moved = |output: &[u32]| gives(&[1, 1], output, true);
     vec![
         meaning(
             "hiding-output-keeps-it-from-the-other",
-            first_hidden(&[], &[1]),
+            p1_first_hidden(&[], &[1]),
             &[0, 0],
             &[0],
             None,
         ),
         meaning(
             "hiding-output-hidden-but-in-input",
-            first_hidden(&[], &[1]),
+            p1_first_hidden(&[], &[1]),
             &[0, 0],
             &[0, 1],
             moved(&[2]),
         ),
         meaning(
             "hiding-input-of-no-matter",
-            first_hidden(&[1], &[]),
+            p1_first_hidden(&[1], &[]),
             &[0, 0],
             &[0],
             moved(&[1, 2]),
         ),
         meaning(
             "hiding-input-keeps-feedback-out",
-            second_hidden(&[1], &[]),
+            p1_second_hidden(&[1], &[]),
             &[0, 0],
             &[0],
             None,
         ),
         meaning(
             "hiding-output-of-the-last",
-            second_hidden(&[], &[2]),
+            p1_second_hidden(&[], &[2]),
             &[0, 0],
             &[0],
             moved(&[1]),

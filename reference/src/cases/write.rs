@@ -336,7 +336,17 @@ fn shaped(shape: &str) -> String {
 
 /// Round brackets, only around a composition that is a part of one.
 fn parts() -> Vec<Known> {
-    let three = |nodes: Vec<Node>| under(3, [vec![leaf(0), leaf(1), leaf(2)], nodes].concat());
+    let leaves = |charts: u8, nodes: Vec<Node>| {
+        under(
+            usize::from(charts),
+            (0..charts).map(leaf).chain(nodes).collect(),
+        )
+    };
+    let three = |nodes: Vec<Node>| leaves(3, nodes);
+    let four = |pairs: [(u8, u8); 3]| {
+        let nodes = pairs.map(|(a, b)| composed(a, b, &[]));
+        leaves(4, nodes.to_vec())
+    };
     vec![
         has(
             "composed",
@@ -365,34 +375,12 @@ fn parts() -> Vec<Known> {
         ),
         has(
             "brackets-both",
-            under(
-                4,
-                vec![
-                    leaf(0),
-                    leaf(1),
-                    leaf(2),
-                    leaf(3),
-                    composed(3, 0, &[]),
-                    composed(2, 1, &[]),
-                    composed(4, 5, &[]),
-                ],
-            ),
+            four([(3, 0), (2, 1), (4, 5)]),
             &shaped("(3|0)|(2|1)"),
         ),
         has(
             "brackets-in-brackets",
-            under(
-                4,
-                vec![
-                    leaf(0),
-                    leaf(1),
-                    leaf(2),
-                    leaf(3),
-                    composed(0, 1, &[]),
-                    composed(4, 2, &[]),
-                    composed(5, 3, &[]),
-                ],
-            ),
+            four([(0, 1), (4, 2), (5, 3)]),
             &shaped("((0|1)|2)|3"),
         ),
         has(

@@ -466,14 +466,6 @@ fn order() -> Vec<StayAnswer> {
 /// What a hidden node filters can't trigger what is inside; what it hides can't trigger what is
 /// outside.
 fn hiding() -> Vec<StayAnswer> {
-    let first_hidden = |x: &[u32], y: &[u32]| Model {
-        nodes: vec![leaf(0), hidden(0, x, y), leaf(1), composed(1, 2, &[1])],
-        ..p1()
-    };
-    let second_hidden = |x: &[u32], y: &[u32]| Model {
-        nodes: vec![leaf(0), leaf(1), hidden(1, x, y), composed(0, 2, &[1])],
-        ..p1()
-    };
     let none = || gives(&[0], &[], true);
     vec![
         given(
@@ -502,7 +494,7 @@ fn hiding() -> Vec<StayAnswer> {
         ),
         given(
             "stay-output-hidden-from-the-other",
-            first_hidden(&[], &[1]),
+            p1_first_hidden(&[], &[1]),
             &[0, 0],
             &[0],
             gives(&[1, 0], &[], true),
@@ -510,7 +502,7 @@ fn hiding() -> Vec<StayAnswer> {
         ),
         given(
             "stay-feedback-filtered",
-            second_hidden(&[1], &[]),
+            p1_second_hidden(&[1], &[]),
             &[0, 0],
             &[0],
             gives(&[1, 0], &[1], true),
@@ -518,7 +510,7 @@ fn hiding() -> Vec<StayAnswer> {
         ),
         given(
             "stay-hidden-output-of-the-last",
-            second_hidden(&[], &[2]),
+            p1_second_hidden(&[], &[2]),
             &[0, 0],
             &[0],
             gives(&[1, 1], &[1], true),

@@ -8,7 +8,7 @@ use super::damage::{behind, changed};
 use super::file::one_fault_under;
 use super::plain::answers as plain_answers;
 use super::rewrite::rewritten_bytes;
-use super::run::rows_bytes;
+use super::run::{rows_bytes, D_DAY};
 use super::Case;
 use crate::command::Command;
 use crate::limits::*;
@@ -276,17 +276,6 @@ pub fn run_cases() -> Vec<Case> {
         let command = Command::run(&name, second(d()), at, &[Set::one(0)], room);
         Case::new(command.carrying(Set::FULL), number)
     };
-    let day: [&[u32]; 9] = [
-        &[],
-        &[0],
-        &[3],
-        &[0],
-        &[0, 3],
-        &[0],
-        &[3, 9],
-        &[],
-        &[0, 1, 3],
-    ];
     let nested_day: [&[u32]; 8] = [&[0], &[1], &[2], &[0, 1], &[], &[0, 1, 2], &[1, 2], &[0]];
     vec![
         run("whole-case", whole_case(), &[0], &[], &[&[0], &[], &[1]]),
@@ -304,9 +293,9 @@ pub fn run_cases() -> Vec<Case> {
         run("carried-in-staying-loses-it", l3(), &[0], &[4], &[&[], &[]]),
         run("mark-no", l1(), &[0], &[], &[&[], &[]]),
         run("P4", p4(), &[0, 0], &[], &[&[], &[0], &[]]),
-        run("D", d(), &[0, 0], &[], &day),
-        run("D-from-1-1", d(), &[1, 1], &[], &day),
-        run("D-from-1-0", d(), &[1, 0], &[9], &day),
+        run("D", d(), &[0, 0], &[], &D_DAY),
+        run("D-from-1-1", d(), &[1, 1], &[], &D_DAY),
+        run("D-from-1-0", d(), &[1, 0], &[9], &D_DAY),
         run("nested", nested(), &[0, 0, 0], &[], &nested_day),
         run(
             "no-transitions",
