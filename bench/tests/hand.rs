@@ -3,7 +3,7 @@
 use bench::family::{bad, counted, drawn_staying, hard_staying, many, worst_staying, WORST};
 use bench::family::{Subject, FIFTEEN};
 use bench::hand;
-use bench::worst::{beginnings, worst};
+use bench::worst::{guards, worst};
 use reference::command::{Command, Numbers, Op, FILL};
 use reference::draw::Draw;
 use reference::Set;
@@ -88,7 +88,7 @@ fn hard_steps_of_edition_2_by_hand_agree_with_the_reference() {
 #[test]
 fn the_worst_found_are_hard() {
     for ((_, subject), (outs, _)) in worst_staying().into_iter().zip(WORST) {
-        assert!(beginnings(&subject) > worst(outs, 200).beginnings);
+        assert!(guards(&subject) > worst(outs, 200).guards);
     }
 }
 

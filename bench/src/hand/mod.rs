@@ -1,9 +1,9 @@
 //! The engine's own algorithm, written by hand in plain Rust, to know what the proved one costs: check,
-//! fold the tree into masks, count the open choices, filter the candidates and skip equal ones and those
-//! that begin no open choice, settle charts in order with what
-//! each is surely offered and could be and what the settled ones ask of the next one's action, stop
-//! where two permitted choices disagree. Under edition 2 a chart may also stay, last of all, as long as
-//! none of the transitions from its state is surely triggered.
+//! fold the tree into masks, count the open choices, leave out of actions what nobody reads if many choices
+//! are open, filter the candidates and skip equal ones and those that begin no open choice, settle charts in
+//! order with what each is surely offered and could be and what the settled ones ask of the next one's
+//! action, stop where two permitted choices disagree. Under edition 2 a chart may also stay, last of all, as
+//! long as none of the transitions from its state is surely triggered.
 
 mod check;
 mod layout;
@@ -88,12 +88,13 @@ fn fitting(body: &Body, config: &[u8]) -> Result<(), u8> {
     }
 }
 
-/// How many beginnings of a choice the search of a step looks at: what its time grows with, on any
-/// machine.
-pub fn beginnings(file: &[u8], config: &[u8], input: u64) -> Result<usize, u8> {
+/// How many guards the search of a step looks at, at most so many: what its time grows with, on any
+/// machine. A chart that is settled counts for one at each chart that is settled after it, with one more
+/// for each of its triggers if it stays.
+pub fn guards(file: &[u8], config: &[u8], input: u64, most: u64) -> Result<u64, u8> {
     let body = opened(file)?;
     fitting(&body, config)?;
-    Ok(search::beginnings(&body, config, input))
+    Ok(search::guards(&body, config, input, most))
 }
 
 /// A row for each input; the refusal or 0, and what is carried after the last.
