@@ -2,13 +2,16 @@
 //! and against the engine's own algorithm written by hand in Rust.
 
 pub mod calls;
+pub mod compare;
 pub mod family;
+pub mod files;
 pub mod hand;
 pub mod measure;
-pub mod parts;
+pub mod page;
 pub mod picture;
 pub mod posting;
-pub mod reading;
+pub mod runs;
+pub mod steps;
 pub mod table;
+pub mod texts;
 pub mod worst;
-pub mod writing;

@@ -1,69 +1,78 @@
-//! `bench [PART] [--picture FILE]`: measures and prints a table of each part, `calls` (every call on a file),
-//! `check`, `step`, `many` (steps of nine charts and more), `staying` (steps of edition 2), `run`, `rewriting`,
-//! `posting`, `reading`, `writing` or `growth`, ratios first; all of them if none is named. The picture has the ratios of the parts
-//! measured as bars on a log scale.
+//! `bench [PART] [--page FILE] [--picture FILE]`: measures and prints the tables of a part in Markdown: `calls`
+//! (every call on a file), `files` (checks and rewritings), `step`, `many` (steps of nine charts and more),
+//! `staying` (steps of edition 2), `run`, `posting`, `reading`,
+//! `writing` or `growth`; all of them if none is named. With a page, each table is put there between the marks
+//! of its name. The picture has the ratios of the parts measured as bars on a log scale.
 //!
 //! `bench worst COUNT`: draws so many files of edition 2 of each of three shapes, and prints which of them
 //! has the hardest step.
 
 use bench::calls::calls;
+use bench::compare::Part;
 use bench::family::WORST;
-use bench::parts::{self, Part};
+use bench::files::files;
+use bench::page::with_table;
 use bench::picture::{picture, Bar};
 use bench::posting::posting;
-use bench::reading::reading;
+use bench::runs::run;
+use bench::steps;
+use bench::texts::{reading, writing};
 use bench::worst::worst;
-use bench::writing::writing;
 use reference::words;
+use std::fs;
 use std::process::ExitCode;
 
 /// What can be said on the command line.
 const USE: &str =
-    "use: bench [calls | check | step | many | staying | run | rewriting | posting | reading | writing | growth] \
-    [--picture FILE] | worst COUNT";
+    "use: bench [calls | files | step | many | staying | run | posting | reading | writing | growth] \
+    [--page FILE] [--picture FILE] | worst COUNT";
 
-/// All parts, in the order of the table.
-const NAMES: [&str; 11] = [
-    "calls",
-    "check",
-    "step",
-    "many",
-    "staying",
-    "run",
-    "rewriting",
-    "posting",
-    "reading",
-    "writing",
-    "growth",
+/// All parts, in the order of the page.
+const NAMES: [&str; 10] = [
+    "calls", "files", "step", "many", "staying", "run", "posting", "reading", "writing", "growth",
 ];
 
 fn main() -> ExitCode {
     words::done(|words| match *words {
-        [] => measure(&NAMES, None),
-        ["--picture", path] => measure(&NAMES, Some(path)),
-        [name] if NAMES.contains(&name) => measure(&[name], None),
-        [name, "--picture", path] if NAMES.contains(&name) => measure(&[name], Some(path)),
         ["worst", count] => look_for_worst(count),
-        _ => Err(USE.to_string()),
+        [name, ref rest @ ..] if NAMES.contains(&name) => measure(&[name], rest),
+        ref rest => measure(&NAMES, rest),
     })
 }
 
-/// Measures some parts, prints each as soon as it is measured, and draws the picture.
-fn measure(names: &[&str], path: Option<&str>) -> Result<(), String> {
+/// Measures some parts, prints each as soon as it is measured, and puts them where the words say.
+fn measure(names: &[&str], words: &[&str]) -> Result<(), String> {
+    let (page, drawing) = match *words {
+        [] => (None, None),
+        ["--page", page] => (Some(page), None),
+        ["--picture", drawing] => (None, Some(drawing)),
+        ["--page", page, "--picture", drawing] => (Some(page), Some(drawing)),
+        _ => return Err(USE.to_string()),
+    };
     let mut bars: Vec<Bar> = vec![];
-    for name in names {
-        for part in measured(name) {
-            println!("{}", part.table);
-            bars.extend(part.bars);
+    for part in names.iter().flat_map(|name| measured(name)) {
+        println!("{}", part.table);
+        if let Some(path) = page {
+            put(path, &part)?;
         }
+        bars.extend(part.bars);
     }
-    match path {
+    match drawing {
         None => Ok(()),
         Some(_) if bars.is_empty() => Err("these parts have no ratios to draw".to_string()),
-        Some(path) => {
-            std::fs::write(path, picture(&bars)).map_err(|what| format!("{path}: {what}"))
-        }
+        Some(path) => write(path, &picture(&bars)),
     }
+}
+
+/// Puts a table into a page.
+fn put(path: &str, part: &Part) -> Result<(), String> {
+    let page = fs::read_to_string(path).map_err(|what| format!("{path}: {what}"))?;
+    write(path, &with_table(&page, part.name, &part.table)?)
+}
+
+/// Writes a text to a file.
+fn write(path: &str, text: &str) -> Result<(), String> {
+    fs::write(path, text).map_err(|what| format!("{path}: {what}"))
 }
 
 /// Prints the hardest of so many files.
@@ -75,19 +84,18 @@ fn look_for_worst(count: &str) -> Result<(), String> {
     Ok(())
 }
 
-/// A part by its name.
+/// The tables of a part, by its name.
 fn measured(name: &str) -> Vec<Part> {
     match name {
         "calls" => vec![calls()],
-        "check" => vec![parts::check()],
-        "step" => vec![parts::step()],
-        "many" => vec![parts::many()],
-        "staying" => vec![parts::staying()],
-        "run" => parts::run(),
-        "rewriting" => vec![parts::rewriting()],
+        "files" => vec![files()],
+        "step" => vec![steps::step()],
+        "many" => vec![steps::many()],
+        "staying" => vec![steps::staying()],
+        "run" => vec![run()],
         "posting" => vec![posting()],
         "reading" => vec![reading()],
         "writing" => vec![writing()],
-        _ => parts::growth(),
+        _ => steps::growth(),
     }
 }

@@ -1,8 +1,8 @@
 //! A day's posting against a step call for each case, and how its time grows with the entries.
 
+use crate::compare::Part;
 use crate::family::{self, Subject};
 use crate::measure::{least, median};
-use crate::parts::Part;
 use crate::table::{ratio, time, Row, Table};
 use mestecur::{posted_bytes, Case, Entry, Set, CASES};
 use std::hint::black_box;
@@ -20,23 +20,17 @@ struct Day {
 
 /// A full book of everyday cases, and of hard ones.
 pub fn posting() -> Part {
-    Part {
-        table: Table {
-            title: format!("posting, a book of {CASES} cases"),
-            columns: vec![
-                "post ÷ steps",
-                "post, per case",
-                "a step call",
-                "an entry more",
-            ],
-            rows: vec![
-                row("everyday, 1 to 4 charts", &family::everyday()),
-                row("everyday, edition 2", &family::everyday_staying()),
-                row("hard, 8 charts, 8 from a state", &family::hard()),
-            ],
-        },
-        bars: vec![],
-    }
+    let columns = ["post ÷ steps", "post, a case", "a step", "an entry more"];
+    let rows = vec![
+        row("everyday charts (1 to 4)", &family::everyday()),
+        row("everyday charts, edition 2", &family::everyday_staying()),
+        row(
+            "hard family, 8 charts, 8 transitions from each state",
+            &family::hard(),
+        ),
+    ];
+    let title = format!("a book of {CASES} cases");
+    Part::plain("posting", Table::new(&title, &columns, rows))
 }
 
 /// The medians over a family. A day has one entry for each case; what an entry more takes is told apart.

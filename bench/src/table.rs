@@ -1,11 +1,11 @@
-//! Tables of numbers as text.
+//! Tables of numbers in Markdown, as docs/SPEED.md has them.
 
 use std::fmt::{self, Display, Formatter};
 
 /// A table: its columns after the labels, and its rows.
 pub struct Table {
     pub title: String,
-    pub columns: Vec<&'static str>,
+    pub columns: Vec<String>,
     pub rows: Vec<Row>,
 }
 
@@ -15,37 +15,44 @@ pub struct Row {
     pub cells: Vec<String>,
 }
 
-/// Labels stand left, cells right; two blanks between columns.
-impl Display for Table {
-    fn fmt(&self, out: &mut Formatter) -> fmt::Result {
-        let labels = self.rows.iter().map(|row| row.label.chars().count());
-        let first = labels
-            .chain([self.title.chars().count()])
-            .max()
-            .unwrap_or(0);
-        write!(out, "{:first$}", self.title)?;
-        for (place, column) in self.columns.iter().enumerate() {
-            write!(out, "  {column:>width$}", width = self.width(place))?;
+impl Table {
+    /// A table of some columns.
+    pub fn new(title: &str, columns: &[&str], rows: Vec<Row>) -> Table {
+        Table {
+            title: title.to_string(),
+            columns: columns.iter().map(|column| column.to_string()).collect(),
+            rows,
         }
-        writeln!(out)?;
-        for row in &self.rows {
-            write!(out, "{:first$}", row.label)?;
-            for (place, cell) in row.cells.iter().enumerate() {
-                write!(out, "  {cell:>width$}", width = self.width(place))?;
-            }
-            writeln!(out)?;
+    }
+
+    /// The same with its rows as columns.
+    pub fn turned(self) -> Table {
+        let cells = |place: usize| self.rows.iter().map(move |row| row.cells[place].clone());
+        let rows = self.columns.iter().enumerate().map(|(place, column)| Row {
+            label: column.clone(),
+            cells: cells(place).collect(),
+        });
+        Table {
+            rows: rows.collect(),
+            columns: self.rows.iter().map(|row| row.label.clone()).collect(),
+            title: self.title,
         }
-        Ok(())
     }
 }
 
-impl Table {
-    /// How wide a column is.
-    fn width(&self, place: usize) -> usize {
-        let cells = self.rows.iter().map(|row| row.cells[place].chars().count());
-        let title = self.columns[place].chars().count();
-        cells.chain([title]).max().unwrap_or(0)
+impl Display for Table {
+    fn fmt(&self, out: &mut Formatter) -> fmt::Result {
+        line(out, &self.title, &self.columns)?;
+        writeln!(out, "|{}", "---|".repeat(1 + self.columns.len()))?;
+        self.rows
+            .iter()
+            .try_for_each(|row| line(out, &row.label, &row.cells))
     }
+}
+
+/// A line of a table.
+fn line(out: &mut Formatter, label: &str, cells: &[String]) -> fmt::Result {
+    writeln!(out, "| {label} | {} |", cells.join(" | "))
 }
 
 /// A ratio with about three digits: `0.94`, `12.3`, `310,000`.
@@ -62,7 +69,7 @@ pub fn ratio(value: f64) -> String {
 }
 
 /// A number with commas.
-fn thousands(number: u64) -> String {
+pub fn thousands(number: u64) -> String {
     let digits = number.to_string();
     let groups = digits.as_bytes().rchunks(3).rev();
     let groups: Vec<String> = groups
@@ -87,4 +94,4 @@ pub fn time(seconds: f64) -> String {
 }
 
 /// What stands where nothing was measured.
-pub const NOTHING: &str = "-";
+pub const NOTHING: &str = "";

@@ -1,5 +1,6 @@
 //! How numbers are printed and drawn.
 
+use bench::page::with_table;
 use bench::picture::{picture, Bar, Other};
 use bench::table::{ratio, time, Row, Table};
 
@@ -24,17 +25,31 @@ fn times_have_their_unit() {
     assert_eq!(printed, ["465 ns", "8.88 µs", "12.3 ms", "2.50 s"]);
 }
 
-#[test]
-fn a_table_has_its_columns_under_each_other() {
-    let table = Table {
-        title: "step".to_string(),
-        columns: vec!["a", "long"],
-        rows: vec![Row {
-            label: "x".to_string(),
-            cells: vec!["1.00".to_string(), "2".to_string()],
-        }],
+/// A table of one row.
+fn table() -> Table {
+    let row = Row {
+        label: "x".to_string(),
+        cells: vec!["1.00".to_string(), "2".to_string()],
     };
-    assert_eq!(table.to_string(), "step     a  long\nx     1.00     2\n");
+    Table::new("step", &["a", "long"], vec![row])
+}
+
+#[test]
+fn a_table_is_in_markdown() {
+    let printed = "| step | a | long |\n|---|---|---|\n| x | 1.00 | 2 |\n";
+    assert_eq!(table().to_string(), printed);
+    let turned = "| step | x |\n|---|---|\n| a | 1.00 |\n| long | 2 |\n";
+    assert_eq!(table().turned().to_string(), turned);
+}
+
+#[test]
+fn a_page_has_a_table_between_its_marks() {
+    let page = "one\n<!-- bench a -->\nold\n<!-- end -->\n<!-- bench b -->\nkept\n<!-- end -->\n";
+    let filled = with_table(page, "a", &table()).unwrap();
+    assert_eq!(filled, page.replace("old\n", &table().to_string()));
+    assert_eq!(with_table(&filled, "a", &table()).unwrap(), filled);
+    assert!(with_table(page, "c", &table()).is_err());
+    assert!(with_table("<!-- bench a -->\n", "a", &table()).is_err());
 }
 
 #[test]
