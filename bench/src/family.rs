@@ -4,6 +4,7 @@ use reference::cases::charts::{chart, go, row_of_charts, wrapped};
 use reference::generate::{choices, configuration, model, Random, Shape};
 use reference::limits::{CHARTS, EARLIER_CHARTS, STATE_TRANSITIONS};
 use reference::model::{Chart, Edition, Model, Node, Slave, Transition};
+use reference::open::by_parts;
 use reference::Set;
 
 /// A file, a configuration of it and an input to step with.
@@ -16,7 +17,7 @@ pub struct Subject {
 
 impl Subject {
     /// A model at a configuration with an input.
-    fn new(model: Model, config: Vec<u8>, input: Set) -> Subject {
+    pub fn new(model: Model, config: Vec<u8>, input: Set) -> Subject {
         Subject {
             file: model.file(),
             model,
@@ -29,6 +30,11 @@ impl Subject {
     fn staying(self) -> Subject {
         let model = self.model.under(Edition::Second);
         Subject::new(model, self.config, Set(self.input))
+    }
+
+    /// How many choices of its step are open.
+    pub fn open(&self) -> u64 {
+        by_parts(&self.model, &self.config)
     }
 
     /// How many choices plain enumeration tries in a step.
@@ -253,17 +259,22 @@ pub fn bad() -> Vec<(&'static str, Subject)> {
     ]
 }
 
-/// The first signal that the last eight charts output, after those of the first eight.
+/// The first signal that charts of one transition output, after those of charts of eight.
 const LATER: u32 = 16;
 
-/// The sixteen charts: transition v of one of the first eight outputs signal v, so that no two of its
-/// transitions are equal; each of the others has a signal of its own.
-fn eight_and_eight() -> Vec<Chart> {
+/// Sixteen charts, so many of eight transitions and then the others of one. Transition v of the first ones
+/// outputs signal v, so that no two of a chart are equal; each of the others has a signal of its own.
+fn eights_and_ones(eights: usize) -> Vec<Chart> {
     let all: Vec<u32> = (0..64).collect();
     let moves = (0..8).map(|signal| go(0, 0, &[], &[], &[signal])).collect();
     let first = chart(1, &all, moves);
-    let one = |number: u32| chart(1, &all, vec![go(0, 0, &[], &[], &[LATER + number])]);
-    [vec![first; 8], (0..8).map(one).collect()].concat()
+    let one = |number: usize| chart(1, &all, vec![go(0, 0, &[], &[], &[LATER + number as u32])]);
+    [vec![first; eights], (eights..CHARTS).map(one).collect()].concat()
+}
+
+/// Eight of either kind.
+fn eight_and_eight() -> Vec<Chart> {
+    eights_and_ones(8)
 }
 
 /// Charts composed in a row, everything fed back and nothing put out.
@@ -280,14 +291,18 @@ fn nothing_read() -> Subject {
     silent(eight_and_eight())
 }
 
-/// The last chart needs two signals, of which the first chart outputs one or the other.
+/// A dead end that the last chart shows.
 fn dead_end() -> Subject {
-    let mut charts = eight_and_eight();
+    silent(in_dead_end(eight_and_eight()))
+}
+
+/// The last chart needs two signals, of which the first chart outputs one or the other.
+fn in_dead_end(mut charts: Vec<Chart>) -> Vec<Chart> {
     for (place, transition) in charts[0].transitions.iter_mut().enumerate() {
         transition.action = Set::one(40 + place as u32 % 2).joined(transition.action);
     }
     charts[CHARTS - 1].transitions[0].needed = Set::of(&[40, 41]);
-    silent(charts)
+    charts
 }
 
 /// Two of the last charts look at what the first eight output: one needs a signal, one bars another.
@@ -334,6 +349,56 @@ fn busy_slave() -> Subject {
     Subject::new(wrapped(model, &[], &all), vec![0; CHARTS], Set::EMPTY)
 }
 
+/// The worst steps that are known, by a label: sixteen charts, so many of eight moves before the others of
+/// one, and nothing is left out before the last charts.
+pub fn worst(eights: usize) -> [(&'static str, Subject); 3] {
+    [
+        (
+            "a dead end that the last chart shows, after eight states of each",
+            late_dead_end(eights),
+        ),
+        (
+            "all choices are permitted and agree, by what the last chart outputs",
+            late_agreement(eights),
+        ),
+        (
+            "edition 2: all choices are permitted and agree, staying included",
+            late_staying(eights),
+        ),
+    ]
+}
+
+/// The charts of eight transitions go to eight states each, and nobody looks.
+fn late_dead_end(eights: usize) -> Subject {
+    let mut charts = in_dead_end(eights_and_ones(eights));
+    for chart in &mut charts[..eights] {
+        chart.states = 8;
+        for (place, transition) in chart.transitions.iter_mut().enumerate() {
+            transition.to = place as u8;
+        }
+    }
+    silent(charts)
+}
+
+/// What the charts of eight transitions output comes out of the whole; but so it does whatever they do, since
+/// the last chart outputs all of it.
+fn late_agreement(eights: usize) -> Subject {
+    let mut charts = eights_and_ones(eights);
+    charts[CHARTS - 1].transitions[0].action = Set(0xff);
+    Subject::new(row_of_charts(charts), vec![0; CHARTS], Set::EMPTY)
+}
+
+/// The first charts have seven transitions, each of which needs what it outputs itself, so that the chart may
+/// stay instead; the others can only stay.
+fn late_staying(eights: usize) -> Subject {
+    let all: Vec<u32> = (0..64).collect();
+    let own = |signal: u32| go(0, 0, &[signal], &[], &[signal]);
+    let mut charts = vec![chart(1, &all, (0..7).map(own).collect()); eights];
+    charts.resize(CHARTS, chart(1, &all, vec![]));
+    let model = wrapped(row_of_charts(charts), &[], &all);
+    Subject::new(model, vec![0; CHARTS], Set::EMPTY).staying()
+}
+
 /// The everyday files under edition 2: what they did they do, and some lose the mark.
 pub fn everyday_staying() -> Vec<Subject> {
     everyday().into_iter().map(Subject::staying).collect()
@@ -345,79 +410,6 @@ pub fn hard_staying(out: usize) -> Vec<Subject> {
     (0..9)
         .map(|seed| random_row(seed, EARLIER_CHARTS, out).staying())
         .collect()
-}
-
-/// The worst files that `bench worst` found: of eight charts, among 200,000 with seven transitions from a
-/// state and among 1,000,000 with two; of sixteen charts, among 200,000 with two from a state of all but
-/// the last.
-pub fn worst_staying() -> [(&'static str, Subject); 3] {
-    [
-        (
-            "the worst found, 7 from a state",
-            drawn_staying(WORST[0].1, WORST[0].0),
-        ),
-        (
-            "the worst found, 2 from a state",
-            drawn_staying(WORST[1].1, WORST[1].0),
-        ),
-        (
-            "the worst found, 16 charts",
-            drawn_staying(WORST[2].1, WORST[2].0),
-        ),
-    ]
-}
-
-/// The transitions from the states of each shape that is looked through, and the seed of the worst file.
-pub const WORST: [(&[usize], u64); 3] =
-    [(&[7; 8], 166_498), (&[2; 8], 915_855), (&FIFTEEN, 14_016)];
-
-/// Fifteen charts with two transitions and one with none: 3^15 open choices under edition 2. With two
-/// for the last one too there would be 3^16, which are too many.
-pub const FIFTEEN: [usize; CHARTS] = [2, 2, 2, 2, 2, 2, 2, 2, 2, 2, 2, 2, 2, 2, 2, 0];
-
-/// A file of edition 2 to look for hard ones among: so many transitions from the only state of each
-/// chart; how many signals there are, and how many of them stand in guards, actions, feedback and
-/// input, is drawn too.
-pub fn drawn_staying(seed: u64, outs: &[usize]) -> Subject {
-    let mut random = Random::new(0x776f_7273 + (seed << 8));
-    let signals: Vec<u32> = (0..random.between(2, 16) as u32).collect();
-    let guard = random.pick(&[5, 10, 20, 30, 50]);
-    let action = random.pick(&[5, 10, 20, 30, 50]);
-    let feedback = random.pick(&[50, 100, 100]);
-    let charts = outs
-        .iter()
-        .map(|&out| {
-            let moves = (0..out).map(|_| drawn_transition(&mut random, &signals, guard, action));
-            let moves = moves.collect();
-            Chart {
-                feedback: random.subset(&signals, feedback),
-                ..chart(1, &[], moves)
-            }
-        })
-        .collect();
-    let mut model = row_of_charts(charts);
-    feed_back(&mut model, random.subset(&signals, feedback));
-    let percent = random.pick(&[0, 0, 10, 30]);
-    let input = random.subset(&signals, percent);
-    Subject::new(model, vec![0; outs.len()], input).staying()
-}
-
-/// A transition of a chart of one state; each signal is in its guard and in its action with a chance.
-fn drawn_transition(
-    random: &mut Random,
-    signals: &[u32],
-    guard: usize,
-    action: usize,
-) -> Transition {
-    let guard = random.subset(signals, guard);
-    let split = random.subset(signals, 50);
-    Transition {
-        from: 0,
-        to: 0,
-        needed: guard.cut(split),
-        barred: guard.less(split),
-        action: random.subset(signals, action),
-    }
 }
 
 /// Four charts in a row, hidden again and again until there are so many nodes.

@@ -1,15 +1,14 @@
 //! `bench [PART] [--page FILE] [--picture FILE]`: measures and prints the tables of a part in Markdown: `calls`
 //! (every call on a file), `files` (checks and rewritings), `step`, `many` (steps of nine charts and more),
-//! `staying` (steps of edition 2), `run`, `posting`, `reading`,
+//! `staying` (steps of edition 2), `worst` (the worst steps that are known), `run`, `posting`, `reading`,
 //! `writing` or `growth`; all of them if none is named. With a page, each table is put there between the marks
 //! of its name. The picture has the ratios of the parts measured as bars on a log scale.
 //!
-//! `bench worst COUNT`: draws so many files of edition 2 of each of three shapes, and prints which of them
-//! has the hardest step.
+//! `bench worst COUNT`: looks for worse steps, of either edition: draws so many files, and changes the worst of
+//! them, and the worst that are known, so many times.
 
 use bench::calls::calls;
 use bench::compare::Part;
-use bench::family::WORST;
 use bench::files::files;
 use bench::page::with_table;
 use bench::picture::{picture, Bar};
@@ -17,24 +16,29 @@ use bench::posting::posting;
 use bench::runs::run;
 use bench::steps;
 use bench::texts::{reading, writing};
-use bench::worst::worst;
+use bench::worst::{climbs, Field};
+use reference::model::Edition;
 use reference::words;
 use std::fs;
 use std::process::ExitCode;
 
 /// What can be said on the command line.
 const USE: &str =
-    "use: bench [calls | files | step | many | staying | run | posting | reading | writing | growth] \
+    "use: bench [calls | files | step | many | staying | worst | run | posting | reading | writing | growth] \
     [--page FILE] [--picture FILE] | worst COUNT";
 
 /// All parts, in the order of the page.
-const NAMES: [&str; 10] = [
-    "calls", "files", "step", "many", "staying", "run", "posting", "reading", "writing", "growth",
+const NAMES: [&str; 11] = [
+    "calls", "files", "step", "many", "staying", "worst", "run", "posting", "reading", "writing",
+    "growth",
 ];
+
+/// The most open choices of the files that are climbed from: with them a step takes milliseconds.
+const CLIMBED_OPEN: u64 = 32_768;
 
 fn main() -> ExitCode {
     words::done(|words| match *words {
-        ["worst", count] => look_for_worst(count),
+        ["worst", count] => climb(count),
         [name, ref rest @ ..] if NAMES.contains(&name) => measure(&[name], rest),
         ref rest => measure(&NAMES, rest),
     })
@@ -75,11 +79,15 @@ fn write(path: &str, text: &str) -> Result<(), String> {
     fs::write(path, text).map_err(|what| format!("{path}: {what}"))
 }
 
-/// Prints the hardest of so many files.
-fn look_for_worst(count: &str) -> Result<(), String> {
+/// Prints what is climbed to, from so many files and by so many changes.
+fn climb(count: &str) -> Result<(), String> {
     let count: u64 = count.parse().map_err(|_| USE)?;
-    for (outs, _) in WORST {
-        println!("{}", worst(outs, count));
+    for edition in [Edition::First, Edition::Second] {
+        println!("edition {}", edition.number());
+        let open = CLIMBED_OPEN;
+        for climbed in climbs(Field { edition, open }, count, count) {
+            println!("{climbed}");
+        }
     }
     Ok(())
 }
@@ -92,6 +100,7 @@ fn measured(name: &str) -> Vec<Part> {
         "step" => vec![steps::step()],
         "many" => vec![steps::many()],
         "staying" => vec![steps::staying()],
+        "worst" => vec![steps::worst()],
         "run" => vec![run()],
         "posting" => vec![posting()],
         "reading" => vec![reading()],

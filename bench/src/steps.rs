@@ -1,24 +1,18 @@
-//! Steps: everyday ones and hard ones, of nine charts and more, of edition 2, and how their time
-//! grows.
+//! Steps: everyday ones and hard ones, of nine charts and more, of edition 2, the worst that are known, and how
+//! their time grows.
 
-use crate::compare::{compared, part, row_of, taken_by, together, Calls, Part, COLUMNS};
+use crate::compare::{compared, part, row_of, taken_by, together, Calls, Part, Taken, COLUMNS};
 use crate::family::{self, Subject};
 use crate::hand;
 use crate::measure::Call;
 use crate::picture::Bar;
-use crate::table::{thousands, Row, Table};
+use crate::table::{ratio, thousands, time, Row, Table};
 use reference::limits::CHARTS;
-use reference::open::by_parts;
 use reference::Set;
 use std::hint::black_box;
 
 /// The most choices that plain enumeration is let try where time grows.
 const FEW_CHOICES: u64 = 100_000;
-
-/// How many choices of a step are open.
-fn open_choices(subject: &Subject) -> u64 {
-    by_parts(&subject.model, &subject.config)
-}
 
 /// The rows of an everyday family: what an office waits for that posts them all, and the median file.
 fn everyday(family: &[Subject]) -> Vec<(Row, Vec<Bar>)> {
@@ -56,9 +50,6 @@ pub fn staying() -> Part {
         let label = format!("hard family: 8 charts, {out} transitions from each state, median");
         rows.push(row(&label, &family::hard_staying(out)));
     }
-    for (label, subject) in family::worst_staying() {
-        rows.push(row_of(label, &[subject], |s| step_calls(s, false)));
-    }
     part("staying", "a step of edition 2", rows)
 }
 
@@ -70,12 +61,34 @@ pub fn many() -> Part {
     let singles = family::counted().into_iter().chain(family::bad()).map(one);
     let rows = families.chain(singles).map(|(label, family)| {
         let (mut row, bars) = row_of(label, &family, |s| step_calls(s, few(s)));
-        row.cells.push(thousands(open_choices(&family[0])));
+        row.cells.push(thousands(family[0].open()));
         (row, bars)
     });
     let mut steps = part("many", "a step of 9 to 16 charts", rows.collect());
     steps.table.columns.push("open choices".to_string());
     steps
+}
+
+/// The worst steps that are known, with more and more charts of eight moves.
+pub fn worst() -> Part {
+    let sizes = [5, 6, 7, 8];
+    let all = sizes.map(|eights| family::worst(eights).map(|(label, s)| (label, worst_taken(&s))));
+    let last = &all[sizes.len() - 1];
+    let rows = last.iter().enumerate().map(|(place, (label, taken))| {
+        let times = all.iter().map(|size| time(size[place].1.engine));
+        Row {
+            label: label.to_string(),
+            cells: times.chain([ratio(taken.hand / taken.engine)]).collect(),
+        }
+    });
+    let columns = ["8^5", "8^6", "8^7", "8^8", "8^8, by hand ÷ engine"];
+    let table = Table::new("16 charts, by open choices", &columns, rows.collect());
+    Part::plain("worst", table)
+}
+
+/// What a step takes that plain enumeration is not let try.
+fn worst_taken(subject: &Subject) -> Taken {
+    step_calls(subject, false).taken()
 }
 
 /// A step's answer and next configuration; of a refused one the refusal and the number of open choices.
