@@ -1,7 +1,7 @@
 //! The engine's calls compared with those by hand and those of the reference: rows of a table, and bars.
 
 use crate::family::Subject;
-use crate::measure::{least, median, Call};
+use crate::measure::{least, mean, median, Call};
 use crate::picture::{Bar, Other};
 use crate::table::{ratio, time, Row, Table, NOTHING};
 
@@ -80,7 +80,7 @@ pub fn compared(label: &str, all: &[Taken]) -> (Row, Vec<Bar>) {
 
 /// What a step of a family takes when each file is stepped as often as any other: the mean.
 pub fn together(all: &[Taken]) -> Taken {
-    let mean = |get: &dyn Fn(&Taken) -> f64| all.iter().map(get).sum::<f64>() / all.len() as f64;
+    let mean = |get: &dyn Fn(&Taken) -> f64| mean(&all.iter().map(get).collect::<Vec<f64>>());
     Taken {
         engine: mean(&|t| t.engine),
         hand: mean(&|t| t.hand),

@@ -1,8 +1,8 @@
-//! Times. The machine may be busy with other things, so that of several samples the least counts, and
-//! what is compared is sampled in turns. A long call, such as plain enumeration of 8^8 choices, has no
-//! other samples: its time is right only on an idle machine.
+//! Times of the processor. The machine may be busy with other things: what these take is not counted, but
+//! they disturb, so that of several samples the least counts, and what is compared is sampled in turns. A long
+//! call, such as plain enumeration of 8^8 choices, has no other samples.
 
-use std::time::Instant;
+use std::ffi::c_int;
 
 /// How long a sample should take, in seconds.
 const SAMPLE: f64 = 0.001;
@@ -53,11 +53,37 @@ impl<'a> Measured<'a> {
     }
 }
 
+/// A struct timespec.
+#[repr(C)]
+struct Moment {
+    seconds: i64,
+    nanoseconds: i64,
+}
+
+/// The clock of the time that this thread had a processor: CLOCK_THREAD_CPUTIME_ID.
+const OF_THREAD: c_int = 3;
+
+extern "C" {
+    fn clock_gettime(clock: c_int, moment: *mut Moment) -> c_int;
+}
+
+/// How long this thread has had a processor, in seconds.
+fn now() -> f64 {
+    let mut moment = Moment {
+        seconds: 0,
+        nanoseconds: 0,
+    };
+    // SAFETY: the pointer is to a struct of the form that the call fills in.
+    let code = unsafe { clock_gettime(OF_THREAD, &mut moment) };
+    assert_eq!(code, 0);
+    moment.seconds as f64 + 1e-9 * moment.nanoseconds as f64
+}
+
 /// How long so many calls take, in seconds.
 fn seconds(call: &mut Call, repeats: usize) -> f64 {
-    let start = Instant::now();
+    let start = now();
     (0..repeats).for_each(|_| call());
-    start.elapsed().as_secs_f64()
+    now() - start
 }
 
 /// The least time of each call, in seconds.
@@ -73,4 +99,9 @@ pub fn least(calls: Vec<Call>) -> Vec<f64> {
 pub fn median(mut numbers: Vec<f64>) -> f64 {
     numbers.sort_by(f64::total_cmp);
     numbers[numbers.len() / 2]
+}
+
+/// The mean of some numbers.
+pub fn mean(numbers: &[f64]) -> f64 {
+    numbers.iter().sum::<f64>() / numbers.len() as f64
 }
