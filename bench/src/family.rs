@@ -2,7 +2,7 @@
 
 use reference::cases::charts::{chart, go, row_of_charts, wrapped};
 use reference::generate::{choices, configuration, model, Random, Shape};
-use reference::limits::{CHARTS, EARLIER_CHARTS, STATE_TRANSITIONS};
+use reference::limits::{CHARTS, EARLIER_CHARTS, NODES, STATE_TRANSITIONS};
 use reference::model::{Chart, Edition, Model, Node, Slave, Transition};
 use reference::open::by_parts;
 use reference::Set;
@@ -170,10 +170,13 @@ fn feed_back(model: &mut Model, set: Set) {
 /// The special ones, each with 8^8 choices.
 pub fn special() -> Vec<(&'static str, Subject)> {
     vec![
-        ("the last needs what none puts out", last_needs()),
-        ("all wait for the last", all_wait()),
-        ("all 8^8 permitted, all agree", all_agree()),
-        ("the last bars what all put out", last_bars()),
+        (
+            "a last chart that needs what no chart outputs",
+            last_needs(),
+        ),
+        ("all charts waiting for the last", all_wait()),
+        ("8^8 permitted choices that all agree", all_agree()),
+        ("a last chart that bars what all others output", last_bars()),
     ]
 }
 
@@ -228,9 +231,12 @@ pub fn many() -> Vec<(&'static str, Vec<Subject>)> {
     let family = |outs: &[usize]| (0..9).map(|seed| random_row_of(seed, outs)).collect();
     let mixed = [3, 3, 3, 3, 3, 3, 3, 3, 3, 3, 3, 3, 3, 2, 2, 2];
     vec![
-        ("16 charts, 2 from a state", family(&[2; 16])),
-        ("16 charts, 3 or 2 from a state", family(&mixed)),
-        ("12 charts, 4 from a state: 2^24 open", family(&[4; 12])),
+        (
+            "16 charts with 2 transitions, feedback everywhere",
+            family(&[2; 16]),
+        ),
+        ("13 charts with 3 transitions and 3 with 2", family(&mixed)),
+        ("12 charts with 4 transitions", family(&[4; 12])),
     ]
 }
 
@@ -241,10 +247,16 @@ pub fn counted() -> Vec<(&'static str, Subject)> {
     trap[CHARTS - 1] = 0;
     let many = |outs: &[usize]| random_row_of(0, outs);
     vec![
-        ("15 charts of 8, an active one of none: 23", many(&trap)),
-        ("9 charts of 8: 24", many(&[8; 9])),
-        ("16 charts of 8: 24", many(&[8; 16])),
-        ("edition 2, 16 charts of 2: 24", many(&[2; 16]).staying()),
+        (
+            "15 charts with 8 transitions, and one with none: 23",
+            many(&trap),
+        ),
+        ("9 charts with 8 transitions: 24", many(&[8; 9])),
+        ("16 charts with 8 transitions: 24", many(&[8; 16])),
+        (
+            "edition 2, 16 charts with 2 transitions: 24",
+            many(&[2; 16]).staying(),
+        ),
     ]
 }
 
@@ -252,10 +264,13 @@ pub fn counted() -> Vec<(&'static str, Subject)> {
 /// transitions, then eight of one, nothing comes out. By a label.
 pub fn bad() -> Vec<(&'static str, Subject)> {
     vec![
-        ("nothing is read", nothing_read()),
-        ("a dead end that the last chart shows", dead_end()),
+        ("nothing that a chart outputs is read", nothing_read()),
+        ("a dead end that only the last chart shows", dead_end()),
         ("two charts read", two_read()),
-        ("charts of one inside a busy slave", busy_slave()),
+        (
+            "charts with one candidate in a slave that is nearly always active",
+            busy_slave(),
+        ),
     ]
 }
 
@@ -410,6 +425,13 @@ pub fn hard_staying(out: usize) -> Vec<Subject> {
     (0..9)
         .map(|seed| random_row(seed, EARLIER_CHARTS, out).staying())
         .collect()
+}
+
+/// The longest chain of nodes that a file can have, whose step is permitted.
+pub fn chain() -> Subject {
+    let all = (0..).map(|seed| nodes(seed, NODES));
+    let mut permitted = all.filter(Subject::is_permitted);
+    permitted.next().expect("one of them")
 }
 
 /// Four charts in a row, hidden again and again until there are so many nodes.

@@ -7,6 +7,8 @@ pub mod family;
 pub mod files;
 pub mod hand;
 pub mod measure;
+pub mod memory;
+pub mod office;
 pub mod page;
 pub mod picture;
 pub mod posting;

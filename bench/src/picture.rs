@@ -20,8 +20,8 @@ pub enum Other {
     Hand,
 }
 
-/// Where the bars begin, and how wide and high things are.
-const LEFT: f64 = 330.0;
+/// How wide and high things are.
+const LETTER: f64 = 6.3;
 const WIDTH: f64 = 520.0;
 const TOP: f64 = 70.0;
 const LINE: f64 = 16.0;
@@ -47,10 +47,11 @@ impl Other {
     }
 }
 
-/// The powers of ten that the scale runs between.
+/// The powers of ten that the scale runs between, and where it begins from the left, behind the labels.
 struct Scale {
     low: i32,
     high: i32,
+    left: f64,
 }
 
 impl Scale {
@@ -59,16 +60,18 @@ impl Scale {
         let powers = bars.iter().map(|bar| bar.ratio.log10());
         let low = powers.clone().fold(0.0, f64::min).floor();
         let high = powers.fold(1.0, f64::max).ceil();
+        let letters = bars.iter().map(|bar| bar.label.chars().count());
         Scale {
             low: low as i32,
             high: high as i32,
+            left: 20.0 + LETTER * letters.max().unwrap_or(0) as f64,
         }
     }
 
     /// Where a ratio stands from the left.
     fn place(&self, ratio: f64) -> f64 {
         let span = f64::from(self.high - self.low);
-        LEFT + WIDTH * (ratio.log10() - f64::from(self.low)) / span
+        self.left + WIDTH * (ratio.log10() - f64::from(self.low)) / span
     }
 }
 
@@ -76,18 +79,18 @@ impl Scale {
 pub fn picture(bars: &[Bar]) -> String {
     let scale = Scale::of(bars);
     let bottom = tops(bars).last().map_or(TOP, |top| top + LINE);
-    let (wide, high) = (LEFT + WIDTH + RIGHT, bottom + 30.0);
+    let (wide, high) = (scale.left + WIDTH + RIGHT, bottom + 30.0);
     let mut svg = format!(
         "<svg xmlns=\"http://www.w3.org/2000/svg\" viewBox=\"0 0 {wide} {high}\" \
          width=\"{wide}\" height=\"{high}\" font-family=\"sans-serif\" font-size=\"12\">\n\
          <rect width=\"{wide}\" height=\"{high}\" fill=\"#ffffff\"/>\n"
     );
-    svg.push_str(&legend());
+    svg.push_str(&legend(scale.left));
     svg.push_str(&grid(&scale, bottom));
     for (place, top) in tops(bars).enumerate() {
         if begins(bars, place) {
             svg.push_str(&text(
-                LEFT - 10.0,
+                scale.left - 10.0,
                 top + THICK - 2.0,
                 "end",
                 &bars[place].label,
@@ -110,16 +113,16 @@ fn tops(bars: &[Bar]) -> impl Iterator<Item = f64> + '_ {
     (0..bars.len()).map(move |place| TOP + LINE * place as f64 + GAP * labels(place) as f64)
 }
 
-/// The title, and what the colors are.
-fn legend() -> String {
+/// The title, and what the colors are, from a place on.
+fn legend(left: f64) -> String {
     let mut svg = text(
-        LEFT,
+        left,
         20.0,
         "start",
         "How many times longer than the proved engine",
     );
     for (place, other) in [Other::Reference, Other::Hand].into_iter().enumerate() {
-        let left = LEFT + 200.0 * place as f64;
+        let left = left + 200.0 * place as f64;
         let _ = write!(svg, "{}", rect(left, 32.0, 12.0, 12.0, other.color()));
         svg.push_str(&text(left + 18.0, 42.0, "start", other.words()));
     }
