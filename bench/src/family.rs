@@ -6,6 +6,7 @@ use reference::limits::{CHARTS, EARLIER_CHARTS, NODES, STATE_TRANSITIONS};
 use reference::model::{Chart, Edition, Model, Node, Slave, Transition};
 use reference::open::by_parts;
 use reference::Set;
+use std::ops::Range;
 
 /// A file, a configuration of it and an input to step with.
 pub struct Subject {
@@ -284,7 +285,7 @@ fn eights_and_ones(eights: usize) -> Vec<Chart> {
     let moves = (0..8).map(|signal| go(0, 0, &[], &[], &[signal])).collect();
     let first = chart(1, &all, moves);
     let one = |number: usize| chart(1, &all, vec![go(0, 0, &[], &[], &[LATER + number as u32])]);
-    [vec![first; eights], (eights..CHARTS).map(one).collect()].concat()
+    [vec![first; eights], (0..CHARTS - eights).map(one).collect()].concat()
 }
 
 /// Eight of either kind.
@@ -337,31 +338,42 @@ fn busy_slave() -> Subject {
     for (place, transition) in charts[0].transitions.iter_mut().enumerate() {
         transition.to = if place < 7 { 1 } else { 2 };
     }
-    let leaf = |chart: u8| Node::Chart { chart };
-    let beside = |a: u8, b: u8| Node::Composed {
-        a,
-        b,
-        feedback: Set::FULL,
-    };
-    // nodes 0 to 7 and 8 to 14: the slave; 15: the master; 16 to 22 and 23 to 29: what is beside it
-    let mut nodes: Vec<Node> = (8..16).map(leaf).collect();
-    nodes.push(beside(0, 1));
-    nodes.extend((2..8).map(|part| beside(part + 6, part)));
-    nodes.extend((0..8).map(leaf));
-    nodes.push(beside(15, 16));
-    nodes.extend((17..23).map(|part| beside(part + 6, part)));
+    let mut model = row_with_slave(charts, 8, 1);
+    feed_back(&mut model, Set::FULL);
+    Subject::new(wrapped(model, &[], &all), vec![0; CHARTS], Set::EMPTY)
+}
+
+/// Charts in a row, of which those from one on are in a row inside a slave of chart 0's state.
+pub fn row_with_slave(charts: Vec<Chart>, from: usize, state: u8) -> Model {
+    let mut nodes = vec![];
+    let inside = lay_row(&mut nodes, from..charts.len());
+    lay_row(&mut nodes, 0..from);
     let slave = Slave {
         chart: 0,
-        state: 1,
-        node: 14,
+        state,
+        node: inside,
     };
-    let model = Model {
+    Model {
         edition: Edition::First,
         charts,
         slaves: vec![slave],
         nodes,
-    };
-    Subject::new(wrapped(model, &[], &all), vec![0; CHARTS], Set::EMPTY)
+    }
+}
+
+/// Lays down the nodes of some charts in a row; the number of the last, which is the whole of it.
+fn lay_row(nodes: &mut Vec<Node>, charts: Range<usize>) -> u8 {
+    let leaves = nodes.len()..nodes.len() + charts.len();
+    nodes.extend(charts.map(|chart| Node::Chart { chart: chart as u8 }));
+    leaves.reduce(|a, b| {
+        nodes.push(Node::Composed {
+            a: a as u8,
+            b: b as u8,
+            feedback: Set::EMPTY,
+        });
+        nodes.len() - 1
+    });
+    (nodes.len() - 1) as u8
 }
 
 /// The worst steps that are known, by a label: sixteen charts, so many of eight moves before the others of

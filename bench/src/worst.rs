@@ -2,7 +2,7 @@
 //! and again, as long as its step gets no easier; and so are the worst that are known. What is compared is how
 //! many guards the search looks at, by hand: the same on every machine.
 
-use crate::family::{self, Subject};
+use crate::family::{self, row_with_slave, Subject};
 use crate::hand;
 use reference::cases::charts::{chart, row_of_charts, wrapped};
 use reference::generate::Random;
@@ -118,8 +118,9 @@ impl Field {
     }
 }
 
-/// A file to begin with: nine to sixteen charts in a row, in state 0 of one or more; how many signals there
-/// are, and how many of them are in guards, actions, feedback and input, is drawn too.
+/// A file to begin with: nine to sixteen charts in a row, in state 0 of one or more, some of them in a slave
+/// now and then; how many signals there are, and how many of them are in guards, actions, feedback and input,
+/// is drawn too.
 pub fn drawn(field: Field, seed: u64) -> Subject {
     let mut random = Random::new(0x776f_7273 + (seed << 8));
     let signals: Vec<u32> = (0..random.between(2, 16) as u32).collect();
@@ -139,7 +140,16 @@ pub fn drawn(field: Field, seed: u64) -> Subject {
             ..chart(states, &[], moves)
         }
     });
-    let mut model = row_of_charts(charts.collect()).under(field.edition);
+    let charts: Vec<Chart> = charts.collect();
+    let made = match random.chance(25) {
+        true => row_with_slave(
+            charts,
+            random.between(1, count - 1),
+            random.below(usize::from(states)) as u8,
+        ),
+        false => row_of_charts(charts),
+    };
+    let mut model = made.under(field.edition);
     let hidden = random.pick(&[0, 50, 100]);
     for node in &mut model.nodes {
         if let Node::Composed { feedback: set, .. } = node {
