@@ -2,7 +2,7 @@
 //! program, one book after the other.
 
 use crate::compare::Part;
-use crate::measure::{least, mean};
+use crate::measure::least;
 use crate::table::{time, Row, Table, NOTHING};
 use mestecur::{posted_bytes, Case, Entry, Set, CASES};
 use std::fmt::Write;
@@ -66,7 +66,7 @@ fn by_library() -> f64 {
     least(vec![Box::new(post)])[0]
 }
 
-/// What the program takes for a day, on the average of some, in a folder of its own.
+/// What the program takes for a day by the clock, the least of some, in a folder of its own.
 fn by_program(program: &str) -> io::Result<f64> {
     let folder = env::temp_dir().join(format!("mestecur-{}", process::id()));
     fs::create_dir(&folder)?;
@@ -80,14 +80,14 @@ fn by_program_in(program: &str, folder: &Path) -> io::Result<f64> {
     fs::write(folder.join("case"), SAMPLE)?;
     let cases = CASES.to_string();
     run(program, folder, &["new", "case", &cases, "book"])?;
-    let mut taken = vec![];
+    let mut least = f64::INFINITY;
     for day in 1..=DAYS {
         fs::write(folder.join("day"), entries(day))?;
         let start = Instant::now();
         run(program, folder, &["day", "case", "book", "day"])?;
-        taken.push(start.elapsed().as_secs_f64());
+        least = least.min(start.elapsed().as_secs_f64());
     }
-    Ok(mean(&taken))
+    Ok(least)
 }
 
 /// A day's text with an entry for each case.

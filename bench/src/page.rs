@@ -2,6 +2,27 @@
 
 use crate::table::Table;
 
+/// The tables of docs/SPEED.md, in its order; the last is that of bench/shares.
+pub const TABLES: [&str; 17] = [
+    "step",
+    "many",
+    "staying",
+    "worst",
+    "growth-charts",
+    "growth-more-charts",
+    "growth-transitions",
+    "growth-nodes",
+    "run",
+    "posting",
+    "office",
+    "calls",
+    "files",
+    "reading",
+    "writing",
+    "memory",
+    "shares",
+];
+
 /// The mark after a table.
 const END: &str = "<!-- end -->";
 

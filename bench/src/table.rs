@@ -84,7 +84,8 @@ pub fn time(seconds: f64) -> String {
         s if s < 1e-6 => (s * 1e9, "ns"),
         s if s < 1e-3 => (s * 1e6, "µs"),
         s if s < 1.0 => (s * 1e3, "ms"),
-        s => (s, "s"),
+        s if s < 100.0 => (s, "s"),
+        s => (s / 60.0, "min"),
     };
     match value {
         v if v < 10.0 => format!("{v:.2} {unit}"),

@@ -1,6 +1,6 @@
 //! How numbers are printed and drawn.
 
-use bench::page::with_table;
+use bench::page::{with_table, TABLES};
 use bench::picture::{picture, Bar, Other};
 use bench::table::{ratio, time, Row, Table};
 
@@ -18,11 +18,14 @@ fn ratios_have_about_three_digits() {
 
 #[test]
 fn times_have_their_unit() {
-    let printed: Vec<String> = [4.65e-7, 8.88e-6, 0.0123, 2.5]
+    let printed: Vec<String> = [4.65e-7, 8.88e-6, 0.0123, 2.5, 346.0]
         .into_iter()
         .map(time)
         .collect();
-    assert_eq!(printed, ["465 ns", "8.88 µs", "12.3 ms", "2.50 s"]);
+    assert_eq!(
+        printed,
+        ["465 ns", "8.88 µs", "12.3 ms", "2.50 s", "5.77 min"]
+    );
 }
 
 /// A table of one row.
@@ -50,6 +53,18 @@ fn a_page_has_a_table_between_its_marks() {
     assert_eq!(with_table(&filled, "a", &table()).unwrap(), filled);
     assert!(with_table(page, "c", &table()).is_err());
     assert!(with_table("<!-- bench a -->\n", "a", &table()).is_err());
+}
+
+/// The page has a place for every table that is measured.
+#[test]
+fn the_page_has_all_marks() {
+    let page = include_str!("../../docs/SPEED.md");
+    let names = page.matches("<!-- bench ").count();
+    assert_eq!(names, page.matches("<!-- end -->").count());
+    assert_eq!(names, TABLES.len());
+    for name in TABLES {
+        assert!(with_table(page, name, &table()).is_ok(), "{name}");
+    }
 }
 
 #[test]
