@@ -1,5 +1,5 @@
--- The tree of a file that tests 9 to 11 allow: no chart stands in it twice, each chart's nearest slave is known, and
--- masters are lower.
+-- The tree of a file that tests 9 to 11 allow: no chart stands in it twice, each chart's nearest slave is known, masters
+-- are lower, and a node's parts share no chart with the nodes in between (Parted).
 use mathlib.Core.Path.{_≡_, refl, sym, _∙_, ap, ap₂, subst}
 use mathlib.Core.Bool.{Bool, true, false, _&&_, _||_, cond, false≢true}
 use mathlib.Core.Option.{Option, none, some}
@@ -70,6 +70,21 @@ module _ (par : ℕ → ℕ) where
       go : (Up i k ⊎ Up k i) → ⊥
       go (inl w) = side i k d p b w
       go (inr w) = side k i (λ e. d (sym e)) q a w
+
+-- ── the parts of a node ──
+
+-- no node between i and j has a chart of node i's tree
+abbrev pub Alone : File → ℕ → ℕ → Type 0
+Alone F i j = (k c : ℕ) → i < k → k < j → Has (treeOf F i) c ≡ true → Has (treeOf F k) c ≡ false
+
+-- the nodes that a node names, and those of its chart's slaves, are alone below it; and no lower node has the chart that it holds
+pub record Parted (F : File) : Type 0 where
+  pub held : (j : ℕ) → j < F .nodes → Held (F .charts) (treeOf F j)
+  pub left : (j : ℕ) → j < F .nodes → F .kind j ≡ 1 → Alone F (F .a j) j
+  pub right : (j : ℕ) → j < F .nodes → F .kind j ≡ 1 → Alone F (F .b j) j
+  pub inner : (j : ℕ) → j < F .nodes → F .kind j ≡ 2 → Alone F (F .a j) j
+  pub slave : (j : ℕ) → j < F .nodes → F .kind j ≡ 0 → (i : ℕ) → i < F .slaves → F .master i ≡ F .a j → Alone F (F .node i) j
+  pub fresh : (j : ℕ) → j < F .nodes → F .kind j ≡ 0 → (i : ℕ) → i < j → Has (treeOf F i) (F .a j) ≡ false
 
 -- ── parents and holders are one ──
 pub record Tidy (F : File) (par hold : ℕ → ℕ) : Type 0 where
@@ -195,6 +210,32 @@ module _ (F : File) (w : Ordered F) (par hold : ℕ → ℕ) (ti : Tidy F par ho
       go (suc (suc k)) e ih = let e₂ : F .kind j ≡ 2 = (let h = w .kinds j l in omega arith) in
           rw (tree₂ F w j l e₂) (ih (F .a j) (w .lower₂ j l e₂))
 
+  -- a node is alone below the one that it is a part of
+  part-alone : (i j : ℕ) → j < F .nodes → par i ≡ j → Alone F i j
+  part-alone i j l e k c p q h =
+      not-true (λ h′. go (up-line par (hold c) i k (reach (F .nodes) i c (omega arith) (omega arith) h) (reach (F .nodes) k c (omega arith) (omega arith) h′)))
+    where
+      first : ((i ≡ k) ⊎ Up par (par i) k) → ⊥
+      first (inl z) = omega arith
+      first (inr u) = let z = up-le par (par i) k u in omega arith
+
+      go : (Up par i k ⊎ Up par k i) → ⊥
+      go (inl u) = first (up-first par i k u)
+      go (inr u) = let z = up-le par k i u in omega arith
+
+  parted-by : Parted F
+  parted-by =
+      record {
+        held = λ j l. held-node (F .nodes) j l l;
+        left = λ j l e. part-alone (F .a j) j l (ti .par₁ j l e .0);
+        right = λ j l e. part-alone (F .b j) j l (ti .par₁ j l e .1);
+        inner = λ j l e. part-alone (F .a j) j l (ti .par₂ j l e);
+        slave = λ j l e i m q. part-alone (F .node i) j l (ti .par₀ j l e i m q);
+        fresh = λ j l e i m. not-true (λ h.
+            let z = up-le par (hold (F .a j)) i (reach (F .nodes) i (F .a j) (omega arith) (omega arith) h) in
+            let y = ti .holds j l e .0 in omega arith);
+      }
+
 -- ── the slaves of the charts, from where the nodes stand ──
 module _ (F : File) (w : Ordered F) (encN kapC : ℕ → Option ℕ) (pl : Placed F encN kapC) where
   enc-gather : (c k : ℕ) → k ≤ F .slaves
@@ -313,6 +354,9 @@ module _ (F : File) (w : Ordered F) (r : Rule10 F) (r11 : Rule11 F)
     differ = λ i k l m e. let p = by-slave F w r i (F .node i) (node-there i l .0) l refl in
         let q = by-slave F w r k (F .node i) (node-there i l .0) m (sym e) in ap orZero (sym p ∙ q);
   }
+
+  pub parted : Parted F
+  parted = parted-by F w parF holdF tidy
 
   pub stands : (last : ℕ) → suc last ≡ F .nodes → Stands (F .charts) (kap F) (F .master) (treeOf F last)
   stands last e = record {

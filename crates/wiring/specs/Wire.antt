@@ -216,7 +216,7 @@ apart-r false b h e = refl
 mutual
   unfolding down Has
 
-  down-off : (t : Tree) (c : ℕ) → Has t c ≡ false → down t c ≡ ∅
+  pub down-off : (t : Tree) (c : ℕ) → Has t c ≡ false → down t c ≡ ∅
   down-off (leaf d) c h = own-off d c h
   down-off (comp l r x) c h =
       none-or (down-off l c (or-left (Has l c) (Has r c) h)) (down-off r c (or-right (Has l c) (Has r c) h))
@@ -224,16 +224,29 @@ mutual
   down-off (dec d ss) c h =
       none-or (own-off d c (or-left (same c d) (HasS ss c) h)) (downs-off ss c (or-right (same c d) (HasS ss c) h))
 
-  downs-off : (ss : Slaves) (c : ℕ) → HasS ss c ≡ false → downs ss c ≡ ∅
+  pub downs-off : (ss : Slaves) (c : ℕ) → HasS ss c ≡ false → downs ss c ≡ ∅
   downs-off nil c h = refl
   downs-off (snoc ss i t) c h =
       none-or (downs-off ss c (or-right (Has t c) (HasS ss c) h)) (down-off t c (or-left (Has t c) (HasS ss c) h))
+
+mutual
+  unfolding up Has
+
+  pub up-off : (t : Tree) (e : ℕ) → Has t e ≡ false → up t e ≡ ∅
+  up-off (leaf d) e h = own-off d e h
+  up-off (comp l r x) e h = none-or (up-off l e (or-left (Has l e) (Has r e) h)) (up-off r e (or-right (Has l e) (Has r e) h))
+  up-off (hide l x y) e h = none-less y (up-off l e h)
+  up-off (dec d ss) e h = none-or (own-off d e (or-left (same e d) (HasS ss e) h)) (ups-off ss e (or-right (same e d) (HasS ss e) h))
+
+  pub ups-off : (ss : Slaves) (e : ℕ) → HasS ss e ≡ false → ups ss e ≡ ∅
+  ups-off nil e h = refl
+  ups-off (snoc ss i t) e h = none-or (ups-off ss e (or-right (Has t e) (HasS ss e) h)) (up-off t e (or-left (Has t e) (HasS ss e) h))
 
 module _ (E : ℕ → Chart) where
   mutual
     unfolding back down Has
 
-    back-off : (t : Tree) (c : ℕ) → Has t c ≡ false → (e : ℕ) → back E t c e ≡ ∅
+    pub back-off : (t : Tree) (c : ℕ) → Has t c ≡ false → (e : ℕ) → back E t c e ≡ ∅
     back-off (leaf d) c h e = none-cut (own d e) (E d .feedback) (own-off d c h)
     back-off (comp l r x) c h e = none-or
         (none-or (back-off l c (or-left (Has l c) (Has r c) h) e) (back-off r c (or-right (Has l c) (Has r c) h) e))
@@ -243,7 +256,7 @@ module _ (E : ℕ → Chart) where
         none-or (backs-off ss c (or-right (same c d) (HasS ss c) h) e)
         (none-cut (own d e ∪ ups ss e) (E d .feedback) (down-off (dec d ss) c h))
 
-    backs-off : (ss : Slaves) (c : ℕ) → HasS ss c ≡ false → (e : ℕ) → backs E ss c e ≡ ∅
+    pub backs-off : (ss : Slaves) (c : ℕ) → HasS ss c ≡ false → (e : ℕ) → backs E ss c e ≡ ∅
     backs-off nil c h e = refl
     backs-off (snoc ss i t) c h e =
         none-or (backs-off ss c (or-right (Has t c) (HasS ss c) h) e) (back-off t c (or-left (Has t c) (HasS ss c) h) e)
