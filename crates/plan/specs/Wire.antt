@@ -1,20 +1,23 @@
--- What the wiring of a file leaves in a search's masks (crate cells, Table), and in the rows of a part, which have a mask for each chart. What the masks
--- mean is in the crate wiring (Wire).
+-- What the wiring of a file leaves, node by node from node 0 up: in a search's masks (crate cells, Table), in the row of what gets down to each chart,
+-- and in the sets of charts, one for each node. What the masks mean is in the crate wiring (Wire, Latest).
 use mathlib.Core.Path.{_≡_}
+use mathlib.Core.Bool.{Bool, _&&_, _||_, cond}
 use mathlib.Core.List.{List}
-use Prim.Native.Nat.{ℕ, _+_, _*_, _≤_, _<_}
-use lib.ListN.{length, getD}
-use Rattle.signals.specs.Mask.{_∪_, _∩_}
+use Prim.Native.Nat.{ℕ, _+_, _≤_, _<_}
+use lib.ListN.{length, getD, set}
+use Rattle.signals.specs.Mask.{_∪_, _∩_, _∖_, bit}
 use Rattle.meaning.specs.Numbers.{mostCharts}
-use Rattle.meaning.specs.Meaning.{Set, Tree}
-use Rattle.meaning.specs.File.{File, wholeOf}
-use Rattle.cells.specs.Table.{backAt, upAt}
-use Rattle.wiring.specs.Wire.{down, up, back}
+use Rattle.meaning.specs.Count.{anyUpTo}
+use Rattle.meaning.specs.Meaning.{Set, Tree, same}
+use Rattle.meaning.specs.File.{File, Has, treeOf}
+use Rattle.cells.specs.Table.{backAt, upAt, upCell}
+use Rattle.wiring.specs.Wire.{full}
+use Rattle.wiring.specs.Latest.{downTo, upTo, backTo}
 pub mod Laws
 
--- the masks m are l, with f joined to what each of N charts is offered of each one's action
-abbrev pub Joins : ℕ → List ℕ → List ℕ → (ℕ → ℕ → Set) → Type 0
-Joins N l m f = (c d : ℕ) → c < N → d < N → backAt m c d ≡ backAt l c d ∪ f c d
+-- all masks are empty
+abbrev pub Blank : List ℕ → Type 0
+Blank l = (k : ℕ) → getD l k 0 ≡ 0
 
 -- m is l with f in the n masks from `at` on
 pub record RowAt (at n : ℕ) (f : ℕ → Set) (l m : List ℕ) : Type 0 where
@@ -23,56 +26,57 @@ pub record RowAt (at n : ℕ) (f : ℕ → Set) (l m : List ℕ) : Type 0 where
   pub above : (k : ℕ) → at + n ≤ k → getD m k 0 ≡ getD l k 0
   pub long : length m ≡ length l
 
--- ── the two rows of a part in one list ──
+-- ── a part with the charts s; N is the number of all charts ──
 
--- how many masks they have
-abbrev pub rowsSize : ℕ
-rowsSize = 2 * mostCharts
+-- what chart c is offered of chart d's action, where of that action m is fed back: what the masks l have and, if c is one of the part's charts, what is
+-- in m and gets down to it by the row r
+abbrev pub fedRow : Set → Set → ℕ → List ℕ → List ℕ → ℕ → Set
+fedRow s m d r l c = cond (bit s c) (backAt l c d ∪ (m ∩ getD r c 0)) (backAt l c d)
 
--- what gets down to chart c
-abbrev pub downIn : List ℕ → ℕ → Set
-downIn l c = getD l c 0
+-- the same with feedback of x: of the actions of the part's charts, what gets up and is in x
+abbrev pub fedAt : Set → Set → List ℕ → List ℕ → ℕ → ℕ → Set
+fedAt s x r l c d = cond (bit s d) (fedRow s (upAt l d ∩ x) d r l c) (backAt l c d)
 
--- what gets up from it
-abbrev pub upIn : List ℕ → ℕ → Set
-upIn l c = getD l (mostCharts + c) 0
+-- the masks m are l with feedback of x over the part
+pub record Feeds (N : ℕ) (s x : Set) (r l m : List ℕ) : Type 0 where
+  pub back-is : (c d : ℕ) → c < N → d < N → backAt m c d ≡ fedAt s x r l c d
+  pub up-is : (d : ℕ) → d < N → upAt m d ≡ upAt l d
 
--- the rows l of N charts are f and g
-pub record AreRows (N : ℕ) (l : List ℕ) (f g : ℕ → Set) : Type 0 where
-  pub down-is : (c : ℕ) → c < N → downIn l c ≡ f c
-  pub up-is : (c : ℕ) → c < N → upIn l c ≡ g c
-  pub long : length l ≡ rowsSize
+-- the masks m and the row q are l and r with x hidden on the way into the part, and y on the way out
+pub record Hides (N : ℕ) (s x y : Set) (r q l m : List ℕ) : Type 0 where
+  pub down-is : (c : ℕ) → c < N → getD q c 0 ≡ cond (bit s c) (getD r c 0 ∖ x) (getD r c 0)
+  pub up-is : (d : ℕ) → d < N → upAt m d ≡ cond (bit s d) (upAt l d ∖ y) (upAt l d)
+  pub back-is : (c d : ℕ) → c < N → d < N → backAt m c d ≡ backAt l c d
+  pub long : length q ≡ length r
 
--- the rows l of N charts are empty
-abbrev pub Empty : ℕ → List ℕ → Type 0
-Empty N l = AreRows N l (λ c. 0) (λ c. 0)
+-- chart c is inside one of the first k slaves, one of chart d's, where l has the set of each node's charts
+abbrev pub inside : File → ℕ → List ℕ → ℕ → ℕ → Bool
+inside F d l k c = anyUpTo k (λ i. same (F .master i) d && bit (getD l (F .node i) 0) c)
 
--- the rows m are l with f and g joined to them
-abbrev pub JoinsRows : ℕ → List ℕ → List ℕ → (ℕ → Set) → (ℕ → Set) → Type 0
-JoinsRows N l m f g = AreRows N m (λ c. downIn l c ∪ f c) (λ c. upIn l c ∪ g c)
+-- s is the set of these charts
+abbrev pub Inside : File → ℕ → List ℕ → ℕ → Set → Type 0
+Inside F d l k s = (c : ℕ) → bit s c ≡ inside F d l k c
 
--- the masks m are l with feedback of x over the rows p joined to them
-abbrev pub Feeds : ℕ → List ℕ → List ℕ → List ℕ → Set → Type 0
-Feeds N l m p x = Joins N l m (λ c d. downIn p c ∩ upIn p d ∩ x)
+-- chart d with its slaves, where l has the set of each node's charts: s is the set of them all; everything gets down to d, and up from it; and d's
+-- feedback goes over them all
+pub record Charted (F : File) (d : ℕ) (l : List ℕ) (s : Set) (r q m m′ : List ℕ) : Type 0 where
+  pub set-is : (c : ℕ) → bit s c ≡ (same c d || inside F d l (F .slaves) c)
+  pub down-is : q ≡ set r d full
+  pub fed : Feeds (F .charts) s (F .chart d .feedback) q (set m (upCell d) full) m′
 
--- ── the wiring ──
+-- ── the first j nodes ──
 
--- the rows q are p with those of the tree t joined to them, and the masks m are l with t's feedback joined to them
-pub record Wires (F : File) (t : Tree) (l m p q : List ℕ) : Type 0 where
-  pub rows-are : JoinsRows (F .charts) p q (down t) (up t)
-  pub back-is : Joins (F .charts) l m (back (F .chart) t)
+-- s is the set of the tree's charts
+abbrev pub ChartsOf : Set → Tree → Type 0
+ChartsOf s t = (c : ℕ) → bit s c ≡ Has t c
 
--- all masks are empty
-abbrev pub Blank : List ℕ → Type 0
-Blank l = (k : ℕ) → getD l k 0 ≡ 0
+-- l has the set of each node's charts
+abbrev pub Sets : File → ℕ → List ℕ → Type 0
+Sets F j l = (i : ℕ) → i < j → ChartsOf (getD l i 0) (treeOf F i)
 
--- the rows r are those of the whole, and the masks m have its feedback
-pub record Whole (F : File) (m r : List ℕ) : Type 0 where
-  pub rows-are : AreRows (F .charts) r (down (wholeOf F)) (up (wholeOf F))
-  pub back-is : (c d : ℕ) → c < F .charts → d < F .charts → backAt m c d ≡ back (F .chart) (wholeOf F) c d
-
--- what comes out of the whole is put among the masks l, as the rows r have it for the first N charts
-pub record UpPut (N : ℕ) (r l m : List ℕ) : Type 0 where
-  pub up-is : (d : ℕ) → d < N → upAt m d ≡ upIn r d
-  pub back-kept : (c d : ℕ) → c < mostCharts → d < mostCharts → backAt m c d ≡ backAt l c d
-  pub long : length m ≡ length l
+-- the row r and the masks m are those of the parts that the first j nodes make
+pub record WiredTo (F : File) (j : ℕ) (r m : List ℕ) : Type 0 where
+  pub down-is : (c : ℕ) → c < F .charts → getD r c 0 ≡ downTo F j c
+  pub up-is : (d : ℕ) → d < F .charts → upAt m d ≡ upTo F j d
+  pub back-is : (c d : ℕ) → c < F .charts → d < F .charts → backAt m c d ≡ backTo F j c d
+  pub long : length r ≡ mostCharts

@@ -1,48 +1,104 @@
--- `wire::feed` meets its contract: the rows below d are fed. Assumes nothing.
-use mathlib.Core.Path.{_≡_, refl, _∙_}
+-- `wire::feed` meets its contract: the rows below d are fed, if their chart is in the set; what gets up stays.
+use mathlib.Core.Path.{_≡_, refl, sym, ap, ap₂, _∙_, subst}
+use mathlib.Core.Bool.{Bool, true, false, cond}
 use mathlib.Core.List.{List, [], _∷_}
-use Prim.Native.Nat.{ℕ, _-_, _≤_}
+use mathlib.Core.Logic.{⊎-elim}
+use Prim.Native.Nat.{ℕ, _+_, _-_, _≤_, _<_}
+use native.Mathlib.Decide.{decLt}
 use native.Mathlib.Omega.{arith}
-use lib.ListN.{length}
-use Rattle.signals.specs.Mask.{_∩_}
+use borrow.Author.Count.{below-more}
+use lib.ListN.{length, getD}
+use Rattle.signals.specs.Mask.{_∪_, _∩_, bit}
 use Rattle.signals.specs.Decide.{sets, A, B, C, D, ∅ₑ, _∪ₑ_, _∩ₑ_, _≐_}
-use Rattle.cells.specs.Table.{backAt}
-use Rattle.plan.specs.Wire.{downIn, upIn, Feeds}
-use Rattle.plan.proofs.Filled.{Joined, joined-none, joined-more}
+use Rattle.meaning.specs.Numbers.{mostCharts}
+use Rattle.meaning.specs.Meaning.{Set}
+use Rattle.cells.specs.Table.{backRow, backCell, upCell, backAt, upAt}
+use Rattle.plan.specs.Wire.{RowAt, fedRow, fedAt}
 use Rattle.plan.proofs.wire.feed.Statement.{statement}
 use Rattle.plan.proofs.wire.feed.Tie as tie
 
-abbrev Inv-loop : tie.InvT-loop
-Inv-loop masks₀ charts part x d₀ masks d = (d ≤ charts) × (length masks ≡ length masks₀) × Joined charts d masks₀ masks (λ c d. downIn part c ∩ upIn part d ∩ x)
+-- the first n rows of N charts are fed
+record Fed (N n : ℕ) (s x : Set) (r l m : List ℕ) : Type 0 where
+  in-rows : (c d : ℕ) → c < N → d < n → backAt m c d ≡ fedAt s x r l c d
+  rest : (k : ℕ) → backRow n ≤ k → getD m k 0 ≡ getD l k 0
+  ups : (d : ℕ) → upAt m d ≡ upAt l d
 
-abbrev μ-loop : tie.MeasureT-loop
-μ-loop masks₀ charts part x d₀ masks d = charts - d
+fed-none : (N : ℕ) (s x : Set) (r l : List ℕ) → Fed N 0 s x r l l
+fed-none N s x r l = record { in-rows = λ c d p q. absurd (omega arith); rest = λ k p. refl; ups = λ d. refl }
+
+-- one row more
+module _ (N n : ℕ) (few : N ≤ mostCharts) (s x : Set) (r l m : List ℕ) (h : Fed N n s x r l m) where
+  fed-in : (m′ : List ℕ) (v : Set) → bit s n ≡ true → v ≡ upAt m n
+      → RowAt (backRow n) N (fedRow s (v ∩ x) n r m) m m′ → Fed N (n + 1) s x r l m′
+  fed-in m′ v b e f =
+      record {
+        in-rows = λ c d p q.
+            below-more (λ (d : ℕ). backAt m′ c d ≡ fedAt s x r l c d) n
+            (λ k z. f .below (backCell c k) (omega arith) ∙ h .in-rows c k p z)
+            (f .in-row c p
+            ∙ ap₂ (λ (u w : Set). cond (bit s c) (u ∪ (w ∩ x ∩ getD r c 0)) u) (h .rest (backCell c n) (omega arith)) (e ∙ h .ups n)
+            ∙ sym (ap (λ (t : Bool). cond t (fedRow s (upAt l n ∩ x) n r l c) (backAt l c n)) b))
+            d q;
+        rest = λ k p. f .above k (omega arith) ∙ h .rest k (omega arith);
+        ups = λ d. kept d (decLt d n) ∙ h .ups d;
+      }
+    where
+      kept : (d : ℕ) → Dec (d < n) → upAt m′ d ≡ upAt m d
+      kept d (yes p) = f .below (upCell d) (omega arith)
+      kept d (no p) = f .above (upCell d) (omega arith)
+
+  fed-out : bit s n ≡ false → Fed N (n + 1) s x r l m
+  fed-out b =
+      record {
+        in-rows = λ c d p q.
+            below-more (λ (d : ℕ). backAt m c d ≡ fedAt s x r l c d) n
+            (λ k z. h .in-rows c k p z)
+            (h .rest (backCell c n) (omega arith) ∙ sym (ap (λ (t : Bool). cond t (fedRow s (upAt l n ∩ x) n r l c) (backAt l c n)) b))
+            d q;
+        rest = λ k p. h .rest k (omega arith);
+        ups = h .ups;
+      }
 
 -- nothing is in x
-none : (N : ℕ) (l p : List ℕ) (x : ℕ) → x ≡ 0 → Feeds N l l p x
-none N l p x e c d u v = sets (backAt l c d ∷ downIn p c ∷ upIn p d ∷ x ∷ []) (D ≐ ∅ₑ ∷ []) (A ≐ A ∪ₑ B ∩ₑ C ∩ₑ D) tt e
+nothing : (e b : Bool) (v u x r : Set) → x ≡ 0 → v ≡ cond e (cond b (v ∪ (u ∩ x ∩ r)) v) v
+nothing true true v u x r h = sets (v ∷ u ∷ x ∷ r ∷ []) (C ≐ ∅ₑ ∷ []) (A ≐ A ∪ₑ (B ∩ₑ C ∩ₑ D)) tt h
+nothing true false v u x r h = refl
+nothing false b v u x r h = refl
+
+abbrev Inv-loop : tie.InvT-loop
+Inv-loop masks₀ charts set x down d₀ masks d = (d ≤ charts) × (length masks ≡ length masks₀) × Fed charts d set x down masks₀ masks
+
+abbrev μ-loop : tie.MeasureT-loop
+μ-loop masks₀ charts set x down d₀ masks d = charts - d
 
 returns-empty : tie.Need-returns Inv-loop μ-loop
-returns-empty c = let a = c .before .before .args in none (a .charts) (a .masks .now) (a .part .now) (a .x) (c .if1 .taken)
-
-loop-holds : tie.Need-loop-holds Inv-loop μ-loop
-loop-holds c = (omega arith, refl, joined-none _ _ _)
+returns-empty c =
+    let a = c .before .before .args in
+    record { back-is = λ k d p q. nothing (bit (a .set) d) (bit (a .set) k) _ (upAt (a .masks .now) d) (a .x) (getD (a .down .now) k 0) (c .if1 .taken); up-is = λ d p. refl }
 
 loop-again : tie.Need-loop-again Inv-loop μ-loop
 loop-again c =
-    let f = c .before .before .feed-row in
-    let i = c .before .before .before .before .before .before .loop .inv in
-    let a = c .before .before .before .before .before .before .before .before .before .args in
-    (omega arith, f .kept .0 ∙ i .1, joined-more (a .charts) _ (a .x) (a .part .now) _ _ _ (c .before .before .before .before .before .before .before .before .before .pre .1) (i .2) (f .ensures))
-
-feed-row-requires : tie.Need-feed-row-requires Inv-loop μ-loop
-feed-row-requires c κs =
+    let h = c .before .has in
     let t = c .before .before .before in
+    let l = t .loop in
     let s = t .before .before .before in
-    (omega (arith, t .loop .inv .1, s .pre .0), s .pre .1, omega arith)
+    let a = s .args in
+    let Now : List ℕ → Type 0 = λ m. (length m ≡ length (a .masks .now)) × Fed (a .charts) (l .d + 1) (a .set) (a .x) (a .down .now) (a .masks .now) m in
+    let z : Now (c .if2 .masks) =
+    ⊎-elim
+    (λ w. subst Now (sym (w .7)) (
+      w .4 .kept .0 ∙ l .inv .1,
+      fed-in (a .charts) (l .d) (s .pre .1) (a .set) (a .x) (a .down .now) (a .masks .now) (l .masks) (l .inv .2) _ (w .2 .result)
+          (sym (h .ensures) ∙ w .0 .taken) (w .2 .ensures) (w .4 .ensures),
+    ))
+    (λ w. subst Now (sym (w .1)) (l .inv .1, fed-out (a .charts) (l .d) (s .pre .1) (a .set) (a .x) (a .down .now) (a .masks .now) (l .masks) (l .inv .2) (sym (h .ensures) ∙ w .0 .left)))
+    (c .if2 .came) in
+    (omega arith, z .0, z .1)
 
 returns : tie.Need-returns-2 Inv-loop μ-loop
-returns c k d p q = c .before .loop .inv .2 .in-rows k d p (omega arith)
+returns c =
+    let i = c .before .loop .inv in
+    record { back-is = λ k d p q. i .2 .in-rows k d p (omega arith); up-is = λ d p. i .2 .ups d }
 
 pub feed-spec : {M : Type 1} → statement M
 feed-spec =
@@ -51,11 +107,11 @@ feed-spec =
     Inv-loop
     μ-loop
     returns-empty
-    loop-holds
+    (λ c. (omega arith, refl, fed-none _ _ _ _ _))
     (λ c. omega arith)
-    (λ c. omega arith)
-    (λ c. omega arith)
-    feed-row-requires
+    (λ c κs. omega arith)
+    (λ c κs. let t = c .before .before .before .before in let p = t .before .before .before .pre in (omega (arith, t .loop .inv .1, p .0), omega (arith, p .1)))
+    (λ c κs. let t = c .before .before .before .before .before .before in let p = t .before .before .before .pre in (omega (arith, t .loop .inv .1, p .0), p .1, omega arith))
     (λ c. omega arith)
     (λ c. omega arith)
     loop-again

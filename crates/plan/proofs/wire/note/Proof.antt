@@ -5,7 +5,7 @@ use borrow.Author.Needs.{needs}
 use Rattle.meaning.specs.Numbers.{mostCharts}
 use Rattle.meaning.specs.File.{fileAt}
 use Rattle.nesting.proofs.Records.{is-node}
-use Rattle.plan.proofs.Wiring.{below-charts}
+use Rattle.plan.proofs.Nodes.{below-charts}
 use Rattle.plan.proofs.Noted.{notes-none, notes-chart}
 use Rattle.plan.proofs.wire.note.Statement.{statement}
 use Rattle.plan.proofs.wire.note.Tie as tie
@@ -15,7 +15,7 @@ in-room : (c : tie.After-struct-known2) → c .before .before .before .before .n
 in-room c =
     let p = c .before .before .before .before .before .before .before .before .pre in
     let e = c .before .before .if1 .taken in
-    let h = below-charts (p .0) (p .1) (c .before .before .before .before .node-at .ensures) (λ z. omega arith) (λ z. omega arith) in
+    let h = below-charts (p .0) (p .1) (c .before .before .before .before .node-at .ensures) e in
     omega (arith, p .0 .sized .charts)
 
 returns : tie.Need-returns
