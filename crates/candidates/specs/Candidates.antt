@@ -14,7 +14,7 @@ use Rattle.meaning.specs.Count.{tally, one}
 use Rattle.meaning.specs.Meaning.{Set, same, Chart}
 use Rattle.meaning.specs.File.{chartOf}
 use Rattle.meaning.specs.Check.{leaving}
-use Rattle.wiring.specs.Wire.{join}
+use Rattle.meaning.specs.Rewriting.{unionUpTo}
 use Rattle.wiring.specs.Sure.{sureOf, sureIn}
 use Rattle.wiring.specs.Hunt.{mayOf}
 use Rattle.cells.specs.Table.{SameWiring, masksFor, backAt, masterFrom, stateFrom, smallSize, stateAt}
@@ -101,7 +101,7 @@ abbrev pub RaisedBy : Shape → List ℕ → List ℕ → List ℕ → ℕ → L
 RaisedBy n m s u k base lows =
     (c : ℕ) → c < mostCharts
     → getD lows c 0
-    ≡ getD base c 0 ∪ join k (λ e. sureAt s e (sureIn (same (n .edition) stayEdition) (getD u e 0)) ∩ backAt m c e)
+    ≡ getD base c 0 ∪ unionUpTo k (λ e. sureAt s e (sureIn (same (n .edition) stayEdition) (getD u e 0)) ∩ backAt m c e)
 
 -- the first k charts have their candidates
 abbrev pub UntilChart : Shape → List ℕ → List ℕ → List ℕ → List ℕ → List ℕ → List ℕ → List ℕ → ℕ → List ℕ → List ℕ

@@ -263,7 +263,7 @@ rewriteTests F =
 -- ── a file in bytes ──
 
 -- f 0 ++ f 1 ++ .. ++ f (n - 1)
-unfoldable pub inTurn : ℕ → (ℕ → List ℕ) → List ℕ
+unfoldable pub inTurn : {A : Type 0} → ℕ → (ℕ → List A) → List A
 inTurn zero f = []
 inTurn (suc n) f = inTurn n f ++ f n
 

@@ -8,6 +8,8 @@ ghost use Rattle.nesting.specs.Known.{Wirable};
 ghost use Rattle.nesting.specs.Nearest.{masterBy, stateBy, Right, Enclosers, Seeds, Seeded, Hands};
 use layout::body::Shape;
 use layout::limits;
+use layout::record::COMPOSES;
+use layout::record::HOLDS;
 use layout::record::Slave;
 
 // The number of no slave and of no chart.
@@ -33,13 +35,13 @@ fn hand(n: Shape, body: &[u8], j: usize, near: &mut [u8])
     ensures { λ _. ⌜ Hands (fileAt n (now (body .entry))) j (now (near .entry)) (now (near .exit)) ⌝ }
 {
     let node = layout::body::node_at(n, body, j);
-    if node.kind == 0 {
+    if node.kind == HOLDS {
         return;
     }
     let i = near[j];
     let a = node.a as usize;
     near[a] = i;
-    if node.kind == 1 {
+    if node.kind == COMPOSES {
         let b = node.b as usize;
         near[b] = i;
     }

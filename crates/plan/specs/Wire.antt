@@ -3,7 +3,7 @@
 use mathlib.Core.Path.{_≡_}
 use mathlib.Core.Bool.{Bool, _&&_, _||_, cond}
 use mathlib.Core.List.{List}
-use Prim.Native.Nat.{ℕ, _+_, _≤_, _<_}
+use Prim.Native.Nat.{ℕ, _<_}
 use lib.ListN.{length, getD, set}
 use Rattle.signals.specs.Mask.{_∪_, _∩_, _∖_, bit}
 use Rattle.meaning.specs.Numbers.{mostCharts}
@@ -18,13 +18,6 @@ pub mod Laws
 -- all masks are empty
 abbrev pub Blank : List ℕ → Type 0
 Blank l = (k : ℕ) → getD l k 0 ≡ 0
-
--- m is l with f in the n masks from `at` on
-pub record RowAt (at n : ℕ) (f : ℕ → Set) (l m : List ℕ) : Type 0 where
-  pub in-row : (c : ℕ) → c < n → getD m (at + c) 0 ≡ f c
-  pub below : (k : ℕ) → k < at → getD m k 0 ≡ getD l k 0
-  pub above : (k : ℕ) → at + n ≤ k → getD m k 0 ≡ getD l k 0
-  pub long : length m ≡ length l
 
 -- ── a part with the charts s; N is the number of all charts ──
 

@@ -9,7 +9,8 @@ ghost use Rattle.meaning.specs.File.{treeOf, fileAt};
 ghost use Rattle.cells.specs.Table.{backRow, masksFor, smallSize};
 ghost use Rattle.nesting.specs.Known.{Wirable};
 ghost use Rattle.nesting.specs.Nearest.{Right};
-ghost use Rattle.plan.specs.Wire.{Blank, RowAt, fedRow, Feeds, Hides, Inside, Charted, ChartsOf, Sets, WiredTo};
+ghost use Rattle.layout.specs.Row.{RowAt};
+ghost use Rattle.plan.specs.Wire.{Blank, fedRow, Feeds, Hides, Inside, Charted, ChartsOf, Sets, WiredTo};
 ghost use Rattle.plan.specs.Noted.{Notes, NotedNone, NearestIn};
 ghost use Rattle.plan.specs.Wired.{Wired};
 use cells::CHARTS;
@@ -17,6 +18,8 @@ use cells::masks;
 use cells::small;
 use layout::body::Shape;
 use layout::limits::NODES;
+use layout::record::COMPOSES;
+use layout::record::HOLDS;
 use nesting::NONE;
 
 // Each chart of a set is offered of chart d's action what is in m and gets down to it. Most rows have nothing to feed.
@@ -142,11 +145,11 @@ fn wire_node(
         × WiredTo (fileAt n (now (body .entry))) (j + 1) (now (down .exit)) (now (masks .exit)) ⌝ }
 {
     let node = layout::body::node_at(n, body, j);
-    if node.kind == 0 {
+    if node.kind == HOLDS {
         return wire_chart(n, body, node.a, sets, masks, down);
     }
     let a = node.a as usize;
-    if node.kind == 1 {
+    if node.kind == COMPOSES {
         let b = node.b as usize;
         let set = wide(sets[a]) | wide(sets[b]);
         feed(masks, n.charts, set, node.x, down);
@@ -163,7 +166,7 @@ fn note(n: Shape, body: &[u8], j: usize, near: &[u8], small: &mut [u8])
     ensures { λ _. ⌜ Notes (fileAt n (now (body .entry))) j (now (small .entry)) (now (small .exit)) ⌝ }
 {
     let node = layout::body::node_at(n, body, j);
-    if node.kind == 0 {
+    if node.kind == HOLDS {
         let slave = nesting::enclosing(n, body, j, near);
         let c = node.a as usize;
         small::put_nearest(small, c, slave.chart, slave.state);

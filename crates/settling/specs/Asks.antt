@@ -3,7 +3,7 @@
 use mathlib.Core.List.{List}
 use Prim.Native.Nat.{ℕ, _+_}
 use Rattle.signals.specs.Mask.{_∪_, _∩_, _∖_}
-use Rattle.wiring.specs.Wire.{join}
+use Rattle.meaning.specs.Rewriting.{unionUpTo}
 use Rattle.settling.specs.declared.Guard.{Guard}
 use Rattle.cells.specs.Table.{backAt, aheadAt}
 use Rattle.cells.specs.Trail.{lowIn, neededIn, barredIn}
@@ -32,4 +32,4 @@ module _ (m w : List ℕ) (k : ℕ) where
   bansIn d = bans (neededIn w d) (barredIn w d) (lowIn w k d) (aheadAt m (k + 1) d) (backAt m d k)
 
   unfoldable pub asksOf : Guard
-  asksOf = record { needed = join k wantsIn; barred = join k bansIn }
+  asksOf = record { needed = unionUpTo k wantsIn; barred = unionUpTo k bansIn }

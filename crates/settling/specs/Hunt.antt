@@ -7,6 +7,7 @@ use Prim.Native.Nat.{ℕ, zero, suc, _+_, _-_, _*_, _≤_, _<_}
 use lib.Dec.{ltb}
 use lib.ListN.{length, getD, replicate}
 use Rattle.signals.specs.Mask.{_∪_, _∩_, within, apart}
+use Rattle.layout.specs.Row.{RowAt}
 use Rattle.meaning.specs.Numbers.{mostCharts, noStep, noPlace}
 use Rattle.meaning.specs.Meaning.{same, Outcome, eqList, Answer, refused, given}
 use Rattle.meaning.specs.Calls.{made}
@@ -16,12 +17,6 @@ use Rattle.cells.specs.Trail.{nextIn, placeIn}
 use Rattle.settling.specs.Trail.{Trail, trailIn, Keeps}
 use Rattle.settling.specs.declared.Found.{Found}
 pub mod Laws
-
-module _ {A : Type 0} where
-  -- f 0 ++ f 1 ++ .. ++ f (n - 1)
-  unfoldable pub each : ℕ → (ℕ → List A) → List A
-  each zero f = []
-  each (suc n) f = each n f ++ f n
 
 module _ (m s : List ℕ) where
   -- settled chart d is active
@@ -142,11 +137,8 @@ pub record Held (f g : List ℕ) : Type 0 where
   pub output : length g ≡ 1
 
 -- l′ is l with the row r from `at` on
-pub record BytesPut (at : ℕ) (r l l′ : List ℕ) : Type 0 where
-  pub row : (c : ℕ) → c < mostCharts → getD l′ (at + c) 0 ≡ getD r c 0
-  pub below : (i : ℕ) → i < at → getD l′ i 0 ≡ getD l i 0
-  pub above : (i : ℕ) → at + mostCharts ≤ i → getD l′ i 0 ≡ getD l i 0
-  pub long : length l′ ≡ length l
+abbrev pub BytesPut : ℕ → List ℕ → List ℕ → List ℕ → Type 0
+BytesPut at r l l′ = RowAt at mostCharts (λ c. getD r c 0) l l′
 
 -- chart k takes its candidate v: the beginning of k charts that stands in w and b stays, and in w′ and b′ stands that of one chart more
 pub record Takes (m s : List ℕ) (k v : ℕ) (w b w′ b′ : List ℕ) : Type 0 where

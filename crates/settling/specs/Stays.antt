@@ -15,7 +15,8 @@ use Rattle.meaning.specs.Laws.Bools.{every}
 use Rattle.cells.specs.Table.{aheadAt, countAt}
 use Rattle.cells.specs.Triggers.{triggerNeeded, triggerBarred, toldAt}
 use Rattle.settling.specs.Trail.{Trail, trailIn, Keeps}
-use Rattle.settling.specs.Hunt.{each, wakes, taken, idled, rested, fineAt, over, foundIn, Held}
+use Rattle.meaning.specs.Rewriting.{inTurn}
+use Rattle.settling.specs.Hunt.{wakes, taken, idled, rested, fineAt, over, foundIn, Held}
 pub mod Laws
 
 -- ── what triggers a chart: all transitions from its present state, also those that are no candidates ──
@@ -59,7 +60,7 @@ module _ (m s g y : List ℕ) where
   huntsBoth zero k t = record { output = t .output; next = t .next ++ replicate (mostCharts - k) 0; places = t .places ++ replicate (mostCharts - k) noPlace } ∷ []
   huntsBoth (suc n) k t =
       cond (wakes m s t k)
-      (each (countAt s k) (λ v. cond (fineAt m s (taken m s t k v) k && quietAt (taken m s t k v) k) (huntsBoth n (suc k) (taken m s t k v)) [])
+      (inTurn (countAt s k) (λ v. cond (fineAt m s (taken m s t k v) k && quietAt (taken m s t k v) k) (huntsBoth n (suc k) (taken m s t k v)) [])
       ++ cond (staysAt g y k) (cond (fineAt m s (stayed m s t k) k && quietAt (stayed m s t k) k) (huntsBoth n (suc k) (stayed m s t k)) []) [])
       (cond (fineAt m s (rested m s t k) k && quietAt (rested m s t k) k) (huntsBoth n (suc k) (rested m s t k)) [])
 

@@ -8,15 +8,16 @@ use Prim.Native.Nat.{ℕ, zero, suc, _+_, _*_, _-_, _≤_, _<_}
 use lib.Dec.{ltb}
 use lib.ListN.{length, getD, set}
 use Rattle.signals.specs.Mask.{_∪_, _∩_, bit}
+use Rattle.layout.specs.Row.{RowAt}
 use Rattle.layout.specs.declared.record.Transition.{Transition}
 use Rattle.meaning.specs.Numbers.{mostCharts, mostFromState}
 use Rattle.meaning.specs.Count.{anyUpTo}
 use Rattle.meaning.specs.Meaning.{Set, same, Chart, Move, noMove, takes, stay, met?, pick, actionOf}
-use Rattle.wiring.specs.Wire.{join}
+use Rattle.meaning.specs.Rewriting.{unionUpTo}
 use Rattle.wiring.specs.Dropped.{ahead, test}
 use Rattle.wiring.specs.Sure.{sureOf, sureIn}
 use Rattle.wiring.specs.Hunt.{mayOf}
-use Rattle.cells.specs.Table.{SameWiring, SameLists, aheadCell, neededAt, barredAt, actionAt, backAt, aheadAt, putMasks, placeFrom, countCell, smallSize, toAt, countAt, masterAt, stateAt, putSmall}
+use Rattle.cells.specs.Table.{SameWiring, SameLists, block, neededAt, barredAt, actionAt, backAt, aheadAt, putMasks, placeFrom, countCell, smallSize, toAt, countAt, masterAt, stateAt, putSmall}
 use Rattle.settling.specs.Stays.{staysAt}
 use Rattle.tables.specs.Filled.{Listed, mayAt}
 pub mod Laws
@@ -42,7 +43,7 @@ lastsBy low own others shut t =
 
 -- what the charts other than c might put in for it, each of its `may`
 unfoldable pub othersAt : List ℕ → ℕ → (ℕ → Set) → ℕ → Set
-othersAt m N may c = join N (λ e. cond (same e c) 0 (may e) ∩ backAt m c e)
+othersAt m N may c = unionUpTo N (λ e. cond (same e c) 0 (may e) ∩ backAt m c e)
 
 -- what chart e surely puts out: u, if it stands in no slave; of one that may stay, u is nothing (`sureIn`)
 unfoldable pub sureAt : List ℕ → ℕ → Set → Set
@@ -93,7 +94,7 @@ opening E cfg shuts keep c v = keep c v && opensBy (getD shuts c 0) (cfg c) (pic
 module _ (E : ℕ → Chart) (cfg : ℕ → ℕ) where
   -- lows has what base has, and what the first k charts surely put in
   abbrev pub Raised : ℕ → List ℕ → List ℕ → List ℕ → List ℕ → Type 0
-  Raised k m s base lows = (c : ℕ) → c < mostCharts → getD lows c 0 ≡ getD base c 0 ∪ join k (λ e. sureAt s e (sureIn (E e .stays) (sureOf (E e .transitions) (cfg e))) ∩ backAt m c e)
+  Raised k m s base lows = (c : ℕ) → c < mostCharts → getD lows c 0 ≡ getD base c 0 ∪ unionUpTo k (λ e. sureAt s e (sureIn (E e .stays) (sureOf (E e .transitions) (cfg e))) ∩ backAt m c e)
 
 module _ (E : ℕ → Chart) (cfg : ℕ → ℕ) (N : ℕ) (lows shuts : List ℕ) where
   -- the move of chart c at place v is kept
@@ -121,10 +122,8 @@ module _ (E : ℕ → Chart) (cfg : ℕ → ℕ) (N : ℕ) (lows shuts : List �
 -- ── what later charts may put out ──
 
 -- row k of the first n charts is w, the rest as it was
-pub record AheadRow (k : ℕ) (w : ℕ → Set) (n : ℕ) (m₀ m : List ℕ) : Type 0 where
-  pub row : (c : ℕ) → c < n → aheadAt m k c ≡ w c
-  pub rest : (i : ℕ) → ((c : ℕ) → c < n → i ≢ aheadCell k c) → getD m i 0 ≡ getD m₀ i 0
-  pub masks : length m ≡ length m₀
+abbrev pub AheadRow : ℕ → (ℕ → Set) → ℕ → List ℕ → List ℕ → Type 0
+AheadRow k w n m₀ m = RowAt (block * k) n w m₀ m
 
 -- row k from row k + 1: chart k's candidates put out u
 unfoldable pub aheadBy : List ℕ → ℕ → Set → ℕ → Set

@@ -10,7 +10,8 @@ use Rattle.signals.specs.Mask.{_∪_, _∩_}
 use Rattle.layout.specs.declared.record.Transition.{Transition}
 use Rattle.meaning.specs.Numbers.{mostCharts}
 use Rattle.meaning.specs.Meaning.{Set, Chart, Tree, noMove, takes, nth, lastPlace, untriggered, Answer, refused, given}
-use Rattle.wiring.specs.Wire.{join, down, up, back}
+use Rattle.meaning.specs.Rewriting.{unionUpTo}
+use Rattle.wiring.specs.Wire.{down, up, back}
 use Rattle.wiring.specs.Sure.{surely}
 use Rattle.wiring.specs.Dropped.{ahead}
 use Rattle.cells.specs.Table.{neededAt, barredAt, actionAt, backAt, aheadAt, upAt, toAt, countAt, masterAt, slaveStateAt, stateAt, placeAt}
@@ -38,7 +39,7 @@ module _ (m s : List ℕ) where
 
   -- what chart c's candidates put out, all together
   unfoldable pub mayAt : ℕ → Set
-  mayAt c = join (countAt s c) (actionAt m c)
+  mayAt c = unionUpTo (countAt s c) (actionAt m c)
 
 module _ (E : ℕ → Chart) (state : ℕ → ℕ) (cfg : ℕ → ℕ) (N : ℕ) (enc : ℕ → Option ℕ) (sc : ℕ → ℕ) (t : Tree) where
   -- the wiring of the tree t of N charts; the masters and states of the nearest enclosing slaves; the present states
@@ -65,7 +66,7 @@ module _ (E : ℕ → Chart) (cfg : ℕ → ℕ) (N : ℕ) where
 module _ (E : ℕ → Chart) (cfg : ℕ → ℕ) (N : ℕ) (enc : ℕ → Option ℕ) (t : Tree) (inp : Set) where
   -- what each chart is surely offered before any is settled: of the input, and of what charts surely put out
   abbrev pub Lows : List ℕ → Type 0
-  Lows lows = (c : ℕ) → c < N → getD lows c 0 ≡ inp ∩ down t c ∪ join N (λ e. surely enc E cfg e ∩ back E t c e)
+  Lows lows = (c : ℕ) → c < N → getD lows c 0 ≡ inp ∩ down t c ∪ unionUpTo N (λ e. surely enc E cfg e ∩ back E t c e)
 
 -- the answer with the states of N charts
 unfoldable pub trimmed : ℕ → Answer → Answer

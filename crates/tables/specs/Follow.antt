@@ -20,7 +20,8 @@ use Rattle.meaning.specs.Laws.Bools.{same-refl, same→≡, same-≢, and-i, ev
 use Rattle.meaning.specs.Laws.Guards.{met-is}
 use Rattle.meaning.specs.Laws.Editions.{stay-last, stay-place}
 use Rattle.meaning.specs.Laws.Choices.{place-own, upd-at, upd-off, length-nexts, getD-nexts, places-upd}
-use Rattle.wiring.specs.Wire.{join, down, up, back, offered, awakeBy, Small, out-wired}
+use Rattle.meaning.specs.Rewriting.{unionUpTo}
+use Rattle.wiring.specs.Wire.{down, up, back, offered, awakeBy, Small, out-wired}
 use Rattle.wiring.specs.Wired.{awake, awake-by, Stands, offer}
 use Rattle.wiring.specs.Dropped.{ahead, test, sures, low, high, passes, join-cong}
 use Rattle.wiring.specs.Hunt.{awake-below, every-cong}
@@ -98,7 +99,7 @@ module _ (E : ℕ → Chart) (state : ℕ → ℕ) (cfg : ℕ → ℕ) (N : ℕ)
     pub lows : (c : ℕ) → c < N → getD (t .low) c 0 ≡ lowOf ch k c
     pub shows : (d : ℕ) → d < k → Shows cfg d (isAwake m s t d) (getD (t .needed) d 0) (getD (t .barred) d 0) (getD (t .next) d 0) (moves E ch d)
     pub active : (d : ℕ) → d < k → isAwake m s t d ≡ awake enc sc state cfg (moves E ch) d
-    pub output : t .output ≡ join k (λ e. actionOf (moves E ch e) ∩ up tree e)
+    pub output : t .output ≡ unionUpTo k (λ e. actionOf (moves E ch e) ∩ up tree e)
     pub all-needed : length (t .needed) ≡ k
     pub all-barred : length (t .barred) ≡ k
     pub all-next : length (t .next) ≡ k
@@ -149,11 +150,11 @@ module _ (E : ℕ → Chart) (state : ℕ → ℕ) (cfg : ℕ → ℕ) (N : ℕ)
     -- ── what a chart is surely offered ──
 
     low-upd : (ch : ℕ → ℕ) (k v c : ℕ) → lowOf (upd ch k v) (suc k) c ≡ lowOf ch k c ∪ actionOf (pick (E k) v) ∩ back E tree c k
-    unfolding low offer offered join
+    unfolding low offer offered unionUpTo
     low-upd ch k v c = ap₂ (λ j a. sure c ∪ (inp ∩ down tree c ∪ (j ∪ actionOf a ∩ back E tree c k)))
         (join-cong k (λ e. actionOf (moves E (upd ch k v) e) ∩ back E tree c e) (λ e. actionOf (moves E ch e) ∩ back E tree c e) (λ e l. ap (λ a. actionOf a ∩ back E tree c e) (moves-off E ch k v e l)))
         (moves-on E ch k v)
-        ∙ sets (sure c ∷ (inp ∩ down tree c) ∷ join k (λ e. actionOf (moves E ch e) ∩ back E tree c e) ∷ (actionOf (pick (E k) v) ∩ back E tree c k) ∷ []) [] (A ∪ₑ (B ∪ₑ (C ∪ₑ D)) ≐ A ∪ₑ (B ∪ₑ C) ∪ₑ D) tt
+        ∙ sets (sure c ∷ (inp ∩ down tree c) ∷ unionUpTo k (λ e. actionOf (moves E ch e) ∩ back E tree c e) ∷ (actionOf (pick (E k) v) ∩ back E tree c k) ∷ []) [] (A ∪ₑ (B ∪ₑ (C ∪ₑ D)) ≐ A ∪ₑ (B ∪ₑ C) ∪ₑ D) tt
       where
         sure : ℕ → Set
         sure = sures E state cfg N enc sc tree inp (mayAt m s)
@@ -166,7 +167,7 @@ module _ (E : ℕ → Chart) (state : ℕ → ℕ) (cfg : ℕ → ℕ) (N : ℕ)
         → ((c : ℕ) → c < N → getD (t′ .low) c 0 ≡ getD (t .low) c 0 ∪ actionOf (pick (E k) v) ∩ back E tree c k)
         → t′ .output ≡ t .output ∪ actionOf (pick (E k) v) ∩ up tree k
         → same a 1 ≡ wakes m s t k → Shows cfg k (same a 1) n r x (pick (E k) v) → Stayed g y k p (pick (E k) v) → Follows t′ (suc k) (upd ch k v)
-    unfolding join
+    unfolding unionUpTo
     settled t t′ k ch v a n r x pl f l e₁ e₂ e₃ e₄ e₅ le oe we sh sp =
         record {
           lows = λ c p. le c p ∙ ap (λ z. z ∪ actionOf (pick (E k) v) ∩ back E tree c k) (f .lows c p) ∙ sym (low-upd ch k v c);

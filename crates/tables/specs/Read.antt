@@ -6,7 +6,8 @@ use Prim.Native.Nat.{ℕ, _<_}
 use Rattle.signals.specs.Mask.{_∪_, _∩_, Within}
 use Rattle.layout.specs.declared.record.Transition.{Transition}
 use Rattle.meaning.specs.Meaning.{Set, ∅, same, Chart, Tree}
-use Rattle.wiring.specs.Wire.{full, join, up, back}
+use Rattle.meaning.specs.Rewriting.{unionUpTo}
+use Rattle.wiring.specs.Wire.{full, up, back}
 use Rattle.cells.specs.Table.{backAt, upAt}
 pub mod Laws
 
@@ -20,7 +21,7 @@ asked (t ∷ ts) q = asked ts q ∪ cond (same (t .from) q) (t .needed ∪ t .ba
 module _ (E : ℕ → Chart) (cfg : ℕ → ℕ) (N : ℕ) (t : Tree) where
   -- what of chart k's action comes out of the whole, or gets to a chart that looks for it
   unfoldable pub readOf : ℕ → Set
-  readOf k = up t k ∪ join N (λ c. back E t c k ∩ asked (E c .transitions) (cfg c))
+  readOf k = up t k ∪ unionUpTo N (λ c. back E t c k ∩ asked (E c .transitions) (cfg c))
 
   -- r has all of it, for each chart
   abbrev pub Reads : (ℕ → Set) → Type 0
@@ -28,7 +29,7 @@ module _ (E : ℕ → Chart) (cfg : ℕ → ℕ) (N : ℕ) (t : Tree) where
 
 -- the same by the tables, where ask has what each chart looks for
 unfoldable pub readAt : List ℕ → ℕ → (ℕ → Set) → ℕ → Set
-readAt m N ask k = upAt m k ∪ join N (λ c. backAt m c k ∩ ask c)
+readAt m N ask k = upAt m k ∪ unionUpTo N (λ c. backAt m c k ∩ ask c)
 
 -- ── with nothing else in the actions ──
 

@@ -19,7 +19,8 @@ use Rattle.meaning.specs.Calls.{allPlaces}
 use Rattle.meaning.specs.File.{File, wholeOf}
 use Rattle.meaning.specs.Laws.Names.{kap}
 use Rattle.meaning.specs.Laws.Choices.{upto-first, length-nexts, length-places}
-use Rattle.wiring.specs.Wire.{join, down, back, offered, Small}
+use Rattle.meaning.specs.Rewriting.{unionUpTo}
+use Rattle.wiring.specs.Wire.{down, back, offered, Small}
 use Rattle.wiring.specs.Wired.{awake, Stands, offer}
 use Rattle.wiring.specs.Sure.{surely, open?}
 use Rattle.wiring.specs.Opened.{nth-near, nth-behind}
@@ -28,7 +29,8 @@ use Rattle.wiring.specs.Hunt.{opens, fine, hunt, hunted-all, mayOf, may-of, beh
 use Rattle.wiring.specs.Filter.{lasts, kept}
 use Rattle.cells.specs.Table.{actionAt, countAt, placeAt}
 use Rattle.settling.specs.Trail.{Trail, beginning}
-use Rattle.settling.specs.Hunt.{each, wakes, taken, rested, fineAt, over, nothing}
+use Rattle.meaning.specs.Rewriting.{inTurn}
+use Rattle.settling.specs.Hunt.{wakes, taken, rested, fineAt, over, nothing}
 use Rattle.settling.specs.Stays.{staysAt, stayed, quietAt, huntsBoth}
 use Rattle.settling.specs.Hunt.Laws.{among-each}
 use Rattle.tables.specs.Filled.{Is, Listed, start, other, fails, again, fresh, mayAt, Rows, Candidates, Stayers, Lows, answerOf}
@@ -84,7 +86,7 @@ module _ (m s : List ℕ) (c : ℕ) (ts : List Transition) (q : ℕ) (keep : ℕ
       go true e = f (same→≡ u p e)
       go false e = g (let z : u ≢ p = λ w. false≢true (sym e ∙ rw w (same-refl p)) in omega arith)
 
-  is-in : (p : ℕ) (tr : Transition) → nth noMove ts p ≡ takes tr → u ≡ p → (v n : ℕ) → v < n → Is m s c v tr → Within (actionOf (nth noMove ts u)) (join n (actionAt m c))
+  is-in : (p : ℕ) (tr : Transition) → nth noMove ts p ≡ takes tr → u ≡ p → (v n : ℕ) → v < n → Is m s c v tr → Within (actionOf (nth noMove ts u)) (unionUpTo n (actionAt m c))
   unfolding actionOf
   is-in p tr e z v n l i = rw (z, e, ← i .action) (join-at n (actionAt m c) v l)
 
@@ -93,14 +95,14 @@ module _ (m s : List ℕ) (c : ℕ) (ts : List Transition) (q : ℕ) (keep : ℕ
   from-there true x tr h = same→≡ (tr .from) x h
   from-there false x tr h = absurd (false≢true h)
 
-  listed-in : {p n : ℕ} → Listed m s c ts q keep p n → u < p → Within (actionOf (nth noMove ts u)) (join n (actionAt m c))
-  unfolding join
+  listed-in : {p n : ℕ} → Listed m s c ts q keep p n → u < p → Within (actionOf (nth noMove ts u)) (unionUpTo n (actionAt m c))
+  unfolding unionUpTo
   listed-in start l = absurd (omega arith)
   listed-in (other {p = p} {n = n} r tr e h) l = or-earlier p _ l (λ z. absurd (h (from-there a q tr (rw (z, e) at o)))) (λ w. listed-in r w)
   listed-in (fails {p = p} {n = n} r h) l = or-earlier p _ l (λ z. absurd (false≢true (sym h ∙ ap (λ y. keep (suc y)) (sym z) ∙ kp))) (λ w. listed-in r w)
   listed-in (again {p = p} {n = n} r tr e v b i) l = or-earlier p _ l (λ z. is-in p tr e z v n b i) (λ w. listed-in r w)
   listed-in (fresh {p = p} {n = n} r tr e h b i o) l = or-earlier p _ l (λ z. is-in p tr e z n (suc n) (omega arith) i)
-      (λ w. sets (actionOf (nth noMove ts u) ∷ join n (actionAt m c) ∷ actionAt m c n ∷ []) (A ⊑ B ∷ []) (A ⊑ B ∪ₑ C) tt (listed-in r w))
+      (λ w. sets (actionOf (nth noMove ts u) ∷ unionUpTo n (actionAt m c) ∷ actionAt m c n ∷ []) (A ⊑ B ∷ []) (A ⊑ B ∪ₑ C) tt (listed-in r w))
 
 -- the place of a candidate is one of the transitions that were passed
 listed-place : (m s : List ℕ) (c : ℕ) (ts : List Transition) (q : ℕ) (keep : ℕ → Bool) {p n : ℕ} → Listed m s c ts q keep p n → (v : ℕ) → v < n → placeAt s c v < p
@@ -189,15 +191,15 @@ module _ (E : ℕ → Chart) (state : ℕ → ℕ) (cfg : ℕ → ℕ) (N : ℕ)
           g : Follow (taken m s t k v) (suc k) (upd ch k (suc p))
           g = taken-follows E state cfg N enc sc tree inp m s g₀ y st ro t k ch v p tr f here w (at-list p tr q) i (same-≢ (placeAt s k v) stayPlace (λ z. omega arith))
 
-      walk : {p c : ℕ} → Listed m s k ts (cfg k) (keep k) p c → Padded N (Place t k ch) (each c (λ v. at-trail n k (taken m s t k v))) (upto p (at-place n k ch))
-      unfolding each upto open? pick
+      walk : {p c : ℕ} → Listed m s k ts (cfg k) (keep k) p c → Padded N (Place t k ch) (inTurn c (λ v. at-trail n k (taken m s t k v))) (upto p (at-place n k ch))
+      unfolding inTurn upto open? pick
       walk start = rw (shut n k ch zero (opened zero false refl)) (padded-none N)
       walk (other {p = p} {n = c} r tr q h) = padded-nothing N _ _ _ (walk r) (shut n k ch (suc p) (opened (suc p) false (from-here p tr q false (same-≢ (tr .from) (cfg k) h))))
       walk (fails {p = p} {n = c} r h) = padded-nothing N _ _ _ (walk r) (unkept n k ch (suc p) h)
       walk (again {p = p} {n = c} r tr q v l i) = go (walk r) (keep k (suc p)) refl (same (tr .from) (cfg k)) refl
         where
-          go : Padded N (Place t k ch) (each c (λ v. at-trail n k (taken m s t k v))) (upto p (at-place n k ch)) → (a : Bool) → keep k (suc p) ≡ a → (b : Bool) → same (tr .from) (cfg k) ≡ b
-              → Padded N (Place t k ch) (each c (λ v. at-trail n k (taken m s t k v))) (upto p (at-place n k ch) ++ at-place n k ch (suc p))
+          go : Padded N (Place t k ch) (inTurn c (λ v. at-trail n k (taken m s t k v))) (upto p (at-place n k ch)) → (a : Bool) → keep k (suc p) ≡ a → (b : Bool) → same (tr .from) (cfg k) ≡ b
+              → Padded N (Place t k ch) (inTurn c (λ v. at-trail n k (taken m s t k v))) (upto p (at-place n k ch) ++ at-place n k ch (suc p))
           go x false y b z = padded-nothing N _ _ _ x (unkept n k ch (suc p) y)
           go x true y false z = padded-nothing N _ _ _ x (shut n k ch (suc p) (opened (suc p) false (from-here p tr q false z)))
           go x true y true z = padded-again N _ _ (at-trail n k (taken m s t k v)) (at-place n k ch (suc p)) x
@@ -213,7 +215,7 @@ module _ (E : ℕ → Chart) (state : ℕ → ℕ) (cfg : ℕ → ℕ) (N : ℕ)
       stayTrail = cond (staysAt g₀ y k) (at-trail n k (stayed m s t k)) []
 
       abbrev Candidated : ℕ → Type 0
-      Candidated c = Padded N (Place t k ch) (each c (λ v. at-trail n k (taken m s t k v)) ++ stayTrail) (upto (lastPlace (E k)) (at-place n k ch))
+      Candidated c = Padded N (Place t k ch) (inTurn c (λ v. at-trail n k (taken m s t k v)) ++ stayTrail) (upto (lastPlace (E k)) (at-place n k ch))
 
       last : (c : ℕ) → Listed m s k ts (cfg k) (keep k) (length ts) c → Candidated c
       unfolding stayTrail
@@ -235,8 +237,8 @@ module _ (E : ℕ → Chart) (state : ℕ → ℕ) (cfg : ℕ → ℕ) (N : ℕ)
           one-more q = upto-last (at-place n k ch) (length ts) (lastPlace (E k)) (places-two (E k) q)
 
           go : (x : Bool) → E k .stays ≡ x → Candidated c
-          go false q = rw (now-at false q, append-nil (each c (λ v. at-trail n k (taken m s t k v))), places-one (E k) q) (walk r)
-          go true q = subst (Padded N (Place t k ch) (each c (λ v. at-trail n k (taken m s t k v)) ++ stayTrail)) (sym (one-more q))
+          go false q = rw (now-at false q, append-nil (inTurn c (λ v. at-trail n k (taken m s t k v))), places-one (E k) q) (walk r)
+          go true q = subst (Padded N (Place t k ch) (inTurn c (λ v. at-trail n k (taken m s t k v)) ++ stayTrail)) (sym (one-more q))
               (padded-append N _ _ stayTrail (at-place n k ch (lastPlace (E k))) (walk r) (stays-on q (keep k (lastPlace (E k))) refl))
 
     -- an inactive chart takes none
@@ -265,7 +267,7 @@ module _ (E : ℕ → Chart) (state : ℕ → ℕ) (cfg : ℕ → ℕ) (N : ℕ)
       e′ = omega arith
 
       go : (b : Bool) → wakes m s t k ≡ b → ((t′ : Trail) (ch′ : ℕ → ℕ) → n + suc k ≡ N → Follow t′ (suc k) ch′ → Padded N (Place t′ (suc k) ch′) (huntsBoth m s g₀ y n (suc k) t′) (huntOf n (suc k) ch′))
-          → Padded N (Place t k ch) (cond (wakes m s t k) (each (countAt s k) (λ v. at-trail n k (taken m s t k v)) ++ cond (staysAt g₀ y k) (at-trail n k (stayed m s t k)) []) (at-trail n k (rested m s t k))) (upto (lastPlace (E k)) (at-place n k ch))
+          → Padded N (Place t k ch) (cond (wakes m s t k) (inTurn (countAt s k) (λ v. at-trail n k (taken m s t k v)) ++ cond (staysAt g₀ y k) (at-trail n k (stayed m s t k)) []) (at-trail n k (rested m s t k))) (upto (lastPlace (E k)) (at-place n k ch))
       go true w ih = unfold stayTrail in rw w (last n k t ch e′ f (λ t′ ch′. ih t′ ch′ e′) w (countAt s k) (ca .listed k (omega arith)))
       go false w ih = rw w (rest n k t ch e′ f (λ t′ ch′. ih t′ ch′ e′) w (idle k))
 
@@ -273,11 +275,11 @@ module _ (E : ℕ → Chart) (state : ℕ → ℕ) (cfg : ℕ → ℕ) (N : ℕ)
   unfolding beginning low sures offer offered
   begins lows h =
       record {
-        lows = λ c l. h c l ∙ sets ((inp ∩ down tree c) ∷ join N (λ e. surely enc E cfg e ∩ back E tree c e) ∷ join zero (λ e. actionOf (moves E (λ c. zero) e) ∩ back E tree c e) ∷ [])
-            (C ≐ ∅ₑ ∷ []) (A ∪ₑ B ≐ B ∪ₑ (A ∪ₑ C)) tt (unfold join in refl);
+        lows = λ c l. h c l ∙ sets ((inp ∩ down tree c) ∷ unionUpTo N (λ e. surely enc E cfg e ∩ back E tree c e) ∷ unionUpTo zero (λ e. actionOf (moves E (λ c. zero) e) ∩ back E tree c e) ∷ [])
+            (C ≐ ∅ₑ ∷ []) (A ∪ₑ B ≐ B ∪ₑ (A ∪ₑ C)) tt (unfold unionUpTo in refl);
         shows = λ d l. absurd (omega arith);
         active = λ d l. absurd (omega arith);
-        output = unfold join in refl;
+        output = unfold unionUpTo in refl;
         all-needed = refl;
         all-barred = refl;
         all-next = refl;
@@ -293,7 +295,7 @@ module _ (E : ℕ → Chart) (state : ℕ → ℕ) (cfg : ℕ → ℕ) (N : ℕ)
     bounds ch p e l = go (ch e) (kept ch p e l) (permitted-open E state cfg N enc sc tree inp st si sa ch p e l)
       where
         all : Set
-        all = join (countAt s e) (actionAt m e)
+        all = unionUpTo (countAt s e) (actionAt m e)
 
         go : (v : ℕ) → keep e v ≡ true → open? (E e .stays) (awake enc sc state cfg (moves E ch) e) (cfg e) (pick (E e) v) ≡ true → Within (actionOf (pick (E e) v)) all
         go zero kp o = sets (all ∷ []) [] (∅ₑ ⊑ A) tt

@@ -14,7 +14,8 @@ use Rattle.meaning.specs.Laws.Bools.{every-elim, and-l, and-r, not-true}
 use Rattle.meaning.specs.Laws.Guards.{met-wider, quiet-wider}
 use Rattle.meaning.specs.Laws.Choices.{Below, search-empty}
 use Rattle.wiring.specs.Uncut.{own-moves}
-use Rattle.wiring.specs.Wire.{down, back, join, offered, fits, Small}
+use Rattle.meaning.specs.Rewriting.{unionUpTo}
+use Rattle.wiring.specs.Wire.{down, back, offered, fits, Small}
 use Rattle.wiring.specs.Wired.{awake, Stands, offer, ruled, permitted-wired}
 use Rattle.wiring.specs.Sure.{surely, open?, sure-open}
 
@@ -31,11 +32,11 @@ test K s noMove low high = true
 test K s (takes t) low high = met? t high low
 test K s stay low high = untriggered (K .transitions) s low high
 
-split : (n k : ℕ) (f : ℕ → Set) → join (n + k) f ≡ join k f ∪ ahead n k f
-unfolding join ahead
-split zero k f = rw zero-add (sets (join k f ∷ []) [] (A ≐ A ∪ₑ ∅ₑ) tt)
-split (suc n) k f = ap (λ z. join z f) (let h : suc n + k ≡ n + suc k = omega arith in h) ∙ split n (suc k) f
-    ∙ sets (join k f ∷ f k ∷ ahead n (suc k) f ∷ []) [] (A ∪ₑ B ∪ₑ C ≐ A ∪ₑ (B ∪ₑ C)) tt
+split : (n k : ℕ) (f : ℕ → Set) → unionUpTo (n + k) f ≡ unionUpTo k f ∪ ahead n k f
+unfolding unionUpTo ahead
+split zero k f = rw zero-add (sets (unionUpTo k f ∷ []) [] (A ≐ A ∪ₑ ∅ₑ) tt)
+split (suc n) k f = ap (λ z. unionUpTo z f) (let h : suc n + k ≡ n + suc k = omega arith in h) ∙ split n (suc k) f
+    ∙ sets (unionUpTo k f ∷ f k ∷ ahead n (suc k) f ∷ []) [] (A ∪ₑ B ∪ₑ C ≐ A ∪ₑ (B ∪ₑ C)) tt
 
 ahead-in : (n k : ℕ) (f g : ℕ → Set) → ((e : ℕ) → k ≤ e → e < n + k → Within (f e) (g e))
     → Within (ahead n k f) (ahead n k g)
@@ -46,10 +47,10 @@ ahead-in (suc n) k f g h =
     (h k (omega arith) (omega arith)) (ahead-in n (suc k) f g (λ e p q. h e (omega arith) (omega arith)))
 
 pub join-in : (k : ℕ) (f g b : ℕ → Set) → ((e : ℕ) → e < k → Within (f e) (g e))
-    → Within (join k (λ e. f e ∩ b e)) (join k (λ e. g e ∩ b e))
-unfolding join
+    → Within (unionUpTo k (λ e. f e ∩ b e)) (unionUpTo k (λ e. g e ∩ b e))
+unfolding unionUpTo
 join-in zero f g b h = sets [] [] (∅ₑ ⊑ ∅ₑ) tt
-join-in (suc k) f g b h = sets (join k (λ e. f e ∩ b e) ∷ join k (λ e. g e ∩ b e) ∷ f k ∷ g k ∷ b k ∷ [])
+join-in (suc k) f g b h = sets (unionUpTo k (λ e. f e ∩ b e) ∷ unionUpTo k (λ e. g e ∩ b e) ∷ f k ∷ g k ∷ b k ∷ [])
     (A ⊑ B ∷ C ⊑ D ∷ []) (A ∪ₑ C ∩ₑ Eₑ ⊑ B ∪ₑ D ∩ₑ Eₑ) tt
     (join-in k f g b (λ e l. h e (omega arith))) (h k (omega arith))
 
@@ -85,8 +86,8 @@ abbrev pub Bounds : (ℕ → Chart) → (ℕ → ℕ) → (ℕ → ℕ) → ℕ 
 Bounds E state cfg N t inp may = (ch : ℕ → ℕ) → permitted E state cfg (moves E ch) t inp ≡ true → (e : ℕ) → e < N
     → Within (actionOf (moves E ch e)) (may e)
 
-pub join-cong : (k : ℕ) (f g : ℕ → Set) → ((e : ℕ) → e < k → f e ≡ g e) → join k f ≡ join k g
-unfolding join
+pub join-cong : (k : ℕ) (f g : ℕ → Set) → ((e : ℕ) → e < k → f e ≡ g e) → unionUpTo k f ≡ unionUpTo k g
+unfolding unionUpTo
 join-cong zero f g h = refl
 join-cong (suc k) f g h = ap₂ _∪_ (join-cong k f g (λ e l. h e (omega arith))) (h k (omega arith))
 
@@ -108,7 +109,7 @@ module _ (E : ℕ → Chart) (state : ℕ → ℕ) (cfg : ℕ → ℕ) (N : ℕ)
     (may : ℕ → Set) where
   -- what is sure before any chart is settled
   unfoldable pub sures : ℕ → Set
-  sures c = join N (λ e. surely enc E cfg e ∩ back E t c e)
+  sures c = unionUpTo N (λ e. surely enc E cfg e ∩ back E t c e)
 
   -- charts below k are settled; n are left
   unfoldable pub low : (ℕ → ℕ) → ℕ → ℕ → Set
@@ -126,7 +127,7 @@ module _ (E : ℕ → Chart) (state : ℕ → ℕ) (cfg : ℕ → ℕ) (N : ℕ)
     abbrev Open : (ℕ → ℕ) → Type 0
     Open ch = (e : ℕ) → e < N → open? (E e .stays) (awake enc sc state cfg (moves E ch) e) (cfg e) (moves E ch e) ≡ true
 
-    sures-in : (ch : ℕ → ℕ) (c : ℕ) → Open ch → Within (sures c) (join N (λ e. actionOf (moves E ch e) ∩ back E t c e))
+    sures-in : (ch : ℕ → ℕ) (c : ℕ) → Open ch → Within (sures c) (unionUpTo N (λ e. actionOf (moves E ch e) ∩ back E t c e))
     unfolding sures
     sures-in ch c o = join-in N (surely enc E cfg) (λ e. actionOf (moves E ch e)) (back E t c)
         (λ e l. sure-open E state cfg N enc sc t s ch e l (o e l))
@@ -134,8 +135,8 @@ module _ (E : ℕ → Chart) (state : ℕ → ℕ) (cfg : ℕ → ℕ) (N : ℕ)
     low-in : (ch : ℕ → ℕ) (n k c : ℕ) → n + k ≡ N → Open ch
         → Within (low ch k c) (offer E state cfg N enc sc t inp (moves E ch) N c)
     unfolding low offer offered
-    low-in ch n k c e o = sets ((inp ∩ down t c) ∷ join k f ∷ ahead n k f ∷ join N f ∷ sures c ∷ []) (D ≐ B ∪ₑ C ∷ Eₑ
-        ⊑ D ∷ []) (Eₑ ∪ₑ (A ∪ₑ B) ⊑ A ∪ₑ D) tt (ap (λ z. join z f) (sym e) ∙ split n k f) (sures-in ch c o)
+    low-in ch n k c e o = sets ((inp ∩ down t c) ∷ unionUpTo k f ∷ ahead n k f ∷ unionUpTo N f ∷ sures c ∷ []) (D ≐ B ∪ₑ C ∷ Eₑ
+        ⊑ D ∷ []) (Eₑ ∪ₑ (A ∪ₑ B) ⊑ A ∪ₑ D) tt (ap (λ z. unionUpTo z f) (sym e) ∙ split n k f) (sures-in ch c o)
       where
         f : ℕ → Set
         f e = actionOf (moves E ch e) ∩ back E t c e
@@ -143,8 +144,8 @@ module _ (E : ℕ → Chart) (state : ℕ → ℕ) (cfg : ℕ → ℕ) (N : ℕ)
     high-in : (ch : ℕ → ℕ) (n k c : ℕ) → n + k ≡ N → ((e : ℕ) → e < N → Within (actionOf (moves E ch e)) (may e))
         → Within (offer E state cfg N enc sc t inp (moves E ch) N c) (high ch n k c)
     unfolding low high offer offered
-    high-in ch n k c e q = sets ((inp ∩ down t c) ∷ join k f ∷ ahead n k f ∷ join N f ∷ ahead n k g ∷ sures c ∷ [])
-        (D ≐ B ∪ₑ C ∷ C ⊑ Eₑ ∷ []) (A ∪ₑ D ⊑ Fₑ ∪ₑ (A ∪ₑ B) ∪ₑ Eₑ) tt (ap (λ z. join z f) (sym e) ∙ split n k f)
+    high-in ch n k c e q = sets ((inp ∩ down t c) ∷ unionUpTo k f ∷ ahead n k f ∷ unionUpTo N f ∷ ahead n k g ∷ sures c ∷ [])
+        (D ≐ B ∪ₑ C ∷ C ⊑ Eₑ ∷ []) (A ∪ₑ D ⊑ Fₑ ∪ₑ (A ∪ₑ B) ∪ₑ Eₑ) tt (ap (λ z. unionUpTo z f) (sym e) ∙ split n k f)
         (ahead-in n k f g (λ d p r. sets (actionOf (moves E ch d) ∷ may d ∷ back E t c d ∷ []) (A ⊑ B ∷ [])
         (A ∩ₑ C ⊑ B ∩ₑ C) tt (q d (omega arith))))
       where
@@ -191,7 +192,7 @@ module _ (E : ℕ → Chart) (state : ℕ → ℕ) (cfg : ℕ → ℕ) (N : ℕ)
 
         exact : low ch N c ≡ all
         exact = unfold low offer offered in sets
-            ((inp ∩ down t c) ∷ join N (λ e. actionOf (moves E ch e) ∩ back E t c e) ∷ sures c ∷ []) (C ⊑ B ∷ [])
+            ((inp ∩ down t c) ∷ unionUpTo N (λ e. actionOf (moves E ch e) ∩ back E t c e) ∷ sures c ∷ []) (C ⊑ B ∷ [])
             (C ∪ₑ (A ∪ₑ B) ≐ A ∪ₑ B) tt (sures-in ch c o)
 
     -- the search may leave such a beginning out

@@ -9,6 +9,7 @@ use mathlib.Core.List.{[], _∷_}
 use Prim.Native.Nat.{_^_, _-_}
 use Rattle.signals.specs.Mask.{_∪_, _∩_, _∖_}
 use Rattle.signals.specs.Decide.{sets, A, B, C, D, E as Eₑ, F as Fₑ, G as Gₑ, ∅ₑ, _∪ₑ_, _∩ₑ_, _∖ₑ_, _≐_}
+use Rattle.meaning.specs.Rewriting.{unionUpTo}
 use Rattle.meaning.specs.Meaning.{Set, ∅, same, Chart, Tree, Slaves, leaf, comp, hide, dec, nil, snoc, Move, noMove}
 use Rattle.meaning.specs.Meaning.{takes, stay, actionOf, met?, untriggered, out, outs, okChart, meets}
 use Rattle.meaning.specs.Count.Laws.{or-left, or-right}
@@ -66,14 +67,9 @@ module _ (E : ℕ → Chart) where
     backs nil c e = ∅
     backs (snoc ss i t) c e = backs ss c e ∪ back t c e
 
--- f 0 ∪ f 1 ∪ .. ∪ f (N - 1)
-unfoldable pub join : ℕ → (ℕ → Set) → Set
-join zero f = ∅
-join (suc k) f = join k f ∪ f k
-
 -- what a chart is offered, from its row of the wiring
 unfoldable pub offered : ℕ → (ℕ → Set) → Set → Set → (ℕ → Set) → Set
-offered N act z a b = z ∩ a ∪ join N (λ e. act e ∩ b e)
+offered N act z a b = z ∩ a ∪ unionUpTo N (λ e. act e ∩ b e)
 
 -- the rule of a chart, its feedback in what it is offered
 unfoldable pub fits : Chart → Bool → Set → ℕ → Move → Bool
@@ -146,66 +142,66 @@ none-cut {a} y x = sets (a ∷ y ∷ x ∷ []) (A ≐ ∅ₑ ∷ []) (A ∩ₑ B
 
 -- ── joins ──
 join-feed : (N : ℕ) (act b y : ℕ → Set) (a x : Set)
-    → join N (λ e. act e ∩ (b e ∪ a ∩ y e ∩ x)) ≡ join N (λ e. act e ∩ b e) ∪ join N (λ e. act e ∩ y e) ∩ x ∩ a
-unfolding join
+    → unionUpTo N (λ e. act e ∩ (b e ∪ a ∩ y e ∩ x)) ≡ unionUpTo N (λ e. act e ∩ b e) ∪ unionUpTo N (λ e. act e ∩ y e) ∩ x ∩ a
+unfolding unionUpTo
 join-feed zero act b y a x = sets (a ∷ x ∷ []) [] (∅ₑ ≐ ∅ₑ ∪ₑ ∅ₑ ∩ₑ B ∩ₑ A) tt
 join-feed (suc k) act b y a x = ap (λ j. j ∪ act k ∩ (b k ∪ a ∩ y k ∩ x)) (join-feed k act b y a x)
-    ∙ sets (join k (λ e. act e ∩ b e) ∷ join k (λ e. act e ∩ y e) ∷ act k ∷ b k ∷ y k ∷ a ∷ x ∷ []) []
+    ∙ sets (unionUpTo k (λ e. act e ∩ b e) ∷ unionUpTo k (λ e. act e ∩ y e) ∷ act k ∷ b k ∷ y k ∷ a ∷ x ∷ []) []
     (A ∪ₑ B ∩ₑ Gₑ ∩ₑ Fₑ ∪ₑ C ∩ₑ (D ∪ₑ Fₑ ∩ₑ Eₑ ∩ₑ Gₑ) ≐ A ∪ₑ C ∩ₑ D ∪ₑ (B ∪ₑ C ∩ₑ Eₑ) ∩ₑ Gₑ ∩ₑ Fₑ) tt
 
 join-or : (N : ℕ) (act y z : ℕ → Set)
-    → join N (λ e. act e ∩ (y e ∪ z e)) ≡ join N (λ e. act e ∩ y e) ∪ join N (λ e. act e ∩ z e)
-unfolding join
+    → unionUpTo N (λ e. act e ∩ (y e ∪ z e)) ≡ unionUpTo N (λ e. act e ∩ y e) ∪ unionUpTo N (λ e. act e ∩ z e)
+unfolding unionUpTo
 join-or zero act y z = sets [] [] (∅ₑ ≐ ∅ₑ ∪ₑ ∅ₑ) tt
 join-or (suc k) act y z = ap (λ j. j ∪ act k ∩ (y k ∪ z k)) (join-or k act y z)
-    ∙ sets (join k (λ e. act e ∩ y e) ∷ join k (λ e. act e ∩ z e) ∷ act k ∷ y k ∷ z k ∷ []) []
+    ∙ sets (unionUpTo k (λ e. act e ∩ y e) ∷ unionUpTo k (λ e. act e ∩ z e) ∷ act k ∷ y k ∷ z k ∷ []) []
     (A ∪ₑ B ∪ₑ C ∩ₑ (D ∪ₑ Eₑ) ≐ A ∪ₑ C ∩ₑ D ∪ₑ (B ∪ₑ C ∩ₑ Eₑ)) tt
 
-join-less : (N : ℕ) (act y : ℕ → Set) (x : Set) → join N (λ e. act e ∩ (y e ∖ x)) ≡ join N (λ e. act e ∩ y e) ∖ x
-unfolding join
+join-less : (N : ℕ) (act y : ℕ → Set) (x : Set) → unionUpTo N (λ e. act e ∩ (y e ∖ x)) ≡ unionUpTo N (λ e. act e ∩ y e) ∖ x
+unfolding unionUpTo
 join-less zero act y x = sets (x ∷ []) [] (∅ₑ ≐ ∅ₑ ∖ₑ A) tt
 join-less (suc k) act y x = ap (λ j. j ∪ act k ∩ (y k ∖ x)) (join-less k act y x)
-    ∙ sets (join k (λ e. act e ∩ y e) ∷ act k ∷ y k ∷ x ∷ []) [] (A ∖ₑ D ∪ₑ B ∩ₑ (C ∖ₑ D) ≐ (A ∪ₑ B ∩ₑ C) ∖ₑ D) tt
+    ∙ sets (unionUpTo k (λ e. act e ∩ y e) ∷ act k ∷ y k ∷ x ∷ []) [] (A ∖ₑ D ∪ₑ B ∩ₑ (C ∖ₑ D) ≐ (A ∪ₑ B ∩ₑ C) ∖ₑ D) tt
 
-join-none : (N : ℕ) (act y : ℕ → Set) → ((e : ℕ) → e < N → y e ≡ ∅) → join N (λ e. act e ∩ y e) ≡ ∅
-unfolding join
+join-none : (N : ℕ) (act y : ℕ → Set) → ((e : ℕ) → e < N → y e ≡ ∅) → unionUpTo N (λ e. act e ∩ y e) ≡ ∅
+unfolding unionUpTo
 join-none zero act y h = refl
 join-none (suc k) act y h =
-    sets (join k (λ e. act e ∩ y e) ∷ act k ∷ y k ∷ []) (A ≐ ∅ₑ ∷ C ≐ ∅ₑ ∷ []) (A ∪ₑ B ∩ₑ C ≐ ∅ₑ) tt
+    sets (unionUpTo k (λ e. act e ∩ y e) ∷ act k ∷ y k ∷ []) (A ≐ ∅ₑ ∷ C ≐ ∅ₑ ∷ []) (A ∪ₑ B ∩ₑ C ≐ ∅ₑ) tt
     (join-none k act y (λ e l. h e (omega arith)))
     (h k (omega arith))
 
-join-own : (N : ℕ) (act : ℕ → Set) (d : ℕ) → Small (act d) → d < N → join N (λ e. act e ∩ own d e) ≡ act d
-unfolding join
+join-own : (N : ℕ) (act : ℕ → Set) (d : ℕ) → Small (act d) → d < N → unionUpTo N (λ e. act e ∩ own d e) ≡ act d
+unfolding unionUpTo
 join-own zero act d s l = absurd (omega arith)
 join-own (suc k) act d s l = go (same k d) refl (λ m. join-own k act d s m)
   where
-    go : (b : Bool) → same k d ≡ b → (d < k → join k (λ e. act e ∩ own d e) ≡ act d)
-        → (join k (λ e. act e ∩ own d e) ∪ act k ∩ own d k) ≡ act d
+    go : (b : Bool) → same k d ≡ b → (d < k → unionUpTo k (λ e. act e ∩ own d e) ≡ act d)
+        → (unionUpTo k (λ e. act e ∩ own d e) ∪ act k ∩ own d k) ≡ act d
     go true p rec = let q : k ≡ d = same→≡ k d p in
-        sets (join k (λ e. act e ∩ own d e) ∷ act k ∷ own d k ∷ full ∷ act d ∷ [])
+        sets (unionUpTo k (λ e. act e ∩ own d e) ∷ act k ∷ own d k ∷ full ∷ act d ∷ [])
         (A ≐ ∅ₑ ∷ C ≐ D ∷ B ≐ Eₑ ∷ Eₑ ∩ₑ D ≐ Eₑ ∷ []) (A ∪ₑ B ∩ₑ C ≐ Eₑ) tt
         (join-none k act (own d) (λ e l. own-off d e (same-≢ e d (λ z. omega arith)))) (ap (own d) q ∙ own-on d)
         (ap act q) s
     go false p rec = let z : k ≢ d = same→≢ k d p in
-        sets (join k (λ e. act e ∩ own d e) ∷ act k ∷ own d k ∷ act d ∷ []) (A ≐ D ∷ C ≐ ∅ₑ ∷ []) (A ∪ₑ B ∩ₑ C ≐ D) tt
+        sets (unionUpTo k (λ e. act e ∩ own d e) ∷ act k ∷ own d k ∷ act d ∷ []) (A ≐ D ∷ C ≐ ∅ₑ ∷ []) (A ∪ₑ B ∩ₑ C ≐ D) tt
         (rec (omega arith))
         (own-off d k p)
 
-join-small : (N : ℕ) (act y : ℕ → Set) → ((e : ℕ) → Small (act e)) → Small (join N (λ e. act e ∩ y e))
-unfolding join
+join-small : (N : ℕ) (act y : ℕ → Set) → ((e : ℕ) → Small (act e)) → Small (unionUpTo N (λ e. act e ∩ y e))
+unfolding unionUpTo
 join-small zero act y h = sets (full ∷ []) [] (∅ₑ ∩ₑ A ≐ ∅ₑ) tt
 join-small (suc k) act y h =
-    sets (join k (λ e. act e ∩ y e) ∷ act k ∷ y k ∷ full ∷ []) (A ∩ₑ D ≐ A ∷ B ∩ₑ D ≐ B ∷ [])
+    sets (unionUpTo k (λ e. act e ∩ y e) ∷ act k ∷ y k ∷ full ∷ []) (A ∩ₑ D ≐ A ∷ B ∩ₑ D ≐ B ∷ [])
     ((A ∪ₑ B ∩ₑ C) ∩ₑ D ≐ A ∪ₑ B ∩ₑ C) tt
     (join-small k act y h) (h k)
 
 -- feedback of x, from rows: a chart is offered what its part is, with the feedback joined
 feed : (N : ℕ) (act b y : ℕ → Set) (z a x : Set)
-    → offered N act z a (λ e. b e ∪ a ∩ y e ∩ x) ≡ offered N act (z ∪ join N (λ e. act e ∩ y e) ∩ x) a b
+    → offered N act z a (λ e. b e ∪ a ∩ y e ∩ x) ≡ offered N act (z ∪ unionUpTo N (λ e. act e ∩ y e) ∩ x) a b
 unfolding offered
 feed N act b y z a x = ap (λ j. z ∩ a ∪ j) (join-feed N act b y a x)
-    ∙ sets (z ∷ a ∷ x ∷ join N (λ e. act e ∩ b e) ∷ join N (λ e. act e ∩ y e) ∷ []) []
+    ∙ sets (z ∷ a ∷ x ∷ unionUpTo N (λ e. act e ∩ b e) ∷ unionUpTo N (λ e. act e ∩ y e) ∷ []) []
     (A ∩ₑ B ∪ₑ (D ∪ₑ Eₑ ∩ₑ C ∩ₑ B) ≐ (A ∪ₑ Eₑ ∩ₑ C) ∩ₑ B ∪ₑ D) tt
 
 -- ── a chart that is not in the tree has no part in the rows ──
@@ -289,14 +285,14 @@ module _ (N : ℕ) (M : ℕ → Move) (small : (e : ℕ) → Small (actionOf (M 
   mutual
     unfolding out up acts
 
-    pub out-wired : (t : Tree) → Held N t → out M t ≡ join N (λ e. actionOf (M e) ∩ up t e)
+    pub out-wired : (t : Tree) → Held N t → out M t ≡ unionUpTo N (λ e. actionOf (M e) ∩ up t e)
     out-wired (leaf d) h = sym (join-own N acts d (small d) h)
     out-wired (comp l r x) h = ap₂ _∪_ (out-wired l (h .0)) (out-wired r (h .1)) ∙ sym (join-or N acts (up l) (up r))
     out-wired (hide l x y) h = ap (λ s. s ∖ y) (out-wired l h) ∙ sym (join-less N acts (up l) y)
     out-wired (dec d ss) h = ap₂ _∪_ (sym (join-own N acts d (small d) (h .0))) (outs-wired ss (h .1))
         ∙ sym (join-or N acts (own d) (ups ss))
 
-    outs-wired : (ss : Slaves) → Helds N ss → outs M ss ≡ join N (λ e. actionOf (M e) ∩ ups ss e)
+    outs-wired : (ss : Slaves) → Helds N ss → outs M ss ≡ unionUpTo N (λ e. actionOf (M e) ∩ ups ss e)
     outs-wired nil h = sym (join-none N acts (λ e. ∅) (λ e l. refl))
     outs-wired (snoc ss i t) h =
         ap₂ _∪_ (outs-wired ss (h .0)) (out-wired t (h .1)) ∙ sym (join-or N acts (ups ss) (up t))
@@ -332,7 +328,7 @@ module _ (N : ℕ) (act : ℕ → Set) where
       → offered N act z (own d d ∪ a) b ≡ z
   unfolding offered
   alone d z a b s p h =
-      sets (z ∷ own d d ∷ a ∷ full ∷ join N (λ e. act e ∩ b e) ∷ []) (B ≐ D ∷ C ≐ ∅ₑ ∷ A ∩ₑ D ≐ A ∷ Eₑ ≐ ∅ₑ ∷ [])
+      sets (z ∷ own d d ∷ a ∷ full ∷ unionUpTo N (λ e. act e ∩ b e) ∷ []) (B ≐ D ∷ C ≐ ∅ₑ ∷ A ∩ₑ D ≐ A ∷ Eₑ ≐ ∅ₑ ∷ [])
       (A ∩ₑ (B ∪ₑ C) ∪ₑ Eₑ ≐ A) tt
       (own-on d) p s (join-none N act b (λ e l. h e))
 
@@ -348,7 +344,7 @@ module _ (N : ℕ) (act : ℕ → Set) where
 
   filtered : (z a x : Set) (b : ℕ → Set) → offered N act z (a ∖ x) b ≡ offered N act (z ∖ x) a b
   unfolding offered
-  filtered z a x b = sets (z ∷ a ∷ x ∷ join N (λ e. act e ∩ b e) ∷ []) [] (A ∩ₑ (B ∖ₑ C) ∪ₑ D ≐ (A ∖ₑ C) ∩ₑ B ∪ₑ D) tt
+  filtered z a x b = sets (z ∷ a ∷ x ∷ unionUpTo N (λ e. act e ∩ b e) ∷ []) [] (A ∩ₑ (B ∖ₑ C) ∪ₑ D ≐ (A ∖ₑ C) ∩ₑ B ∪ₑ D) tt
 
 -- ── the theorem ──
 small-less : (z x : Set) → Small z → Small (z ∖ x)

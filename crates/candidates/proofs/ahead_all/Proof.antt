@@ -23,7 +23,7 @@ puts-out-requires : tie.Need-puts-out-requires Inv-loop μ-loop
 puts-out-requires c κs =
     let r = c .before .before .before .before .before .before .before .before .before .pre in
     let l = c .before .before .loop in
-    (record { masks = omega (arith, l .inv .1, c .before .before .before .before .before .clear-row .ensures .masks, r .0 .masks); small = r .0 .small }, omega arith, r .2 (l .k - 1) (omega arith))
+    (record { masks = omega (arith, l .inv .1, c .before .before .before .before .before .clear-row .ensures .long, r .0 .masks); small = r .0 .small }, omega arith, r .2 (l .k - 1) (omega arith))
 
 loop-again : tie.Need-loop-again Inv-loop μ-loop
 loop-again c =
@@ -32,7 +32,7 @@ loop-again c =
     let l = c .before .before .before .before .before .before .before .loop in
     let e : l .k ≡ suc (l .k - 1) = omega arith in (
       omega arith,
-      c .before .before .ahead-row .ensures .masks ∙ l .inv .1,
+      c .before .before .ahead-row .ensures .long ∙ l .inv .1,
       λ m h. from-next (a .charts) (r .1) (a .small .now) m (l .k - 1) (l .masks) _ _ (omega arith) (r .2 (l .k - 1) (omega arith)) (c .before .before .before .before .puts-out .ensures)
           (subst (λ z. AheadFrom (a .charts) (a .small .now) z m (l .masks)) e (l .inv .2 m h)) (c .before .before .ahead-row .ensures),
     )
@@ -55,8 +55,8 @@ ahead-all-spec =
     loop-holds
     (λ c. omega arith)
     puts-out-requires
-    (λ c κs. (omega (arith, c .before .before .before .before .loop .inv .1, c .before .before .before .before .before .before .before .clear-row .ensures .masks, c .before .before .before .before .before .before .before .before .before .before .before .pre .0 .masks), c .before .before .before .before .before .before .before .before .before .before .before .pre .1, omega arith))
+    (λ c κs. (omega (arith, c .before .before .before .before .loop .inv .1, c .before .before .before .before .before .before .before .clear-row .ensures .long, c .before .before .before .before .before .before .before .before .before .before .before .pre .0 .masks), c .before .before .before .before .before .before .before .before .before .before .before .pre .1, omega arith))
     (λ c. omega arith)
     loop-again
-    (λ c. c .before .loop .inv .1 ∙ c .before .before .before .before .clear-row .ensures .masks)
+    (λ c. c .before .loop .inv .1 ∙ c .before .before .before .before .clear-row .ensures .long)
     returns)

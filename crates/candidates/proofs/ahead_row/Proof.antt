@@ -1,13 +1,14 @@
 -- `ahead_row` meets its contract. The loop makes row k from row k + 1, chart by chart. Assumes nothing.
 use mathlib.Core.Path.{_≡_, ap₂, subst, _∙_}
-use Prim.Native.Nat.{ℕ, _-_, _≤_}
+use Prim.Native.Nat.{ℕ, _*_, _-_, _≤_}
 use native.Mathlib.Omega.{arith}
 use borrow.Author.Needs.{needs}
 use lib.ListN.{length}
 use Rattle.signals.specs.Mask.{_∪_, _∩_}
-use Rattle.cells.specs.Table.{masksFor}
+use Rattle.cells.specs.Table.{block, masksFor}
 use Rattle.tables.specs.Fill.{AheadRow, aheadBy}
-use Rattle.tables.specs.Fill.Laws.{row-none, row-next, row-value}
+use Rattle.layout.specs.Row.Laws.{row-none, row-more}
+use Rattle.tables.specs.Fill.Laws.{row-value}
 use Rattle.candidates.proofs.ahead_row.Statement.{statement}
 use Rattle.candidates.proofs.ahead_row.Tie as tie
 
@@ -22,7 +23,7 @@ loop-holds c = (search needs, row-none _ _ _)
 
 -- the masks are as many as they were
 roomy : (t : tie.At-loop Inv-loop μ-loop) → masksFor (t .before .before .args .charts) ≤ length (t .loop .masks)
-roomy t = rw (t .loop .inv .1 .masks) (t .before .before .pre .0)
+roomy t = rw (t .loop .inv .1 .long) (t .before .before .pre .0)
 
 loop-again : tie.Need-loop-again Inv-loop μ-loop
 loop-again c =
@@ -35,7 +36,7 @@ loop-again c =
     let e : a .u ∩ b .back .result ∪ h .ahead .result ≡ aheadBy (a .masks .now) (a .k) (a .u) (l .c) =
     ap₂ (λ (x y : ℕ). a .u ∩ x ∪ y) (b .back .ensures) (h .ahead .ensures)
     ∙ row-value (a .k) _ (l .c) _ (l .masks) (a .u) (l .inv .1) (omega arith) (omega arith) in
-    (omega arith, rw (p .put-ahead .ensures) (row-next (a .k) _ (l .c) _ (l .masks) _ (l .inv .1) (omega (arith, roomy t, l .inv .1 .masks)) e))
+    (omega arith, rw (p .put-ahead .ensures) (row-more (block * a .k) (l .c) _ _ (a .masks .now) (l .masks) (omega (arith, roomy t)) e (l .inv .1)))
 
 returns : tie.Need-returns Inv-loop μ-loop
 returns c =
@@ -58,5 +59,5 @@ ahead-row-spec =
     (λ c. omega arith)
     (λ c. omega arith)
     loop-again
-    (λ c. c .before .loop .inv .1 .masks)
+    (λ c. c .before .loop .inv .1 .long)
     returns)

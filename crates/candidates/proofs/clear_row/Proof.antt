@@ -1,10 +1,11 @@
 -- `clear_row` meets its contract. The loop clears the row, chart by chart. Assumes nothing.
 use mathlib.Core.Path.{_≡_, refl, subst}
-use Prim.Native.Nat.{_-_, _≤_}
+use Prim.Native.Nat.{_*_, _-_, _≤_}
 use native.Mathlib.Omega.{arith}
 use borrow.Author.Needs.{needs}
+use Rattle.cells.specs.Table.{block}
 use Rattle.tables.specs.Fill.{AheadRow}
-use Rattle.tables.specs.Fill.Laws.{row-none, row-next}
+use Rattle.layout.specs.Row.Laws.{row-none, row-more}
 use Rattle.candidates.proofs.clear_row.Statement.{statement}
 use Rattle.candidates.proofs.clear_row.Tie as tie
 
@@ -23,7 +24,7 @@ loop-again c =
     let t = p .before .before .before in
     let l = t .loop in
     let a = t .before .before .args in
-    (omega arith, rw (p .put-ahead .ensures) (row-next (a .charts) (λ d. 0) (l .c) (a .masks .now) (l .masks) 0 (l .inv .1) (omega arith) refl))
+    (omega arith, rw (p .put-ahead .ensures) (row-more (block * a .charts) (l .c) 0 (λ d. 0) (a .masks .now) (l .masks) (omega (arith, l .inv .1 .long)) refl (l .inv .1)))
 
 returns : tie.Need-returns Inv-loop μ-loop
 returns c =
@@ -36,7 +37,7 @@ put-ahead-requires : tie.Need-put-ahead-requires Inv-loop μ-loop
 put-ahead-requires c κs =
     let l = c .before .before .loop in
     let s = c .before .before .before .before in
-    (rw (l .inv .1 .masks) (s .pre .0), s .pre .1, omega arith)
+    (rw (l .inv .1 .long) (s .pre .0), s .pre .1, omega arith)
 
 pub clear-row-spec : {M : Type 1} → statement M
 clear-row-spec =
@@ -49,5 +50,5 @@ clear-row-spec =
     (λ c. omega arith)
     (λ c. omega arith)
     loop-again
-    (λ c. c .before .loop .inv .1 .masks)
+    (λ c. c .before .loop .inv .1 .long)
     returns)

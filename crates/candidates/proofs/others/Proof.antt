@@ -7,7 +7,7 @@ use lib.ListN.{getD}
 use borrow.Author.Needs.{needs}
 use Rattle.signals.specs.Mask.{_∪_, _∩_}
 use Rattle.meaning.specs.Meaning.{same}
-use Rattle.wiring.specs.Wire.{join}
+use Rattle.meaning.specs.Rewriting.{unionUpTo}
 use Rattle.cells.specs.Table.{backAt}
 use Rattle.tables.specs.Fill.{othersAt}
 use Rattle.candidates.specs.Candidates.Laws.{join-more}
@@ -15,13 +15,13 @@ use Rattle.candidates.proofs.others.Statement.{statement}
 use Rattle.candidates.proofs.others.Tie as tie
 
 abbrev Inv-loop : tie.InvT-loop
-Inv-loop masks charts may c u₀ e₀ u e = (e ≤ charts) × (u ≡ join e (λ d. cond (same d c) 0 (getD may d 0) ∩ backAt masks c d))
+Inv-loop masks charts may c u₀ e₀ u e = (e ≤ charts) × (u ≡ unionUpTo e (λ d. cond (same d c) 0 (getD may d 0) ∩ backAt masks c d))
 
 abbrev μ-loop : tie.MeasureT-loop
 μ-loop masks charts may c u₀ e₀ u e = charts - e
 
 loop-holds : tie.Need-loop-holds Inv-loop μ-loop
-unfolding join
+unfolding unionUpTo
 loop-holds c = (search needs, refl)
 
 loop-again : tie.Need-loop-again Inv-loop μ-loop

@@ -4,7 +4,7 @@ use Prim.Native.Nat.{ℕ, _-_, _≤_}
 use native.Mathlib.Omega.{arith}
 use borrow.Author.Needs.{needs}
 use Rattle.signals.specs.Mask.{_∪_}
-use Rattle.wiring.specs.Wire.{join}
+use Rattle.meaning.specs.Rewriting.{unionUpTo}
 use Rattle.cells.specs.Table.{actionAt, countCell, countAt}
 use Rattle.tables.specs.Filled.{mayAt}
 use Rattle.candidates.specs.Candidates.Laws.{join-more}
@@ -12,13 +12,13 @@ use Rattle.candidates.proofs.puts_out.Statement.{statement}
 use Rattle.candidates.proofs.puts_out.Tie as tie
 
 abbrev Inv-loop : tie.InvT-loop
-Inv-loop masks small c count u₀ v₀ u v = (v ≤ count) × (u ≡ join v (actionAt masks c))
+Inv-loop masks small c count u₀ v₀ u v = (v ≤ count) × (u ≡ unionUpTo v (actionAt masks c))
 
 abbrev μ-loop : tie.MeasureT-loop
 μ-loop masks small c count u₀ v₀ u v = count - v
 
 loop-holds : tie.Need-loop-holds Inv-loop μ-loop
-unfolding join
+unfolding unionUpTo
 loop-holds c = (search needs, refl)
 
 loop-again : tie.Need-loop-again Inv-loop μ-loop

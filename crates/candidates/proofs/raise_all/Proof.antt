@@ -8,7 +8,7 @@ use lib.Seq.{getD-set-other}
 use Rattle.signals.specs.Mask.{_∪_, _∩_}
 use Rattle.meaning.specs.Numbers.{mostCharts}
 use Rattle.cells.specs.Table.{backAt}
-use Rattle.parts.specs.Parts.Laws.{fill-more}
+use Rattle.layout.specs.Row.Laws.{fill-more}
 use Rattle.candidates.proofs.raise_all.Statement.{statement}
 use Rattle.candidates.proofs.raise_all.Tie as tie
 

@@ -1,5 +1,4 @@
 -- Laws for choosing candidates. In order: where a transition stands (from-byte), what a chart's transitions put out (puts-none, puts-more, puts-done),
--- a row of charts (row-more),
 -- what the other charts might (join-more), one transition (left-other to left-put), a filling by one transition more (left-none to
 -- left-room), a chart's list (length-from), one chart more (mays-next to chart-tabled), the present states (stated-none, stated-next), all of it (chooses), and that actions have no signal
 -- from 64 on (actions-small).
@@ -19,6 +18,7 @@ use Rattle.signals.specs.Mask.{_∪_, _∩_}
 use Rattle.signals.specs.Decide.{sets, A, B, C, D, E as Eₑ, ∅ₑ, _∪ₑ_, _∩ₑ_, _≐_}
 use Rattle.layout.specs.Le.{le}
 use Rattle.layout.specs.Record.{transitionOf}
+use Rattle.layout.specs.Row.Laws.{fill-more}
 use Rattle.layout.specs.Body.{transitionsFrom, headAt, transitionAt, startOf, transitionsOf}
 use Rattle.layout.specs.Body.{from as fromOn}
 use Rattle.layout.specs.declared.body.Shape.{Shape}
@@ -32,7 +32,8 @@ use Rattle.meaning.specs.Meaning.{Set, same, Move, noMove, stay, nth, pick, act
 use Rattle.meaning.specs.File.{chartOf, fileAt}
 use Rattle.meaning.specs.Laws.Bools.{same-refl, same→≡, same-≢}
 use Rattle.meaning.specs.Laws.Choices.{nth-from}
-use Rattle.wiring.specs.Wire.{join, Small, full}
+use Rattle.meaning.specs.Rewriting.{unionUpTo}
+use Rattle.wiring.specs.Wire.{Small, full}
 use Rattle.wiring.specs.Dropped.{join-cong}
 use Rattle.wiring.specs.Sure.{sureOf, sureIn, sure-small}
 use Rattle.wiring.specs.Hunt.{mayOf, behind-empty}
@@ -137,23 +138,10 @@ module _ (f : ℕ → Transition) (start count q : ℕ) where
       all : p ≡ count
       all = omega arith
 
--- ── a row of charts ──
-
--- one chart more
-pub row-more : (g : ℕ → Set) (k : ℕ) (l : List ℕ) (v : ℕ) → ((c : ℕ) → c < k → getD l c 0 ≡ g c) → k < length l
-    → v ≡ g k → (c : ℕ) → c < k + 1 → getD (set l k v) c 0 ≡ g c
-row-more g k l v h m e c r = go (same c k) refl
-  where
-    go : (x : Bool) → same c k ≡ x → getD (set l k v) c 0 ≡ g c
-    go true q = rw (same→≡ c k q) (getD-set-same l k v 0 m ∙ e)
-    go false q =
-        let z : c ≢ k = λ w. false≢true (sym q ∙ rw w (same-refl k)) in
-        getD-set-other l k c v 0 z ∙ h c (omega arith)
-
 -- ── what the other charts might put in ──
 
-pub join-more : (k : ℕ) (f : ℕ → Set) (u : Set) → u ≡ join k f → u ∪ f k ≡ join (k + 1) f
-unfolding join
+pub join-more : (k : ℕ) (f : ℕ → Set) (u : Set) → u ≡ unionUpTo k f → u ∪ f k ≡ unionUpTo (k + 1) f
+unfolding unionUpTo
 join-more k f u e = rw (add-one k, e)
 
 -- ── one transition, by the way it goes ──
@@ -246,8 +234,8 @@ module _ (n : Shape) (b config reads : List ℕ) where
       → v ≡ mayOf (fromOn (readAs n b (getD reads c 0)) start (head .transitions)) (getD config c 0)
       → Mays n b config reads (c + 1) (set may c v)
   mays-next c may v start head h l es eh ev =
-      row-more (λ d. mayOf (narrowAll (getD reads d 0) (transitionsOf n b d)) (getD config d 0)) c may v h l
-      (ev ∙ ap (λ ts. mayOf ts (getD config c 0)) (read-list c start head es eh))
+      fill-more (λ d. mayOf (narrowAll (getD reads d 0) (transitionsOf n b d)) (getD config d 0)) may c v h
+      (ev ∙ ap (λ ts. mayOf ts (getD config c 0)) (read-list c start head es eh)) l
 
   pub puts-by-none : (may sures counts : List ℕ) → length may ≡ mostCharts → length sures ≡ mostCharts
       → length counts ≡ mostCharts → PutsBy n b config reads 0 may sures counts
@@ -269,11 +257,11 @@ module _ (n : Shape) (b config reads : List ℕ) where
   puts-by-next c may sures counts start head v h l es eh e =
       record {
         mays = mays-next c may (v .may) start head (h .mays) (rw (h .may-long) l) es eh (e .may);
-        sure = row-more (λ d. sureOf (narrowAll (getD reads d 0) (transitionsOf n b d)) (getD config d 0)) c sures
-            (v .sure) (h .sure) (rw (h .sures-long) l)
-            (e .sure ∙ ap (λ ts. sureOf ts (getD config c 0)) (read-list c start head es eh));
-        many = row-more (λ d. leaves d (startOf n b d) (headAt n b d)) c counts (v .count) (h .many)
-            (rw (h .counts-long) l) (e .many ∙ ap₂ (leaves c) es eh);
+        sure = fill-more (λ d. sureOf (narrowAll (getD reads d 0) (transitionsOf n b d)) (getD config d 0)) sures c
+            (v .sure) (h .sure) (e .sure ∙ ap (λ ts. sureOf ts (getD config c 0)) (read-list c start head es eh))
+            (rw (h .sures-long) l);
+        many = fill-more (λ d. leaves d (startOf n b d) (headAt n b d)) counts c (v .count) (h .many)
+            (e .many ∙ ap₂ (leaves c) es eh) (rw (h .counts-long) l);
         may-long = length-set may c (v .may) ∙ h .may-long;
         sures-long = length-set sures c (v .sure) ∙ h .sures-long;
         counts-long = length-set counts c (v .count) ∙ h .counts-long;
@@ -286,15 +274,15 @@ module _ (n : Shape) (b config reads : List ℕ) where
 
 module _ (n : Shape) (m s u base : List ℕ) where
   pub raised-by-none : RaisedBy n m s u 0 base base
-  unfolding join
+  unfolding unionUpTo
   raised-by-none c l = sets (getD base c 0 ∷ []) [] (A ≐ A ∪ₑ ∅ₑ) tt
 
   pub raised-by-next : (k : ℕ) (x : Set) (lows lows′ : List ℕ) → RaisedBy n m s u k base lows
       → x ≡ sureIn (same (n .edition) stayEdition) (getD u k 0)
       → Row lows′ (λ d. getD lows d 0 ∪ sureAt s k x ∩ backAt m d k) → RaisedBy n m s u (k + 1) base lows′
-  unfolding join
+  unfolding unionUpTo
   raised-by-next k x lows lows′ h e f c l = rw (add-one k)
-      (f c l ∙ sets (getD lows c 0 ∷ getD base c 0 ∷ join k put ∷ (sureAt s k x ∩ backAt m c k) ∷ put k ∷ [])
+      (f c l ∙ sets (getD lows c 0 ∷ getD base c 0 ∷ unionUpTo k put ∷ (sureAt s k x ∩ backAt m c k) ∷ put k ∷ [])
       (A ≐ B ∪ₑ C ∷ D ≐ Eₑ ∷ []) (A ∪ₑ D ≐ B ∪ₑ (C ∪ₑ Eₑ)) tt (h c l) (ap (λ z. sureAt s k z ∩ backAt m c k) e))
     where
       put : ℕ → Set

@@ -6,7 +6,7 @@ use borrow.Author.Needs.{needs}
 use lib.ListN.{length, length-set}
 use Rattle.meaning.specs.Numbers.{mostNodes}
 use Rattle.meaning.specs.File.{fileAt}
-use Rattle.parts.specs.Parts.Laws.{fill-more}
+use Rattle.layout.specs.Row.Laws.{fill-more}
 use Rattle.depths.specs.Depths.{depthAt, Depths}
 use Rattle.depths.proofs.depths.Statement.{statement}
 use Rattle.depths.proofs.depths.Tie as tie

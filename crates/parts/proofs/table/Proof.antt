@@ -10,7 +10,7 @@ use Rattle.meaning.specs.File.{File, fileAt, treeOf}
 use Rattle.meaning.specs.Laws.Trees.{Ordered}
 use Rattle.meaning.specs.Laws.Folds.{fold, value-fold}
 use Rattle.parts.specs.Parts.{offOf, valueAt, Filled}
-use Rattle.parts.specs.Parts.Laws.{fill-more}
+use Rattle.layout.specs.Row.Laws.{fill-more}
 use Rattle.parts.specs.declared.Off.{Off}
 use Rattle.parts.proofs.table.Statement.{statement}
 use Rattle.parts.proofs.table.Tie as tie

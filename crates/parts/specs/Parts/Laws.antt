@@ -1,18 +1,13 @@
--- Laws of tables: one more value stored in a table that is right so far (`fill-more`); a slave's node and chart are in it (`slave-there`); what a
--- whole table says of a node (`filled`).
-use mathlib.Core.Path.{_≡_, sym, ap, _∙_}
+-- Laws of tables: a slave's node and chart are in one (`slave-there`); what a whole table says of a node (`filled`).
+use mathlib.Core.Path.{_≡_, _∙_}
 use mathlib.Core.List.{List}
-use mathlib.Core.Logic.{⊎-elim}
-use Prim.Native.Nat.{ℕ, _+_, _<_}
-use native.Mathlib.Nat.{lt-irrefl}
+use Prim.Native.Nat.{ℕ, _<_}
 use native.Mathlib.Omega.{arith}
-use lib.ListN.{length, getD, set}
-use lib.Seq.{getD-set-same, getD-set-other}
+use lib.ListN.{getD}
 use Rattle.layout.specs.Body.{slaveAt}
 use Rattle.layout.specs.declared.body.Shape.{Shape}
 use Rattle.layout.specs.declared.record.Slave.{Slave}
 use Rattle.meaning.specs.Numbers.{mostCharts, mostNodes}
-use Rattle.meaning.specs.Count.Laws.{below-suc}
 use Rattle.meaning.specs.Meaning.{Set}
 use Rattle.meaning.specs.File.{File, treeOf, fileAt}
 use Rattle.meaning.specs.Laws.Folds.{fold, fold-own}
@@ -20,12 +15,6 @@ use Rattle.meaning.specs.Check.Nodes.{Treed, has-below}
 use Rattle.checks.specs.Known.{Sized}
 use Rattle.parts.specs.Parts.{offOf, Filled}
 use Rattle.parts.specs.declared.Off.{Off}
-
-pub fill-more : (f : ℕ → ℕ) (t : List ℕ) (j v : ℕ) → ((k : ℕ) → k < j → getD t k 0 ≡ f k) → v ≡ f j → j < length t
-    → (k : ℕ) → k < j + 1 → getD (set t j v) k 0 ≡ f k
-fill-more f t j v h e m k l =
-    ⊎-elim (λ q. ap (λ (i : ℕ). getD (set t j v) i 0) q ∙ getD-set-same t j v 0 m ∙ e ∙ ap f (sym q))
-    (λ q. getD-set-other t j k v 0 (λ s. lt-irrefl j (rw s at q)) ∙ h k q) (below-suc k j (omega arith))
 
 -- a slave's node and chart are there, so they are in a table
 pub slave-there : (n : Shape) (b : List ℕ) (i : ℕ) (s : Slave) → s ≡ slaveAt n b i → Sized n b

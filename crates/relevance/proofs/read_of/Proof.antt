@@ -5,7 +5,7 @@ use native.Mathlib.Omega.{arith}
 use lib.ListN.{getD}
 use borrow.Author.Needs.{needs}
 use Rattle.signals.specs.Mask.{_∪_, _∩_}
-use Rattle.wiring.specs.Wire.{join}
+use Rattle.meaning.specs.Rewriting.{unionUpTo}
 use Rattle.cells.specs.Table.{backAt}
 use Rattle.tables.specs.Read.{readAt}
 use Rattle.candidates.specs.Candidates.Laws.{join-more}
@@ -13,13 +13,13 @@ use Rattle.relevance.proofs.read_of.Statement.{statement}
 use Rattle.relevance.proofs.read_of.Tie as tie
 
 abbrev Inv-loop : tie.InvT-loop
-Inv-loop masks charts asks k u₀ c₀ u c = (c ≤ charts) × (u ≡ join c (λ d. backAt masks d k ∩ getD asks d 0))
+Inv-loop masks charts asks k u₀ c₀ u c = (c ≤ charts) × (u ≡ unionUpTo c (λ d. backAt masks d k ∩ getD asks d 0))
 
 abbrev μ-loop : tie.MeasureT-loop
 μ-loop masks charts asks k u₀ c₀ u c = charts - c
 
 loop-holds : tie.Need-loop-holds Inv-loop μ-loop
-unfolding join
+unfolding unionUpTo
 loop-holds c = (search needs, refl)
 
 loop-again : tie.Need-loop-again Inv-loop μ-loop

@@ -17,7 +17,7 @@ use Rattle.meaning.specs.Meaning.{Set, same}
 use Rattle.wiring.specs.Dropped.{join-cong}
 use Rattle.cells.specs.Table.{backAt, upAt}
 use Rattle.tables.specs.Read.{asked, readAt}
-use Rattle.candidates.specs.Candidates.Laws.{row-more}
+use Rattle.layout.specs.Row.Laws.{fill-more}
 use Rattle.relevance.specs.Rows.{Asks, ReadRow}
 
 -- ── what transitions ask ──
@@ -67,8 +67,8 @@ module _ (n : Shape) (b config : List ℕ) where
       → Asks n b config (c + 1) (set asks c v)
   unfolding transitionsOf
   asks-next c asks v start head h l es eh ev =
-      row-more (λ d. asked (transitionsOf n b d) (getD config d 0)) c asks v h l
-      (ev ∙ ap₂ (λ x y. asked (fromOn (transitionAt n b) x (y .transitions)) (getD config c 0)) es eh)
+      fill-more (λ d. asked (transitionsOf n b d) (getD config d 0)) asks c v h
+      (ev ∙ ap₂ (λ x y. asked (fromOn (transitionAt n b) x (y .transitions)) (getD config c 0)) es eh) l
 
   -- what of chart k's action is read
   pub read-next : (m asks : List ℕ) → Asks n b config (n .charts) asks → (k : ℕ) (reads : List ℕ) (v : ℕ)
@@ -76,5 +76,5 @@ module _ (n : Shape) (b config : List ℕ) where
       → ReadRow n b config m (k + 1) (set reads k v)
   unfolding readAt
   read-next m asks h k reads v w l e =
-      row-more (readAt m (n .charts) (λ d. asked (transitionsOf n b d) (getD config d 0))) k reads v w l
-      (e ∙ ap (λ z. upAt m k ∪ z) (join-cong (n .charts) _ _ (λ c q. ap (λ z. backAt m c k ∩ z) (h c q))))
+      fill-more (readAt m (n .charts) (λ d. asked (transitionsOf n b d) (getD config d 0))) reads k v w
+      (e ∙ ap (λ z. upAt m k ∪ z) (join-cong (n .charts) _ _ (λ c q. ap (λ z. backAt m c k ∩ z) (h c q)))) l

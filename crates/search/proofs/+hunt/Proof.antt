@@ -25,7 +25,8 @@ use Rattle.cells.specs.Triggers.{toldAt}
 use Rattle.settling.specs.Trail.{Trail, trailIn, Keeps}
 use Rattle.cells.specs.Trail.{Room}
 use Rattle.settling.specs.Trail.Laws.{keeps-refl, keeps-trans, keeps-fewer, keeps-room, room-fewer, trail-kept}
-use Rattle.settling.specs.Hunt.{each, wakes, taken, rested, fineAt, outcomeIn, settleOf, over, foundIn, Held, Takes}
+use Rattle.meaning.specs.Rewriting.{inTurn}
+use Rattle.settling.specs.Hunt.{wakes, taken, rested, fineAt, outcomeIn, settleOf, over, foundIn, Held, Takes}
 use Rattle.settling.specs.Stays.{staysAt, stayed, calmAll, quietAt, huntsBoth, huntsCalm, Hunted}
 use Rattle.settling.specs.Stays.Laws.{fine-same}
 use Rattle.settling.specs.Hunt.Laws.{Stopped, over-append, over-stopped, each-none, over-each, over-each-stopped}
@@ -89,13 +90,13 @@ below-is m s gs y l k u = cond-both (fineAt m s u k) (calmAll m s gs y u (suc k)
 
 hunts-step : (m s gs y : List ℕ) (left k : ℕ) (t : Trail) → (left ≡ 0 → ⊥) → calmAll m s gs y t k ≡ true →
     huntsCalm m s gs y left k t
-    ≡ cond (wakes m s t k) (each (countAt s k) (block m s gs y left k t) ++ last m s gs y left k t) (below m s gs y left k (rested m s t k))
+    ≡ cond (wakes m s t k) (inTurn (countAt s k) (block m s gs y left k t) ++ last m s gs y left k t) (below m s gs y left k (rested m s t k))
 unfolding huntsCalm huntsBoth
 hunts-step m s gs y zero k t h q = absurd (h refl)
 hunts-step m s gs y (suc l) k t h q =
     ap (λ (z : Bool). cond z (huntsBoth m s gs y (suc l) k t) []) q
     ∙ ap₂ (λ (xs ys : List Outcome). cond (wakes m s t k) xs ys)
-    (ap₂ _++_ (ap (each (countAt s k)) (fun-ext (λ v. below-is m s gs y l k (taken m s t k v))))
+    (ap₂ _++_ (ap (inTurn (countAt s k)) (fun-ext (λ v. below-is m s gs y l k (taken m s t k v))))
     (ap (λ (z : List Outcome). cond (staysAt gs y k) z []) (below-is m s gs y l k (stayed m s t k))))
     (below-is m s gs y l k (rested m s t k))
 
@@ -104,8 +105,8 @@ module _ (m s gs y : List ℕ) (charts left : ℕ) (some : left ≡ 0 → ⊥) (
   k = charts - left
 
   awake : (t : Trail) → calmAll m s gs y t k ≡ true → wakes m s t k ≡ true
-      → over (huntsCalm m s gs y left k t) f ≡ over (last m s gs y left k t) (over (each (countAt s k) (block m s gs y left k t)) f)
-  awake t q w = rw (hunts-step m s gs y left k t some q, w) (over-append (each (countAt s k) (block m s gs y left k t)) (last m s gs y left k t) f)
+      → over (huntsCalm m s gs y left k t) f ≡ over (last m s gs y left k t) (over (inTurn (countAt s k) (block m s gs y left k t)) f)
+  awake t q w = rw (hunts-step m s gs y left k t some q, w) (over-append (inTurn (countAt s k) (block m s gs y left k t)) (last m s gs y left k t) f)
 
   asleep : (t : Trail) → calmAll m s gs y t k ≡ true → wakes m s t k ≡ false → over (below m s gs y left k (rested m s t k)) f ≡ over (huntsCalm m s gs y left k t) f
   asleep t q w = rw (hunts-step m s gs y left k t some q, w)
@@ -201,7 +202,7 @@ abbrev μ-hunt : Measures 8 hunt-kinds.ps ℕ
 abbrev Inv-loop : lts.InvT-loop
 Inv-loop masks small guards stays trail₀ moves₀ best₀ shown₀ charts left output k asked n v₀ trail moves best shown v =
     (v ≤ n) × Keeps k trail₀ moves₀ trail moves
-    × (foundIn best shown ≡ over (each v (block masks small guards stays left k (trailIn trail₀ moves₀ k output))) (foundIn best₀ shown₀)) × Held best shown
+    × (foundIn best shown ≡ over (inTurn v (block masks small guards stays left k (trailIn trail₀ moves₀ k output))) (foundIn best₀ shown₀)) × Held best shown
 
 abbrev μ-loop : lts.MeasureT-loop
 μ-loop masks small guards stays trail₀ moves₀ best₀ shown₀ charts left output k asked n v₀ trail moves best shown v = n - v
@@ -394,7 +395,7 @@ module _ (t : ℕ) where
       (b .pre .1 .0 .small, omega (arith, b .pre .1 .3, b .pre .1 .4))
 
   loop-holds : lts.Need-loop-holds (callees t) (at t) hunt.Post Inv-loop μ-loop
-  unfolding each over
+  unfolding inTurn over
   loop-holds c = let b = entry (c .before .before .before .before .before) in (omega arith, keeps-refl _ _ _, refl, b .pre .1 .2)
 
   -- from the loop's head: where what is asked was tested; that the chart's number is below mostCharts, and a candidate's below mostFromState
@@ -431,7 +432,7 @@ module _ (t : ℕ) where
       let u = trailIn (a .trail .now) (a .moves .now) k (a .output) in
       over (huntsCalm (a .masks .now) (a .small .now) (a .guards .now) (a .stays .now) (a .left) k u) (foundIn (a .best .now) (a .shown .now))
       ≡ over (last (a .masks .now) (a .small .now) (a .guards .now) (a .stays .now) (a .left) k u)
-      (over (each (countAt (a .small .now) k) (block (a .masks .now) (a .small .now) (a .guards .now) (a .stays .now) (a .left) k u)) (foundIn (a .best .now) (a .shown .now)))
+      (over (inTurn (countAt (a .small .now) k) (block (a .masks .now) (a .small .now) (a .guards .now) (a .stays .now) (a .left) k u)) (foundIn (a .best .now) (a .shown .now)))
   whole c =
       let b = entry (tested c) in
       let a = b .args in
@@ -500,7 +501,7 @@ module _ (t : ℕ) where
       (sym (r .before .before .before .if6 .taken) ∙ r .before .before .before .before .fits2 .ensures s (l .loop .moves) (a .output))
       (r .take .ensures) (g .shown-by .ensures) (h .hunt2 .ensures) in
       let r′ = foundIn (h .hunt2 .last .1 .1 .1 .1 .1 .1 .0) (h .hunt2 .last .1 .1 .1 .1 .1 .1 .1 .0) in
-      let e : r′ ≡ over (each (l .loop .v + 1) all) (foundIn (a .best .now) (a .shown .now)) = rw (over-each, ← l .loop .inv .2) (one .1) in
+      let e : r′ ≡ over (inTurn (l .loop .v + 1) all) (foundIn (a .best .now) (a .shown .now)) = rw (over-each, ← l .loop .inv .2) (one .1) in
       let end : Stopped r′ = stopped r′ (sym (c .before .disagree .ensures (h .hunt2 .last .1 .1 .1 .1 .1 .1 .1 .0)) ∙ c .if7 .taken) in
       record {
         found = e ∙ sym (over-each-stopped all (foundIn (a .best .now) (a .shown .now)) (countAt s k) (l .loop .v + 1)
@@ -559,7 +560,7 @@ module _ (t : ℕ) where
       let a = entry (tested l) .args in
       let k = a .charts - a .left in
       foundIn (l .loop .best) (l .loop .shown)
-      ≡ over (each (countAt (a .small .now) k) (block (a .masks .now) (a .small .now) (a .guards .now) (a .stays .now) (a .left) k (trailIn (a .trail .now) (a .moves .now) k (a .output)))) (foundIn (a .best .now) (a .shown .now))
+      ≡ over (inTurn (countAt (a .small .now) k) (block (a .masks .now) (a .small .now) (a .guards .now) (a .stays .now) (a .left) k (trailIn (a .trail .now) (a .moves .now) k (a .output)))) (foundIn (a .best .now) (a .shown .now))
   tried c =
       let l = c .before in
       let a = entry (tested l) .args in

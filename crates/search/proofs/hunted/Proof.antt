@@ -37,7 +37,7 @@ module _ (b f : List ℕ) (h : BytesPut mostCharts (columnIn b 0 2 noPlace) (rep
         h .above hasCell (omega arith),
         h .above agreeCell (omega arith),
         made-cong mostCharts (λ c. getD f (0 + c) 0) (λ c. 0) (λ c l. h .below (0 + c) (omega arith) ∙ getD-replicate foundSize (0 + c) 0 0 (omega arith)),
-        made-cong mostCharts (λ c. getD f (placesCell + c) 0) (λ c. noPlace) (λ c l. h .row c l ∙ filled-behind 0 (placeIn b) noPlace c (omega arith) l),
+        made-cong mostCharts (λ c. getD f (placesCell + c) 0) (λ c. noPlace) (λ c l. h .in-row c l ∙ filled-behind 0 (placeIn b) noPlace c (omega arith) l),
       )
 
 offered : (s : tie.Start) → length (s .args .low) ≡ mostCharts

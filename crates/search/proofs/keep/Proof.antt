@@ -45,12 +45,12 @@ module _ (f f₁ f₂ g b : List ℕ) (N o : ℕ) (few : N ≤ mostCharts) (held
   next-is : made mostCharts (λ c. getD f₃ (0 + c) 0) ≡ made N (nextIn b) ++ replicate (mostCharts - N) 0
   next-is =
       made-cong mostCharts (λ c. getD f₃ (0 + c) 0) (λ c. getD (columnIn b N 0 0) c 0)
-      (λ c l. before (0 + c) (omega arith) ∙ h₂ .below (0 + c) (omega arith) ∙ h₁ .row c l)
+      (λ c l. before (0 + c) (omega arith) ∙ h₂ .below (0 + c) (omega arith) ∙ h₁ .in-row c l)
       ∙ made-list mostCharts (columnIn b N 0 0) (length-filled N (λ d. getD b (steps * d + 0) 0) 0 few) ∙ column-next b N 0
 
   places-are : made mostCharts (λ c. getD f₃ (placesCell + c) 0) ≡ columnIn b N 2 noPlace
   places-are =
-      made-cong mostCharts (λ c. getD f₃ (placesCell + c) 0) (λ c. getD (columnIn b N 2 noPlace) c 0) (λ c l. before (placesCell + c) (omega arith) ∙ h₂ .row c l)
+      made-cong mostCharts (λ c. getD f₃ (placesCell + c) 0) (λ c. getD (columnIn b N 2 noPlace) c 0) (λ c l. before (placesCell + c) (omega arith) ∙ h₂ .in-row c l)
       ∙ made-list mostCharts (columnIn b N 2 noPlace) (length-filled N (placeIn b) noPlace few)
 
   pub keeps-first : foundIn f₃ (set g 0 o) ≡ firstFound (outcomeIn b N o)

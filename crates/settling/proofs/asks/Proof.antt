@@ -5,25 +5,25 @@ use native.Mathlib.Numerals.{add-one}
 use native.Mathlib.Omega.{arith}
 use borrow.Author.Needs.{needs}
 use Rattle.signals.specs.Mask.{_∪_}
-use Rattle.wiring.specs.Wire.{join}
+use Rattle.meaning.specs.Rewriting.{unionUpTo}
 use Rattle.settling.specs.Asks.{wantsIn, bansIn, asksOf}
 use Rattle.settling.proofs.asks.Statement.{statement}
 use Rattle.settling.proofs.asks.Tie as tie
 
 -- x is joined of the numbers below n
-join-more : (n : ℕ) (f : ℕ → ℕ) (x y : ℕ) → x ≡ join n f → y ≡ f n → x ∪ y ≡ join (n + 1) f
-unfolding join
+join-more : (n : ℕ) (f : ℕ → ℕ) (x y : ℕ) → x ≡ unionUpTo n f → y ≡ f n → x ∪ y ≡ unionUpTo (n + 1) f
+unfolding unionUpTo
 join-more n f x y p q = rw add-one (ap₂ _∪_ p q)
 
 abbrev Inv-loop : tie.InvT-loop
 Inv-loop masks trail k needed₀ barred₀ d₀ needed barred d =
-    (d ≤ k) × (needed ≡ join d (wantsIn masks trail k)) × (barred ≡ join d (bansIn masks trail k))
+    (d ≤ k) × (needed ≡ unionUpTo d (wantsIn masks trail k)) × (barred ≡ unionUpTo d (bansIn masks trail k))
 
 abbrev μ-loop : tie.MeasureT-loop
 μ-loop masks trail k needed₀ barred₀ d₀ needed barred d = k - d
 
 loop-holds : tie.Need-loop-holds Inv-loop μ-loop
-unfolding join
+unfolding unionUpTo
 loop-holds c = (omega arith, refl, refl)
 
 loop-again : tie.Need-loop-again Inv-loop μ-loop

@@ -14,7 +14,7 @@ use Rattle.signals.specs.Mask.{_∪_, _∩_, _∖_, within, apart}
 use Rattle.signals.specs.Decide.{sets, A, B, C, D, E, F, G, H, ∅ₑ, _∪ₑ_, _∩ₑ_, _∖ₑ_, _≐_, _⊑_, _⊥ₑ_}
 use Rattle.meaning.specs.Calls.{made}
 use Rattle.meaning.specs.Laws.Bools.{and-l, and-r, and-i, bool-eq, every}
-use Rattle.wiring.specs.Wire.{join}
+use Rattle.meaning.specs.Rewriting.{unionUpTo}
 use Rattle.wiring.specs.Dropped.{join-cong}
 use Rattle.wiring.specs.Hunt.{every-cong}
 use Rattle.meaning.specs.Numbers.{mostCharts}
@@ -91,20 +91,20 @@ module _ (n r l h b g : ℕ) where
 
 module _ (n r l h b : ℕ → ℕ) where
   abbrev all-want : ℕ → ℕ
-  all-want k = join k (λ d. wants (n d) (r d) (l d) (h d) (b d))
+  all-want k = unionUpTo k (λ d. wants (n d) (r d) (l d) (h d) (b d))
 
   abbrev all-ban : ℕ → ℕ
-  all-ban k = join k (λ d. bans (n d) (r d) (l d) (h d) (b d))
+  all-ban k = unionUpTo k (λ d. bans (n d) (r d) (l d) (h d) (b d))
 
   asked : (a k : ℕ) → every k (λ d. may (n d) (r d) (l d ∪ a ∩ b d) (h d)) ≡ met (all-want k) (all-ban k) a
-  unfolding every join
+  unfolding every unionUpTo
   asked a zero = sym (and-i (eq-eqb _ _ (sets (a ∷ []) [] (∅ₑ ⊑ A) tt)) (eq-eqb _ _ (sets (a ∷ []) [] (∅ₑ ⊥ₑ A) tt)))
   asked a (suc k) =
       ap (λ (z : Bool). may (n k) (r k) (l k ∪ a ∩ b k) (h k) && z) (asked a k)
       ∙ one (n k) (r k) (l k) (h k) (b k) a (all-want k) (all-ban k)
 
   asked-none : (k : ℕ) → every k (λ d. may (n d) (r d) (l d) (h d)) ≡ eqb (all-want k) 0
-  unfolding every join
+  unfolding every unionUpTo
   asked-none zero = refl
   asked-none (suc k) =
       ap (λ (z : Bool). may (n k) (r k) (l k) (h k) && z) (asked-none k) ∙ one-none (n k) (r k) (l k) (h k) (b k) (all-want k)

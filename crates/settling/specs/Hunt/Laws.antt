@@ -12,7 +12,8 @@ use native.Mathlib.Omega.{arith}
 use Rattle.meaning.specs.Meaning.{same, Outcome, eqList, agree, given, answer, firstPlaces}
 use Rattle.meaning.specs.Laws.Bools.{same-refl, same-comm, and-l, and-r}
 use Rattle.meaning.specs.Laws.Choices.{eqList-refl}
-use Rattle.settling.specs.Hunt.{each, pickFound, settleOf, over, nothing, answerIn}
+use Rattle.meaning.specs.Rewriting.{inTurn}
+use Rattle.settling.specs.Hunt.{pickFound, settleOf, over, nothing, answerIn}
 use Rattle.settling.specs.declared.Found.{Found}
 
 -- ── over ──
@@ -51,24 +52,24 @@ over-stopped (o ∷ os) f h = rw (settle-stopped o f h) (over-stopped os f h)
 
 -- ── each ──
 
-pub each-none : (n : ℕ) (f : ℕ → List Outcome) → ((v : ℕ) → v < n → f v ≡ []) → each n f ≡ []
-unfolding each
+pub each-none : (n : ℕ) (f : ℕ → List Outcome) → ((v : ℕ) → v < n → f v ≡ []) → inTurn n f ≡ []
+unfolding inTurn
 each-none zero f h = refl
 each-none (suc n) f h = rw (each-none n f (λ v l. h v (omega arith)), h n (omega arith))
 
 module _ (f : ℕ → List Outcome) (acc : Found) where
   -- one block more, as code counts
-  pub over-each : (n : ℕ) → over (each (n + 1) f) acc ≡ over (f n) (over (each n f) acc)
-  unfolding each
-  over-each n = rw add-one (over-append (each n f) (f n) acc)
+  pub over-each : (n : ℕ) → over (inTurn (n + 1) f) acc ≡ over (f n) (over (inTurn n f) acc)
+  unfolding inTurn
+  over-each n = rw add-one (over-append (inTurn n f) (f n) acc)
 
-  pub over-each-stopped : (n k : ℕ) → k ≤ n → Stopped (over (each k f) acc) → over (each n f) acc ≡ over (each k f) acc
-  unfolding each
+  pub over-each-stopped : (n k : ℕ) → k ≤ n → Stopped (over (inTurn k f) acc) → over (inTurn n f) acc ≡ over (inTurn k f) acc
+  unfolding inTurn
   over-each-stopped zero k l h = let e : k ≡ 0 = omega arith in rw e
   over-each-stopped (suc n) k l h = ⊎-elim (λ e. rw e) (λ i. more (over-each-stopped n k (omega arith) h)) (eq-or-lt-of-le l)
     where
-      more : over (each n f) acc ≡ over (each k f) acc → over (each n f ++ f n) acc ≡ over (each k f) acc
-      more e = over-append (each n f) (f n) acc ∙ ap (over (f n)) e ∙ over-stopped (f n) (over (each k f) acc) h
+      more : over (inTurn n f) acc ≡ over (inTurn k f) acc → over (inTurn n f ++ f n) acc ≡ over (inTurn k f) acc
+      more e = over-append (inTurn n f) (f n) acc ∙ ap (over (f n)) e ∙ over-stopped (f n) (over (inTurn k f) acc) h
 
 -- ── the answer of all outcomes ──
 
@@ -285,10 +286,10 @@ alike-drop xs ys p =
     places (x ∷ xs) ys h = refl
 
 -- a block of `each`
-pub among-each : (f : ℕ → List Outcome) (n u : ℕ) → u < n → Among (f u) (each n f)
-unfolding each
+pub among-each : (f : ℕ → List Outcome) (n u : ℕ) → u < n → Among (f u) (inTurn n f)
+unfolding inTurn
 among-each f zero u l = absurd (omega arith)
 among-each f (suc n) u l =
     let l′ : u ≤ n = omega arith in
-    ⊎-elim (λ e. rw e (among-right (each n f) (f n) (among-refl (f n)))) (λ h. among-left (each n f) (f n) (among-each f n u h))
+    ⊎-elim (λ e. rw e (among-right (inTurn n f) (f n) (among-refl (f n)))) (λ h. among-left (inTurn n f) (f n) (among-each f n u h))
     (eq-or-lt-of-le l′)

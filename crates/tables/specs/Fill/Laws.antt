@@ -1,6 +1,6 @@
 -- Laws of filling. In order: a transition that is put down (put), one more transition (considered, listing), one more chart (until-next), the rows
--- ahead (ahead-row, ahead-from), that what is chosen by the tables is what a file's candidates are (candidates), and what charts are surely
--- offered (raised, lows-are).
+-- ahead (row-value, from-last, from-next), that what is chosen by the tables is what a file's candidates are (candidates), and what charts are
+-- surely offered (raised-same, lows-are).
 use mathlib.Core.Path.{_≡_, refl, sym, _∙_, ap, ap₂, subst, fun-ext}
 use mathlib.Core.Bool.{Bool, true, false, _&&_, _||_, not, cond, false≢true}
 use mathlib.Core.Option.{Option, none, some}
@@ -16,6 +16,7 @@ use borrow.Author.Tests.{lt-ltb, le-ltb, ltb-false}
 use borrow.Author.Tests.{not-true as tests-not-true}
 use Rattle.signals.specs.Mask.{_∪_, _∩_, bit}
 use Rattle.signals.specs.Decide.{sets, A, B, C, D, E as Eₑ, F as Fₑ, ∅ₑ, _∪ₑ_, _∩ₑ_, _≐_}
+use Rattle.layout.specs.Row.Laws.{row-rest}
 use Rattle.layout.specs.declared.record.Transition.{Transition}
 use Rattle.meaning.specs.Numbers.{mostCharts, mostFromState}
 use Rattle.meaning.specs.Count.{anyUpTo, tally, one}
@@ -23,7 +24,8 @@ use Rattle.meaning.specs.Count.Laws.{tally-plus, tally-mono}
 use Rattle.meaning.specs.Meaning.{Set, same, Chart, Tree, noMove, takes, nth, behind, pick, lastPlace, actionOf, untriggered, Outcome}
 use Rattle.meaning.specs.Laws.Bools.{same-refl, same→≡, same-≢, and-l, and-r}
 use Rattle.meaning.specs.Laws.Editions.{stay-last}
-use Rattle.wiring.specs.Wire.{join, down, back, offered}
+use Rattle.meaning.specs.Rewriting.{unionUpTo}
+use Rattle.wiring.specs.Wire.{down, back, offered}
 use Rattle.wiring.specs.Wired.{Stands}
 use Rattle.wiring.specs.Dropped.{ahead, test, join-cong}
 use Rattle.wiring.specs.Hunt.{mayOf}
@@ -31,7 +33,8 @@ use Rattle.wiring.specs.Filter.{lasts}
 use Rattle.wiring.specs.Sure.{sureOf, sureIn, surely, outside}
 use Rattle.cells.specs.Table.{SameWiring, SameLists, block, upCell, backCell, aheadCell, neededCell, barredCell, actionCell, masksFor, neededAt, barredAt, actionAt, backAt, aheadAt, putMasks, countFrom, masterFrom, stateFrom, placeFrom, toCell, countCell, masterCell, stateCell, placeCell, smallSize, toAt, countAt, masterAt, stateAt, placeAt, putSmall}
 use Rattle.settling.specs.Trail.{Trail}
-use Rattle.settling.specs.Hunt.{each, wakes, taken, rested, fineAt}
+use Rattle.meaning.specs.Rewriting.{inTurn}
+use Rattle.settling.specs.Hunt.{wakes, taken, rested, fineAt}
 use Rattle.settling.specs.Stays.{staysAt, stayed, quietAt, huntsBoth}
 use Rattle.settling.specs.Hunt.Laws.{each-none}
 use Rattle.tables.specs.Filled.{Is, Listed, start, other, fails, again, fresh, mayAt, Rows, Candidates, Stayers, Lows}
@@ -347,36 +350,20 @@ module _ (E : ℕ → Chart) (cfg : ℕ → ℕ) (N : ℕ) (lows shuts m₀ s₀
 -- a row ahead leaves the wiring and the candidates
 module _ (k : ℕ) (w : ℕ → Set) (n : ℕ) (m₀ m : List ℕ) (lk : k ≤ mostCharts) (ln : n ≤ mostCharts) (a : AheadRow k w n m₀ m) where
   row-wiring : SameWiring m₀ m
-  row-wiring = record { backs = λ c d p q. a .rest (backCell c d) (λ e r x. omega arith); ups = λ d p. a .rest (upCell d) (λ e r x. omega arith) }
+  row-wiring = record { backs = λ c d p q. row-rest a (backCell c d) (λ e r x. omega arith); ups = λ d p. row-rest a (upCell d) (λ e r x. omega arith) }
 
   row-lists : SameLists m₀ m
   row-lists =
       record {
-        needed = λ c v p q. a .rest (neededCell c v) (λ e r x. omega arith);
-        barred = λ c v p q. a .rest (barredCell c v) (λ e r x. omega arith);
-        action = λ c v p q. a .rest (actionCell c v) (λ e r x. omega arith);
+        needed = λ c v p q. row-rest a (neededCell c v) (λ e r x. omega arith);
+        barred = λ c v p q. row-rest a (barredCell c v) (λ e r x. omega arith);
+        action = λ c v p q. row-rest a (actionCell c v) (λ e r x. omega arith);
       }
-
-pub row-none : (k : ℕ) (w : ℕ → Set) (m : List ℕ) → AheadRow k w 0 m m
-row-none k w m = record { row = λ c l. absurd (omega arith); rest = λ i q. refl; masks = refl }
-
-pub row-next : (k : ℕ) (w : ℕ → Set) (n : ℕ) (m₀ m : List ℕ) (v : Set) → AheadRow k w n m₀ m → aheadCell k n < length m₀ → v ≡ w n → AheadRow k w (n + 1) m₀ (set m (aheadCell k n) v)
-row-next k w n m₀ m v a l e =
-    record {
-      row = λ c r. go c r (same c n) refl;
-      rest = λ i q. getD-set-other m (aheadCell k n) i v 0 (q n (omega arith)) ∙ a .rest i (λ c r. q c (omega arith));
-      masks = length-set m (aheadCell k n) v ∙ a .masks;
-    }
-  where
-    go : (c : ℕ) → c < n + 1 → (b : Bool) → same c n ≡ b → getD (set m (aheadCell k n) v) (aheadCell k c) 0 ≡ w c
-    go c r true x = rw (same→≡ c n x) (getD-set-same m (aheadCell k n) v 0 (let h = a .masks in omega arith) ∙ e)
-    go c r false x = let z : c ≢ n = λ y. false≢true (sym x ∙ rw y (same-refl n)) in
-        getD-set-other m (aheadCell k n) (aheadCell k c) v 0 (λ y. omega arith) ∙ a .row c (omega arith)
 
 -- what row k is made from is still there
 pub row-value : (k : ℕ) (w : ℕ → Set) (c : ℕ) (m₀ m : List ℕ) (u : Set) → AheadRow k w c m₀ m → c < mostCharts → k < mostCharts → u ∩ backAt m c k ∪ aheadAt m (k + 1) c ≡ aheadBy m₀ k u c
 unfolding aheadBy
-row-value k w c m₀ m u a l r = ap₂ (λ x y. u ∩ x ∪ y) (a .rest (backCell c k) (λ d p e. omega arith)) (ap (λ z. aheadAt m z c) (add-one k) ∙ a .rest (aheadCell (suc k) c) (λ d p e. omega arith))
+row-value k w c m₀ m u a l r = ap₂ (λ x y. u ∩ x ∪ y) (row-rest a (backCell c k) (λ d p e. omega arith)) (ap (λ z. aheadAt m z c) (add-one k) ∙ row-rest a (aheadCell (suc k) c) (λ d p e. omega arith))
 
 module _ (N : ℕ) (few : N ≤ mostCharts) (s m₀ : List ℕ) where
   -- nothing is left after the last chart
@@ -384,10 +371,10 @@ module _ (N : ℕ) (few : N ≤ mostCharts) (s m₀ : List ℕ) where
   unfolding ahead
   from-last m a =
       record {
-        rows = λ j c p q l. let e : j ≡ N = omega arith in let z : N - N ≡ 0 = omega arith in rw (e, z) (a .row c l);
+        rows = λ j c p q l. let e : j ≡ N = omega arith in let z : N - N ≡ 0 = omega arith in rw (e, z) (a .in-row c l);
         wires = row-wiring N (λ c. 0) N m₀ m few few a;
         lists = row-lists N (λ c. 0) N m₀ m few few a;
-        masks = a .masks;
+        masks = a .long;
       }
 
   may-same : (m : List ℕ) (c : ℕ) → c < N → countAt s c ≤ mostFromState → SameLists m₀ m → mayAt m s c ≡ mayAt m₀ s c
@@ -401,16 +388,16 @@ module _ (N : ℕ) (few : N ≤ mostCharts) (s m₀ : List ℕ) where
         rows = λ j c p q x. go j c p q x (same j k) refl;
         wires = wiring-trans (a .wires) (row-wiring k _ N m m′ (omega arith) few r);
         lists = lists-trans (a .lists) (row-lists k _ N m m′ (omega arith) few r);
-        masks = r .masks ∙ a .masks;
+        masks = r .long ∙ a .masks;
       }
     where
       part : ℕ → ℕ → Set
       part c e = mayAt m₀ s e ∩ backAt m₀ c e
 
       go : (j c : ℕ) → k ≤ j → j ≤ N → c < N → (b : Bool) → same j k ≡ b → aheadAt m′ j c ≡ ahead (N - j) j (part c)
-      go j c p q x true y = rw (same→≡ j k y) (r .row c x ∙ ap₂ _∪_ (ap₂ _∩_ (e ∙ may-same m k (omega arith) f (a .lists)) (a .wires .backs c k (omega arith) (omega arith))) (a .rows (suc k) c (omega arith) (omega arith) x)
+      go j c p q x true y = rw (same→≡ j k y) (r .in-row c x ∙ ap₂ _∪_ (ap₂ _∩_ (e ∙ may-same m k (omega arith) f (a .lists)) (a .wires .backs c k (omega arith) (omega arith))) (a .rows (suc k) c (omega arith) (omega arith) x)
           ∙ sym (ap (λ n. ahead n k (part c)) (let h : N - k ≡ suc (N - suc k) = omega arith in h)))
-      go j c p q x false y = let z : j ≢ k = λ o. false≢true (sym y ∙ rw o (same-refl k)) in r .rest (aheadCell j c) (λ d o w. omega arith) ∙ a .rows j c (omega arith) q x
+      go j c p q x false y = let z : j ≢ k = λ o. false≢true (sym y ∙ rw o (same-refl k)) in row-rest r (aheadCell j c) (λ d o w. omega arith) ∙ a .rows j c (omega arith) q x
 
 -- ── all of it ──
 
@@ -439,8 +426,8 @@ module _ (E : ℕ → Chart) (cfg : ℕ → ℕ) (N : ℕ) (lows shuts m₀ s₀
 -- ── what is chosen by the tables is what the file's candidates are ──
 
 -- chart c's own part of what it is offered, apart
-join-apart : (N c : ℕ) (a : Set) (f b : ℕ → Set) → c < N → join N (λ e. cond (same e c) a (f e) ∩ b e) ≡ a ∩ b c ∪ join N (λ e. cond (same e c) 0 (f e) ∩ b e)
-unfolding join
+join-apart : (N c : ℕ) (a : Set) (f b : ℕ → Set) → c < N → unionUpTo N (λ e. cond (same e c) a (f e) ∩ b e) ≡ a ∩ b c ∪ unionUpTo N (λ e. cond (same e c) 0 (f e) ∩ b e)
+unfolding unionUpTo
 join-apart zero c a f b l = absurd (omega arith)
 join-apart (suc N) c a f b l = go (same c N) refl (join-apart N c a f b)
   where
@@ -453,28 +440,28 @@ join-apart (suc N) c a f b l = go (same c N) refl (join-apart N c a f b)
     here : (z : Set) → with-own z c ≡ z ∩ b c
     here z = rw (same-refl c)
 
-    go : (x : Bool) → same c N ≡ x → (c < N → join N (with-own a) ≡ a ∩ b c ∪ join N (with-own 0)) → join N (with-own a) ∪ with-own a N ≡ a ∩ b c ∪ (join N (with-own 0) ∪ with-own 0 N)
+    go : (x : Bool) → same c N ≡ x → (c < N → unionUpTo N (with-own a) ≡ a ∩ b c ∪ unionUpTo N (with-own 0)) → unionUpTo N (with-own a) ∪ with-own a N ≡ a ∩ b c ∪ (unionUpTo N (with-own 0) ∪ with-own 0 N)
     go true x r = let e = same→≡ c N x in
-        sets (join N (with-own a) ∷ join N (with-own 0) ∷ with-own a N ∷ with-own 0 N ∷ (a ∩ b c) ∷ b c ∷ []) (A ≐ B ∷ C ≐ Eₑ ∷ D ≐ ∅ₑ ∩ₑ Fₑ ∷ []) (A ∪ₑ C ≐ Eₑ ∪ₑ (B ∪ₑ D)) tt
+        sets (unionUpTo N (with-own a) ∷ unionUpTo N (with-own 0) ∷ with-own a N ∷ with-own 0 N ∷ (a ∩ b c) ∷ b c ∷ []) (A ≐ B ∷ C ≐ Eₑ ∷ D ≐ ∅ₑ ∩ₑ Fₑ ∷ []) (A ∪ₑ C ≐ Eₑ ∪ₑ (B ∪ₑ D)) tt
         (join-cong N (with-own a) (with-own 0) (λ i l. elsewhere a 0 i (λ y. omega arith))) (ap (with-own a) (sym e) ∙ here a) (ap (with-own 0) (sym e) ∙ here 0)
     go false x r = let z : c ≢ N = λ o. false≢true (sym x ∙ rw o (same-refl N)) in
-        sets (join N (with-own a) ∷ (a ∩ b c) ∷ join N (with-own 0) ∷ with-own a N ∷ with-own 0 N ∷ []) (A ≐ B ∪ₑ C ∷ D ≐ Eₑ ∷ []) (A ∪ₑ D ≐ B ∪ₑ (C ∪ₑ Eₑ)) tt (r (omega arith))
+        sets (unionUpTo N (with-own a) ∷ (a ∩ b c) ∷ unionUpTo N (with-own 0) ∷ with-own a N ∷ with-own 0 N ∷ []) (A ≐ B ∪ₑ C ∷ D ≐ Eₑ ∷ []) (A ∪ₑ D ≐ B ∪ₑ (C ∪ₑ Eₑ)) tt (r (omega arith))
         (elsewhere a 0 N (λ y. z (sym y)))
 
-join-off : (N c : ℕ) (b : ℕ → Set) → join N (λ e. cond (same e c) 0 0 ∩ b e) ≡ 0
-unfolding join
+join-off : (N c : ℕ) (b : ℕ → Set) → unionUpTo N (λ e. cond (same e c) 0 0 ∩ b e) ≡ 0
+unfolding unionUpTo
 join-off zero c b = refl
-join-off (suc N) c b = sets (join N (λ e. cond (same e c) 0 0 ∩ b e) ∷ cond (same N c) 0 0 ∷ b N ∷ []) (A ≐ ∅ₑ ∷ B ≐ ∅ₑ ∷ []) (A ∪ₑ B ∩ₑ C ≐ ∅ₑ) tt (join-off N c b) (either (same N c))
+join-off (suc N) c b = sets (unionUpTo N (λ e. cond (same e c) 0 0 ∩ b e) ∷ cond (same N c) 0 0 ∷ b N ∷ []) (A ≐ ∅ₑ ∷ B ≐ ∅ₑ ∷ []) (A ∪ₑ B ∩ₑ C ≐ ∅ₑ) tt (join-off N c b) (either (same N c))
   where
     either : (x : Bool) → cond {A = Set} x 0 0 ≡ 0
     either true = refl
     either false = refl
 
 -- two lists of actions, by one row
-join-both : (N : ℕ) (f g b : ℕ → Set) → join N (λ e. (f e ∪ g e) ∩ b e) ≡ join N (λ e. f e ∩ b e) ∪ join N (λ e. g e ∩ b e)
-unfolding join
+join-both : (N : ℕ) (f g b : ℕ → Set) → unionUpTo N (λ e. (f e ∪ g e) ∩ b e) ≡ unionUpTo N (λ e. f e ∩ b e) ∪ unionUpTo N (λ e. g e ∩ b e)
+unfolding unionUpTo
 join-both zero f g b = sets [] [] (∅ₑ ≐ ∅ₑ ∪ₑ ∅ₑ) tt
-join-both (suc N) f g b = sets (join N (λ e. (f e ∪ g e) ∩ b e) ∷ join N (λ e. f e ∩ b e) ∷ join N (λ e. g e ∩ b e) ∷ f N ∷ g N ∷ b N ∷ [])
+join-both (suc N) f g b = sets (unionUpTo N (λ e. (f e ∪ g e) ∩ b e) ∷ unionUpTo N (λ e. f e ∩ b e) ∷ unionUpTo N (λ e. g e ∩ b e) ∷ f N ∷ g N ∷ b N ∷ [])
     (A ≐ B ∪ₑ C ∷ []) (A ∪ₑ (D ∪ₑ Eₑ) ∩ₑ Fₑ ≐ B ∪ₑ D ∩ₑ Fₑ ∪ₑ (C ∪ₑ Eₑ ∩ₑ Fₑ)) tt (join-both N f g b)
 
 module _ (E : ℕ → Chart) (state : ℕ → ℕ) (cfg : ℕ → ℕ) (N : ℕ) (enc : ℕ → Option ℕ) (sc : ℕ → ℕ) (t : Tree) (inp : Set) (m s lows shuts : List ℕ)
@@ -484,12 +471,12 @@ module _ (E : ℕ → Chart) (state : ℕ → ℕ) (cfg : ℕ → ℕ) (N : ℕ)
 
   -- what chart c is offered, its own action a and the others' f with what is sure
   offered-apart : (c : ℕ) (a : Set) (f : ℕ → Set) → c < N → offered N (λ e. cond (same e c) a (f e) ∪ surely enc E cfg e) inp (down t c) (back E t c)
-      ≡ getD lows c 0 ∪ a ∩ backAt m c c ∪ join N (λ e. cond (same e c) 0 (f e) ∩ backAt m c e)
+      ≡ getD lows c 0 ∪ a ∩ backAt m c c ∪ unionUpTo N (λ e. cond (same e c) 0 (f e) ∩ backAt m c e)
   unfolding offered
-  offered-apart c a f l = sets ((inp ∩ down t c) ∷ join N (λ e. (cond (same e c) a (f e) ∪ surely enc E cfg e) ∩ back E t c e) ∷ getD lows c 0 ∷ (a ∩ backAt m c c)
-      ∷ join N (λ e. cond (same e c) 0 (f e) ∩ backAt m c e) ∷ join N (λ e. surely enc E cfg e ∩ back E t c e) ∷ [])
+  offered-apart c a f l = sets ((inp ∩ down t c) ∷ unionUpTo N (λ e. (cond (same e c) a (f e) ∪ surely enc E cfg e) ∩ back E t c e) ∷ getD lows c 0 ∷ (a ∩ backAt m c c)
+      ∷ unionUpTo N (λ e. cond (same e c) 0 (f e) ∩ backAt m c e) ∷ unionUpTo N (λ e. surely enc E cfg e ∩ back E t c e) ∷ [])
       (C ≐ A ∪ₑ Fₑ ∷ B ≐ D ∪ₑ Eₑ ∪ₑ Fₑ ∷ []) (A ∪ₑ B ≐ C ∪ₑ D ∪ₑ Eₑ) tt (lw c l)
-      (join-both N (λ e. cond (same e c) a (f e)) (surely enc E cfg) (back E t c) ∙ ap (λ z. z ∪ join N (λ e. surely enc E cfg e ∩ back E t c e))
+      (join-both N (λ e. cond (same e c) a (f e)) (surely enc E cfg) (back E t c) ∙ ap (λ z. z ∪ unionUpTo N (λ e. surely enc E cfg e ∩ back E t c e))
       (join-cong N _ _ (λ e r. ap (λ z. cond (same e c) a (f e) ∩ z) (sym (ro .back-at c e l r))) ∙ join-apart N c a f (backAt m c) l))
 
   -- the places that are kept: what may be met, and may begin an open choice
@@ -500,7 +487,7 @@ module _ (E : ℕ → Chart) (state : ℕ → ℕ) (cfg : ℕ → ℕ) (N : ℕ)
   unfolding keepAt keptBy lasts othersAt
   keep-lasts c v l = ap₂ (λ lo hi. test (E c) (cfg c) (pick (E c) v) lo hi && opensBy (getD shuts c 0) (cfg c) (pick (E c) v))
       (sym (offered-apart c (actionOf (pick (E c) v)) (λ e. 0) l
-      ∙ sets ((getD lows c 0 ∪ actionOf (pick (E c) v) ∩ backAt m c c) ∷ join N (λ e. cond (same e c) 0 0 ∩ backAt m c e) ∷ []) (B ≐ ∅ₑ ∷ []) (A ∪ₑ B ≐ A) tt (join-off N c (backAt m c))))
+      ∙ sets ((getD lows c 0 ∪ actionOf (pick (E c) v) ∩ backAt m c c) ∷ unionUpTo N (λ e. cond (same e c) 0 0 ∩ backAt m c e) ∷ []) (B ≐ ∅ₑ ∷ []) (A ∪ₑ B ≐ A) tt (join-off N c (backAt m c))))
       (sym (offered-apart c (actionOf (pick (E c) v)) may₀ l))
 
   pub candidates : Chosen E cfg N lows shuts m s → Candidates E cfg N t keeps₀ m s
@@ -528,16 +515,6 @@ keep-stay E cfg N lows shuts m c two = let h : getD lows c 0 ∪ 0 ∩ backAt m 
 -- ── what is surely offered ──
 
 module _ (E : ℕ → Chart) (cfg : ℕ → ℕ) (base : List ℕ) where
-  pub raised-none : (m s : List ℕ) → Raised E cfg 0 m s base base
-  unfolding join
-  raised-none m s c l = sets (getD base c 0 ∷ []) [] (A ≐ A ∪ₑ ∅ₑ) tt
-
-  pub raised-next : (k : ℕ) (m s lows lows′ : List ℕ) → Raised E cfg k m s base lows → ((c : ℕ) → c < mostCharts → getD lows′ c 0 ≡ getD lows c 0 ∪ sureAt s k (sureIn (E k .stays) (sureOf (E k .transitions) (cfg k))) ∩ backAt m c k)
-      → Raised E cfg (suc k) m s base lows′
-  unfolding join
-  raised-next k m s lows lows′ h f c l = f c l ∙ sets (getD lows c 0 ∷ getD base c 0 ∷ join k (λ e. sureAt s e (sureIn (E e .stays) (sureOf (E e .transitions) (cfg e))) ∩ backAt m c e) ∷ (sureAt s k (sureIn (E k .stays) (sureOf (E k .transitions) (cfg k))) ∩ backAt m c k) ∷ [])
-      (A ≐ B ∪ₑ C ∷ []) (A ∪ₑ D ≐ B ∪ₑ (C ∪ₑ D)) tt (h c l)
-
   -- by tables with the same wiring and the same masters
   pub raised-same : (k : ℕ) (m s m′ s′ lows : List ℕ) → k ≤ mostCharts → Backs m′ m → ((i : ℕ) → masterFrom ≤ i → i < stateFrom → getD s′ i 0 ≡ getD s i 0)
       → Raised E cfg k m s base lows → Raised E cfg k m′ s′ base lows
@@ -563,7 +540,7 @@ module _ (E : ℕ → Chart) (state : ℕ → ℕ) (cfg : ℕ → ℕ) (N : ℕ)
 module _ (m s g y : List ℕ) (c : ℕ) (z : countAt s c ≡ 0) (o : c ≤ masterAt s c) (n₀ : staysAt g y c ≡ false) where
   -- a chart that is surely active, has no candidate and cannot stay: nothing is found
   hunts-none : (n k : ℕ) (t : Trail) → k ≤ c → c < n + k → huntsBoth m s g y n k t ≡ []
-  unfolding huntsBoth each wakes
+  unfolding huntsBoth inTurn wakes
   hunts-none zero k t p q = absurd (omega arith)
   hunts-none (suc n) k t p q = go (same k c) refl (hunts-none n (suc k))
     where
@@ -579,7 +556,7 @@ module _ (m s g y : List ℕ) (c : ℕ) (z : countAt s c ≡ 0) (o : c ≤ maste
       either false x y e f = f
 
       go : (b : Bool) → same k c ≡ b → ((t′ : Trail) → suc k ≤ c → c < n + suc k → huntsBoth m s g y n (suc k) t′ ≡ [])
-          → cond (wakes m s t k) (each (countAt s k) (λ v. block (taken m s t k v)) ++ cond (staysAt g y k) (block (stayed m s t k)) []) (block (rested m s t k)) ≡ []
+          → cond (wakes m s t k) (inTurn (countAt s k) (λ v. block (taken m s t k v)) ++ cond (staysAt g y k) (block (stayed m s t k)) []) (block (rested m s t k)) ≡ []
       go true e ih = rw (same→≡ k c e, le-ltb (masterAt s c) c o, z, n₀)
       go false e ih = let w : k ≢ c = λ x. false≢true (sym e ∙ rw x (same-refl c)) in
           let end : (t′ : Trail) → block t′ ≡ [] = λ t′. both (fineAt m s t′ k && quietAt m s g y t′ k) (huntsBoth m s g y n (suc k) t′) (ih t′ (omega arith) (omega arith)) in

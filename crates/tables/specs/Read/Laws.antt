@@ -19,7 +19,8 @@ use Rattle.meaning.specs.Laws.Bools.{same-refl, same→≡, and-cong}
 use Rattle.meaning.specs.Laws.Guards.{met-cut}
 use Rattle.meaning.specs.Laws.Choices.{upto-cong}
 use Rattle.wiring.specs.Uncut.{own-moves}
-use Rattle.wiring.specs.Wire.{full, join, down, up, back, backs, offered, fits, awakeBy, Small, out-wired}
+use Rattle.meaning.specs.Rewriting.{unionUpTo}
+use Rattle.wiring.specs.Wire.{full, down, up, back, backs, offered, fits, awakeBy, Small, out-wired}
 use Rattle.wiring.specs.Wired.{awakeIn, awake, Stands, offer, ruled, permitted-wired}
 use Rattle.wiring.specs.Dropped.{join-cong}
 use Rattle.wiring.specs.Hunt.{every-cong}
@@ -112,23 +113,23 @@ module _ (r : ℕ → Set) (E : ℕ → Chart) where
 
 -- ── what is asked of what is offered ──
 
-pub join-at : (n : ℕ) (f : ℕ → Set) (v : ℕ) → v < n → Within (f v) (join n f)
-unfolding join
+pub join-at : (n : ℕ) (f : ℕ → Set) (v : ℕ) → v < n → Within (f v) (unionUpTo n f)
+unfolding unionUpTo
 join-at zero f v l = absurd (omega arith)
 join-at (suc n) f v l = go (same v n) refl (λ h. join-at n f v h)
   where
-    go : (b : Bool) → same v n ≡ b → (v < n → Within (f v) (join n f)) → Within (f v) (join n f ∪ f n)
-    go true e r = rw (same→≡ v n e) (sets (f n ∷ join n f ∷ []) [] (A ⊑ B ∪ₑ A) tt)
+    go : (b : Bool) → same v n ≡ b → (v < n → Within (f v) (unionUpTo n f)) → Within (f v) (unionUpTo n f ∪ f n)
+    go true e r = rw (same→≡ v n e) (sets (f n ∷ unionUpTo n f ∷ []) [] (A ⊑ B ∪ₑ A) tt)
     go false e r = let z : v ≢ n = λ w. false≢true (sym e ∙ rw w (same-refl n)) in
-        sets (f v ∷ join n f ∷ f n ∷ []) (A ⊑ B ∷ []) (A ⊑ B ∪ₑ C) tt (r (omega arith))
+        sets (f v ∷ unionUpTo n f ∷ f n ∷ []) (A ⊑ B ∷ []) (A ⊑ B ∪ₑ C) tt (r (omega arith))
 
 -- two joins that are alike as far as a goes
 join-alike : (n : ℕ) (f g : ℕ → Set) (a : Set) → ((e : ℕ) → e < n → f e ∩ a ≡ g e ∩ a)
-    → join n f ∩ a ≡ join n g ∩ a
-unfolding join
+    → unionUpTo n f ∩ a ≡ unionUpTo n g ∩ a
+unfolding unionUpTo
 join-alike zero f g a h = refl
 join-alike (suc n) f g a h =
-    sets (join n f ∷ join n g ∷ f n ∷ g n ∷ a ∷ []) (A ∩ₑ Eₑ ≐ B ∩ₑ Eₑ ∷ C ∩ₑ Eₑ ≐ D ∩ₑ Eₑ ∷ [])
+    sets (unionUpTo n f ∷ unionUpTo n g ∷ f n ∷ g n ∷ a ∷ []) (A ∩ₑ Eₑ ≐ B ∩ₑ Eₑ ∷ C ∩ₑ Eₑ ≐ D ∩ₑ Eₑ ∷ [])
     ((A ∪ₑ C) ∩ₑ Eₑ ≐ (B ∪ₑ D) ∩ₑ Eₑ) tt (join-alike n f g a (λ e l. h e (omega arith))) (h n (omega arith))
 
 -- a transition from q is asked for within I
@@ -243,7 +244,7 @@ module _ (E : ℕ → Chart) (state : ℕ → ℕ) (cfg : ℕ → ℕ) (N : ℕ)
       ≡ offer E state cfg N enc sc t inp (moves E ch) N c ∩ asked (E c .transitions) (cfg c)
   unfolding offer offered
   offer-narrowed ch c l =
-      sets ((inp ∩ down t c) ∷ join N f ∷ join N g ∷ a ∷ []) (B ∩ₑ D ≐ C ∩ₑ D ∷ [])
+      sets ((inp ∩ down t c) ∷ unionUpTo N f ∷ unionUpTo N g ∷ a ∷ []) (B ∩ₑ D ≐ C ∩ₑ D ∷ [])
       ((A ∪ₑ B) ∩ₑ D ≐ (A ∪ₑ C) ∩ₑ D) tt (join-alike N f g a at)
     where
       a : Set
@@ -262,7 +263,7 @@ module _ (E : ℕ → Chart) (state : ℕ → ℕ) (cfg : ℕ → ℕ) (N : ℕ)
       at e m = rw (acts-narrowed ch e, back-narrowed r E t c e)
           (sets (actionOf (moves E ch e) ∷ r e ∷ back E t c e ∷ a ∷ readOf E cfg N t e ∷ full ∷ [])
           (A ∩ₑ Fₑ ≐ A ∷ C ∩ₑ D ⊑ Eₑ ∷ Eₑ ∩ₑ Fₑ ⊑ B ∷ []) (A ∩ₑ B ∩ₑ C ∩ₑ D ≐ A ∩ₑ C ∩ₑ D) tt (sa ch e)
-          (unfold readOf in sets ((back E t c e ∩ a) ∷ up t e ∷ join N (asks e) ∷ []) (A ⊑ C ∷ []) (A ⊑ B ∪ₑ C) tt
+          (unfold readOf in sets ((back E t c e ∩ a) ∷ up t e ∷ unionUpTo N (asks e) ∷ []) (A ⊑ C ∷ []) (A ⊑ B ∪ₑ C) tt
           (join-at N (asks e) c l)) (rd e m))
 
   ruled-narrowed : (ch : ℕ → ℕ) (c : ℕ) → c < N
@@ -288,7 +289,7 @@ module _ (E : ℕ → Chart) (state : ℕ → ℕ) (cfg : ℕ → ℕ) (N : ℕ)
       sets (actionOf (moves E′ ch e) ∷ actionOf (moves E ch e) ∷ r e ∷ up t e ∷ readOf E cfg N t e ∷ full ∷ [])
       (A ≐ B ∩ₑ C ∷ B ∩ₑ Fₑ ≐ B ∷ D ⊑ Eₑ ∷ Eₑ ∩ₑ Fₑ ⊑ C ∷ [])
       (A ∩ₑ D ≐ B ∩ₑ D) tt (acts-narrowed ch e) (sa ch e)
-      (unfold readOf in sets (up t e ∷ join N (λ c. back E t c e ∩ asked (E c .transitions) (cfg c)) ∷ []) []
+      (unfold readOf in sets (up t e ∷ unionUpTo N (λ c. back E t c e ∩ asked (E c .transitions) (cfg c)) ∷ []) []
       (A ⊑ A ∪ₑ B) tt) (rd e m))
       ∙ sym (out-wired N (moves E ch) (sa ch) t (st .held))
 
@@ -332,5 +333,5 @@ module _ (E : ℕ → Chart) (cfg : ℕ → ℕ) (N : ℕ) (t : Tree) where
   unfolding readOf readAt
   reads-at m r b u h k l =
       let asks = join-cong N _ _ (λ c q. ap (λ z. z ∩ asked (E c .transitions) (cfg c)) (b c k q l)) in
-      sets ((up t k ∪ join N (λ c. back E t c k ∩ asked (E c .transitions) (cfg c))) ∷ full ∷ r k ∷ []) (C ≐ A ∷ [])
+      sets ((up t k ∪ unionUpTo N (λ c. back E t c k ∩ asked (E c .transitions) (cfg c))) ∷ full ∷ r k ∷ []) (C ≐ A ∷ [])
       (A ∩ₑ B ⊑ C) tt (h k l ∙ ap₂ _∪_ (u k l) asks)

@@ -7,7 +7,7 @@ use lib.ListN.{length, length-set}
 use Rattle.meaning.specs.Numbers.{mostNodes}
 use Rattle.meaning.specs.File.{fileAt, treeOf}
 use Rattle.naming.specs.Inside.{lowest, Lows}
-use Rattle.parts.specs.Parts.Laws.{fill-more}
+use Rattle.layout.specs.Row.Laws.{fill-more}
 use Rattle.naming.proofs.inside.lows.Statement.{statement}
 use Rattle.naming.proofs.inside.lows.Tie as tie
 

@@ -13,7 +13,8 @@ use Rattle.signals.specs.Decide.{sets, A, B, C, D, ∅ₑ, _∪ₑ_, _∩ₑ_, 
 use Rattle.meaning.specs.Numbers.{mostCharts}
 use Rattle.meaning.specs.Meaning.{Set}
 use Rattle.cells.specs.Table.{backRow, backCell, upCell, backAt, upAt}
-use Rattle.plan.specs.Wire.{RowAt, fedRow, fedAt}
+use Rattle.layout.specs.Row.{RowAt}
+use Rattle.plan.specs.Wire.{fedRow, fedAt}
 use Rattle.plan.proofs.wire.feed.Statement.{statement}
 use Rattle.plan.proofs.wire.feed.Tie as tie
 

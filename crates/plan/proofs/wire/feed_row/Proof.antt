@@ -9,8 +9,9 @@ use lib.ListN.{length, getD}
 use Rattle.signals.specs.Mask.{_∪_, _∩_, bit}
 use Rattle.signals.specs.Decide.{sets, A, B, C, ∅ₑ, _∪ₑ_, _∩ₑ_, _≐_}
 use Rattle.cells.specs.Table.{backRow, backCell, masksFor, backAt}
-use Rattle.plan.specs.Wire.{RowAt, fedRow}
-use Rattle.plan.proofs.Filled.{row-none, row-more, row-kept, row-same}
+use Rattle.layout.specs.Row.{RowAt}
+use Rattle.plan.specs.Wire.{fedRow}
+use Rattle.layout.specs.Row.Laws.{row-none, row-more, row-kept, row-same}
 use Rattle.plan.proofs.wire.feed_row.Statement.{statement}
 use Rattle.plan.proofs.wire.feed_row.Tie as tie
 

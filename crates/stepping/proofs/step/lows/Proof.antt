@@ -6,7 +6,7 @@ use borrow.Author.Needs.{needs}
 use lib.ListN.{length, getD, length-set}
 use Rattle.signals.specs.Mask.{_∩_}
 use Rattle.meaning.specs.Numbers.{mostCharts}
-use Rattle.parts.specs.Parts.Laws.{fill-more}
+use Rattle.layout.specs.Row.Laws.{fill-more}
 use Rattle.stepping.proofs.step.lows.Statement.{statement}
 use Rattle.stepping.proofs.step.lows.Tie as tie
 
