@@ -5,9 +5,11 @@ use native.Mathlib.Numerals.{add-one}
 use native.Mathlib.Omega.{arith}
 use borrow.Author.Needs.{needs}
 use lib.ListN.{getD}
+use Rattle.signals.specs.Mask.{_∪_}
 use Rattle.meaning.specs.Numbers.{mostNodes}
 use Rattle.meaning.specs.File.{fileAt}
 use Rattle.nesting.proofs.Records.{is-node}
+use Rattle.plan.specs.Wire.{Feeds}
 use Rattle.plan.proofs.Nodes.{lower-hide, lower-comp, kind-hide, below-charts}
 use Rattle.plan.proofs.Wiring.{wired-hide, wired-comp, wired-chart, charts-comp, charts-hide}
 use Rattle.plan.proofs.wire.wire_node.Statement.{statement}
@@ -63,7 +65,8 @@ returns-comp c =
     let e = sym (i .kind) ∙ k .if2 .taken in
     let at : (m : ℕ) → ℕ = λ m. getD (a .sets .now) m 0 in
     let ch = charts-comp F (s .pre .0 .sound) (a .j) (s .pre .1) e (a .sets .now) (w .wide .result) (w′ .wide2 .result) (s .pre .3) (w .wide .ensures ∙ ap at (i .a)) (w′ .wide2 .ensures ∙ ap at (i .b)) in
-    (ch, rw add-one (wired-comp F (s .pre .0 .sound) (a .j) (s .pre .1) (r .node-at .result .x) e ch (i .x) (s .pre .4) (f .feed .ensures)))
+    let g : Feeds (a .n .charts) (w .wide .result ∪ w′ .wide2 .result) (r .node-at .result .x) (a .down .now) (a .masks .now) (f .feed .last .0) = f .feed .ensures in
+    (ch, rw add-one (wired-comp F (s .pre .0 .sound) (a .j) (s .pre .1) (r .node-at .result .x) e ch (i .x) (s .pre .4) g))
 
 -- ── a hiding ──
 
