@@ -46,8 +46,8 @@ const LONG_RUN: usize = 8_189;
 const BRACKETS: usize = 250_000;
 const TYPED_TRANSITIONS: usize = 65_536;
 
-/// Makes a long run, reads long texts, writes and reads the longest file, and makes so many random calls and postings in
-/// both engines; the first one that differs, in words. Gives the number of postings.
+/// Makes a long run, reads long texts, writes and reads the longest file, and makes so many random calls and
+/// postings in both engines; the first one that differs, in words. Gives the number of postings.
 pub fn agree(seed: u64, count: usize) -> Result<usize, String> {
     compare(&long_run(seed))?;
     hold_longest()?;
