@@ -91,7 +91,8 @@ pub record PutsBy (n : Shape) (b config reads : List ℕ) (k : ℕ) (may sures c
   pub mays : Mays n b config reads k may
   pub sure : Sures n b config reads k sures
   pub many : (c : ℕ) → c < k → getD counts c 0
-      ≡ tally (headAt n b c .transitions) (λ j. one (same (transitionAt n b (startOf n b c + j) .from) (getD config c 0)))
+      ≡ tally (headAt n b c .transitions)
+      (λ j. one (same (transitionAt n b (startOf n b c + j) .from) (getD config c 0)))
   pub may-long : length may ≡ mostCharts
   pub sures-long : length sures ≡ mostCharts
   pub counts-long : length counts ≡ mostCharts

@@ -1,5 +1,6 @@
-// The candidates of a step: for each chart the transitions that it may take now, and what later charts may put out. How the tables are laid out
-// is in the crate cells (Table); that a search over them answers the step is in the crate tables.
+// The candidates of a step: for each chart the transitions that it may take now, and what later charts may put out. How
+// the tables are laid out is in the crate cells (Table); that a search over them answers the step is in the crate
+// tables.
 ghost use mathlib.Core.Path.{_≡_};
 ghost use mathlib.Core.Bool.{cond};
 ghost use mathlib.Core.List.{List};
@@ -18,7 +19,8 @@ ghost use Rattle.cells.specs.Table.{masksFor, backAt, putMasks, Row, smallSize,
 ghost use Rattle.tables.specs.Filled.{mayAt};
 ghost use Rattle.tables.specs.Read.{narrow};
 ghost use Rattle.tables.specs.Fill.{lastsBy, othersAt, sureAt, isAt, isAgain, AheadRow, aheadBy, AheadFrom, stuck};
-ghost use Rattle.candidates.specs.Candidates.{Ready, Tabled, Left, filling, consideredBy, listingBy, readAs, fromStart, withOne, PutsOf, Mays, Sures, PutsBy, RaisedBy};
+ghost use Rattle.candidates.specs.Candidates.{Ready, Tabled, Left, filling, consideredBy, listingBy, readAs};
+ghost use Rattle.candidates.specs.Candidates.{fromStart, withOne, PutsOf, Mays, Sures, PutsBy, RaisedBy};
 ghost use Rattle.candidates.specs.Candidates.{NextChart, UntilChart, Stated, Chooses};
 use cells::CHARTS;
 use cells::masks;
@@ -155,7 +157,8 @@ fn raise_all(masks: &[u64], low: &mut [u64; CHARTS], c: usize, u: u64)
 fn raise(masks: &[u64], small: &[u8], low: &mut [u64; CHARTS], c: usize, u: u64)
     requires { ⌜ Tabled (c + 1) (now masks) (now small) × (length (now low) ≡ mostCharts) × (c < mostCharts) ⌝ }
     ensures { λ _. ⌜ (length (now (low .exit)) ≡ mostCharts)
-        × Row (now (low .exit)) (λ d. getD (now (low .entry)) d 0 ∪ sureAt (now (small .entry)) c u ∩ backAt (now (masks .entry)) d c) ⌝ }
+        × Row (now (low .exit))
+        (λ d. getD (now (low .entry)) d 0 ∪ sureAt (now (small .entry)) c u ∩ backAt (now (masks .entry)) d c) ⌝ }
 {
     if small::master(small, c) < CHARTS {
         return;
@@ -175,10 +178,11 @@ fn surely(n: Shape, u: u64) -> u64
     u
 }
 
-// Each chart is surely offered, besides what `low` has, what other charts put out whatever they do; `sures` has what all
-// transitions of each do.
+// Each chart is surely offered, besides what `low` has, what other charts put out whatever they do; `sures` has what
+// all transitions of each do.
 fn raise_sure(n: Shape, sures: &[u64; CHARTS], masks: &[u64], small: &[u8], low: &mut [u64; CHARTS])
-    requires { ⌜ (n .charts ≤ mostCharts) × Tabled (n .charts) (now masks) (now small) × (length (now low) ≡ mostCharts) ⌝ }
+    requires { ⌜ (n .charts ≤ mostCharts) × Tabled (n .charts) (now masks) (now small)
+        × (length (now low) ≡ mostCharts) ⌝ }
     ensures { λ _. ⌜ RaisedBy n (now (masks .entry)) (now (small .entry)) (now (sures .entry)) (n .charts)
         (now (low .entry)) (now (low .exit)) ⌝ }
 {
@@ -263,13 +267,15 @@ fn is_again(masks: &[u64], small: &[u8], c: usize, n: usize, t: Transition) -> b
 
 fn put(masks: &mut [u64], small: &mut [u8], c: usize, v: usize, place: u8, t: Transition)
     requires { ⌜ Tabled (c + 1) (now masks) (now small) × (c < mostCharts) × (v < mostFromState) ⌝ }
-    ensures { λ _. ⌜ (now (masks .exit) ≡ putMasks (now (masks .entry)) c v t) × (now (small .exit) ≡ putSmall (now (small .entry)) c v place t) ⌝ }
+    ensures { λ _. ⌜ (now (masks .exit) ≡ putMasks (now (masks .entry)) c v t)
+        × (now (small .exit) ≡ putSmall (now (small .entry)) c v place t) ⌝ }
 {
     masks::put_candidate(masks, c, v, t);
     small::put_candidate(small, c, v, place, t);
 }
 
-// One transition more, at its place in its chart's list: a candidate if it is from the chart's state, lasts, and is none yet.
+// One transition more, at its place in its chart's list: a candidate if it is from the chart's state, lasts, and is
+// none yet.
 fn consider(
     n: Shape,
     body: &[u8],
@@ -280,8 +286,11 @@ fn consider(
     a: Around,
     have: usize,
 ) -> usize
-    requires { ⌜ Holds n (now body) × (t < n .transitions) × Tabled (a .chart + 1) (now masks) (now small) × (a .chart < mostCharts) × (have ≤ mostFromState) × (transitionAt n (now body) t .from ≡ a .state → have < mostFromState) ⌝ }
-    ensures { λ r. ⌜ Left (consideredBy a place (narrow (a .read) (transitionAt n (now (body .entry)) t)) (filling (now (masks .entry)) (now (small .entry)) have)) (now (masks .exit)) (now (small .exit)) r ⌝ }
+    requires { ⌜ Holds n (now body) × (t < n .transitions) × Tabled (a .chart + 1) (now masks) (now small)
+        × (a .chart < mostCharts) × (have ≤ mostFromState)
+        × (transitionAt n (now body) t .from ≡ a .state → have < mostFromState) ⌝ }
+    ensures { λ r. ⌜ Left (consideredBy a place (narrow (a .read) (transitionAt n (now (body .entry)) t))
+        (filling (now (masks .entry)) (now (small .entry)) have)) (now (masks .exit)) (now (small .exit)) r ⌝ }
 {
     if from_at(n, body, t) != a.state {
         return have;
@@ -307,8 +316,12 @@ fn list(
     small: &mut [u8],
     a: Around,
 ) -> usize
-    requires { ⌜ Holds n (now body) × (start + count ≤ n .transitions) × (count < 256) × Tabled (a .chart + 1) (now masks) (now small) × (a .chart < mostCharts) × (tally count (λ u. one (same (transitionAt n (now body) (start + u) .from) (a .state))) ≤ mostFromState) ⌝ }
-    ensures { λ r. ⌜ Left (listingBy a (fromStart n (now (body .entry)) (a .read) start) count (filling (now (masks .entry)) (now (small .entry)) 0)) (now (masks .exit)) (now (small .exit)) r × (r ≤ mostFromState) ⌝ }
+    requires { ⌜ Holds n (now body) × (start + count ≤ n .transitions) × (count < 256)
+        × Tabled (a .chart + 1) (now masks) (now small) × (a .chart < mostCharts)
+        × (tally count (λ u. one (same (transitionAt n (now body) (start + u) .from) (a .state))) ≤ mostFromState) ⌝ }
+    ensures { λ r. ⌜ Left (listingBy a (fromStart n (now (body .entry)) (a .read) start) count
+        (filling (now (masks .entry)) (now (small .entry)) 0)) (now (masks .exit)) (now (small .exit)) r
+        × (r ≤ mostFromState) ⌝ }
 {
     let mut have: usize = 0;
     let mut p: usize = 0;
@@ -333,8 +346,12 @@ fn list_chart(
     c: usize,
     start: usize,
 ) -> usize
-    requires { ⌜ Ready n (now body) (now config) × Mays n (now body) (now config) (now reads) (n .charts) (now may) × Tabled (n .charts) (now masks) (now small) × (c < n .charts) × (start ≡ startOf n (now body) c) ⌝ }
-    ensures { λ r. ⌜ (r ≡ startOf n (now (body .entry)) (c + 1)) × Tabled (n .charts) (now (masks .exit)) (now (small .exit)) × NextChart n (now (body .entry)) (now (config .entry)) (now (reads .entry)) (now (lows .entry)) (now (shuts .entry)) c (now (masks .entry)) (now (small .entry)) (now (masks .exit)) (now (small .exit)) ⌝ }
+    requires { ⌜ Ready n (now body) (now config) × Mays n (now body) (now config) (now reads) (n .charts) (now may)
+        × Tabled (n .charts) (now masks) (now small) × (c < n .charts) × (start ≡ startOf n (now body) c) ⌝ }
+    ensures { λ r. ⌜ (r ≡ startOf n (now (body .entry)) (c + 1))
+        × Tabled (n .charts) (now (masks .exit)) (now (small .exit))
+        × NextChart n (now (body .entry)) (now (config .entry)) (now (reads .entry)) (now (lows .entry))
+        (now (shuts .entry)) c (now (masks .entry)) (now (small .entry)) (now (masks .exit)) (now (small .exit)) ⌝ }
 {
     let head = layout::body::head_at(n, body, c);
     let count = head.transitions as usize;
@@ -365,8 +382,11 @@ fn list_all(
     masks: &mut [u64],
     small: &mut [u8],
 )
-    requires { ⌜ Ready n (now body) (now config) × Mays n (now body) (now config) (now reads) (n .charts) (now may) × Tabled (n .charts) (now masks) (now small) ⌝ }
-    ensures { λ _. ⌜ UntilChart n (now (body .entry)) (now (config .entry)) (now (reads .entry)) (now (lows .entry)) (now (shuts .entry)) (now (masks .entry)) (now (small .entry)) (n .charts) (now (masks .exit)) (now (small .exit)) ⌝ }
+    requires { ⌜ Ready n (now body) (now config) × Mays n (now body) (now config) (now reads) (n .charts) (now may)
+        × Tabled (n .charts) (now masks) (now small) ⌝ }
+    ensures { λ _. ⌜ UntilChart n (now (body .entry)) (now (config .entry)) (now (reads .entry)) (now (lows .entry))
+        (now (shuts .entry)) (now (masks .entry)) (now (small .entry)) (n .charts) (now (masks .exit))
+        (now (small .exit)) ⌝ }
 {
     let mut start: usize = 0;
     let mut c: usize = 0;
@@ -430,7 +450,8 @@ fn ahead_row(masks: &mut [u64], charts: usize, k: usize, u: u64)
 }
 
 fn ahead_all(masks: &mut [u64], small: &[u8], charts: usize)
-    requires { ⌜ Tabled charts (now masks) (now small) × (charts ≤ mostCharts) × ((c : ℕ) → c < charts → countAt (now small) c ≤ mostFromState) ⌝ }
+    requires { ⌜ Tabled charts (now masks) (now small) × (charts ≤ mostCharts)
+        × ((c : ℕ) → c < charts → countAt (now small) c ≤ mostFromState) ⌝ }
     ensures { λ _. ⌜ AheadFrom charts (now (small .entry)) 0 (now (masks .entry)) (now (masks .exit)) ⌝ }
 {
     clear_row(masks, charts);
@@ -454,9 +475,9 @@ fn put_states(small: &mut [u8], config: &[u8], charts: usize)
     }
 }
 
-// Fills in all that a search needs of a configuration and of what each chart is offered of the input, in `low`. There it
-// leaves what each is surely offered: of the input, and of what other charts put out whatever they do. `reads` has what
-// is read of each chart's actions: the rest is left out, so candidates that differ in it alone are one. `may` and
+// Fills in all that a search needs of a configuration and of what each chart is offered of the input, in `low`. There
+// it leaves what each is surely offered: of the input, and of what other charts put out whatever they do. `reads` has
+// what is read of each chart's actions: the rest is left out, so candidates that differ in it alone are one. `may` and
 // `sures` have what its transitions put out of that. `shuts` has the states that each chart must not go to, since no
 // open choice begins so. The wiring and the masters are there.
 pub fn choose(
@@ -475,7 +496,8 @@ pub fn choose(
         × Mays n (now body) (now config) (now reads) (n .charts) (now may)
         × Sures n (now body) (now config) (now reads) (n .charts) (now sures) × (length (now low) ≡ mostCharts) ⌝ }
     ensures { λ _. ⌜ Chooses n (now (body .entry)) (now (config .entry)) (now (reads .entry)) (now (low .entry))
-        (now (shuts .entry)) (now (low .exit)) (now (masks .entry)) (now (small .entry)) (now (masks .exit)) (now (small .exit)) ⌝ }
+        (now (shuts .entry)) (now (low .exit)) (now (masks .entry)) (now (small .entry)) (now (masks .exit))
+        (now (small .exit)) ⌝ }
 {
     put_states(small, config, n.charts);
     raise_sure(n, sures, masks, small, low);

@@ -13,7 +13,8 @@ pub const CHARTS: usize = layout::limits::CHARTS;
 
 pub const CANDIDATES: usize = layout::limits::MOST_FROM_STATE as usize;
 
-// Tables of masks for few charts are shorter than those for all, and begin alike: to zero them takes a good part of a step.
+// Tables of masks for few charts are shorter than those for all, and begin alike: to zero them takes a good part of a
+// step.
 pub const PAIR: usize = 2;
 
 pub const FEW: usize = 4;

@@ -1,4 +1,5 @@
--- What is known of a body once checks have passed, as the later checks and the readers need it. Laws are in Known/Laws.antt and, of a node, Known/Node.antt.
+-- What is known of a body once checks have passed, as the later checks and the readers need it. Laws are in
+-- Known/Laws.antt and, of a node, Known/Node.antt.
 use mathlib.Core.Path.{_≡_}
 use mathlib.Core.Bool.{false}
 use mathlib.Core.List.{List}

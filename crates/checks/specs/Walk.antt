@@ -21,7 +21,8 @@ oneMore t i = set t i (getD t i 0 + 1)
 
 -- an end is no state of its chart, or `left`, how many left each state before it, has 8 of its own
 unfoldable pub next? : Transition → ℕ → List ℕ → Bool
-next? t states left = notBelow (t .from) states || notBelow (t .to) states || notBelow (getD left (t .from) 0) mostFromState
+next? t states left =
+    notBelow (t .from) states || notBelow (t .to) states || notBelow (getD left (t .from) 0) mostFromState
 
 -- this one left its state too
 unfoldable pub counted : Transition → List ℕ → List ℕ

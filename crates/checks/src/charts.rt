@@ -15,7 +15,8 @@ use layout::record::Transition;
 
 // 6, of one chart: its states, its initial state, or how many transitions it has.
 fn bad_chart(h: Head) -> bool
-    ensures { λ r. ⌜ r ≡ ((same (h .states) 0 || ltb mostStates (h .states)) || notBelow (h .initial) (h .states) || ltb mostInChart (h .transitions)) ⌝ }
+    ensures { λ r. ⌜ r ≡ ((same (h .states) 0 || ltb mostStates (h .states)) || notBelow (h .initial) (h .states)
+        || ltb mostInChart (h .transitions)) ⌝ }
 {
     ((h.states == 0) | (h.states > limits::MOST_STATES))
         | !(h.initial < h.states)
@@ -41,11 +42,12 @@ pub fn bad_charts(n: Shape, body: &[u8]) -> bool
     sum != n.transitions
 }
 
-// 7, of one transition: an end is no state of its chart, or it is the ninth from its state; `left` has how many left each state before it, and then
-// counts it too.
+// 7, of one transition: an end is no state of its chart, or it is the ninth from its state; `left` has how many left
+// each state before it, and then counts it too.
 fn bad_transition(t: Transition, states: u8, left: &mut [u8; limits::MOST_STATES as usize]) -> bool
     requires { ⌜ states ≤ mostStates ⌝ }
-    ensures { λ r. ⌜ (r ≡ next? t states (now (left .entry))) × (r ≡ false → now (left .exit) ≡ counted t (now (left .entry))) ⌝ }
+    ensures { λ r. ⌜ (r ≡ next? t states (now (left .entry)))
+        × (r ≡ false → now (left .exit) ≡ counted t (now (left .entry))) ⌝ }
 {
     if t.from >= states {
         return true;

@@ -1,5 +1,5 @@
-// The numbers of the rules that have a name: editions (RULES 7.1), limits and bytes of a record, whose values stand in the crate layout, and
-// refusals (RULES 3). Each of the rest is written here once.
+// The numbers of the rules that have a name: editions (RULES 7.1), limits and bytes of a record, whose values stand in
+// the crate layout, and refusals (RULES 3). Each of the rest is written here once.
 
 pub const FIRST_EDITION: u8 = 1;
 

@@ -11,7 +11,8 @@ use crate::limits::SLAVE_BYTES;
 use crate::limits::TRANSITION_BYTES;
 use layout::body::Shape;
 
-// Whether one of the k bytes from `at` on is not zero. No byte ends the loop: k is small and known, so the bytes are joined and tested once.
+// Whether one of the k bytes from `at` on is not zero. No byte ends the loop: k is small and known, so the bytes are
+// joined and tested once.
 pub fn nonzero(s: &[u8], at: usize, k: usize) -> bool
     requires { ⌜ at + k ≤ length (now s) ⌝ }
     ensures { λ r. ⌜ r ≡ nonzero (now (s .entry)) at k ⌝ }
@@ -25,7 +26,8 @@ pub fn nonzero(s: &[u8], at: usize, k: usize) -> bool
     found
 }
 
-// Whether one of `count` records of `size` bytes, of which the first stands at `at`, is not zero in one of the k bytes from its byte `from` on.
+// Whether one of `count` records of `size` bytes, of which the first stands at `at`, is not zero in one of the k bytes
+// from its byte `from` on.
 fn any_nonzero(s: &[u8], at: usize, size: usize, count: usize, from: usize, k: usize) -> bool
     requires { ⌜ (at + size * count ≤ length (now s)) × (from + k ≤ size) ⌝ }
     ensures { λ r. ⌜ r ≡ anyUpTo count (λ i. nonzero (now (s .entry)) (at + size * i + from) k) ⌝ }

@@ -10,7 +10,8 @@ ghost use Rattle.meaning.specs.Open.{openIn};
 ghost use Rattle.counting.specs.Counting.{Countable, Roomy, factorIn, branchIn, Small, stayingIn, addedIn, sumIn};
 ghost use Rattle.counting.specs.Counting.{leavingIn, LeavesTo, enclosesIn};
 ghost use Rattle.counting.specs.Counting.{Smalls, totalIn};
-ghost use Rattle.counting.specs.Counting.{outsideIn, TotalSmall, CountsOn, Stored, Filled, ShutTo, ShutOne, Shuts};
+ghost use Rattle.counting.specs.Counting.{outsideIn, TotalSmall, CountsOn, Stored, Filled, ShutTo, ShutOne};
+ghost use Rattle.counting.specs.Counting.{Shuts};
 use layout::body::Shape;
 use layout::limits::CHARTS;
 
@@ -174,8 +175,8 @@ fn entry(
     left + stays
 }
 
-// Stores chart k's entry, made of those above it, in place of how many of its transitions leave its state. Answers where
-// its transitions start; `end` is where the next chart's do.
+// Stores chart k's entry, made of those above it, in place of how many of its transitions leave its state. Answers
+// where its transitions start; `end` is where the next chart's do.
 fn store(
     n: Shape,
     body: &[u8],

@@ -1,5 +1,5 @@
--- How 11 is tested: by the lowest chart of each node, slaves left out. A slave that passes has none but higher charts than its master, so where
--- every slave passes, that chart is the lowest with slaves too. Laws are in Inside/Laws.antt.
+-- How 11 is tested: by the lowest chart of each node, slaves left out. A slave that passes has none but higher charts
+-- than its master, so where every slave passes, that chart is the lowest with slaves too. Laws are in Inside/Laws.antt.
 use mathlib.Core.Bool.{Bool, cond}
 use mathlib.Core.List.{List}
 use mathlib.Core.Path.{_≡_}

@@ -1,4 +1,5 @@
--- The walk of 10, over slaves and then over nodes: what its three tables have on the way, and what 10 asks of them. Laws are in Names/Laws.antt.
+-- The walk of 10, over slaves and then over nodes: what its three tables have on the way, and what 10 asks of them.
+-- Laws are in Names/Laws.antt.
 use mathlib.Core.Bool.{Bool, cond}
 use mathlib.Core.List.{List}
 use Prim.Native.Nat.{ℕ, zero, suc, _+_}

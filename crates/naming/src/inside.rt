@@ -1,5 +1,5 @@
-// Refusal 11: charts inside a slave are above its master. Of each node the lowest chart is found, slaves left out: if all slaves pass, they have none
-// that is lower.
+// Refusal 11: charts inside a slave are above its master. Of each node the lowest chart is found, slaves left out: if
+// all slaves pass, they have none that is lower.
 ghost use mathlib.Core.Path.{_≡_};
 ghost use mathlib.Core.Bool.{false};
 ghost use Prim.Native.Nat.{_<_};
@@ -13,7 +13,8 @@ use layout::body::Shape;
 
 // The lowest chart of node j, where the table has those of lower nodes.
 fn lowest(n: Shape, body: &[u8], low: &[u8; MOST_NODES as usize], j: usize) -> u8
-    requires { ⌜ Sized n (now body) × (Treed (fileAt n (now body)) × ((j < n .nodes) × Lows (fileAt n (now body)) (now low) j)) ⌝ }
+    requires { ⌜ Sized n (now body)
+        × (Treed (fileAt n (now body)) × ((j < n .nodes) × Lows (fileAt n (now body)) (now low) j)) ⌝ }
     ensures { λ r. ⌜ r ≡ lowest (treeOf (fileAt n (now (body .entry))) j) ⌝ }
 {
     let r = layout::body::node_at(n, body, j);

@@ -1,6 +1,6 @@
-// Refusal 10 (RULES 3.2): each chart has one node that holds it, each node one name except the last, which has none, and a slave's node comes below
-// its master's. One walk over slaves and nodes fills the tables: how often each node is named, how many nodes hold each chart, and which was the last
-// of them.
+// Refusal 10 (RULES 3.2): each chart has one node that holds it, each node one name except the last, which has none,
+// and a slave's node comes below its master's. One walk over slaves and nodes fills the tables: how often each node is
+// named, how many nodes hold each chart, and which was the last of them.
 ghost use mathlib.Core.Path.{_≡_};
 ghost use mathlib.Core.Bool.{cond};
 ghost use Prim.Native.Nat.{_+_, _≤_, _<_, suc};
@@ -40,8 +40,10 @@ fn walk_node(
     held: &mut [u8; MOST_CHARTS as usize],
     holder: &mut [u8; MOST_CHARTS as usize],
 )
-    requires { ⌜ Ranged n (now body) × ((k < n .nodes) × Walked (fileAt n (now body)) k (now named) (now held) (now holder)) ⌝ }
-    ensures { λ _. ⌜ Walked (fileAt n (now (body .entry))) (k + 1) (now (named .exit)) (now (held .exit)) (now (holder .exit)) ⌝ }
+    requires { ⌜ Ranged n (now body)
+        × ((k < n .nodes) × Walked (fileAt n (now body)) k (now named) (now held) (now holder)) ⌝ }
+    ensures { λ _. ⌜ Walked (fileAt n (now (body .entry))) (k + 1) (now (named .exit)) (now (held .exit))
+        (now (holder .exit)) ⌝ }
 {
     let r = layout::body::node_at(n, body, k);
     let kind = r.kind;
@@ -71,7 +73,8 @@ fn walk_nodes(
     holder: &mut [u8; MOST_CHARTS as usize],
 )
     requires { ⌜ Ranged n (now body) × Walked (fileAt n (now body)) 0 (now named) (now held) (now holder) ⌝ }
-    ensures { λ _. ⌜ Walked (fileAt n (now (body .entry))) (n .nodes) (now (named .exit)) (now (held .exit)) (now (holder .exit)) ⌝ }
+    ensures { λ _. ⌜ Walked (fileAt n (now (body .entry))) (n .nodes) (now (named .exit)) (now (held .exit))
+        (now (holder .exit)) ⌝ }
 {
     let mut k: usize = 0;
     while k < n.nodes {

@@ -1,7 +1,6 @@
--- The walk down the nodes that finds each one's nearest enclosing slave. Every byte that is written is the right one at its place, so that no write
--- spoils another. In order: a write (right-set); the slaves' nodes; the nodes that a node names; the walk (Walked); a slave by the byte of a node
--- (enclosed, alone).
--- Assumes nothing.
+-- The walk down the nodes that finds each one's nearest enclosing slave. Every byte that is written is the right one at
+-- its place, so that no write spoils another. In order: a write (right-set); the slaves' nodes; the nodes that a node
+-- names; the walk (Walked); a slave by the byte of a node (enclosed, alone). Assumes nothing.
 use mathlib.Core.Path.{_≡_, refl, sym, ap, _∙_}
 use mathlib.Core.List.{List}
 use mathlib.Core.Logic.{⊎-elim}
@@ -28,7 +27,9 @@ module _ (F : File) (l : List ℕ) (p v : ℕ) (q : p < length l) (e : v ≡ num
   right-here = getD-set-same l p v 0 q ∙ e
 
   pub right-set : (k : ℕ) → Right F l k → Right F (set l p v) k
-  right-set k h = ⊎-elim (λ z. ap (λ (i : ℕ). getD (set l p v) i 0) z ∙ right-here ∙ ap (λ (i : ℕ). numberOf (enc F i)) (sym z)) (λ z. getD-set-other l p k v 0 z ∙ h) (eq-or-not k p)
+  right-set k h =
+      ⊎-elim (λ z. ap (λ (i : ℕ). getD (set l p v) i 0) z ∙ right-here ∙ ap (λ (i : ℕ). numberOf (enc F i)) (sym z))
+      (λ z. getD-set-other l p k v 0 z ∙ h) (eq-or-not k p)
 
 module _ (F : File) (s : Sound F) where
   at : Placed F (enc F) (kap F)
@@ -39,13 +40,16 @@ module _ (F : File) (s : Sound F) where
   pub seeds-none : (l : List ℕ) → Seeds F 0 l l
   seeds-none l = record { slaves = λ i p. absurd (omega arith); stays = λ k h. h }
 
-  pub seeds-more : {l m : List ℕ} {i : ℕ} {r : Slave} → IsSlave F i r → i < F .slaves → F .nodes ≤ length m → Seeds F i l m → Seeds F (i + 1) l (set m (r .node) i)
+  pub seeds-more : {l m : List ℕ} {i : ℕ} {r : Slave} → IsSlave F i r → i < F .slaves → F .nodes ≤ length m
+      → Seeds F i l m → Seeds F (i + 1) l (set m (r .node) i)
   unfolding numberOf
   seeds-more {l} {m} {i} {r} is p q h =
       record {
         slaves =
-            below-more (λ (k : ℕ). Right F (set m (r .node) i) (F .node k)) i (λ k z. right-set F m (r .node) i b e (F .node k) (h .slaves k z))
-            (ap (λ (j : ℕ). getD (set m (r .node) i) j 0) (sym (is .node)) ∙ right-here F m (r .node) i b e ∙ ap (λ (j : ℕ). numberOf (enc F j)) (is .node));
+            below-more (λ (k : ℕ). Right F (set m (r .node) i) (F .node k)) i
+            (λ k z. right-set F m (r .node) i b e (F .node k) (h .slaves k z))
+            (ap (λ (j : ℕ). getD (set m (r .node) i) j 0) (sym (is .node)) ∙ right-here F m (r .node) i b e
+            ∙ ap (λ (j : ℕ). numberOf (enc F j)) (is .node));
         stays = λ k z. right-set F m (r .node) i b e k (h .stays k z);
       }
     where
@@ -56,13 +60,15 @@ module _ (F : File) (s : Sound F) where
       b = let z = is .node in let t = there in omega arith
 
       e : i ≡ numberOf (enc F (r .node))
-      e = sym (ap (λ (o : Option ℕ). numberOf o) (ap (enc F) (is .node) ∙ enc-slave F (s .ordered) (s .rule10) i p there))
+      e = sym
+          (ap (λ (o : Option ℕ). numberOf o) (ap (enc F) (is .node) ∙ enc-slave F (s .ordered) (s .rule10) i p there))
 
   pub seeded : (m : List ℕ) → F .nodes ≤ 64 → Seeds F (F .slaves) (replicate 64 255) m → Seeded F m
   unfolding numberOf
   seeded m p h =
       record {
-        last = λ j e. h .stays j (getD-replicate 64 j 255 0 (omega arith) ∙ sym (ap (λ (o : Option ℕ). numberOf o) (enc-last F (s .ordered) (s .rule10) j e)));
+        last = λ j e. h .stays j (getD-replicate 64 j 255 0 (omega arith)
+            ∙ sym (ap (λ (o : Option ℕ). numberOf o) (enc-last F (s .ordered) (s .rule10) j e)));
         slaves = h .slaves;
       }
 
@@ -73,7 +79,11 @@ module _ (F : File) (s : Sound F) where
     hands-none k =
         let z = is .kind in
         record {
-          handed = record { left = λ e. absurd (omega arith); right = λ e. absurd (omega arith); inside = λ e. absurd (omega arith) };
+          handed = record {
+            left = λ e. absurd (omega arith);
+            right = λ e. absurd (omega arith);
+            inside = λ e. absurd (omega arith);
+          };
           stays = λ k h. h;
         }
 
@@ -86,7 +96,8 @@ module _ (F : File) (s : Sound F) where
                 record {
                   left = λ e. absurd (k₁ (z ∙ e));
                   right = λ e. absurd (k₁ (z ∙ e));
-                  inside = λ e. ap (λ (i : ℕ). getD (set l (n .a) (getD l j 0)) i 0) (sym (is .a)) ∙ right-here F l (n .a) (getD l j 0) b w ∙ ap (λ (i : ℕ). numberOf (enc F i)) (is .a);
+                  inside = λ e. ap (λ (i : ℕ). getD (set l (n .a) (getD l j 0)) i 0) (sym (is .a))
+                      ∙ right-here F l (n .a) (getD l j 0) b w ∙ ap (λ (i : ℕ). numberOf (enc F i)) (is .a);
                 };
             stays = right-set F l (n .a) (getD l j 0) b w;
           }
@@ -98,7 +109,8 @@ module _ (F : File) (s : Sound F) where
           b = let z = is .a in let t = s .ordered .lower₂ j p k in omega arith
 
           w : getD l j 0 ≡ numberOf (enc F (n .a))
-          w = h ∙ ap (λ (o : Option ℕ). numberOf o) (sym (at .in₂ j p k)) ∙ ap (λ (i : ℕ). numberOf (enc F i)) (sym (is .a))
+          w = h ∙ ap (λ (o : Option ℕ). numberOf o) (sym (at .in₂ j p k))
+              ∙ ap (λ (i : ℕ). numberOf (enc F i)) (sym (is .a))
 
       pub hands-comp : n .kind ≡ 1 → Hands F j l (set (set l (n .a) (getD l j 0)) (n .b) (getD l j 0))
       hands-comp e₁ =
@@ -106,8 +118,10 @@ module _ (F : File) (s : Sound F) where
           record {
             handed =
                 record {
-                  left = λ e. ap (λ (i : ℕ). getD m i 0) (sym (is .a)) ∙ right-set F l′ (n .b) v bb wb (n .a) (right-here F l (n .a) v ba wa) ∙ ap (λ (i : ℕ). numberOf (enc F i)) (is .a);
-                  right = λ e. ap (λ (i : ℕ). getD m i 0) (sym (is .b)) ∙ right-here F l′ (n .b) v bb wb ∙ ap (λ (i : ℕ). numberOf (enc F i)) (is .b);
+                  left = λ e. ap (λ (i : ℕ). getD m i 0) (sym (is .a)) ∙ right-set F l′ (n .b) v bb wb (n .a)
+                      (right-here F l (n .a) v ba wa) ∙ ap (λ (i : ℕ). numberOf (enc F i)) (is .a);
+                  right = λ e. ap (λ (i : ℕ). getD m i 0) (sym (is .b)) ∙ right-here F l′ (n .b) v bb wb
+                      ∙ ap (λ (i : ℕ). numberOf (enc F i)) (is .b);
                   inside = λ e. absurd (omega arith);
                 };
             stays = λ i y. right-set F l′ (n .b) v bb wb i (right-set F l (n .a) v ba wa i y);
@@ -132,10 +146,12 @@ module _ (F : File) (s : Sound F) where
           bb = simp length-set (let z = is .b in let t = s .ordered .lower₁ j p k in omega arith)
 
           wa : v ≡ numberOf (enc F (n .a))
-          wa = h ∙ ap (λ (o : Option ℕ). numberOf o) (sym (at .in₁ j p k .0)) ∙ ap (λ (i : ℕ). numberOf (enc F i)) (sym (is .a))
+          wa = h ∙ ap (λ (o : Option ℕ). numberOf o) (sym (at .in₁ j p k .0))
+              ∙ ap (λ (i : ℕ). numberOf (enc F i)) (sym (is .a))
 
           wb : v ≡ numberOf (enc F (n .b))
-          wb = h ∙ ap (λ (o : Option ℕ). numberOf o) (sym (at .in₁ j p k .1)) ∙ ap (λ (i : ℕ). numberOf (enc F i)) (sym (is .b))
+          wb = h ∙ ap (λ (o : Option ℕ). numberOf o) (sym (at .in₁ j p k .1))
+              ∙ ap (λ (i : ℕ). numberOf (enc F i)) (sym (is .b))
 
 -- ── the walk ──
 
@@ -153,7 +169,8 @@ module _ (F : File) (s : Sound F) where
 
   -- the next node is the last, a slave's, or named by a node that is walked
   pub walked-right : {j : ℕ} {l : List ℕ} → 0 < j → j ≤ F .nodes → Walked F j l → Right F l (j - 1)
-  walked-right {j} {l} p q h = ⊎-elim (h .seeds .last (j - 1)) (λ z. by (stands .named (j - 1) (omega arith))) (eq-or-not (suc (j - 1)) (F .nodes))
+  walked-right {j} {l} p q h = ⊎-elim (h .seeds .last (j - 1))
+      (λ z. by (stands .named (j - 1) (omega arith))) (eq-or-not (suc (j - 1)) (F .nodes))
     where
       moved : (k : ℕ) → k ≡ j - 1 → Right F l k → Right F l (j - 1)
       moved k e r = rw e at r
@@ -167,7 +184,10 @@ module _ (F : File) (s : Sound F) where
   pub walked-more : {j : ℕ} {l l′ : List ℕ} → 0 < j → Walked F j l → Hands F (j - 1) l l′ → Walked F (j - 1) l′
   walked-more {j} {l} {l′} p h g =
       record {
-        seeds = record { last = λ k e. g .stays k (h .seeds .last k e); slaves = λ i u. g .stays (F .node i) (h .seeds .slaves i u) };
+        seeds = record {
+          last = λ k e. g .stays k (h .seeds .last k e);
+          slaves = λ i u. g .stays (F .node i) (h .seeds .slaves i u);
+        };
         handed = λ k u v. ⊎-elim (λ z. ap-handed k z) (λ z. keep k (h .handed k (omega arith) v)) (eq-or-not k (j - 1));
       }
     where
@@ -175,17 +195,23 @@ module _ (F : File) (s : Sound F) where
       ap-handed k z = rw z (g .handed)
 
       keep : (k : ℕ) → Handed F k l → Handed F k l′
-      keep k y = record { left = λ e. g .stays (F .a k) (y .left e); right = λ e. g .stays (F .b k) (y .right e); inside = λ e. g .stays (F .a k) (y .inside e) }
+      keep k y = record {
+        left = λ e. g .stays (F .a k) (y .left e);
+        right = λ e. g .stays (F .b k) (y .right e);
+        inside = λ e. g .stays (F .a k) (y .inside e);
+      }
 
   pub walked-done : {l : List ℕ} → Walked F 0 l → Enclosers F l
   walked-done {l} h k p =
-      let r : Right F l (suc k - 1) = walked-right {j = suc k} (omega arith) p (record { seeds = h .seeds; handed = λ i u v. h .handed i (omega arith) v }) in
+      let r : Right F l (suc k - 1) = walked-right {j = suc k} (omega arith) p
+      (record { seeds = h .seeds; handed = λ i u v. h .handed i (omega arith) v }) in
       let e : suc k - 1 ≡ k = omega arith in rw e at r
 
 -- ── a slave by the byte of a node ──
 
 module _ (F : File) (j i : ℕ) (e : i ≡ numberOf (enc F j)) where
-  pub enclosed : F .slaves < 255 → i < F .slaves → (F .master i ≡ masterBy F (enc F j)) × (F .state i ≡ stateBy F (enc F j))
+  pub enclosed : F .slaves < 255 → i < F .slaves
+      → (F .master i ≡ masterBy F (enc F j)) × (F .state i ≡ stateBy F (enc F j))
   unfolding numberOf masterBy stateBy
   enclosed p q = go (enc F j) e
     where
@@ -199,4 +225,5 @@ module _ (F : File) (j i : ℕ) (e : i ≡ numberOf (enc F j)) where
     where
       go : (o : Option ℕ) → enc F j ≡ o → (255 ≡ masterBy F o) × (0 ≡ stateBy F o)
       go none z = (refl, refl)
-      go (some h) z = let b = enc-below F j h z in let t : i ≡ h = e ∙ ap (λ (o : Option ℕ). numberOf o) z in absurd (omega arith)
+      go (some h) z = let b = enc-below F j h z in let t : i ≡ h = e ∙ ap (λ (o : Option ℕ). numberOf o) z in
+          absurd (omega arith)

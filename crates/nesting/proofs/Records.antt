@@ -1,6 +1,5 @@
--- Records of a body as they were read. In order: a node's and a slave's fields are the file's (is-node, is-slave); the nodes that a node names are
--- lower than it (lower-a, lower-b).
--- Assumes nothing.
+-- Records of a body as they were read. In order: a node's and a slave's fields are the file's (is-node, is-slave); the
+-- nodes that a node names are lower than it (lower-a, lower-b). Assumes nothing.
 use mathlib.Core.Path.{_≡_, sym, ap, _∙_}
 use mathlib.Core.List.{List}
 use mathlib.Core.Logic.{⊎-elim}
@@ -56,7 +55,8 @@ module _ (F : File) (s : Sound F) {j : ℕ} (p : j < F .nodes) {n : Node} (is : 
   lower-a k₀ =
       ⊎-elim
       (λ e. let t = s .ordered .lower₁ j p (sym (is .kind) ∙ e) in let z = is .a in omega arith)
-      (λ e. let u = s .ordered .kinds j p in let y = is .kind in let t = s .ordered .lower₂ j p (omega arith) in let z = is .a in omega arith)
+      (λ e. let u = s .ordered .kinds j p in let y = is .kind in let t = s .ordered .lower₂ j p (omega arith) in
+      let z = is .a in omega arith)
       (eq-or-not (n .kind) 1)
 
   pub lower-b : n .kind ≡ 1 → n .b < j

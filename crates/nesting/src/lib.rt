@@ -31,7 +31,8 @@ fn seed(n: Shape, body: &[u8], near: &mut [u8])
 
 // The nodes that node j names stand in the slave that j stands in.
 fn hand(n: Shape, body: &[u8], j: usize, near: &mut [u8])
-    requires { ⌜ Wirable n (now body) × (j < n .nodes) × (length (now near) ≡ 64) × Right (fileAt n (now body)) (now near) j ⌝ }
+    requires { ⌜ Wirable n (now body) × (j < n .nodes) × (length (now near) ≡ 64)
+        × Right (fileAt n (now body)) (now near) j ⌝ }
     ensures { λ _. ⌜ Hands (fileAt n (now (body .entry))) j (now (near .entry)) (now (near .exit)) ⌝ }
 {
     let node = layout::body::node_at(n, body, j);
@@ -72,8 +73,10 @@ pub fn enclosers(n: Shape, body: &[u8]) -> [u8; limits::NODES]
 
 // The nearest enclosing slave of node j; of no chart if there is none.
 pub fn enclosing(n: Shape, body: &[u8], j: usize, near: &[u8]) -> Slave
-    requires { ⌜ Wirable n (now body) × (j < n .nodes) × (length (now near) ≡ 64) × Right (fileAt n (now body)) (now near) j ⌝ }
-    ensures { λ r. ⌜ (r .chart ≡ masterBy (fileAt n (now (body .entry))) (enc (fileAt n (now (body .entry))) j)) × (r .state ≡ stateBy (fileAt n (now (body .entry))) (enc (fileAt n (now (body .entry))) j)) ⌝ }
+    requires { ⌜ Wirable n (now body) × (j < n .nodes) × (length (now near) ≡ 64)
+        × Right (fileAt n (now body)) (now near) j ⌝ }
+    ensures { λ r. ⌜ (r .chart ≡ masterBy (fileAt n (now (body .entry))) (enc (fileAt n (now (body .entry))) j))
+        × (r .state ≡ stateBy (fileAt n (now (body .entry))) (enc (fileAt n (now (body .entry))) j)) ⌝ }
 {
     let i = near[j] as usize;
     if i < n.slaves {

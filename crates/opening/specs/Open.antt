@@ -1,5 +1,5 @@
--- What the check of a file tells the calls that read the file: its refusal, and where its body stands (`Opens`); and the tests of `fileTests` in the
--- groups in which the code takes them.
+-- What the check of a file tells the calls that read the file: its refusal, and where its body stands (`Opens`); and
+-- the tests of `fileTests` in the groups in which the code takes them.
 use mathlib.Core.Path.{_≡_}
 use mathlib.Core.Bool.{_||_}
 use mathlib.Core.List.{List, [], _∷_}

@@ -54,7 +54,8 @@ fn records_refusal(n: Shape, body: &[u8]) -> u8
 // 5 to 11, of the body `body` of `file`, whose trailer stands at `end`.
 pub fn refusal(file: &[u8], end: usize, n: Shape, body: &[u8]) -> u8
     requires { ⌜ Sized n (now body) × (end + 12 ≤ length (now file)) ⌝ }
-    ensures { λ r. ⌜ r ≡ firstOf (zeroTest (now (file .entry)) end n (now (body .entry)) ∷ bodyTests n (now (body .entry))) ⌝ }
+    ensures { λ r. ⌜ r
+        ≡ firstOf (zeroTest (now (file .entry)) end n (now (body .entry)) ∷ bodyTests n (now (body .entry))) ⌝ }
 {
     if zeros::nonzero(file, end + 10, 2) | zeros::bad_zeros(n, body) {
         return limits::NOT_ZERO;

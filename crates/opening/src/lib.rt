@@ -7,7 +7,8 @@ mod body;
 use checks::limits;
 use layout::body::Shape;
 
-// What the check of a file found: its refusal, and, if there is none, the body: how many records of each kind it has, and where it stands.
+// What the check of a file found: its refusal, and, if there is none, the body: how many records of each kind it has,
+// and where it stands.
 pub struct Opening {
     pub refusal: u8,
     pub shape: Shape,

@@ -1,4 +1,5 @@
--- What a table of the nodes' values is filled with: of each part the charts' own values joined, less what hiding takes off.
+-- What a table of the nodes' values is filled with: of each part the charts' own values joined, less what hiding takes
+-- off.
 use mathlib.Core.Path.{_≡_}
 use mathlib.Core.List.{List}
 use Prim.Native.Nat.{ℕ, _<_}

@@ -1,4 +1,5 @@
-// Values of the parts that nodes make, from node 0 up: each node names lower ones. A chart's own value is given; parts are joined; hiding takes off.
+// Values of the parts that nodes make, from node 0 up: each node names lower ones. A chart's own value is given; parts
+// are joined; hiding takes off.
 ghost use mathlib.Core.Path.{_≡_};
 ghost use Prim.Native.Nat.{_<_};
 ghost use Rattle.meaning.specs.File.{fileAt};

@@ -17,7 +17,8 @@ module _ {n : Shape} {b : List ℕ} (w : Wirable n b) {j : ℕ} (p : j < n .node
 
   pub lower-comp : r .kind ≡ 1 → (r .a < j) × (r .b < j)
   unfolding fileAt
-  lower-comp k = (lower-a _ (w .sound) p (is-node n b j e) (λ z. omega arith), lower-b _ (w .sound) p (is-node n b j e) k)
+  lower-comp k =
+      (lower-a _ (w .sound) p (is-node n b j e) (λ z. omega arith), lower-b _ (w .sound) p (is-node n b j e) k)
 
   pub kind-hide : (r .kind ≡ 0 → ⊥) → (r .kind ≡ 1 → ⊥) → r .kind ≡ 2
   unfolding fileAt
@@ -25,4 +26,5 @@ module _ {n : Shape} {b : List ℕ} (w : Wirable n b) {j : ℕ} (p : j < n .node
 
   pub below-charts : r .kind ≡ 0 → r .a < n .charts
   unfolding fileAt
-  below-charts k = let i = is-node n b j e in let h = w .sound .chart-there j p (sym (i .kind) ∙ k) in omega (arith, i .a)
+  below-charts k = let i = is-node n b j e in let h = w .sound .chart-there j p (sym (i .kind) ∙ k) in
+      omega (arith, i .a)

@@ -1,5 +1,6 @@
--- What the wiring of a file leaves, node by node from node 0 up: in a search's masks (crate cells, Table), in the row of what gets down to each chart,
--- and in the sets of charts, one for each node. What the masks mean is in the crate wiring (Wire, Latest).
+-- What the wiring of a file leaves, node by node from node 0 up: in a search's masks (crate cells, Table), in the row
+-- of what gets down to each chart, and in the sets of charts, one for each node. What the masks mean is in the crate
+-- wiring (Wire, Latest).
 use mathlib.Core.Path.{_≡_}
 use mathlib.Core.Bool.{Bool, _&&_, _||_, cond}
 use mathlib.Core.List.{List}
@@ -21,8 +22,8 @@ Blank l = (k : ℕ) → getD l k 0 ≡ 0
 
 -- ── a part with the charts s; N is the number of all charts ──
 
--- what chart c is offered of chart d's action, where of that action m is fed back: what the masks l have and, if c is one of the part's charts, what is
--- in m and gets down to it by the row r
+-- what chart c is offered of chart d's action, where of that action m is fed back: what the masks l have and, if c is
+-- one of the part's charts, what is in m and gets down to it by the row r
 abbrev pub fedRow : Set → Set → ℕ → List ℕ → List ℕ → ℕ → Set
 fedRow s m d r l c = cond (bit s c) (backAt l c d ∪ (m ∩ getD r c 0)) (backAt l c d)
 
@@ -50,8 +51,8 @@ inside F d l k c = anyUpTo k (λ i. same (F .master i) d && bit (getD l (F .node
 abbrev pub Inside : File → ℕ → List ℕ → ℕ → Set → Type 0
 Inside F d l k s = (c : ℕ) → bit s c ≡ inside F d l k c
 
--- chart d with its slaves, where l has the set of each node's charts: s is the set of them all; everything gets down to d, and up from it; and d's
--- feedback goes over them all
+-- chart d with its slaves, where l has the set of each node's charts: s is the set of them all; everything gets down to
+-- d, and up from it; and d's feedback goes over them all
 pub record Charted (F : File) (d : ℕ) (l : List ℕ) (s : Set) (r q m m′ : List ℕ) : Type 0 where
   pub set-is : (c : ℕ) → bit s c ≡ (same c d || inside F d l (F .slaves) c)
   pub down-is : q ≡ set r d full

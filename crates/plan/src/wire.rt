@@ -1,6 +1,7 @@
-// The wiring of a file: its tree folded into masks, once, so that a step looks at no tree. It goes from node 0 up, in one table: a node's parts are lower
-// than it and share no chart, so what a part has there stays until the node that names it. What the masks are is in the crate wiring (Wire, and after
-// the first nodes Latest), and that a step may go by them too.
+// The wiring of a file: its tree folded into masks, once, so that a step looks at no tree. It goes from node 0 up, in
+// one table: a node's parts are lower than it and share no chart, so what a part has there stays until the node that
+// names it. What the masks are is in the crate wiring (Wire, and after the first nodes Latest), and that a step may go
+// by them too.
 ghost use mathlib.Core.Path.{_≡_};
 ghost use Prim.Native.Nat.{_+_, _≤_, _<_};
 ghost use lib.ListN.{length};
@@ -62,7 +63,8 @@ fn feed(masks: &mut [u64], charts: usize, set: u64, x: u64, down: &[u64; CHARTS]
 // Hides x on the way into a part with these charts, and y on the way out.
 fn hide(masks: &mut [u64], charts: usize, set: u64, x: u64, y: u64, down: &mut [u64; CHARTS])
     requires { ⌜ (masksFor charts ≤ length (now masks)) × (charts ≤ mostCharts) × (length (now down) ≡ mostCharts) ⌝ }
-    ensures { λ _. ⌜ Hides charts set x y (now (down .entry)) (now (down .exit)) (now (masks .entry)) (now (masks .exit)) ⌝ }
+    ensures { λ _. ⌜ Hides charts set x y (now (down .entry)) (now (down .exit)) (now (masks .entry))
+        (now (masks .exit)) ⌝ }
 {
     let mut c: usize = 0;
     while c < charts {
@@ -100,8 +102,8 @@ fn inside(n: Shape, body: &[u8], c: u8, sets: &[u16; NODES]) -> u64
     set
 }
 
-// A chart and its slaves: everything gets down to the chart itself, and up from it, and its feedback goes over them all. Most charts have no slaves.
-// The result is the set of these charts.
+// A chart and its slaves: everything gets down to the chart itself, and up from it, and its feedback goes over them
+// all. Most charts have no slaves. The result is the set of these charts.
 fn wire_chart(
     n: Shape,
     body: &[u8],
@@ -112,7 +114,8 @@ fn wire_chart(
 ) -> u64
     requires { ⌜ Wirable n (now body) × (a < n .charts) × (masksFor (n .charts) ≤ length (now masks))
         × (length (now down) ≡ mostCharts) ⌝ }
-    ensures { λ r. ⌜ Charted (fileAt n (now (body .entry))) a (now (sets .entry)) r (now (down .entry)) (now (down .exit))
+    ensures { λ r. ⌜ Charted (fileAt n (now (body .entry))) a (now (sets .entry)) r (now (down .entry))
+        (now (down .exit))
         (now (masks .entry)) (now (masks .exit)) ⌝ }
 {
     let d = a as usize;
@@ -162,7 +165,8 @@ fn wire_node(
 
 // A chart stands in the slave that its node stands in: its master and state are noted in a search's small numbers.
 fn note(n: Shape, body: &[u8], j: usize, near: &[u8], small: &mut [u8])
-    requires { ⌜ Wirable n (now body) × (j < n .nodes) × (length (now near) ≡ 64) × Right (fileAt n (now body)) (now near) j × (length (now small) ≡ smallSize) ⌝ }
+    requires { ⌜ Wirable n (now body) × (j < n .nodes) × (length (now near) ≡ 64)
+        × Right (fileAt n (now body)) (now near) j × (length (now small) ≡ smallSize) ⌝ }
     ensures { λ _. ⌜ Notes (fileAt n (now (body .entry))) j (now (small .entry)) (now (small .exit)) ⌝ }
 {
     let node = layout::body::node_at(n, body, j);
@@ -185,7 +189,8 @@ fn note_none(small: &mut [u8])
     }
 }
 
-// Of each chart the master and the state of its nearest enclosing slave, in a search's small numbers. Many files have no slave.
+// Of each chart the master and the state of its nearest enclosing slave, in a search's small numbers. Many files have
+// no slave.
 pub fn nearest(n: Shape, body: &[u8], small: &mut [u8])
     requires { ⌜ Wirable n (now body) × (length (now small) ≡ smallSize) ⌝ }
     ensures { λ _. ⌜ NearestIn (fileAt n (now (body .entry))) (now (small .exit)) ⌝ }
@@ -203,10 +208,11 @@ pub fn nearest(n: Shape, body: &[u8], small: &mut [u8])
     }
 }
 
-// Wires a file that passed its check, into tables that are new: the feedback and `up` go into a search's masks, the nearest slaves into its small
-// numbers. The result is what of the input gets down to each chart.
+// Wires a file that passed its check, into tables that are new: the feedback and `up` go into a search's masks, the
+// nearest slaves into its small numbers. The result is what of the input gets down to each chart.
 pub fn wired(n: Shape, body: &[u8], masks: &mut [u64], small: &mut [u8]) -> [u64; CHARTS]
-    requires { ⌜ Wirable n (now body) × (masksFor (n .charts) ≤ length (now masks)) × Blank (now masks) × (length (now small) ≡ smallSize) ⌝ }
+    requires { ⌜ Wirable n (now body) × (masksFor (n .charts) ≤ length (now masks)) × Blank (now masks)
+        × (length (now small) ≡ smallSize) ⌝ }
     ensures { λ r. ⌜ Wired (fileAt n (now (body .entry))) r (now (masks .exit)) (now (small .exit)) ⌝ }
 {
     let mut down = [0u64; CHARTS];

@@ -1,5 +1,5 @@
--- What the functions that find out what is read leave: what each chart looks for (Asks), and what of each chart's action
--- is read (ReadRow).
+-- What the functions that find out what is read leave: what each chart looks for (Asks), and what of each chart's
+-- action is read (ReadRow).
 use mathlib.Core.Path.{_≡_}
 use mathlib.Core.List.{List}
 use Prim.Native.Nat.{ℕ, _<_}

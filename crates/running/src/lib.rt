@@ -21,7 +21,8 @@ use layout::row::REFUSAL;
 use layout::row::STATES;
 use stepping::step::Tried;
 
-// What a run answers, its rows aside: 0 or the refusal, and what is carried after the last input, nothing if the run is refused (RULES 1.4, 6.4).
+// What a run answers, its rows aside: 0 or the refusal, and what is carried after the last input, nothing if the run is
+// refused (RULES 1.4, 6.4).
 pub struct Ran {
     pub refusal: u8,
     pub carried: u64,
@@ -93,11 +94,13 @@ fn present(states: [u8; CHARTS], carried: u64, left: usize) -> Stand
     }
 }
 
-// Where it stands after a step that was offered a set. A refused one keeps the states, and what it was offered is carried; the run goes on.
+// Where it stands after a step that was offered a set. A refused one keeps the states, and what it was offered is
+// carried; the run goes on.
 fn after(t: Tried, states: [u8; CHARTS], offered: u64, left: usize) -> Stand
     requires { ⌜ 0 < left ⌝ }
     ensures { λ r. ⌜ (r .left + 1 ≡ left)
-        × ((n : ℕ) → (take n (r .states) ≡ afterStep (triedAnswer n t) (take n states)) × (r .carried ≡ carriedAfter (triedAnswer n t) offered)) ⌝ }
+        × ((n : ℕ) → (take n (r .states) ≡ afterStep (triedAnswer n t) (take n states))
+        × (r .carried ≡ carriedAfter (triedAnswer n t) offered)) ⌝ }
 {
     let rest = left - 1;
     let f = t.found;
@@ -120,8 +123,11 @@ fn put_rows(
     small: &mut [u8],
     rows: &mut [u8],
 ) -> u64
-    requires { ⌜ Checked n (now body) × Valid (fileAt n (now body)) (take (n .charts) start) × Prepared n (now body) down (now masks) (now small) × (length (now inputs) * (10 + n .charts) ≤ length (now rows)) ⌝ }
-    ensures { λ r. ⌜ (now (rows .exit) ≡ laidOver (rowsOf (fileAt n (now (body .entry))) (take (n .charts) start) carried (now (inputs .entry))) (now (rows .entry))) × (r ≡ carriedOf (fileAt n (now (body .entry))) (take (n .charts) start) carried (now (inputs .entry))) ⌝ }
+    requires { ⌜ Checked n (now body) × Valid (fileAt n (now body)) (take (n .charts) start) × Prepared n
+        (now body) down (now masks) (now small) × (length (now inputs) * (10 + n .charts) ≤ length (now rows)) ⌝ }
+    ensures { λ r. ⌜ (now (rows .exit) ≡ laidOver (rowsOf (fileAt n (now (body .entry)))
+        (take (n .charts) start) carried (now (inputs .entry))) (now (rows .entry)))
+        × (r ≡ carriedOf (fileAt n (now (body .entry))) (take (n .charts) start) carried (now (inputs .entry))) ⌝ }
 {
     let charts = n.charts;
     let w = STATES + charts;
@@ -168,7 +174,8 @@ pub fn of_body(
     rows: &mut [u8],
 ) -> Ran
     requires { ⌜ Checked n (now body) ⌝ }
-    ensures { λ r. ⌜ BodyRuns (fileAt n (now (body .entry))) (now (config .entry)) carried (now (inputs .entry)) (now (rows .entry)) r (now (rows .exit)) ⌝ }
+    ensures { λ r. ⌜ BodyRuns (fileAt n (now (body .entry))) (now (config .entry)) carried (now (inputs .entry))
+        (now (rows .entry)) r (now (rows .exit)) ⌝ }
 {
     let r = stepping::step::config_refusal(n, body, config);
     if r != limits::ACCEPTED {

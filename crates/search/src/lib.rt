@@ -11,7 +11,8 @@ ghost use Rattle.meaning.specs.Calls.{made};
 ghost use Rattle.cells.specs.Table.{masksFor, Tables, actionAt, upAt};
 ghost use Rattle.cells.specs.Trail.{trailFor, steps, columnIn, Room};
 ghost use Rattle.settling.specs.Trail.{beginning};
-ghost use Rattle.settling.specs.Hunt.{wakes, taken, settleOf, outcomeIn, firstFound, over, nothing, foundSize, foundIn, BytesPut, Held};
+ghost use Rattle.settling.specs.Hunt.{wakes, taken, settleOf, outcomeIn, firstFound, over, nothing, foundSize, foundIn};
+ghost use Rattle.settling.specs.Hunt.{BytesPut, Held};
 ghost use Rattle.cells.specs.Triggers.{Guards};
 ghost use Rattle.settling.specs.Stays.{huntsBoth, Hunted};
 use cells::CHARTS;
@@ -22,8 +23,8 @@ use cells::trail;
 use cells::triggers;
 use settling::Found;
 
-// Where what was found has the places of the first permitted choice, behind its next states, and 1 if there is one, and 1 if all others agree with
-// it (specs/Hunt.antt).
+// Where what was found has the places of the first permitted choice, behind its next states, and 1 if there is one, and
+// 1 if all others agree with it (specs/Hunt.antt).
 const PLACES: usize = CHARTS;
 
 const HAS: usize = 2 * CHARTS;
@@ -53,8 +54,8 @@ fn entry(moves: &[u8; moves::SIZE], charts: usize, column: usize, filler: u8, c:
     }
 }
 
-// Puts what all charts have in a column of `moves`, and the filler behind it, from `at` on. Each byte goes straight to its place: a row that is made
-// first and then copied as one word waits for its bytes.
+// Puts what all charts have in a column of `moves`, and the filler behind it, from `at` on. Each byte goes straight to
+// its place: a row that is made first and then copied as one word waits for its bytes.
 fn put_column(
     best: &mut [u8; FOUND_BYTES],
     at: usize,
@@ -64,7 +65,8 @@ fn put_column(
     filler: u8,
 )
     requires { ⌜ (length (now best) ≡ foundSize) × (at ≤ mostCharts + 2) × (charts ≤ mostCharts) × (column < steps) ⌝ }
-    ensures { λ _. ⌜ BytesPut at (columnIn (now (moves .entry)) charts column filler) (now (best .entry)) (now (best .exit)) ⌝ }
+    ensures { λ _. ⌜ BytesPut at (columnIn (now (moves .entry)) charts column filler) (now (best .entry))
+        (now (best .exit)) ⌝ }
 {
     let mut c: usize = 0;
     while c < CHARTS {
@@ -114,7 +116,8 @@ fn keep(
     shown: &mut [u64; 1],
 )
     requires { ⌜ Held (now best) (now shown) × (charts ≤ mostCharts) ⌝ }
-    ensures { λ _. ⌜ Held (now (best .exit)) (now (shown .exit)) × (foundIn (now (best .exit)) (now (shown .exit)) ≡ firstFound (outcomeIn (now (moves .entry)) charts output)) ⌝ }
+    ensures { λ _. ⌜ Held (now (best .exit)) (now (shown .exit)) × (foundIn (now (best .exit)) (now (shown .exit))
+        ≡ firstFound (outcomeIn (now (moves .entry)) charts output)) ⌝ }
 {
     put_column(best, 0, moves, charts, moves::NEXT, 0);
     put_column(
@@ -139,7 +142,9 @@ fn settle(
     shown: &mut [u64; 1],
 )
     requires { ⌜ Held (now best) (now shown) × (charts ≤ mostCharts) ⌝ }
-    ensures { λ _. ⌜ Held (now (best .exit)) (now (shown .exit)) × (foundIn (now (best .exit)) (now (shown .exit)) ≡ settleOf (outcomeIn (now (moves .entry)) charts output) (foundIn (now (best .entry)) (now (shown .entry)))) ⌝ }
+    ensures { λ _. ⌜ Held (now (best .exit)) (now (shown .exit))
+        × (foundIn (now (best .exit)) (now (shown .exit)) ≡ settleOf (outcomeIn (now (moves .entry)) charts output)
+        (foundIn (now (best .entry)) (now (shown .entry)))) ⌝ }
 {
     if best[HAS] != 1 {
         keep(output, moves, charts, best, shown);
@@ -155,14 +160,15 @@ fn settle(
 
 // Whether two permitted choices that disagree were found: then nothing more can change.
 fn disagree(best: &[u8; FOUND_BYTES]) -> bool
-    ensures { λ r. ⌜ ((g : List ℕ) → r ≡ (foundIn (now (best .entry)) g .has && not (foundIn (now (best .entry)) g .agree))) ⌝ }
+    ensures { λ r. ⌜ ((g : List ℕ)
+        → r ≡ (foundIn (now (best .entry)) g .has && not (foundIn (now (best .entry)) g .agree))) ⌝ }
 {
     (best[HAS] == 1) & (best[AGREE] != 1)
 }
 
-// What the charts left to be settled give, from chart charts - left on, joined to what was found before, in `best` and `shown`. The charts before it
-// stand in `trail` and `moves`, and stay there; what it writes stands behind them. So that nothing is copied, all four are lent. Nothing is found
-// where a settled chart stays and is surely triggered.
+// What the charts left to be settled give, from chart charts - left on, joined to what was found before, in `best` and
+// `shown`. The charts before it stand in `trail` and `moves`, and stay there; what it writes stands behind them. So
+// that nothing is copied, all four are lent. Nothing is found where a settled chart stays and is surely triggered.
 fn hunt(
     masks: &[u64],
     small: &[u8],
@@ -176,10 +182,13 @@ fn hunt(
     left: usize,
     output: u64,
 )
-    requires { ⌜ Tables charts (now masks) (now small) × Room charts (now trail) (now moves) × Held (now best) (now shown) × (charts ≤ mostCharts) × (left ≤ charts)
+    requires { ⌜ Tables charts (now masks) (now small) × Room charts (now trail) (now moves)
+        × Held (now best) (now shown) × (charts ≤ mostCharts) × (left ≤ charts)
         × Guards (now guards) (now stays) ⌝ }
-    ensures { λ _. ⌜ Hunted (now (masks .entry)) (now (small .entry)) (now (guards .entry)) (now (stays .entry)) charts left output (now (trail .entry)) (now (moves .entry))
-        (now (best .entry)) (now (shown .entry)) (now (trail .exit)) (now (moves .exit)) (now (best .exit)) (now (shown .exit)) ⌝ }
+    ensures { λ _. ⌜ Hunted (now (masks .entry)) (now (small .entry)) (now (guards .entry))
+        (now (stays .entry)) charts left output (now (trail .entry)) (now (moves .entry))
+        (now (best .entry)) (now (shown .entry)) (now (trail .exit)) (now (moves .exit)) (now (best .exit))
+        (now (shown .exit)) ⌝ }
 {
     let k = charts - left;
     if !settling::all_calm(masks, guards, stays, trail, moves, k) {
@@ -288,7 +297,8 @@ fn found_in(best: &[u8; FOUND_BYTES], shown: &[u64; 1]) -> Found
     }
 }
 
-// What a search over the charts finds, where low is what each is surely offered of the input, with a trail that is lent.
+// What a search over the charts finds, where low is what each is surely offered of the input, with a trail that is
+// lent.
 fn hunted(
     masks: &[u64],
     small: &[u8],
@@ -342,7 +352,8 @@ pub fn search(
     low: [u64; CHARTS],
 ) -> Found
     requires { ⌜ Tables charts (now masks) (now small) × (charts ≤ mostCharts) × Guards (now guards) (now stays) ⌝ }
-    ensures { λ r. ⌜ r ≡ over (huntsBoth (now (masks .entry)) (now (small .entry)) (now (guards .entry)) (now (stays .entry)) charts 0 (beginning low)) nothing ⌝ }
+    ensures { λ r. ⌜ r ≡ over (huntsBoth (now (masks .entry)) (now (small .entry)) (now (guards .entry))
+        (now (stays .entry)) charts 0 (beginning low)) nothing ⌝ }
 {
     if charts <= cells::FEW {
         let mut trail = [0u64; trail::FEW_SIZE];

@@ -1,5 +1,6 @@
--- What the settled charts ask of the next chart's action. Each of them can still be met exactly if the action has what it lacks and nothing that
--- it bars, so that all of them together are a guard on the action, made once for all candidates.
+-- What the settled charts ask of the next chart's action. Each of them can still be met exactly if the action has what
+-- it lacks and nothing that it bars, so that all of them together are a guard on the action, made once for all
+-- candidates.
 use mathlib.Core.List.{List}
 use Prim.Native.Nat.{ℕ, _+_}
 use Rattle.signals.specs.Mask.{_∪_, _∩_, _∖_}
@@ -9,7 +10,8 @@ use Rattle.cells.specs.Table.{backAt, aheadAt}
 use Rattle.cells.specs.Trail.{lowIn, neededIn, barredIn}
 pub mod Laws
 
--- a chart that needs n and bars r, is surely offered l and may be offered h by charts after the next, and gets b of the next one's action
+-- a chart that needs n and bars r, is surely offered l and may be offered h by charts after the next, and gets b of the
+-- next one's action
 module _ (n r l h b : ℕ) where
   -- what it needs and only the next chart can put in
   abbrev pub lacks : ℕ
@@ -19,7 +21,8 @@ module _ (n r l h b : ℕ) where
   abbrev pub wants : ℕ
   wants = lacks ∪ r ∩ l
 
-  -- what it asks not to be in the action: what it lacks and does not get of it, so that this cannot be either, and what it bars
+  -- what it asks not to be in the action: what it lacks and does not get of it, so that this cannot be either, and what
+  -- it bars
   abbrev pub bans : ℕ
   bans = lacks ∖ b ∪ r ∩ (l ∪ b)
 

@@ -1,5 +1,5 @@
--- What a search over tables finds: the outcomes of the choices that it does not drop, in the order of choices, folded into the first of them and
--- whether all agree with it.
+-- What a search over tables finds: the outcomes of the choices that it does not drop, in the order of choices, folded
+-- into the first of them and whether all agree with it.
 use mathlib.Core.Path.{_≡_}
 use mathlib.Core.Bool.{Bool, true, false, _&&_, _||_, cond}
 use mathlib.Core.List.{List, [], _∷_, _++_}
@@ -12,7 +12,8 @@ use Rattle.meaning.specs.Numbers.{mostCharts, noStep, noPlace}
 use Rattle.meaning.specs.Meaning.{same, Outcome, eqList, Answer, refused, given}
 use Rattle.meaning.specs.Calls.{made}
 use Rattle.meaning.specs.Laws.Bools.{every}
-use Rattle.cells.specs.Table.{neededAt, barredAt, actionAt, backAt, aheadAt, upAt, toAt, countAt, masterAt, slaveStateAt, stateAt, placeAt}
+use Rattle.cells.specs.Table.{neededAt, barredAt, actionAt, backAt, aheadAt, upAt, toAt, countAt, masterAt}
+use Rattle.cells.specs.Table.{slaveStateAt, stateAt, placeAt}
 use Rattle.cells.specs.Trail.{nextIn, placeIn}
 use Rattle.settling.specs.Trail.{Trail, trailIn, Keeps}
 use Rattle.settling.specs.declared.Found.{Found}
@@ -23,12 +24,13 @@ module _ (m s : List ℕ) where
   abbrev pub isAwake : Trail → ℕ → Bool
   isAwake t d = same (getD (t .awake) d 0) 1
 
-  -- Chart k, the next to be settled, is active: it stands in no slave, or the slave's master is active and before or after at its state. A
-  -- master has a lower number than the charts in its slaves.
+  -- Chart k, the next to be settled, is active: it stands in no slave, or the slave's master is active and before or
+  -- after at its state. A master has a lower number than the charts in its slaves.
   unfoldable pub wakes : Trail → ℕ → Bool
   wakes t k =
       cond (ltb (masterAt s k) k)
-      (isAwake t (masterAt s k) && (same (stateAt s (masterAt s k)) (slaveStateAt s k) || same (getD (t .next) (masterAt s k) 0) (slaveStateAt s k)))
+      (isAwake t (masterAt s k) && (same (stateAt s (masterAt s k)) (slaveStateAt s k)
+      || same (getD (t .next) (masterAt s k) 0) (slaveStateAt s k)))
       true
 
   -- chart k takes its candidate v
@@ -44,7 +46,8 @@ module _ (m s : List ℕ) where
         output = t .output ∪ actionAt m k v ∩ upAt m k;
       }
 
-  -- chart k takes no transition: it needs, bars and puts out nothing, and keeps its state; whether it is active, and what stands for its place
+  -- chart k takes no transition: it needs, bars and puts out nothing, and keeps its state; whether it is active, and
+  -- what stands for its place
   unfoldable pub idled : ℕ → ℕ → Trail → ℕ → Trail
   idled active place t k =
       record {
@@ -61,11 +64,12 @@ module _ (m s : List ℕ) where
   abbrev pub rested : Trail → ℕ → Trail
   rested t k = idled 0 noPlace t k
 
-  -- Settled chart d can still be met, charts from k on being left: what it needs is in what it may be offered, and what it bars in nothing that
-  -- it surely is.
+  -- Settled chart d can still be met, charts from k on being left: what it needs is in what it may be offered, and what
+  -- it bars in nothing that it surely is.
   unfoldable pub passesAt : Trail → ℕ → ℕ → Bool
   passesAt t k d =
-      within (getD (t .needed) d 0) (getD (t .low) d 0 ∪ aheadAt m k d) && apart (getD (t .barred) d 0) (getD (t .low) d 0)
+      within (getD (t .needed) d 0) (getD (t .low) d 0 ∪ aheadAt m k d)
+      && apart (getD (t .barred) d 0) (getD (t .low) d 0)
 
   -- every chart up to k can still be met
   unfoldable pub fineAt : Trail → ℕ → Bool
@@ -74,7 +78,11 @@ module _ (m s : List ℕ) where
 -- the outcome of N charts that are all settled, o coming out of the whole
 abbrev pub outcomeIn : List ℕ → ℕ → ℕ → Outcome
 outcomeIn b N o =
-    record { output = o; next = made N (nextIn b) ++ replicate (mostCharts - N) 0; places = made N (placeIn b) ++ replicate (mostCharts - N) noPlace }
+    record {
+      output = o;
+      next = made N (nextIn b) ++ replicate (mostCharts - N) 0;
+      places = made N (placeIn b) ++ replicate (mostCharts - N) noPlace;
+    }
 
 -- ── what is kept of the outcomes ──
 
@@ -100,7 +108,13 @@ over (o ∷ os) f = over os (settleOf o f)
 
 -- nothing found yet
 abbrev pub nothing : Found
-nothing = record { has = false; agree = false; output = 0; next = replicate mostCharts 0; places = replicate mostCharts noPlace }
+nothing = record {
+  has = false;
+  agree = false;
+  output = 0;
+  next = replicate mostCharts 0;
+  places = replicate mostCharts noPlace;
+}
 
 -- what was found, as the step's answer
 abbrev pub answerIn : Found → Answer
@@ -108,7 +122,8 @@ answerIn f = cond (f .has) (given (f .output) (f .next) (f .agree)) (refused noS
 
 -- ── what is lent ──
 
--- What was found, where it stands: in bytes the next states, the places, 1 if something was found and 1 if all agree with it; the output beside them.
+-- What was found, where it stands: in bytes the next states, the places, 1 if something was found and 1 if all agree
+-- with it; the output beside them.
 abbrev pub placesCell : ℕ
 placesCell = mostCharts
 
@@ -140,7 +155,8 @@ pub record Held (f g : List ℕ) : Type 0 where
 abbrev pub BytesPut : ℕ → List ℕ → List ℕ → List ℕ → Type 0
 BytesPut at r l l′ = RowAt at mostCharts (λ c. getD r c 0) l l′
 
--- chart k takes its candidate v: the beginning of k charts that stands in w and b stays, and in w′ and b′ stands that of one chart more
+-- chart k takes its candidate v: the beginning of k charts that stands in w and b stays, and in w′ and b′ stands that
+-- of one chart more
 pub record Takes (m s : List ℕ) (k v : ℕ) (w b w′ b′ : List ℕ) : Type 0 where
   pub kept : Keeps k w b w′ b′
   pub grown : (o : ℕ) → trailIn w′ b′ (k + 1) (o ∪ actionAt m k v ∩ upAt m k) ≡ taken m s (trailIn w b k o) k v

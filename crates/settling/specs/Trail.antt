@@ -1,4 +1,5 @@
--- A beginning of a choice: what is known once the charts below k are settled. It stands in two lent lists (crate cells, Trail).
+-- A beginning of a choice: what is known once the charts below k are settled. It stands in two lent lists (crate cells,
+-- Trail).
 use mathlib.Core.Path.{_≡_}
 use mathlib.Core.List.{List, []}
 use Prim.Native.Nat.{ℕ, _+_, _<_}
@@ -13,7 +14,8 @@ pub mod Laws
 pub record Trail : Type 0 where
   -- what each chart is surely offered
   pub low : List ℕ
-  -- of each settled chart what it needs and bars, its next state, 1 if it is active, and the place of its transition, 255 for none
+  -- of each settled chart what it needs and bars, its next state, 1 if it is active, and the place of its transition,
+  -- 255 for none
   pub needed : List ℕ
   pub barred : List ℕ
   pub next : List ℕ

@@ -1,5 +1,5 @@
-// One chart settled after those before it: what they ask of its move, whether a move fits, and a move taken. The crate search tries all moves of all
-// charts by these. It knows no file.
+// One chart settled after those before it: what they ask of its move, whether a move fits, and a move taken. The crate
+// search tries all moves of all charts by these. It knows no file.
 ghost use mathlib.Core.Path.{_≡_};
 ghost use mathlib.Core.Bool.{_&&_, not};
 ghost use mathlib.Core.List.{List};
@@ -28,7 +28,8 @@ pub const NO_PLACE: u8 = 255;
 
 pub const STAY_PLACE: u8 = 254;
 
-// What was found so far: the first permitted choice's outcome, if there is one, and whether all others agree with it. Places do not count for that.
+// What was found so far: the first permitted choice's outcome, if there is one, and whether all others agree with it.
+// Places do not count for that.
 pub struct Found {
     pub has: bool,
     pub agree: bool,
@@ -46,7 +47,8 @@ pub struct Guard {
 // Whether chart k, the next to be settled, is active. A master's number from k on is none.
 pub fn wakes(small: &[u8], moves: &[u8; moves::SIZE], k: usize) -> bool
     requires { ⌜ (length (now small) ≡ smallSize) × (k < mostCharts) ⌝ }
-    ensures { λ r. ⌜ ((m w : List ℕ) (o : ℕ) → r ≡ wakes m (now (small .entry)) (trailIn w (now (moves .entry)) k o) k) ⌝ }
+    ensures { λ r. ⌜ ((m w : List ℕ) (o : ℕ)
+        → r ≡ wakes m (now (small .entry)) (trailIn w (now (moves .entry)) k o) k) ⌝ }
 {
     let master = small::master(small, k);
     if master < k {
@@ -74,8 +76,8 @@ pub fn holds(g: Guard, low: u64, high: u64) -> bool
     true
 }
 
-// What the charts below k ask of chart k's action: what only it can put in for them, and what it must not. It contradicts itself where one of them
-// cannot be met whatever the action is.
+// What the charts below k ask of chart k's action: what only it can put in for them, and what it must not. It
+// contradicts itself where one of them cannot be met whatever the action is.
 pub fn asks(masks: &[u64], trail: &[u64], k: usize) -> Guard
     requires { ⌜ (masksFor (k + 1) ≤ length (now masks)) × (k < mostCharts) × (trailFor k ≤ length (now trail)) ⌝ }
     ensures { λ r. ⌜ r ≡ asksOf (now (masks .entry)) (now (trail .entry)) k ⌝ }
@@ -96,9 +98,11 @@ pub fn asks(masks: &[u64], trail: &[u64], k: usize) -> Guard
     Guard { needed, barred }
 }
 
-// Whether chart k may take its candidate v: its own guard and what the charts before it ask of its action can still be met.
+// Whether chart k may take its candidate v: its own guard and what the charts before it ask of its action can still be
+// met.
 pub fn fits(masks: &[u64], trail: &[u64], asked: Guard, k: usize, v: usize) -> bool
-    requires { ⌜ (masksFor (k + 1) ≤ length (now masks)) × (k < mostCharts) × (v < mostFromState) × (asked ≡ asksOf (now masks) (now trail) k)
+    requires { ⌜ (masksFor (k + 1) ≤ length (now masks)) × (k < mostCharts) × (v < mostFromState)
+        × (asked ≡ asksOf (now masks) (now trail) k)
         × (trailFor k ≤ length (now trail)) ⌝ }
     ensures { λ r. ⌜ ((s b : List ℕ) (o : ℕ) →
         r ≡ fineAt (now (masks .entry)) s (taken (now (masks .entry)) s (trailIn (now (trail .entry)) b k o) k v) k) ⌝ }
@@ -115,10 +119,12 @@ pub fn fits(masks: &[u64], trail: &[u64], asked: Guard, k: usize, v: usize) -> b
     holds(own, low, low | masks::ahead(masks, k + 1, k))
 }
 
-// What each chart is surely offered once chart k has this action. It is a row of its own, so that its masks are computed side by side.
+// What each chart is surely offered once chart k has this action. It is a row of its own, so that its masks are
+// computed side by side.
 fn lowered(masks: &[u64], trail: &[u64], action: u64, k: usize) -> [u64; CHARTS]
     requires { ⌜ (masksFor (k + 1) ≤ length (now masks)) × (k < mostCharts) × (trailFor k ≤ length (now trail)) ⌝ }
-    ensures { λ r. ⌜ r ≡ made mostCharts (λ c. lowIn (now (trail .entry)) k c ∪ action ∩ backAt (now (masks .entry)) c k) ⌝ }
+    ensures { λ r. ⌜ r ≡ made mostCharts
+        (λ c. lowIn (now (trail .entry)) k c ∪ action ∩ backAt (now (masks .entry)) c k) ⌝ }
 {
     let mut row = [0u64; CHARTS];
     let mut c: usize = 0;
@@ -143,7 +149,8 @@ pub fn put_row(trail: &mut [u64], row: [u64; CHARTS], k: usize)
 
 // Chart k has this action.
 fn lower(masks: &[u64], trail: &mut [u64], action: u64, k: usize)
-    requires { ⌜ (masksFor (k + 1) ≤ length (now masks)) × (trailFor (k + 1) ≤ length (now trail)) × (k < mostCharts) ⌝ }
+    requires { ⌜ (masksFor (k + 1) ≤ length (now masks)) × (trailFor (k + 1) ≤ length (now trail))
+        × (k < mostCharts) ⌝ }
     ensures { λ _. ⌜ Lowers (now (masks .entry)) action k (now (trail .entry)) (now (trail .exit)) ⌝ }
 {
     let row = lowered(masks, trail, action, k);
@@ -159,7 +166,8 @@ pub fn take(
     k: usize,
     v: usize,
 )
-    requires { ⌜ (masksFor (k + 1) ≤ length (now masks)) × (length (now small) ≡ smallSize) × Room (k + 1) (now trail) (now moves) × (k < mostCharts) × (v < mostFromState) ⌝ }
+    requires { ⌜ (masksFor (k + 1) ≤ length (now masks)) × (length (now small) ≡ smallSize)
+        × Room (k + 1) (now trail) (now moves) × (k < mostCharts) × (v < mostFromState) ⌝ }
     ensures { λ _. ⌜ Takes (now (masks .entry)) (now (small .entry)) k v (now (trail .entry)) (now (moves .entry))
         (now (trail .exit)) (now (moves .exit)) ⌝ }
 {
@@ -183,8 +191,10 @@ fn idle(
     active: u8,
     place: u8,
 )
-    requires { ⌜ (masksFor (k + 1) ≤ length (now masks)) × (length (now small) ≡ smallSize) × Room (k + 1) (now trail) (now moves) × (k < mostCharts) ⌝ }
-    ensures { λ _. ⌜ Idles active place (now (small .entry)) k (now (trail .entry)) (now (moves .entry)) (now (trail .exit)) (now (moves .exit)) ⌝ }
+    requires { ⌜ (masksFor (k + 1) ≤ length (now masks)) × (length (now small) ≡ smallSize)
+        × Room (k + 1) (now trail) (now moves) × (k < mostCharts) ⌝ }
+    ensures { λ _. ⌜ Idles active place (now (small .entry)) k (now (trail .entry)) (now (moves .entry))
+        (now (trail .exit)) (now (moves .exit)) ⌝ }
 {
     trail::put_asked(trail, k, 0, 0);
     let next = small::state(small, k);
@@ -194,21 +204,26 @@ fn idle(
 
 // Chart k is inactive.
 pub fn rest(masks: &[u64], small: &[u8], trail: &mut [u64], moves: &mut [u8; moves::SIZE], k: usize)
-    requires { ⌜ (masksFor (k + 1) ≤ length (now masks)) × (length (now small) ≡ smallSize) × Room (k + 1) (now trail) (now moves) × (k < mostCharts) ⌝ }
-    ensures { λ _. ⌜ Idles 0 noPlace (now (small .entry)) k (now (trail .entry)) (now (moves .entry)) (now (trail .exit)) (now (moves .exit)) ⌝ }
+    requires { ⌜ (masksFor (k + 1) ≤ length (now masks)) × (length (now small) ≡ smallSize)
+        × Room (k + 1) (now trail) (now moves) × (k < mostCharts) ⌝ }
+    ensures { λ _. ⌜ Idles 0 noPlace (now (small .entry)) k (now (trail .entry)) (now (moves .entry))
+        (now (trail .exit)) (now (moves .exit)) ⌝ }
 {
     idle(masks, small, trail, moves, k, 0, NO_PLACE);
 }
 
 // Chart k stays: it is active.
 pub fn stay(masks: &[u64], small: &[u8], trail: &mut [u64], moves: &mut [u8; moves::SIZE], k: usize)
-    requires { ⌜ (masksFor (k + 1) ≤ length (now masks)) × (length (now small) ≡ smallSize) × Room (k + 1) (now trail) (now moves) × (k < mostCharts) ⌝ }
-    ensures { λ _. ⌜ Idles 1 stayPlace (now (small .entry)) k (now (trail .entry)) (now (moves .entry)) (now (trail .exit)) (now (moves .exit)) ⌝ }
+    requires { ⌜ (masksFor (k + 1) ≤ length (now masks)) × (length (now small) ≡ smallSize)
+        × Room (k + 1) (now trail) (now moves) × (k < mostCharts) ⌝ }
+    ensures { λ _. ⌜ Idles 1 stayPlace (now (small .entry)) k (now (trail .entry)) (now (moves .entry))
+        (now (trail .exit)) (now (moves .exit)) ⌝ }
 {
     idle(masks, small, trail, moves, k, 1, STAY_PLACE);
 }
 
-// Whether one of the first n triggers of chart d holds, where what the chart is surely offered is low and what it may be offered is high.
+// Whether one of the first n triggers of chart d holds, where what the chart is surely offered is low and what it may
+// be offered is high.
 pub fn trips(guards: &[u64], d: usize, n: usize, low: u64, high: u64) -> bool
     requires { ⌜ (triggersFor (d + 1) ≤ length (now guards)) × (d < mostCharts) × (n ≤ mostFromState) ⌝ }
     ensures { λ r. ⌜ r ≡ trips (now (guards .entry)) d n low high ⌝ }
@@ -240,7 +255,8 @@ fn calm(
     requires { ⌜ (masksFor k ≤ length (now masks)) × Guards (now guards) (now stays) × (k ≤ mostCharts) × (d < k)
         × (trailFor k ≤ length (now trail)) ⌝ }
     ensures { λ r. ⌜ ((s : List ℕ) (o : ℕ) →
-        r ≡ calmAt (now (masks .entry)) s (now (guards .entry)) (now (stays .entry)) (trailIn (now (trail .entry)) (now (moves .entry)) k o) k d) ⌝ }
+        r ≡ calmAt (now (masks .entry)) s (now (guards .entry)) (now (stays .entry))
+        (trailIn (now (trail .entry)) (now (moves .entry)) k o) k d) ⌝ }
 {
     if moves::place(moves, d) != STAY_PLACE {
         return true;
@@ -266,7 +282,8 @@ pub fn all_calm(
     requires { ⌜ (masksFor k ≤ length (now masks)) × Guards (now guards) (now stays) × (k ≤ mostCharts)
         × (trailFor k ≤ length (now trail)) ⌝ }
     ensures { λ r. ⌜ ((s : List ℕ) (o : ℕ) →
-        r ≡ calmAll (now (masks .entry)) s (now (guards .entry)) (now (stays .entry)) (trailIn (now (trail .entry)) (now (moves .entry)) k o) k) ⌝ }
+        r ≡ calmAll (now (masks .entry)) s (now (guards .entry)) (now (stays .entry))
+        (trailIn (now (trail .entry)) (now (moves .entry)) k o) k) ⌝ }
 {
     if triggers::some_stay(stays) == 0 {
         return true;

@@ -1,4 +1,5 @@
--- What the functions that note triggers ask and leave: one transition (Notes), a chart's (Noting, Tells), all charts' (Telling, Stays).
+-- What the functions that note triggers ask and leave: one transition (Notes), a chart's (Noting, Tells), all charts'
+-- (Telling, Stays).
 use mathlib.Core.Path.{_≡_}
 use mathlib.Core.Bool.{Bool, _&&_, not, cond}
 use mathlib.Core.List.{List}
@@ -36,8 +37,8 @@ pub record Noting (f : ℕ → Transition) (start count q c p : ℕ) (g₀ g : L
   pub counts : k ≡ tally p (λ u. one (same (f (start + u) .from) q))
   pub beside : Beside c g₀ g
 
--- what a search is told of chart c, whose transitions are ts, between bounds on what it is offered, where it must not go
--- to the states of a mask
+-- what a search is told of chart c, whose transitions are ts, between bounds on what it is offered, where it must not
+-- go to the states of a mask
 pub record Tells (ts : List Transition) (q c : ℕ) (low high shut : Set) (g₀ g : List ℕ) (k : ℕ) : Type 0 where
   pub told : Told g c ts q (untriggered ts q low high && not (bit shut q)) k
   pub few : k ≤ mostFromState + 1

@@ -1,5 +1,5 @@
-// The charts that may stay, in a file of the edition that lets them: what triggers each, for a search to look up. Triggers are all transitions from a
-// chart's present state, those too that are no candidates.
+// The charts that may stay, in a file of the edition that lets them: what triggers each, for a search to look up.
+// Triggers are all transitions from a chart's present state, those too that are no candidates.
 ghost use mathlib.Core.Path.{_≡_};
 ghost use Prim.Native.Nat.{_+_, _*_, _≤_, _<_};
 ghost use lib.ListN.{length, getD};
@@ -27,9 +27,11 @@ fn note(
     c: usize,
     have: usize,
 ) -> usize
-    requires { ⌜ Holds n (now body) × (t < n .transitions) × (triggersFor (c + 1) ≤ length (now guards)) × (c < mostCharts)
+    requires { ⌜ Holds n (now body) × (t < n .transitions) × (triggersFor (c + 1) ≤ length (now guards))
+        × (c < mostCharts)
         × (have ≤ mostFromState) × (transitionAt n (now body) t .from ≡ state → have < mostFromState) ⌝ }
-    ensures { λ r. ⌜ Notes (transitionAt n (now (body .entry)) t) state c have (now (guards .entry)) (now (guards .exit)) r ⌝ }
+    ensures { λ r. ⌜ Notes (transitionAt n (now (body .entry)) t) state c have (now (guards .entry))
+        (now (guards .exit)) r ⌝ }
 {
     if candidates::from_at(n, body, t) != state {
         return have;
@@ -49,9 +51,11 @@ fn note_chart(
     guards: &mut [u64],
     c: usize,
 ) -> usize
-    requires { ⌜ Holds n (now body) × (start + count ≤ n .transitions) × (triggersFor (c + 1) ≤ length (now guards)) × (c < mostCharts)
+    requires { ⌜ Holds n (now body) × (start + count ≤ n .transitions) × (triggersFor (c + 1) ≤ length (now guards))
+        × (c < mostCharts)
         × (tally count (λ u. one (same (transitionAt n (now body) (start + u) .from) state)) ≤ mostFromState) ⌝ }
-    ensures { λ r. ⌜ Noting (transitionAt n (now (body .entry))) start count state c count (now (guards .entry)) (now (guards .exit)) r × (r ≤ mostFromState) ⌝ }
+    ensures { λ r. ⌜ Noting (transitionAt n (now (body .entry))) start count state c count (now (guards .entry))
+        (now (guards .exit)) r × (r ≤ mostFromState) ⌝ }
 {
     let mut have: usize = 0;
     let mut p: usize = 0;
@@ -76,9 +80,11 @@ fn tell(
     high: u64,
     shut: u64,
 ) -> u8
-    requires { ⌜ Holds n (now body) × (start + count ≤ n .transitions) × (triggersFor (c + 1) ≤ length (now guards)) × (c < mostCharts)
+    requires { ⌜ Holds n (now body) × (start + count ≤ n .transitions) × (triggersFor (c + 1) ≤ length (now guards))
+        × (c < mostCharts)
         × (tally count (λ u. one (same (transitionAt n (now body) (start + u) .from) state)) ≤ mostFromState) ⌝ }
-    ensures { λ r. ⌜ Tells (fromOn (transitionAt n (now (body .entry))) start count) state c low high shut (now (guards .entry)) (now (guards .exit)) r ⌝ }
+    ensures { λ r. ⌜ Tells (fromOn (transitionAt n (now (body .entry))) start count) state c low high shut
+        (now (guards .entry)) (now (guards .exit)) r ⌝ }
 {
     let have = note_chart(n, body, start, count, state, guards, c);
     if settling::trips(guards, c, have, low, high) {
@@ -102,8 +108,10 @@ fn tell_all(
     masks: &[u64],
     guards: &mut [u64],
 ) -> [u8; triggers::STAYS]
-    requires { ⌜ Ready n (now body) (now config) × (masksFor (n .charts) ≤ length (now masks)) × (triggersFor (n .charts) ≤ length (now guards)) ⌝ }
-    ensures { λ r. ⌜ Telling n (now (body .entry)) (now (config .entry)) low (now (may .entry)) shuts (now (masks .entry)) (n .charts) (now (guards .exit)) r ⌝ }
+    requires { ⌜ Ready n (now body) (now config) × (masksFor (n .charts) ≤ length (now masks))
+        × (triggersFor (n .charts) ≤ length (now guards)) ⌝ }
+    ensures { λ r. ⌜ Telling n (now (body .entry)) (now (config .entry)) low (now (may .entry)) shuts
+        (now (masks .entry)) (n .charts) (now (guards .exit)) r ⌝ }
 {
     let mut stays = [0u8; triggers::STAYS];
     stays[triggers::SOME_STAY] = 1;
@@ -132,7 +140,8 @@ fn tell_all(
     stays
 }
 
-// What a search is told of every chart: that none may stay, unless the file's edition lets them. Then `guards` gets the triggers.
+// What a search is told of every chart: that none may stay, unless the file's edition lets them. Then `guards` gets the
+// triggers.
 pub fn stays(
     n: Shape,
     body: &[u8],
@@ -145,7 +154,8 @@ pub fn stays(
 ) -> [u8; triggers::STAYS]
     requires { ⌜ Ready n (now body) (now config) × (masksFor (n .charts) ≤ length (now masks))
         × (n .edition ≡ stayEdition → triggersFor (n .charts) ≤ length (now guards)) ⌝ }
-    ensures { λ r. ⌜ Stays n (now (body .entry)) (now (config .entry)) may low shuts (now (masks .entry)) (now (guards .exit)) r ⌝ }
+    ensures { λ r. ⌜ Stays n (now (body .entry)) (now (config .entry)) may low shuts (now (masks .entry))
+        (now (guards .exit)) r ⌝ }
 {
     if n.edition != checks::limits::STAY_EDITION as usize {
         return [0u8; triggers::STAYS];

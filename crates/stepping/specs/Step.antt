@@ -1,5 +1,6 @@
--- What the step's functions ask and leave. A step of a body that passed 1 to 11 (`stepAfter`) is what the list of RULES 3.6 goes on with; the search
--- over the tables of a wired file answers it (`Prepared`, `Finds`), with 24 before it (`Tries`).
+-- What the step's functions ask and leave. A step of a body that passed 1 to 11 (`stepAfter`) is what the list of RULES
+-- 3.6 goes on with; the search over the tables of a wired file answers it (`Prepared`, `Finds`), with 24 before it
+-- (`Tries`).
 use mathlib.Core.Path.{_≡_}
 use mathlib.Core.Bool.{false, cond}
 use mathlib.Core.List.{List, [], _∷_, _++_}
@@ -40,10 +41,12 @@ configTestsIn F config =
 
 -- 20 to 22
 unfoldable pub refusalAfter : File → List ℕ → ℕ → ℕ
-refusalAfter F config room = firstOf (configTestsIn F config ++ (record { number = shortBuffer; applies = ltb room (F .charts) } ∷ []))
+refusalAfter F config room =
+    firstOf (configTestsIn F config ++ (record { number = shortBuffer; applies = ltb room (F .charts) } ∷ []))
 
 unfoldable pub stepAfter : File → List ℕ → Set → ℕ → Answer
-stepAfter F config i room = cond (same (refusalAfter F config room) 0) (stepIn F config i) (refused (refusalAfter F config room))
+stepAfter F config i room =
+    cond (same (refusalAfter F config room) 0) (stepIn F config i) (refused (refusalAfter F config room))
 
 unfoldable pub placesAfter : File → List ℕ → Set → ℕ → List ℕ
 placesAfter F config i room = cond (same (refusalAfter F config room) 0) (placesIn F config i) (allPlaces [])
@@ -54,7 +57,8 @@ openAfter F config i room = openFor (stepAfter F config i room) (openIn F config
 -- what a step of a body that passed 1 to 11 answers, and what it leaves of a buffer b
 abbrev pub BodySteps : File → List ℕ → Set → List ℕ → Stepped → List ℕ → Type 0
 BodySteps F config i b r c =
-    (r ≡ steppedOf (stepAfter F config i (length b)) (placesAfter F config i (length b)) (openAfter F config i (length b)))
+    (r ≡ steppedOf (stepAfter F config i (length b)) (placesAfter F config i (length b))
+    (openAfter F config i (length b)))
     × (c ≡ nextIn (stepAfter F config i (length b)) b)
 
 -- a body that passed 1 to 11

@@ -29,8 +29,8 @@ use checks::limits;
 use layout::body::Shape;
 use settling::Found;
 
-// What a step answers, the next configuration aside (RULES 5.9): 0 or the refusal, the output, the mark, the places, 254 for a chart that stayed
-// and 255 for one that took none, and how many choices are open.
+// What a step answers, the next configuration aside (RULES 5.9): 0 or the refusal, the output, the mark, the places,
+// 254 for a chart that stayed and 255 for one that took none, and how many choices are open.
 pub struct Stepped {
     pub refusal: u8,
     pub output: u64,
@@ -55,7 +55,8 @@ pub fn refused(r: u8, open_choices: u64) -> Stepped
 // 21: a state that its chart lacks.
 fn bad_states(n: Shape, body: &[u8], config: &[u8]) -> bool
     requires { ⌜ Holds n (now body) × (n .charts ≤ length (now config)) ⌝ }
-    ensures { λ r. ⌜ r ≡ anyUpTo (n .charts) (λ c. notBelow (getD (now (config .entry)) c 0) (headAt n (now (body .entry)) c .states)) ⌝ }
+    ensures { λ r. ⌜ r ≡ anyUpTo (n .charts)
+        (λ c. notBelow (getD (now (config .entry)) c 0) (headAt n (now (body .entry)) c .states)) ⌝ }
 {
     let charts = n.charts;
     let mut c: usize = 0;
@@ -105,7 +106,8 @@ fn searched(
     low: [u64; CHARTS],
 ) -> Found
     requires { ⌜ Tables charts (now masks) (now small) × (charts ≤ mostCharts) × Guards (now guards) (now stays) ⌝ }
-    ensures { λ r. ⌜ r ≡ searchedOf charts low (now (masks .entry)) (now (small .entry)) (now (guards .entry)) (now (stays .entry)) ⌝ }
+    ensures { λ r. ⌜ r ≡ searchedOf charts low (now (masks .entry)) (now (small .entry)) (now (guards .entry))
+        (now (stays .entry)) ⌝ }
 {
     if candidates::is_stuck(small, stays, charts) {
         return search::none();
@@ -153,7 +155,8 @@ fn read_by(
         × Narrowed n (now body) (now config) (now reads) (now may) (now sures) × (length (now may) ≡ mostCharts)
         × (length (now sures) ≡ mostCharts) × (length (now counts) ≡ mostCharts) ⌝ }
     ensures { λ _. ⌜ ((a s : List ℕ) → Prepared n (now (body .entry)) a (now (masks .entry)) s
-        → Narrowed n (now (body .entry)) (now (config .entry)) (now (reads .exit)) (now (may .exit)) (now (sures .exit))) ⌝ }
+        → Narrowed n (now (body .entry)) (now (config .entry)) (now (reads .exit)) (now (may .exit))
+        (now (sures .exit))) ⌝ }
 {
     if open_choices <= FEW_OPEN {
         return;
@@ -163,9 +166,9 @@ fn read_by(
     candidates::puts_all(n, body, config, &rows, may, sures, counts);
 }
 
-// What is found for a wired body from a configuration, where each chart must not go to the states that are shut, `reads`
-// has what is read of its actions, and `may` and `sures` what its transitions put out of that. The tables are ready for
-// another. Where no chart may stay there is no trigger to make room for.
+// What is found for a wired body from a configuration, where each chart must not go to the states that are shut,
+// `reads` has what is read of its actions, and `may` and `sures` what its transitions put out of that. The tables are
+// ready for another. Where no chart may stay there is no trigger to make room for.
 fn found(
     n: Shape,
     body: &[u8],
@@ -179,10 +182,12 @@ fn found(
     masks: &mut [u64],
     small: &mut [u8],
 ) -> Found
-    requires { ⌜ Checked n (now body) × Ready n (now body) (now config) × Prepared n (now body) down (now masks) (now small)
+    requires { ⌜ Checked n (now body) × Ready n (now body) (now config)
+        × Prepared n (now body) down (now masks) (now small)
         × Shut n (now body) (now config) (now shuts)
         × Narrowed n (now body) (now config) (now reads) (now may) (now sures) ⌝ }
-    ensures { λ r. ⌜ Finds n (now (body .entry)) (now (config .entry)) input r × Prepared n (now (body .entry)) down (now (masks .exit)) (now (small .exit)) ⌝ }
+    ensures { λ r. ⌜ Finds n (now (body .entry)) (now (config .entry)) input r
+        × Prepared n (now (body .entry)) down (now (masks .exit)) (now (small .exit)) ⌝ }
 {
     let mut low = lows(down, input);
     candidates::choose(
@@ -215,11 +220,13 @@ fn counted(
     counts: &mut [u64; CHARTS],
     shuts: &mut [u64; CHARTS],
 ) -> u64
-    requires { ⌜ Checked n (now body) × Valid (fileAt n (now body)) (now config) × NearestIn (fileAt n (now body)) (now small)
+    requires { ⌜ Checked n (now body) × Valid (fileAt n (now body)) (now config)
+        × NearestIn (fileAt n (now body)) (now small)
         × (length (now small) ≡ smallSize) × (length (now counts) ≡ mostCharts)
         × LeavesTo n (now body) (now config) (n .charts) (now counts) × (now shuts ≡ replicate mostCharts 0) ⌝ }
     ensures { λ r. ⌜ (r ≡ openIn (fileAt n (now (body .entry))) (now (config .entry)))
-        × Shut n (now (body .entry)) (now (config .entry)) (now (shuts .exit)) × (length (now (counts .exit)) ≡ mostCharts) ⌝ }
+        × Shut n (now (body .entry)) (now (config .entry)) (now (shuts .exit))
+        × (length (now (counts .exit)) ≡ mostCharts) ⌝ }
 {
     let masters = small::masters(small);
     let states = small::slave_states(small);
@@ -258,7 +265,8 @@ pub fn refusal_of(t: Tried) -> u8
     limits::NO_STEP
 }
 
-// One step of a wired body from a configuration. There is nothing to look for where no choice is open; where too many are, nothing is looked for.
+// One step of a wired body from a configuration. There is nothing to look for where no choice is open; where too many
+// are, nothing is looked for.
 pub fn try_wired(
     n: Shape,
     body: &[u8],
@@ -268,8 +276,10 @@ pub fn try_wired(
     masks: &mut [u64],
     small: &mut [u8],
 ) -> Tried
-    requires { ⌜ Checked n (now body) × Valid (fileAt n (now body)) (now config) × Prepared n (now body) down (now masks) (now small) ⌝ }
-    ensures { λ r. ⌜ Tries n (now (body .entry)) (now (config .entry)) input r × Prepared n (now (body .entry)) down (now (masks .exit)) (now (small .exit)) ⌝ }
+    requires { ⌜ Checked n (now body) × Valid (fileAt n (now body)) (now config)
+        × Prepared n (now body) down (now masks) (now small) ⌝ }
+    ensures { λ r. ⌜ Tries n (now (body .entry)) (now (config .entry)) input r
+        × Prepared n (now (body .entry)) down (now (masks .exit)) (now (small .exit)) ⌝ }
 {
     let mut reads = [signals::ALL; CHARTS];
     let mut may = [0u64; CHARTS];
@@ -316,7 +326,8 @@ pub fn try_wired(
 
 // One step of a body, wired for it into masks that are new.
 fn try_in(n: Shape, body: &[u8], config: &[u8], input: u64, masks: &mut [u64]) -> Tried
-    requires { ⌜ Checked n (now body) × Valid (fileAt n (now body)) (now config) × (masksFor (n .charts) ≤ length (now masks)) × Blank (now masks) ⌝ }
+    requires { ⌜ Checked n (now body) × Valid (fileAt n (now body)) (now config)
+        × (masksFor (n .charts) ≤ length (now masks)) × Blank (now masks) ⌝ }
     ensures { λ r. ⌜ Tries n (now (body .entry)) (now (config .entry)) input r ⌝ }
 {
     let mut small = [0u8; small::SIZE];
@@ -360,7 +371,8 @@ pub fn put_states(buffer: &mut [u8], states: [u8; CHARTS], n: usize)
 // One step from a configuration under an input, after 20 to 22: the next configuration goes to `next`.
 pub fn of_body(n: Shape, body: &[u8], config: &[u8], input: u64, next: &mut [u8]) -> Stepped
     requires { ⌜ Checked n (now body) ⌝ }
-    ensures { λ r. ⌜ BodySteps (fileAt n (now (body .entry))) (now (config .entry)) input (now (next .entry)) r (now (next .exit)) ⌝ }
+    ensures { λ r. ⌜ BodySteps (fileAt n (now (body .entry))) (now (config .entry)) input (now (next .entry)) r
+        (now (next .exit)) ⌝ }
 {
     let r = config_refusal(n, body, config);
     if r != limits::ACCEPTED {

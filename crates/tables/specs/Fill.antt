@@ -1,5 +1,5 @@
--- How candidates get into the tables of a search: each transition from a chart's present state, unless it fails alone or is there already; then
--- what later charts may put out. Laws are in Fill/Laws.antt.
+-- How candidates get into the tables of a search: each transition from a chart's present state, unless it fails alone
+-- or is there already; then what later charts may put out. Laws are in Fill/Laws.antt.
 use mathlib.Core.Path.{_≡_}
 use mathlib.Core.Bool.{Bool, true, false, _&&_, not, cond}
 use mathlib.Core.List.{List}
@@ -17,7 +17,8 @@ use Rattle.meaning.specs.Rewriting.{unionUpTo}
 use Rattle.wiring.specs.Dropped.{ahead, test}
 use Rattle.wiring.specs.Sure.{sureOf, sureIn}
 use Rattle.wiring.specs.Hunt.{mayOf}
-use Rattle.cells.specs.Table.{SameWiring, SameLists, block, neededAt, barredAt, actionAt, backAt, aheadAt, putMasks, placeFrom, countCell, smallSize, toAt, countAt, masterAt, stateAt, putSmall}
+use Rattle.cells.specs.Table.{SameWiring, SameLists, block, neededAt, barredAt, actionAt, backAt, aheadAt, putMasks}
+use Rattle.cells.specs.Table.{placeFrom, countCell, smallSize, toAt, countAt, masterAt, stateAt, putSmall}
 use Rattle.settling.specs.Stays.{staysAt}
 use Rattle.tables.specs.Filled.{Listed, mayAt}
 pub mod Laws
@@ -59,13 +60,18 @@ pub record Filling : Type 0 where
 
 -- candidate v of chart c is the transition, as a test
 unfoldable pub isAt : List ℕ → List ℕ → ℕ → ℕ → Transition → Bool
-isAt m s c v t = same (neededAt m c v) (t .needed) && (same (barredAt m c v) (t .barred) && (same (actionAt m c v) (t .action) && same (toAt s c v) (t .to)))
+isAt m s c v t = same (neededAt m c v) (t .needed)
+    && (same (barredAt m c v) (t .barred) && (same (actionAt m c v) (t .action) && same (toAt s c v) (t .to)))
 
 unfoldable pub isAgain : List ℕ → List ℕ → ℕ → ℕ → Transition → Bool
 isAgain m s c n t = anyUpTo n (λ v. isAt m s c v t)
 
 abbrev pub put : ℕ → ℕ → Transition → Filling → Filling
-put c p t f = record { masks = putMasks (f .masks) c (f .count) t; small = putSmall (f .small) c (f .count) p t; count = f .count + 1 }
+put c p t f = record {
+  masks = putMasks (f .masks) c (f .count) t;
+  small = putSmall (f .small) c (f .count) p t;
+  count = f .count + 1;
+}
 
 abbrev pub pickFilling : Bool → Filling → Filling → Filling
 pickFilling true a b = a
@@ -77,7 +83,8 @@ module _ (c q : ℕ) (low own others shut : Set) where
   unfoldable pub considered : ℕ → Transition → Filling → Filling
   considered p t f =
       pickFilling (same (t .from) q)
-      (pickFilling (lastsBy low own others shut t) (pickFilling (isAgain (f .masks) (f .small) c (f .count) t) f (put c p t f)) f)
+      (pickFilling (lastsBy low own others shut t)
+      (pickFilling (isAgain (f .masks) (f .small) c (f .count) t) f (put c p t f)) f)
       f
 
   -- the first p transitions of g
@@ -94,18 +101,21 @@ opening E cfg shuts keep c v = keep c v && opensBy (getD shuts c 0) (cfg c) (pic
 module _ (E : ℕ → Chart) (cfg : ℕ → ℕ) where
   -- lows has what base has, and what the first k charts surely put in
   abbrev pub Raised : ℕ → List ℕ → List ℕ → List ℕ → List ℕ → Type 0
-  Raised k m s base lows = (c : ℕ) → c < mostCharts → getD lows c 0 ≡ getD base c 0 ∪ unionUpTo k (λ e. sureAt s e (sureIn (E e .stays) (sureOf (E e .transitions) (cfg e))) ∩ backAt m c e)
+  Raised k m s base lows = (c : ℕ) → c < mostCharts → getD lows c 0 ≡ getD base c 0
+      ∪ unionUpTo k (λ e. sureAt s e (sureIn (E e .stays) (sureOf (E e .transitions) (cfg e))) ∩ backAt m c e)
 
 module _ (E : ℕ → Chart) (cfg : ℕ → ℕ) (N : ℕ) (lows shuts : List ℕ) where
   -- the move of chart c at place v is kept
   unfoldable pub keepAt : List ℕ → ℕ → ℕ → Bool
   keepAt m c v =
-      keptBy (getD lows c 0) (backAt m c c) (othersAt m N (λ e. mayOf (E e .transitions) (cfg e)) c) (getD shuts c 0) (E c) (cfg c)
+      keptBy (getD lows c 0) (backAt m c c) (othersAt m N (λ e. mayOf (E e .transitions) (cfg e)) c) (getD shuts c 0)
+      (E c) (cfg c)
       (pick (E c) v)
 
   -- the first k charts have their candidates; of the tables m₀ and s₀ the rest is as it was
   pub record Until (m₀ s₀ : List ℕ) (k : ℕ) (m s : List ℕ) : Type 0 where
-    pub listed : (c : ℕ) → c < k → Listed m s c (E c .transitions) (cfg c) (keepAt m₀ c) (length (E c .transitions)) (countAt s c)
+    pub listed : (c : ℕ) → c < k
+        → Listed m s c (E c .transitions) (cfg c) (keepAt m₀ c) (length (E c .transitions)) (countAt s c)
     pub counts : (c : ℕ) → c < k → countAt s c ≤ mostFromState
     pub wires : SameWiring m₀ m
     pub rest : (i : ℕ) → countCell k ≤ i → i < placeFrom → getD s i 0 ≡ getD s₀ i 0
@@ -114,7 +124,8 @@ module _ (E : ℕ → Chart) (cfg : ℕ → ℕ) (N : ℕ) (lows shuts : List �
 
   -- all of it
   pub record Chosen (m s : List ℕ) : Type 0 where
-    pub listed : (c : ℕ) → c < N → Listed m s c (E c .transitions) (cfg c) (keepAt m c) (length (E c .transitions)) (countAt s c)
+    pub listed : (c : ℕ) → c < N
+        → Listed m s c (E c .transitions) (cfg c) (keepAt m c) (length (E c .transitions)) (countAt s c)
     pub counts : (c : ℕ) → c < N → countAt s c ≤ mostFromState
     pub ahead-at : (k c : ℕ) → k ≤ N → c < N → aheadAt m k c ≡ ahead (N - k) k (λ e. mayAt m s e ∩ backAt m c e)
     pub state-at : (c : ℕ) → c < N → stateAt s c ≡ cfg c

@@ -1,6 +1,6 @@
--- A step by tables, for a file that tests 9 to 11 allow: where the wiring is in the tables and the candidates are chosen,
--- a search over them has what is found among all choices, and its places. The candidates are those of charts whose
--- actions are narrowed to what is read, or to more. How many choices are open is not its concern.
+-- A step by tables, for a file that tests 9 to 11 allow: where the wiring is in the tables and the candidates are
+-- chosen, a search over them has what is found among all choices, and its places. The candidates are those of charts
+-- whose actions are narrowed to what is read, or to more. How many choices are open is not its concern.
 use mathlib.Core.Path.{_≡_, refl, sym, _∙_, ap}
 use mathlib.Core.List.{List}
 use Prim.Native.Nat.{ℕ, zero, _-_, _≤_, _<_}
@@ -8,7 +8,8 @@ use native.Mathlib.Omega.{arith}
 use lib.ListN.{length, getD}
 use Rattle.signals.specs.Mask.{_∩_}
 use Rattle.meaning.specs.Numbers.{stayPlace}
-use Rattle.meaning.specs.Meaning.{Set, Chart, Move, noMove, takes, stay, pick, actionOf, moves, outcomes, answer, firstPlaces}
+use Rattle.meaning.specs.Meaning.{Set, Chart, Move, noMove, takes, stay, pick, actionOf, moves, outcomes, answer}
+use Rattle.meaning.specs.Meaning.{firstPlaces}
 use Rattle.meaning.specs.File.{File, wholeOf}
 use Rattle.meaning.specs.Calls.{allPlaces, foundIn, placesFound}
 use Rattle.meaning.specs.Laws.Trees.{Ordered, Rule11}
@@ -22,7 +23,8 @@ use Rattle.settling.specs.Stays.{huntsBoth}
 use Rattle.settling.specs.declared.Found.{Found}
 use Rattle.tables.specs.Filled.{Rows, Candidates, Stayers, Lows, answerOf}
 use Rattle.tables.specs.Read.{Reads, narrowed}
-use Rattle.tables.specs.Read.Laws.{narrowMove, length-narrowed, pick-narrowed, back-narrowed, small-narrowed, permitted-narrowed, outcomes-narrowed}
+use Rattle.tables.specs.Read.Laws.{narrowMove, length-narrowed, pick-narrowed, back-narrowed, small-narrowed}
+use Rattle.tables.specs.Read.Laws.{permitted-narrowed, outcomes-narrowed}
 use Rattle.tables.specs.Fill.{opensBy, keepAt, Chosen, Raised}
 use Rattle.tables.specs.Fill.Laws.{candidates, stayers-last, lows-are}
 use Rattle.tables.specs.Whole.{keeps, Opens, found-is, places-is}
@@ -70,7 +72,8 @@ module _ (F : File) (some-node : 0 < F .nodes) (w : Ordered F) (r : Rule10 F) (r
       ap (opensBy (getD shuts c 0) (cfg c)) (pick-narrowed (read c) (F .chart c) (v c))
       ∙ opens-narrowed (getD shuts c 0) (read c) (cfg c) (pick (F .chart c) (v c))
       ∙ op v
-      (sym (permitted-narrowed (F .chart) (F .state) cfg (F .charts) (kap F) (F .master) (wholeOf F) inp read st si sa rd v)
+      (sym
+      (permitted-narrowed (F .chart) (F .state) cfg (F .charts) (kap F) (F .master) (wholeOf F) inp read st si sa rd v)
       ∙ p) c l
 
   rows : Rows E (F .state) cfg (F .charts) (kap F) (F .master) (wholeOf F) m s

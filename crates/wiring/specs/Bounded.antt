@@ -17,7 +17,8 @@ use Rattle.wiring.specs.Dropped.{test, join-in, fits-test}
 offered-in : (N : ℕ) (f g : ℕ → Set) (z a : Set) (b : ℕ → Set) → ((e : ℕ) → e < N → Inside (f e) (g e))
     → Inside (offered N f z a b) (offered N g z a b)
 unfolding offered
-offered-in N f g z a b h = sets ((z ∩ a) ∷ unionUpTo N (λ e. f e ∩ b e) ∷ unionUpTo N (λ e. g e ∩ b e) ∷ []) (B ⊑ C ∷ [])
+offered-in N f g z a b h =
+    sets ((z ∩ a) ∷ unionUpTo N (λ e. f e ∩ b e) ∷ unionUpTo N (λ e. g e ∩ b e) ∷ []) (B ⊑ C ∷ [])
     (A ∪ₑ B ⊑ A ∪ₑ C) tt (join-in N f g b h)
 
 module _ (E : ℕ → Chart) (state : ℕ → ℕ) (cfg : ℕ → ℕ) (N : ℕ) (enc : ℕ → Option ℕ) (sc : ℕ → ℕ) (t : Tree) (inp : Set)

@@ -127,7 +127,8 @@ module _ (E : ℕ → Chart) (state : ℕ → ℕ) (cfg : ℕ → ℕ) (N : ℕ)
     abbrev Open : (ℕ → ℕ) → Type 0
     Open ch = (e : ℕ) → e < N → open? (E e .stays) (awake enc sc state cfg (moves E ch) e) (cfg e) (moves E ch e) ≡ true
 
-    sures-in : (ch : ℕ → ℕ) (c : ℕ) → Open ch → Within (sures c) (unionUpTo N (λ e. actionOf (moves E ch e) ∩ back E t c e))
+    sures-in : (ch : ℕ → ℕ) (c : ℕ) → Open ch
+        → Within (sures c) (unionUpTo N (λ e. actionOf (moves E ch e) ∩ back E t c e))
     unfolding sures
     sures-in ch c o = join-in N (surely enc E cfg) (λ e. actionOf (moves E ch e)) (back E t c)
         (λ e l. sure-open E state cfg N enc sc t s ch e l (o e l))
@@ -135,7 +136,8 @@ module _ (E : ℕ → Chart) (state : ℕ → ℕ) (cfg : ℕ → ℕ) (N : ℕ)
     low-in : (ch : ℕ → ℕ) (n k c : ℕ) → n + k ≡ N → Open ch
         → Within (low ch k c) (offer E state cfg N enc sc t inp (moves E ch) N c)
     unfolding low offer offered
-    low-in ch n k c e o = sets ((inp ∩ down t c) ∷ unionUpTo k f ∷ ahead n k f ∷ unionUpTo N f ∷ sures c ∷ []) (D ≐ B ∪ₑ C ∷ Eₑ
+    low-in ch n k c e o =
+        sets ((inp ∩ down t c) ∷ unionUpTo k f ∷ ahead n k f ∷ unionUpTo N f ∷ sures c ∷ []) (D ≐ B ∪ₑ C ∷ Eₑ
         ⊑ D ∷ []) (Eₑ ∪ₑ (A ∪ₑ B) ⊑ A ∪ₑ D) tt (ap (λ z. unionUpTo z f) (sym e) ∙ split n k f) (sures-in ch c o)
       where
         f : ℕ → Set
@@ -144,7 +146,8 @@ module _ (E : ℕ → Chart) (state : ℕ → ℕ) (cfg : ℕ → ℕ) (N : ℕ)
     high-in : (ch : ℕ → ℕ) (n k c : ℕ) → n + k ≡ N → ((e : ℕ) → e < N → Within (actionOf (moves E ch e)) (may e))
         → Within (offer E state cfg N enc sc t inp (moves E ch) N c) (high ch n k c)
     unfolding low high offer offered
-    high-in ch n k c e q = sets ((inp ∩ down t c) ∷ unionUpTo k f ∷ ahead n k f ∷ unionUpTo N f ∷ ahead n k g ∷ sures c ∷ [])
+    high-in ch n k c e q =
+        sets ((inp ∩ down t c) ∷ unionUpTo k f ∷ ahead n k f ∷ unionUpTo N f ∷ ahead n k g ∷ sures c ∷ [])
         (D ≐ B ∪ₑ C ∷ C ⊑ Eₑ ∷ []) (A ∪ₑ D ⊑ Fₑ ∪ₑ (A ∪ₑ B) ∪ₑ Eₑ) tt (ap (λ z. unionUpTo z f) (sym e) ∙ split n k f)
         (ahead-in n k f g (λ d p r. sets (actionOf (moves E ch d) ∷ may d ∷ back E t c d ∷ []) (A ⊑ B ∷ [])
         (A ∩ₑ C ⊑ B ∩ₑ C) tt (q d (omega arith))))

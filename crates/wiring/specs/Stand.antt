@@ -1,5 +1,5 @@
--- The tree of a file that tests 9 to 11 allow: no chart stands in it twice, each chart's nearest slave is known, masters
--- are lower, and a node's parts share no chart with the nodes in between (Parted).
+-- The tree of a file that tests 9 to 11 allow: no chart stands in it twice, each chart's nearest slave is known,
+-- masters are lower, and a node's parts share no chart with the nodes in between (Parted).
 use mathlib.Core.Path.{_≡_, refl, sym, _∙_, ap, ap₂, subst}
 use mathlib.Core.Bool.{Bool, true, false, _&&_, _||_, cond, false≢true}
 use mathlib.Core.Option.{Option, none, some}
@@ -77,13 +77,15 @@ module _ (par : ℕ → ℕ) where
 abbrev pub Alone : File → ℕ → ℕ → Type 0
 Alone F i j = (k c : ℕ) → i < k → k < j → Has (treeOf F i) c ≡ true → Has (treeOf F k) c ≡ false
 
--- the nodes that a node names, and those of its chart's slaves, are alone below it; and no lower node has the chart that it holds
+-- the nodes that a node names, and those of its chart's slaves, are alone below it; and no lower node has the chart
+-- that it holds
 pub record Parted (F : File) : Type 0 where
   pub held : (j : ℕ) → j < F .nodes → Held (F .charts) (treeOf F j)
   pub left : (j : ℕ) → j < F .nodes → F .kind j ≡ 1 → Alone F (F .a j) j
   pub right : (j : ℕ) → j < F .nodes → F .kind j ≡ 1 → Alone F (F .b j) j
   pub inner : (j : ℕ) → j < F .nodes → F .kind j ≡ 2 → Alone F (F .a j) j
-  pub slave : (j : ℕ) → j < F .nodes → F .kind j ≡ 0 → (i : ℕ) → i < F .slaves → F .master i ≡ F .a j → Alone F (F .node i) j
+  pub slave : (j : ℕ) → j < F .nodes → F .kind j ≡ 0 → (i : ℕ) → i < F .slaves → F .master i ≡ F .a j
+      → Alone F (F .node i) j
   pub fresh : (j : ℕ) → j < F .nodes → F .kind j ≡ 0 → (i : ℕ) → i < j → Has (treeOf F i) (F .a j) ≡ false
 
 -- ── parents and holders are one ──
@@ -213,7 +215,8 @@ module _ (F : File) (w : Ordered F) (par hold : ℕ → ℕ) (ti : Tidy F par ho
   -- a node is alone below the one that it is a part of
   part-alone : (i j : ℕ) → j < F .nodes → par i ≡ j → Alone F i j
   part-alone i j l e k c p q h =
-      not-true (λ h′. go (up-line par (hold c) i k (reach (F .nodes) i c (omega arith) (omega arith) h) (reach (F .nodes) k c (omega arith) (omega arith) h′)))
+      not-true (λ h′. go (up-line par (hold c) i k (reach (F .nodes) i c (omega arith) (omega arith) h)
+      (reach (F .nodes) k c (omega arith) (omega arith) h′)))
     where
       first : ((i ≡ k) ⊎ Up par (par i) k) → ⊥
       first (inl z) = omega arith

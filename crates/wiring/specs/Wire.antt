@@ -142,7 +142,8 @@ none-cut {a} y x = sets (a ∷ y ∷ x ∷ []) (A ≐ ∅ₑ ∷ []) (A ∩ₑ B
 
 -- ── joins ──
 join-feed : (N : ℕ) (act b y : ℕ → Set) (a x : Set)
-    → unionUpTo N (λ e. act e ∩ (b e ∪ a ∩ y e ∩ x)) ≡ unionUpTo N (λ e. act e ∩ b e) ∪ unionUpTo N (λ e. act e ∩ y e) ∩ x ∩ a
+    → unionUpTo N (λ e. act e ∩ (b e ∪ a ∩ y e ∩ x))
+    ≡ unionUpTo N (λ e. act e ∩ b e) ∪ unionUpTo N (λ e. act e ∩ y e) ∩ x ∩ a
 unfolding unionUpTo
 join-feed zero act b y a x = sets (a ∷ x ∷ []) [] (∅ₑ ≐ ∅ₑ ∪ₑ ∅ₑ ∩ₑ B ∩ₑ A) tt
 join-feed (suc k) act b y a x = ap (λ j. j ∪ act k ∩ (b k ∪ a ∩ y k ∩ x)) (join-feed k act b y a x)
@@ -157,7 +158,8 @@ join-or (suc k) act y z = ap (λ j. j ∪ act k ∩ (y k ∪ z k)) (join-or k ac
     ∙ sets (unionUpTo k (λ e. act e ∩ y e) ∷ unionUpTo k (λ e. act e ∩ z e) ∷ act k ∷ y k ∷ z k ∷ []) []
     (A ∪ₑ B ∪ₑ C ∩ₑ (D ∪ₑ Eₑ) ≐ A ∪ₑ C ∩ₑ D ∪ₑ (B ∪ₑ C ∩ₑ Eₑ)) tt
 
-join-less : (N : ℕ) (act y : ℕ → Set) (x : Set) → unionUpTo N (λ e. act e ∩ (y e ∖ x)) ≡ unionUpTo N (λ e. act e ∩ y e) ∖ x
+join-less : (N : ℕ) (act y : ℕ → Set) (x : Set)
+    → unionUpTo N (λ e. act e ∩ (y e ∖ x)) ≡ unionUpTo N (λ e. act e ∩ y e) ∖ x
 unfolding unionUpTo
 join-less zero act y x = sets (x ∷ []) [] (∅ₑ ≐ ∅ₑ ∖ₑ A) tt
 join-less (suc k) act y x = ap (λ j. j ∪ act k ∩ (y k ∖ x)) (join-less k act y x)
@@ -184,7 +186,8 @@ join-own (suc k) act d s l = go (same k d) refl (λ m. join-own k act d s m)
         (join-none k act (own d) (λ e l. own-off d e (same-≢ e d (λ z. omega arith)))) (ap (own d) q ∙ own-on d)
         (ap act q) s
     go false p rec = let z : k ≢ d = same→≢ k d p in
-        sets (unionUpTo k (λ e. act e ∩ own d e) ∷ act k ∷ own d k ∷ act d ∷ []) (A ≐ D ∷ C ≐ ∅ₑ ∷ []) (A ∪ₑ B ∩ₑ C ≐ D) tt
+        sets (unionUpTo k (λ e. act e ∩ own d e) ∷ act k ∷ own d k ∷ act d ∷ []) (A ≐ D ∷ C ≐ ∅ₑ ∷ [])
+        (A ∪ₑ B ∩ₑ C ≐ D) tt
         (rec (omega arith))
         (own-off d k p)
 
@@ -230,13 +233,16 @@ mutual
 
   pub up-off : (t : Tree) (e : ℕ) → Has t e ≡ false → up t e ≡ ∅
   up-off (leaf d) e h = own-off d e h
-  up-off (comp l r x) e h = none-or (up-off l e (or-left (Has l e) (Has r e) h)) (up-off r e (or-right (Has l e) (Has r e) h))
+  up-off (comp l r x) e h =
+      none-or (up-off l e (or-left (Has l e) (Has r e) h)) (up-off r e (or-right (Has l e) (Has r e) h))
   up-off (hide l x y) e h = none-less y (up-off l e h)
-  up-off (dec d ss) e h = none-or (own-off d e (or-left (same e d) (HasS ss e) h)) (ups-off ss e (or-right (same e d) (HasS ss e) h))
+  up-off (dec d ss) e h =
+      none-or (own-off d e (or-left (same e d) (HasS ss e) h)) (ups-off ss e (or-right (same e d) (HasS ss e) h))
 
   pub ups-off : (ss : Slaves) (e : ℕ) → HasS ss e ≡ false → ups ss e ≡ ∅
   ups-off nil e h = refl
-  ups-off (snoc ss i t) e h = none-or (ups-off ss e (or-right (Has t e) (HasS ss e) h)) (up-off t e (or-left (Has t e) (HasS ss e) h))
+  ups-off (snoc ss i t) e h =
+      none-or (ups-off ss e (or-right (Has t e) (HasS ss e) h)) (up-off t e (or-left (Has t e) (HasS ss e) h))
 
 module _ (E : ℕ → Chart) where
   mutual
@@ -344,7 +350,8 @@ module _ (N : ℕ) (act : ℕ → Set) where
 
   filtered : (z a x : Set) (b : ℕ → Set) → offered N act z (a ∖ x) b ≡ offered N act (z ∖ x) a b
   unfolding offered
-  filtered z a x b = sets (z ∷ a ∷ x ∷ unionUpTo N (λ e. act e ∩ b e) ∷ []) [] (A ∩ₑ (B ∖ₑ C) ∪ₑ D ≐ (A ∖ₑ C) ∩ₑ B ∪ₑ D) tt
+  filtered z a x b =
+      sets (z ∷ a ∷ x ∷ unionUpTo N (λ e. act e ∩ b e) ∷ []) [] (A ∩ₑ (B ∖ₑ C) ∪ₑ D ≐ (A ∖ₑ C) ∩ₑ B ∪ₑ D) tt
 
 -- ── the theorem ──
 small-less : (z x : Set) → Small z → Small (z ∖ x)

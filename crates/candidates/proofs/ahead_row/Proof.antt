@@ -35,8 +35,11 @@ loop-again c =
     let a = t .before .before .args in
     let e : a .u ∩ b .back .result ∪ h .ahead .result ≡ aheadBy (a .masks .now) (a .k) (a .u) (l .c) =
     ap₂ (λ (x y : ℕ). a .u ∩ x ∪ y) (b .back .ensures) (h .ahead .ensures)
-    ∙ row-value (a .k) _ (l .c) _ (l .masks) (a .u) (l .inv .1) (omega arith) (omega arith) in
-    (omega arith, rw (p .put-ahead .ensures) (row-more (block * a .k) (l .c) _ _ (a .masks .now) (l .masks) (omega (arith, roomy t)) e (l .inv .1)))
+    ∙ row-value (a .k) _ (l .c) _ (l .masks) (a .u) (l .inv .1) (omega arith) (omega arith) in (
+      omega arith,
+      rw (p .put-ahead .ensures)
+          (row-more (block * a .k) (l .c) _ _ (a .masks .now) (l .masks) (omega (arith, roomy t)) e (l .inv .1)),
+    )
 
 returns : tie.Need-returns Inv-loop μ-loop
 returns c =

@@ -26,9 +26,11 @@ returns c =
     let p = r .before .before .before .before .before .before in
     let s = p .before .before .before .before .before .before in
     let x = s .args in
-    chooses (x .n) (x .body .now) (x .config .now) (x .reads .now) (x .low .now) (x .shuts .now) _ (x .masks .now) (x .small .now) _ _ _ _
+    chooses (x .n) (x .body .now) (x .config .now) (x .reads .now) (x .low .now) (x .shuts .now) _ (x .masks .now)
+    (x .small .now) _ _ _ _
     (s .pre .0) (s .pre .1) (p .put-states .ensures)
-    (raised-is (x .n) (x .body .now) (x .config .now) (x .reads .now) (x .masks .now) _ (x .sures .now) (x .low .now) (r .raise-sure .last .1 .1 .1 .1 .0) (s .pre .3) (r .raise-sure .ensures))
+    (raised-is (x .n) (x .body .now) (x .config .now) (x .reads .now) (x .masks .now) _ (x .sures .now) (x .low .now)
+    (r .raise-sure .last .1 .1 .1 .1 .0) (s .pre .3) (r .raise-sure .ensures))
     (l .list-all .ensures) (a .ahead-all .ensures)
 
 pub choose-spec : {M : Type 1} → statement M

@@ -23,8 +23,11 @@ loop-again c =
     let p = c .before .before in
     let t = p .before .before .before in
     let l = t .loop in
-    let a = t .before .before .args in
-    (omega arith, rw (p .put-ahead .ensures) (row-more (block * a .charts) (l .c) 0 (λ d. 0) (a .masks .now) (l .masks) (omega (arith, l .inv .1 .long)) refl (l .inv .1)))
+    let a = t .before .before .args in (
+      omega arith,
+      rw (p .put-ahead .ensures) (row-more (block * a .charts) (l .c) 0
+          (λ d. 0) (a .masks .now) (l .masks) (omega (arith, l .inv .1 .long)) refl (l .inv .1)),
+    )
 
 returns : tie.Need-returns Inv-loop μ-loop
 returns c =

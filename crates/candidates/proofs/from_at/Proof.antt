@@ -8,4 +8,5 @@ returns : tie.Need-returns
 returns c = from-byte _ _ _
 
 pub from-at-spec : {M : Type 1} → statement M
-from-at-spec = tie.close (tie.spec (λ c. search needs) (λ c. search needs) (λ c. search needs) (λ c. search needs) returns)
+from-at-spec =
+    tie.close (tie.spec (λ c. search needs) (λ c. search needs) (λ c. search needs) (λ c. search needs) returns)

@@ -21,14 +21,19 @@ loop-holds c = (search needs, any-none _)
 
 returns : tie.Need-returns Inv-loop μ-loop
 unfolding isAgain
-returns c = sym (any-at _ _ (c .before .before .before .loop .v) (omega arith) (sym (c .before .is-at .ensures) ∙ c .if1 .taken))
+returns c = sym
+    (any-at _ _ (c .before .before .before .loop .v) (omega arith) (sym (c .before .is-at .ensures) ∙ c .if1 .taken))
 
 loop-again : tie.Need-loop-again Inv-loop μ-loop
-loop-again c = (omega arith, any-more _ _ (c .before .before .before .loop .inv .1) (sym (c .before .is-at .ensures) ∙ c .if1 .left))
+loop-again c = (
+  omega arith,
+  any-more _ _ (c .before .before .before .loop .inv .1) (sym (c .before .is-at .ensures) ∙ c .if1 .left),
+)
 
 returns-2 : tie.Need-returns-2 Inv-loop μ-loop
 unfolding isAgain
-returns-2 c = let e : c .before .loop .v ≡ c .before .before .before .before .args .n = omega arith in sym (rw e at (c .before .loop .inv .1))
+returns-2 c = let e : c .before .loop .v ≡ c .before .before .before .before .args .n = omega arith in
+    sym (rw e at (c .before .loop .inv .1))
 
 pub is-again-spec : {M : Type 1} → statement M
 is-again-spec =

@@ -11,7 +11,8 @@ use Rattle.tables.specs.Fill.{isAt}
 use Rattle.candidates.proofs.is_at.Statement.{statement}
 use Rattle.candidates.proofs.is_at.Tie as tie
 
-compared : (m s : List ℕ) (c v : ℕ) (t : Transition) {n b a x : ℕ} → n ≡ neededAt m c v → b ≡ barredAt m c v → a ≡ actionAt m c v → x ≡ toAt s c v →
+compared : (m s : List ℕ) (c v : ℕ) (t : Transition) {n b a x : ℕ} → n ≡ neededAt m c v → b ≡ barredAt m c v
+    → a ≡ actionAt m c v → x ≡ toAt s c v →
     (same n (t .needed) && (same b (t .barred) && (same a (t .action) && same x (t .to)))) ≡ isAt m s c v t
 unfolding isAt
 compared m s c v t p q r u = rw (p, q, r, u)
@@ -24,7 +25,8 @@ returns c =
     let b = a .before .before in
     let n = b .before .before in
     let e = n .before .before .before in
-    compared (e .args .masks .now) (e .args .small .now) (e .args .c) (e .args .v) (e .args .t) (n .needed .ensures) (b .barred .ensures) (a .action .ensures) (x .to .ensures)
+    compared (e .args .masks .now) (e .args .small .now) (e .args .c) (e .args .v) (e .args .t) (n .needed .ensures)
+    (b .barred .ensures) (a .action .ensures) (x .to .ensures)
 
 pub is-at-spec : {M : Type 1} → statement M
 is-at-spec =

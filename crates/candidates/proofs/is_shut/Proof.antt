@@ -6,7 +6,8 @@ use Rattle.candidates.proofs.is_shut.Statement.{statement}
 use Rattle.candidates.proofs.is_shut.Tie as tie
 
 returns : tie.Need-returns
-returns c = let s = c .before in sym (bit-high 64 (s .args .shut) (s .args .state) (s .fits .shut .fits) (c .if1 .taken))
+returns c = let s = c .before in
+    sym (bit-high 64 (s .args .shut) (s .args .state) (s .fits .shut .fits) (c .if1 .taken))
 
 pub is-shut-spec : {M : Type 1} → statement M
 is-shut-spec = tie.close (tie.spec returns (λ c κs. search needs) (λ c. search needs))

@@ -4,7 +4,8 @@ use Prim.Native.Nat.{_+_, _-_, _≤_}
 use native.Mathlib.Omega.{arith}
 use borrow.Author.Needs.{needs}
 use Rattle.candidates.specs.Candidates.{Left, filling, listingBy, fromStart}
-use Rattle.candidates.specs.Candidates.Laws.{left-none, left-next, left-masks, left-small, left-tabled, left-few, left-room}
+use Rattle.candidates.specs.Candidates.Laws.{left-none, left-next, left-masks, left-small, left-tabled, left-few}
+use Rattle.candidates.specs.Candidates.Laws.{left-room}
 use Rattle.candidates.proofs.list.Statement.{statement}
 use Rattle.candidates.proofs.list.Tie as tie
 
@@ -25,25 +26,37 @@ consider-requires c κs =
     let l = c .before .before .before .loop in (
       r .0,
       omega arith,
-      left-tabled (a .a) (fromStart (a .n) (a .body .now) (a .a .read) (a .start)) (filling (a .masks .now) (a .small .now) 0) (a .a .chart + 1) (l .p) (l .masks) (l .small) (l .have) (l .inv .1) (r .3),
+      left-tabled (a .a) (fromStart (a .n) (a .body .now) (a .a .read) (a .start)) (filling (a .masks .now)
+          (a .small .now) 0) (a .a .chart + 1) (l .p) (l .masks) (l .small) (l .have) (l .inv .1) (r .3),
       r .4,
-      left-few (a .a) (fromStart (a .n) (a .body .now) (a .a .read) (a .start)) (filling (a .masks .now) (a .small .now) 0) refl (a .count) (r .5) (l .p) (l .masks) (l .small) (l .have) (l .inv .1) (l .inv .0),
-      left-room (a .a) (fromStart (a .n) (a .body .now) (a .a .read) (a .start)) (filling (a .masks .now) (a .small .now) 0) refl (a .count) (r .5) (l .p) (l .masks) (l .small) (l .have) (l .inv .1) (c .before .before .loop-test .taken),
+      left-few (a .a) (fromStart (a .n) (a .body .now) (a .a .read) (a .start)) (filling (a .masks .now)
+          (a .small .now) 0) refl (a .count) (r .5) (l .p) (l .masks) (l .small) (l .have) (l .inv .1) (l .inv .0),
+      left-room (a .a) (fromStart (a .n) (a .body .now) (a .a .read) (a .start))
+          (filling (a .masks .now) (a .small .now) 0) refl (a .count) (r .5) (l .p) (l .masks) (l .small) (l .have)
+          (l .inv .1) (c .before .before .loop-test .taken),
     )
 
 loop-again : tie.Need-loop-again Inv-loop μ-loop
 loop-again c =
     let a = c .before .before .before .before .before .before .before .before .before .before .before .before .args in
-    let l = c .before .before .before .before .before .before .before .before .loop in
-    (omega arith, left-next (a .a) (fromStart (a .n) (a .body .now) (a .a .read) (a .start)) (filling (a .masks .now) (a .small .now) 0) (l .p) (l .masks) (l .small) (l .have) _ _ _ (l .inv .1) (c .before .before .before .before .consider .ensures))
+    let l = c .before .before .before .before .before .before .before .before .loop in (
+      omega arith,
+      left-next (a .a) (fromStart (a .n) (a .body .now) (a .a .read) (a .start))
+          (filling (a .masks .now) (a .small .now) 0) (l .p) (l .masks) (l .small) (l .have) _ _ _ (l .inv .1)
+          (c .before .before .before .before .consider .ensures),
+    )
 
 returns : tie.Need-returns Inv-loop μ-loop
 returns c =
     let a = c .before .before .before .before .before .args in
     let r = c .before .before .before .before .before .pre in
     let l = c .before .loop in
-    let e : l .p ≡ a .count = omega arith in
-    (subst (λ p. Left (listingBy (a .a) (fromStart (a .n) (a .body .now) (a .a .read) (a .start)) p (filling (a .masks .now) (a .small .now) 0)) (l .masks) (l .small) (l .have)) e (l .inv .1), left-few (a .a) (fromStart (a .n) (a .body .now) (a .a .read) (a .start)) (filling (a .masks .now) (a .small .now) 0) refl (a .count) (r .5) (l .p) (l .masks) (l .small) (l .have) (l .inv .1) (l .inv .0))
+    let e : l .p ≡ a .count = omega arith in (
+      subst (λ p. Left (listingBy (a .a) (fromStart (a .n) (a .body .now) (a .a .read) (a .start)) p
+          (filling (a .masks .now) (a .small .now) 0)) (l .masks) (l .small) (l .have)) e (l .inv .1),
+      left-few (a .a) (fromStart (a .n) (a .body .now) (a .a .read) (a .start)) (filling (a .masks .now)
+          (a .small .now) 0) refl (a .count) (r .5) (l .p) (l .masks) (l .small) (l .have) (l .inv .1) (l .inv .0),
+    )
 
 pub list-spec : {M : Type 1} → statement M
 list-spec =

@@ -1,4 +1,5 @@
--- `list_chart` meets its contract. Its transitions are listed under what the chart is and might be offered. Assumes nothing.
+-- `list_chart` meets its contract. Its transitions are listed under what the chart is and might be offered. Assumes
+-- nothing.
 use Prim.Native.Nat.{_+_}
 use native.Mathlib.Omega.{arith}
 use borrow.Author.Needs.{needs}
@@ -10,13 +11,15 @@ use Rattle.candidates.proofs.list_chart.Tie as tie
 
 -- the function's entry, from where its transitions are listed
 abbrev entry : tie.After-list-arg2 → tie.Start
-entry c = c .before .before .before .before .before .before .before .before .before .before .before .before .before .before .before .before
+entry c = c .before .before .before .before .before .before .before .before .before .before .before .before .before
+    .before .before .before
 
 list-requires : tie.Need-list-requires
 list-requires c κs =
     let a = entry c .args in
     let r = entry c .pre in
-    let h = c .before .before .before .before .before .before .before .before .before .before .before .head-at .ensures in
+    let h =
+    c .before .before .before .before .before .before .before .before .before .before .before .head-at .ensures in
     let few = r .0 .sized .charts in (
       r .0 .sized .holds,
       in-all (a .n) (a .body .now) (a .c) (a .start) h (r .4) (r .0 .summed) (r .3),
@@ -36,20 +39,28 @@ add-result c =
     let l = c .before .before .before .before .before .before .before .before .before in
     let a = entry l .args in
     let r = entry l .pre in
-    omega (arith, in-all (a .n) (a .body .now) (a .c) (a .start) (l .before .before .before .before .before .before .before .before .before .before .before .head-at .ensures) (r .4) (r .0 .summed) (r .3), r .0 .sized .transitions)
+    omega (
+      arith,
+      in-all (a .n) (a .body .now) (a .c) (a .start)
+          (l .before .before .before .before .before .before .before .before .before .before .before .head-at .ensures)
+          (r .4) (r .0 .summed) (r .3),
+      r .0 .sized .transitions,
+    )
 
 returns : tie.Need-returns
 returns c =
     let l = c .before .before .before .before .before .before .before .before .before in
     let a = entry l .args in
     let r = entry l .pre in
-    let h = l .before .before .before .before .before .before .before .before .before .before .before .head-at .ensures in
+    let h =
+    l .before .before .before .before .before .before .before .before .before .before .before .head-at .ensures in
     let e = c .before .before .put-count .ensures in
     let o = l .before .before .before .before .before .before in
     let f = c .before .before .before .before .before .before .before .before .list .ensures .0 in (
       start-next (a .n) (a .body .now) (a .c) (a .start) h (r .4),
       rw e (chart-tabled (a .n .charts) _ _ _ _ _ _ _ _ _ _ _ _ _ (countCell (a .c)) f (r .2)),
-      rw e (chart-next (a .n) (a .body .now) (a .config .now) (a .reads .now) (r .0) (a .lows .now) (a .may .now) (a .shuts .now) (r .1) (a .masks .now) (a .small .now) (a .c) (a .start) _ _ _ _ _ _ (r .2) (r .3) (r .4) h
+      rw e (chart-next (a .n) (a .body .now) (a .config .now) (a .reads .now) (r .0) (a .lows .now) (a .may .now)
+          (a .shuts .now) (r .1) (a .masks .now) (a .small .now) (a .c) (a .start) _ _ _ _ _ _ (r .2) (r .3) (r .4) h
           (o .before .before .back .ensures) (o .others .ensures) f),
     )
 

@@ -1,4 +1,5 @@
--- `others` meets its contract. The loop joins what the charts below e might put in, chart c's own left out. Assumes nothing.
+-- `others` meets its contract. The loop joins what the charts below e might put in, chart c's own left out. Assumes
+-- nothing.
 use mathlib.Core.Path.{_≡_, refl, ap₂, _∙_}
 use mathlib.Core.Bool.{cond}
 use Prim.Native.Nat.{ℕ, _-_, _≤_}
@@ -15,7 +16,8 @@ use Rattle.candidates.proofs.others.Statement.{statement}
 use Rattle.candidates.proofs.others.Tie as tie
 
 abbrev Inv-loop : tie.InvT-loop
-Inv-loop masks charts may c u₀ e₀ u e = (e ≤ charts) × (u ≡ unionUpTo e (λ d. cond (same d c) 0 (getD may d 0) ∩ backAt masks c d))
+Inv-loop masks charts may c u₀ e₀ u e =
+    (e ≤ charts) × (u ≡ unionUpTo e (λ d. cond (same d c) 0 (getD may d 0) ∩ backAt masks c d))
 
 abbrev μ-loop : tie.MeasureT-loop
 μ-loop masks charts may c u₀ e₀ u e = charts - e
@@ -26,8 +28,10 @@ loop-holds c = (search needs, refl)
 
 loop-again : tie.Need-loop-again Inv-loop μ-loop
 loop-again c =
-    let l = c .before .before .before .loop in
-    (omega arith, ap₂ (λ (x y : ℕ). l .u ∪ x ∩ y) (c .before .but .ensures) (c .back .ensures) ∙ join-more _ _ _ (l .inv .1))
+    let l = c .before .before .before .loop in (
+      omega arith,
+      ap₂ (λ (x y : ℕ). l .u ∪ x ∩ y) (c .before .but .ensures) (c .back .ensures) ∙ join-more _ _ _ (l .inv .1),
+    )
 
 returns : tie.Need-returns Inv-loop μ-loop
 unfolding othersAt

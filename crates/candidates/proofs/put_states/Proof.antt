@@ -22,8 +22,11 @@ loop-again c =
     let p = c .before .before in
     let t = p .before .before .before .before in
     let l = t .loop in
-    let a = t .before .before .before .args in
-    (omega arith, rw (p .put-state .ensures) (stated-next (a .config .now) (l .c) (a .small .now) (l .small) (l .inv .1) (omega arith)))
+    let a = t .before .before .before .args in (
+      omega arith,
+      rw (p .put-state .ensures)
+          (stated-next (a .config .now) (l .c) (a .small .now) (l .small) (l .inv .1) (omega arith)),
+    )
 
 returns : tie.Need-returns Inv-loop μ-loop
 returns c =
@@ -40,7 +43,8 @@ put-states-spec =
     μ-loop
     loop-holds
     (λ c. omega arith)
-    (λ c κs. let t = c .before .before .before in (t .loop .inv .1 .small ∙ t .before .before .before .pre .0, omega arith))
+    (λ c κs. let t = c .before .before .before in
+    (t .loop .inv .1 .small ∙ t .before .before .before .pre .0, omega arith))
     (λ c. omega arith)
     (λ c. omega arith)
     loop-again

@@ -53,8 +53,10 @@ loop-again c =
     let s = l .before .before .before in
     let r = t .if1 .taken in (
       omega (arith, r),
-      start-next (s .args .n) (s .args .body .now) (l .loop .c) (l .loop .start) (h .head-at .ensures) (l .loop .inv .1),
-      puts-by-next _ _ _ _ (l .loop .c) _ _ _ (l .loop .start) _ _ (l .loop .inv .2) (omega (arith, r, s .pre .0 .sized .charts))
+      start-next (s .args .n) (s .args .body .now) (l .loop .c) (l .loop .start) (h .head-at .ensures)
+          (l .loop .inv .1),
+      puts-by-next _ _ _ _ (l .loop .c) _ _ _ (l .loop .start) _ _ (l .loop .inv .2)
+          (omega (arith, r, s .pre .0 .sized .charts))
           (l .loop .inv .1) (h .head-at .ensures) (c .puts-of .ensures),
     )
 
@@ -63,7 +65,8 @@ returns c =
     let l = c .before .before in
     let a = l .before .before .before .args in
     let e : l .loop .c ≡ a .n .charts = omega arith in
-    subst (λ z. PutsBy (a .n) (a .body .now) (a .config .now) (a .reads .now) z (l .loop .may) (l .loop .sures) (l .loop .counts)) e (l .loop .inv .2)
+    subst (λ z. PutsBy (a .n) (a .body .now) (a .config .now) (a .reads .now) z (l .loop .may) (l .loop .sures)
+    (l .loop .counts)) e (l .loop .inv .2)
 
 pub puts-all-spec : {M : Type 1} → statement M
 puts-all-spec =
@@ -74,18 +77,24 @@ puts-all-spec =
     loop-holds
     (λ c κs. (c .before .before .before .before .before .pre .0 .sized .holds, c .if1 .taken))
     (λ c. search needs)
-    (λ c. let s = c .before .before .before .before .before .before .before .before in omega (arith, s .pre .0 .configured))
+    (λ c. let s = c .before .before .before .before .before .before .before .before in
+    omega (arith, s .pre .0 .configured))
     (λ c. search needs)
-    (λ c. let s = c .before .before .before .before .before .before .before .before in omega (arith, s .pre .0 .sized .charts))
+    (λ c. let s = c .before .before .before .before .before .before .before .before in
+    omega (arith, s .pre .0 .sized .charts))
     puts-of-requires
     (λ c. search needs)
-    (λ c. let s = c .before .before .before .before .before .before .before .before .before .before in omega (arith, s .pre .0 .sized .charts))
+    (λ c. let s = c .before .before .before .before .before .before .before .before .before .before in
+    omega (arith, s .pre .0 .sized .charts))
     (λ c. search needs)
-    (λ c. let s = c .before .before .before .before .before .before .before .before .before .before in omega (arith, s .pre .0 .sized .charts))
+    (λ c. let s = c .before .before .before .before .before .before .before .before .before .before in
+    omega (arith, s .pre .0 .sized .charts))
     (λ c. search needs)
-    (λ c. let s = c .before .before .before .before .before .before .before .before .before .before in omega (arith, s .pre .0 .sized .charts))
+    (λ c. let s = c .before .before .before .before .before .before .before .before .before .before in
+    omega (arith, s .pre .0 .sized .charts))
     add-start
-    (λ c. let s = c .before .before .before .before .before .before .before .before .before .before in omega (arith, s .pre .0 .sized .charts))
+    (λ c. let s = c .before .before .before .before .before .before .before .before .before .before in
+    omega (arith, s .pre .0 .sized .charts))
     (λ c. omega arith)
     loop-again
     returns)

@@ -26,7 +26,8 @@ with-one-requires c κs =
     (search needs, omega arith, omega (arith, few))
 
 loop-again : tie.Need-loop-again Inv-loop μ-loop
-loop-again c = (omega arith, puts-more _ _ _ _ _ _ _ (c .before .before .loop .inv .1) (omega arith) (c .with-one .ensures))
+loop-again c =
+    (omega arith, puts-more _ _ _ _ _ _ _ (c .before .before .loop .inv .1) (omega arith) (c .with-one .ensures))
 
 returns : tie.Need-returns Inv-loop μ-loop
 returns c = puts-done _ _ _ _ _ _ (c .before .loop .inv .1) (c .before .loop .inv .0) (omega arith)

@@ -33,25 +33,35 @@ module _ (s : List ℕ) (c u : ℕ) where
     stays : sureAt s c u ≡ 0 → Row low (λ d. getD low d 0 ∪ sureAt s c u ∩ backAt m d c)
     stays e d l = sets (getD low d 0 ∷ sureAt s c u ∷ backAt m d c ∷ []) (B ≐ ∅ₑ ∷ []) (A ≐ A ∪ₑ B ∩ₑ C) tt e
 
-    outside : (r : List ℕ) → mostCharts ≤ masterAt s c → Row r (λ d. getD low d 0 ∪ u ∩ backAt m d c) → Row r (λ d. getD low d 0 ∪ sureAt s c u ∩ backAt m d c)
+    outside : (r : List ℕ) → mostCharts ≤ masterAt s c → Row r (λ d. getD low d 0 ∪ u ∩ backAt m d c)
+        → Row r (λ d. getD low d 0 ∪ sureAt s c u ∩ backAt m d c)
     unfolding sureAt
     outside r h f d l = rw (le-ltb (masterAt s c) mostCharts h) (f d l)
 
 returns : tie.Need-returns
 returns c =
     let s = c .before .before .before .before in
-    let a = s .args in
-    (s .pre .1, stays (a .small .now) (a .c) (a .u) (a .masks .now) (a .low .now) (in-slave (a .small .now) (a .c) (a .u) (rw (c .before .master .ensures) at (c .if1 .taken))))
+    let a = s .args in (
+      s .pre .1,
+      stays (a .small .now) (a .c) (a .u) (a .masks .now) (a .low .now)
+          (in-slave (a .small .now) (a .c) (a .u) (rw (c .before .master .ensures) at (c .if1 .taken))),
+    )
 
 returns-2 : tie.Need-returns-2
 returns-2 c =
     let e = c .before .before .before in
-    let a = e .before .before .before .before .args in
-    (c .raise-all .ensures .0, outside (a .small .now) (a .c) (a .u) (a .masks .now) (a .low .now) (c .raise-all .last .1 .0) (rw (e .before .master .ensures) at (e .if1 .left)) (c .raise-all .ensures .1))
+    let a = e .before .before .before .before .args in (
+      c .raise-all .ensures .0,
+      outside (a .small .now) (a .c) (a .u) (a .masks .now) (a .low .now) (c .raise-all .last .1 .0)
+          (rw (e .before .master .ensures) at (e .if1 .left)) (c .raise-all .ensures .1),
+    )
 
 returns-3 : tie.Need-returns-3
-returns-3 c = let s = c .before .before .before .before .before in let a = s .args in
-    (s .pre .1, stays (a .small .now) (a .c) (a .u) (a .masks .now) (a .low .now) (nothing (a .small .now) (a .c) (a .u) (c .if2 .left)))
+returns-3 c = let s = c .before .before .before .before .before in let a = s .args in (
+  s .pre .1,
+  stays (a .small .now) (a .c) (a .u) (a .masks .now) (a .low .now)
+      (nothing (a .small .now) (a .c) (a .u) (c .if2 .left)),
+)
 
 pub raise-spec : {M : Type 1} → statement M
 raise-spec =

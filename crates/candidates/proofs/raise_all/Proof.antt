@@ -14,7 +14,8 @@ use Rattle.candidates.proofs.raise_all.Tie as tie
 
 abbrev Inv-loop : tie.InvT-loop
 Inv-loop masks low₀ c u d₀ low d =
-    (d ≤ mostCharts) × (length low ≡ length low₀) × ((k : ℕ) → d ≤ k → getD low k 0 ≡ getD low₀ k 0) × ((k : ℕ) → k < d → getD low k 0 ≡ getD low₀ k 0 ∪ u ∩ backAt masks k c)
+    (d ≤ mostCharts) × (length low ≡ length low₀) × ((k : ℕ) → d ≤ k → getD low k 0 ≡ getD low₀ k 0)
+    × ((k : ℕ) → k < d → getD low k 0 ≡ getD low₀ k 0 ∪ u ∩ backAt masks k c)
 
 abbrev μ-loop : tie.MeasureT-loop
 μ-loop masks low₀ c u d₀ low d = mostCharts - d
@@ -30,7 +31,8 @@ loop-again c =
       omega arith,
       simp length-set (i .1),
       λ k p. getD-set-other (l .low) (l .d) k _ 0 (λ e. omega arith) ∙ i .2 k (omega arith),
-      fill-more (λ k. getD (a .low .now) k 0 ∪ a .u ∩ backAt (a .masks .now) k (a .c)) (l .low) (l .d) _ (i .3) (ap₂ (λ x y. x ∪ a .u ∩ y) (i .2 (l .d) (omega arith)) (c .back .ensures)) (omega arith),
+      fill-more (λ k. getD (a .low .now) k 0 ∪ a .u ∩ backAt (a .masks .now) k (a .c)) (l .low) (l .d) _ (i .3)
+          (ap₂ (λ x y. x ∪ a .u ∩ y) (i .2 (l .d) (omega arith)) (c .back .ensures)) (omega arith),
     )
 
 returns : tie.Need-returns Inv-loop μ-loop

@@ -27,8 +27,11 @@ raise-requires : tie.Need-raise-requires Inv-loop μ-loop
 raise-requires c κs =
     let t = c .before .before .before in
     let l = t .before .before in
-    let s = l .before .before .before in
-    (tabled-fewer (l .loop .c + 1) (s .pre .1) (omega (arith, t .if1 .taken)), l .loop .inv .1, omega (arith, t .if1 .taken, s .pre .0))
+    let s = l .before .before .before in (
+      tabled-fewer (l .loop .c + 1) (s .pre .1) (omega (arith, t .if1 .taken)),
+      l .loop .inv .1,
+      omega (arith, t .if1 .taken, s .pre .0),
+    )
 
 loop-again : tie.Need-loop-again Inv-loop μ-loop
 loop-again c =
@@ -40,7 +43,8 @@ loop-again c =
       omega (arith, r),
       c .raise .ensures .0,
       raised-by-next (a .n) (a .masks .now) (a .small .now) (a .sures .now) (a .low .now) (l .loop .c)
-          (y .surely .result) (l .loop .low) (c .raise .last .1 .1 .0) (l .loop .inv .2) (y .surely .ensures) (c .raise .ensures .1),
+          (y .surely .result) (l .loop .low) (c .raise .last .1 .1 .0) (l .loop .inv .2) (y .surely .ensures)
+          (c .raise .ensures .1),
     )
 
 returns : tie.Need-returns Inv-loop μ-loop
@@ -48,7 +52,8 @@ returns c =
     let l = c .before .before in
     let a = l .before .before .before .args in
     let e : l .loop .c ≡ a .n .charts = omega arith in
-    subst (λ z. RaisedBy (a .n) (a .masks .now) (a .small .now) (a .sures .now) z (a .low .now) (l .loop .low)) e (l .loop .inv .2)
+    subst (λ z. RaisedBy (a .n) (a .masks .now) (a .small .now) (a .sures .now) z (a .low .now) (l .loop .low)) e
+    (l .loop .inv .2)
 
 pub raise-sure-spec : {M : Type 1} → statement M
 raise-sure-spec =

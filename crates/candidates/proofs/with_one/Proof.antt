@@ -15,7 +15,8 @@ use Rattle.candidates.proofs.with_one.Statement.{statement}
 use Rattle.candidates.proofs.with_one.Tie as tie
 
 module _ (t : Transition) (q x u : ℕ) (e : x ≡ t .from) (p : Puts) where
-  from-here : x ≡ q → (r : Transition) → r ≡ narrow u t → record { may = p .may ∪ r .action; sure = p .sure ∩ r .action; count = p .count + 1 }
+  from-here : x ≡ q → (r : Transition) → r ≡ narrow u t
+      → record { may = p .may ∪ r .action; sure = p .sure ∩ r .action; count = p .count + 1 }
       ≡ withOne (same (t .from) q) (t .action ∩ u) p
   from-here h r i = rw (← e, h, same-refl q, i)
 
@@ -26,10 +27,12 @@ returns : tie.Need-returns
 returns c =
     let r = c .before .before .before .before .before in
     let a = r .before .before .before .before .args in
-    from-here (transitionAt (a .n) (now (a .body)) (a .t)) (a .state) _ (a .read) (r .before .before .from-at .ensures) (a .p) (r .before .if1 .taken) _ (r .read-at .ensures)
+    from-here (transitionAt (a .n) (now (a .body)) (a .t)) (a .state) _ (a .read) (r .before .before .from-at .ensures)
+    (a .p) (r .before .if1 .taken) _ (r .read-at .ensures)
 
 returns-2 : tie.Need-returns-2
-returns-2 c = let a = c .before .before .before .args in from-elsewhere (transitionAt (a .n) (now (a .body)) (a .t)) (a .state) _ (a .read) (c .before .from-at .ensures) _ (c .if1 .left)
+returns-2 c = let a = c .before .before .before .args in from-elsewhere (transitionAt (a .n) (now (a .body)) (a .t))
+    (a .state) _ (a .read) (c .before .from-at .ensures) _ (c .if1 .left)
 
 pub with-one-spec : {M : Type 1} → statement M
 with-one-spec = tie.close (tie.spec (λ c κs. search needs) (λ c κs. search needs) (λ c. search needs) returns returns-2)

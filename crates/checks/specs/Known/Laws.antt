@@ -1,4 +1,5 @@
--- Laws of a chart's transitions as a walk over charts reads them: they are there, the next chart's begin behind them, and they are the file's.
+-- Laws of a chart's transitions as a walk over charts reads them: they are there, the next chart's begin behind them,
+-- and they are the file's.
 use mathlib.Core.Path.{_≡_, ap}
 use mathlib.Core.List.{List}
 use Prim.Native.Nat.{ℕ, _+_, _≤_, _<_}

@@ -1,5 +1,5 @@
--- Laws of the walks: a table as it is filled (`Table`); of the walk of 7, that its table counts (`Counts`), and that what it asks of a transition is
--- `badAt` (`next?`).
+-- Laws of the walks: a table as it is filled (`Table`); of the walk of 7, that its table counts (`Counts`), and that
+-- what it asks of a transition is `badAt` (`next?`).
 use mathlib.Core.Path.{_≡_, sym, ap, _∙_}
 use mathlib.Core.Bool.{true, false, not, cond}
 use mathlib.Core.List.{List}
@@ -82,14 +82,19 @@ module _ (n : Shape) (b : List ℕ) (c : ℕ) where
       (λ e. ap not e ∙ sym (lt-ltb m (suc x) (omega (arith, ltb-false))))
       (decided (ltb x m))
 
-  pub next-is : (left : List ℕ) (k : ℕ) → Counts n b c left k → headAt n b c .states ≤ mostStates → next? (inChart n b c k) (headAt n b c .states) left ≡ badAt n b c k
+  pub next-is : (left : List ℕ) (k : ℕ) → Counts n b c left k → headAt n b c .states ≤ mostStates
+      → next? (inChart n b c k) (headAt n b c .states) left ≡ badAt n b c k
   unfolding next? badAt ends?
   next-is left k h m =
       ⊎-elim
       (λ (e : ends? n b c k ≡ true). rw e)
       (λ (e : ends? n b c k ≡ false).
       let l = ends-in k e in
-      rw (h .at (inChart n b c k .from) (omega arith), over (leaving n b c (inChart n b c k .from) k) mostFromState, ← leaving-own n b c k))
+      rw (
+        h .at (inChart n b c k .from) (omega arith),
+        over (leaving n b c (inChart n b c k .from) k) mostFromState,
+        ← leaving-own n b c k,
+      ))
       (decided (ends? n b c k))
 
   -- one that is not bad is from a state of the chart

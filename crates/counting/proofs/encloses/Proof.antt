@@ -25,7 +25,8 @@ returns c =
     let l = c .before .before .before .before in
     let a = l .before .before .args in
     let e = c .before .wide .ensures in
-    sym (any-at _ _ (l .loop .d) (c .before .before .before .loop-test .taken) (ap (λ z. same z (a .c)) (sym e ∙ c .if1 .taken) ∙ same-refl (a .c)))
+    sym (any-at _ _ (l .loop .d) (c .before .before .before .loop-test .taken)
+    (ap (λ z. same z (a .c)) (sym e ∙ c .if1 .taken) ∙ same-refl (a .c)))
 
 loop-again : tie.Need-loop-again Inv-loop μ-loop
 loop-again c =

@@ -20,8 +20,13 @@ abbrev μ-loop : tie.MeasureT-loop
 loop-holds : tie.Need-loop-holds Inv-loop μ-loop
 loop-holds c =
     let s = c .before .before .before .before .before in
-    let a = s .args in
-    (omega arith, refl, sym (s .pre .0 .summed), none-stored (a .n) (a .body .now) (a .config .now) (a .counts .now), s .pre .2)
+    let a = s .args in (
+      omega arith,
+      refl,
+      sym (s .pre .0 .summed),
+      none-stored (a .n) (a .body .now) (a .config .now) (a .counts .now),
+      s .pre .2,
+    )
 
 store-requires : tie.Need-store-requires Inv-loop μ-loop
 store-requires c κs =

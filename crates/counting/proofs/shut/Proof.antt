@@ -20,8 +20,12 @@ abbrev μ-loop : tie.MeasureT-loop
 loop-holds : tie.Need-loop-holds Inv-loop μ-loop
 loop-holds c =
     let s = c .before .before .before .before in
-    let a = s .args in
-    (omega arith, ap length (s .pre .3), rw (s .pre .3) (shuts-none (a .charts) (a .config .now) (a .masters .now) (a .states .now) (a .counts .now) (s .pre .2)))
+    let a = s .args in (
+      omega arith,
+      ap length (s .pre .3),
+      rw (s .pre .3)
+          (shuts-none (a .charts) (a .config .now) (a .masters .now) (a .states .now) (a .counts .now) (s .pre .2)),
+    )
 
 shut-one-requires : tie.Need-shut-one-requires Inv-loop μ-loop
 shut-one-requires c κs =

@@ -22,7 +22,8 @@ returns-2 c =
     let s = e .before .before .before .before .before .before in
     let a = s .args in (
       s .pre .3,
-      shut-outside (a .charts) (a .config .now) (a .masters .now) (a .states .now) (a .counts .now) (a .shut .now) (a .d)
+      shut-outside (a .charts) (a .config .now) (a .masters .now) (a .states .now) (a .counts .now)
+          (a .shut .now) (a .d)
           (omega (arith, c .if2 .taken, c .before .wide .ensures)),
     )
 
@@ -35,7 +36,8 @@ returns-3 c =
     let a = s .args in (
       simp length-set (s .pre .3),
       rw (w .wide .ensures)
-          (shut-more (a .charts) (a .config .now) (a .masters .now) (a .states .now) (a .counts .now) (a .shut .now) (a .d)
+          (shut-more (a .charts) (a .config .now) (a .masters .now) (a .states .now) (a .counts .now)
+          (a .shut .now) (a .d)
           (c .shut-by .result) (e .if1 .left) (omega (arith, i .if2 .left, w .wide .ensures, s .pre .2, s .pre .3))
           (rw (w .wide .ensures) at (c .shut-by .ensures))),
     )

@@ -45,7 +45,8 @@ use Rattle.wiring.specs.Few.{few-from, movesFrom, mostMoves, moves-few, file-st
 use Rattle.nesting.specs.Nearest.{masterBy, stateBy}
 use Rattle.counting.specs.Counting.{mostCount, at, Countable, factorIn, branchIn, Small, stayingIn, addedIn}
 use Rattle.counting.specs.Counting.{sumIn, leavingIn, enclosesIn, Smalls}
-use Rattle.counting.specs.Counting.{totalIn, outsideIn, TotalSmall, CountsOn, begins, ShutTo, shutBy, Shuts, ShutOne}
+use Rattle.counting.specs.Counting.{totalIn, outsideIn, TotalSmall, CountsOn, begins, ShutTo, shutBy, Shuts}
+use Rattle.counting.specs.Counting.{ShutOne}
 
 -- ── a factor ──
 
@@ -162,7 +163,8 @@ module _ (n : Shape) (b m s t : List ℕ) (c q : ℕ) where
         ap₂ _+_ (ey ∙ tally-cong count _ adds (λ j l.
         let u = transitionAt n b (start + j) in
         one-added (same (u .from) q) _ (branch-one (u .to))
-        ∙ sym (added-is j (omega (arith, ec)) ∙ ap (λ z. addedIn (n .charts) m s t c q (transitionAt n b (z + j))) (sym es)))) ex
+        ∙ sym (added-is j (omega (arith, ec))
+        ∙ ap (λ z. addedIn (n .charts) m s t c q (transitionAt n b (z + j))) (sym es)))) ex
 
   pub sum-done : (count p x : ℕ) → p ≤ count → count ≤ p → x ≡ sumIn n b m s t c q p → x ≡ sumIn n b m s t c q count
   sum-done count p x l k e = let z : p ≡ count = omega arith in e ∙ ap (sumIn n b m s t c q) z
@@ -274,7 +276,8 @@ module _ (n : Shape) (b config m s : List ℕ) (w : Countable n b config m s) wh
   unfolding fileAt
   few = let h = w .sized .charts in omega arith
 
-  rowed : Rowed (fileAt n b .charts) mostCharts (fileAt n b .state) (kap (fileAt n b)) (fileAt n b .master) (at m) (at s)
+  rowed : Rowed (fileAt n b .charts) mostCharts (fileAt n b .state) (kap (fileAt n b)) (fileAt n b .master)
+      (at m) (at s)
   rowed =
       record {
         few = few;
@@ -314,7 +317,8 @@ module _ (n : Shape) (b config m s : List ℕ) (w : Countable n b config m s) wh
     leads-small : (v : ℕ) → Small (n .charts) m s t k (at config k) (after (at config k) (pick (chartOf n b k) v))
     unfolding fileAt
     leads-small v j r =
-        small-power _ (part-fits (fileAt n b .chart) (fileAt n b .state) (at config) (n .charts) mostCharts (kap (fileAt n b))
+        small-power _
+        (part-fits (fileAt n b .chart) (fileAt n b .state) (at config) (n .charts) mostCharts (kap (fileAt n b))
         (fileAt n b .master) (at m) (at s) rowed mostMoves (lit< tt) most k l (at t) h v j r)
 
     -- nothing on the way to chart k's entry is too large

@@ -1,5 +1,6 @@
--- Laws of the lowest chart: it stands in the tree (`has-lowest`); that of a node by the node's kind (`lowest₀` to `lowest₂`); where every slave
--- passes, no chart of a tree is below it (`lowest-below`); 11 by it, where a slave fails (`inside-bad`) and where all pass (`inside-good`).
+-- Laws of the lowest chart: it stands in the tree (`has-lowest`); that of a node by the node's kind (`lowest₀` to
+-- `lowest₂`); where every slave passes, no chart of a tree is below it (`lowest-below`); 11 by it, where a slave fails
+-- (`inside-bad`) and where all pass (`inside-good`).
 use mathlib.Core.Path.{_≡_, refl, ap, _∙_}
 use mathlib.Core.Bool.{Bool, true, false, _&&_, _||_, not, cond, false≢true}
 use Prim.Native.Nat.{ℕ, zero, suc, _≤_, _<_}
@@ -79,7 +80,8 @@ module _ (F : File) (w : Treed F) where
         → HasS (gather (F .master) (λ i. treeOf F (F .node i)) c k) d ≡ true → c ≤ d
     unfolding gather Has
     slaves-above c zero d l ih h = absurd (false≢true h)
-    slaves-above c (suc k) d l ih h = go (same (F .master k) c) refl (slaves-above c k d (omega arith) (λ i m. ih i (omega arith))) h
+    slaves-above c (suc k) d l ih h =
+        go (same (F .master k) c) refl (slaves-above c k d (omega arith) (λ i m. ih i (omega arith))) h
       where
         rest : Slaves
         rest = gather (F .master) (λ i. treeOf F (F .node i)) c k
@@ -88,29 +90,35 @@ module _ (F : File) (w : Treed F) where
             → HasS (cond b (snoc rest k (treeOf F (F .node k))) rest) d ≡ true → c ≤ d
         go true e r g =
             let q = same→≡ (F .master k) c e in
-            or-elim (Has (treeOf F (F .node k)) d) (HasS rest d) (c ≤ d) (λ u. omega (arith, ih k (omega arith) q u, p k (omega arith))) r g
+            or-elim (Has (treeOf F (F .node k)) d) (HasS rest d) (c ≤ d)
+            (λ u. omega (arith, ih k (omega arith) q u, p k (omega arith))) r g
         go false e r g = r g
 
     whole-above : (c : ℕ) (ss : Slaves) (d : ℕ) → (HasS ss d ≡ true → c ≤ d) → Has (whole c ss) d ≡ true → c ≤ d
     unfolding Has
     whole-above c nil d f h = rw (same→≡ d c h) (le-refl c)
-    whole-above c (snoc ss i t) d f h = or-elim (same d c) (HasS (snoc ss i t) d) (c ≤ d) (λ e. rw (same→≡ d c e) (le-refl c)) f h
+    whole-above c (snoc ss i t) d f h =
+        or-elim (same d c) (HasS (snoc ss i t) d) (c ≤ d) (λ e. rw (same→≡ d c e) (le-refl c)) f h
 
     lowest-upTo : (f j d : ℕ) → j < f → j < F .nodes → Has (treeOf F j) d ≡ true → lowest (treeOf F j) ≤ d
     unfolding Has lowest
     lowest-upTo zero j d m l h = absurd (omega arith)
     lowest-upTo (suc f) j d m l h = go (F .kind j) refl (λ i u. lowest-upTo f i d (omega arith) (omega arith))
       where
-        go : (k : ℕ) → F .kind j ≡ k → ((i : ℕ) → i < j → Has (treeOf F i) d ≡ true → lowest (treeOf F i) ≤ d) → lowest (treeOf F j) ≤ d
+        go : (k : ℕ) → F .kind j ≡ k → ((i : ℕ) → i < j → Has (treeOf F i) d ≡ true → lowest (treeOf F i) ≤ d)
+            → lowest (treeOf F j) ≤ d
         go zero e ih =
             rw (lowest₀ j l e) (whole-above (F .a j) (slavesAt j) d
-            (slaves-above (F .a j) (F .slaves) d (le-refl (F .slaves)) (λ i n q. ih (F .node i) (w .ordered .lower₀ j l e i n q)))
+            (slaves-above (F .a j) (F .slaves) d (le-refl (F .slaves))
+            (λ i n q. ih (F .node i) (w .ordered .lower₀ j l e i n q)))
             (rw (tree₀ F (w .ordered) j l e) at h))
         go (suc zero) e ih =
             let u = w .ordered .lower₁ j l e in
-            rw (lowest₁ j l e) (or-elim (Has (treeOf F (F .a j)) d) (Has (treeOf F (F .b j)) d) (lower (lowest (treeOf F (F .a j))) (lowest (treeOf F (F .b j))) ≤ d)
+            rw (lowest₁ j l e) (or-elim (Has (treeOf F (F .a j)) d) (Has (treeOf F (F .b j)) d)
+            (lower (lowest (treeOf F (F .a j))) (lowest (treeOf F (F .b j))) ≤ d)
             (λ g. lower-left (lowest (treeOf F (F .a j))) (lowest (treeOf F (F .b j))) d (ih (F .a j) (u .0) g))
-            (λ g. lower-right (lowest (treeOf F (F .a j))) (lowest (treeOf F (F .b j))) d (ih (F .b j) (u .1) g)) (rw (tree₁ F (w .ordered) j l e) at h))
+            (λ g. lower-right (lowest (treeOf F (F .a j))) (lowest (treeOf F (F .b j))) d (ih (F .b j) (u .1) g))
+            (rw (tree₁ F (w .ordered) j l e) at h))
         go (suc (suc k)) e ih =
             let e₂ : F .kind j ≡ 2 = (let m = w .ordered .kinds j l in omega arith) in
             rw (lowest₂ j l e₂) (ih (F .a j) (w .ordered .lower₂ j l e₂) (rw (tree₂ F (w .ordered) j l e₂) at h))
@@ -123,7 +131,8 @@ module _ (F : File) (w : Treed F) where
   unfolding inside?
   inside-bad i l e =
       let t = treeOf F (F .node i) in
-      any-at (F .slaves) _ i l (any-at (F .charts) _ (lowest t) (has-below F w (F .node i) (lowest t) (w .node-there i l .0) (has-lowest t)) (and-i (has-lowest t) e))
+      any-at (F .slaves) _ i l (any-at (F .charts) _ (lowest t)
+      (has-below F w (F .node i) (lowest t) (w .node-there i l .0) (has-lowest t)) (and-i (has-lowest t) e))
 
   -- none is bad where all pass
   pub inside-good : anyUpTo (F .slaves) (fails F) ≡ false → inside? F ≡ false
@@ -134,7 +143,9 @@ module _ (F : File) (w : Treed F) where
       passes : (i : ℕ) → i < F .slaves → F .master i < lowest (treeOf F (F .node i))
       passes i l = below (F .master i) (lowest (treeOf F (F .node i))) (any-never (F .slaves) (fails F) h i l)
 
-      go : (i c : ℕ) → i < F .slaves → (b : Bool) → Has (treeOf F (F .node i)) c ≡ b → (b && notBelow (F .master i) c) ≡ false
+      go : (i c : ℕ) → i < F .slaves → (b : Bool) → Has (treeOf F (F .node i)) c ≡ b
+          → (b && notBelow (F .master i) c) ≡ false
       go i c l true e =
-          ap not (lt-ltb (F .master i) c (omega (arith, passes i l, lowest-below passes (F .node i) c (w .node-there i l .0) e)))
+          ap not (lt-ltb (F .master i) c
+          (omega (arith, passes i l, lowest-below passes (F .node i) c (w .node-there i l .0) e)))
       go i c l false e = refl

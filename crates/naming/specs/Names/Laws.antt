@@ -1,6 +1,6 @@
--- Laws of the walk of 10: what one more slave or node adds to a count, and how large it can grow (`namedBy`, `heldBy`); the node that holds a chart
--- which is held once (`holderIn`); that a byte holds each count, and one more node in the tables (`Walked`); that 10 may be asked of the tables
--- (`naming?`).
+-- Laws of the walk of 10: what one more slave or node adds to a count, and how large it can grow (`namedBy`, `heldBy`);
+-- the node that holds a chart which is held once (`holderIn`); that a byte holds each count, and one more node in the
+-- tables (`Walked`); that 10 may be asked of the tables (`naming?`).
 use mathlib.Core.Path.{_≡_, refl, sym, _∙_}
 use mathlib.Core.Bool.{Bool, true, false, _&&_, _||_, cond, or-false}
 use mathlib.Core.List.{List}
@@ -108,15 +108,21 @@ module _ (F : File) where
     holder-one zero h = absurd (omega arith)
     holder-one (suc k) h = go (holds F k c) h (holder-one k)
       where
-        go : (b : Bool) → one b + heldBy F k c ≡ 1 → (heldBy F k c ≡ 1 → anyUpTo k (λ j. holds F j c && q j) ≡ q (holderIn F k c))
+        go : (b : Bool) → one b + heldBy F k c ≡ 1
+            → (heldBy F k c ≡ 1 → anyUpTo k (λ j. holds F j c && q j) ≡ q (holderIn F k c))
             → (anyUpTo k (λ j. holds F j c && q j) || (b && q k)) ≡ q (cond b k (holderIn F k c))
         go true h r = rw (holder-no k (omega arith))
         go false h r = rw (r (omega arith)) (or-false (q (holderIn F k c)))
 
   -- ── Walked ──
 
-  pub walked-none : (ns : List ℕ) → Table mostNodes (namedBy F (F .slaves) 0) ns → Walked F 0 ns (replicate mostCharts 0) (replicate mostCharts 0)
-  walked-none ns h = record { named-is = h; held-is = table-none mostCharts _ held-none; holder-is = table-none mostCharts _ holder-none }
+  pub walked-none : (ns : List ℕ) → Table mostNodes (namedBy F (F .slaves) 0) ns
+      → Walked F 0 ns (replicate mostCharts 0) (replicate mostCharts 0)
+  walked-none ns h = record {
+    named-is = h;
+    held-is = table-none mostCharts _ held-none;
+    holder-is = table-none mostCharts _ holder-none;
+  }
 
   holds₀ : (k c : ℕ) → F .kind k ≡ 0 → holds F k c ≡ same (F .a k) c
   unfolding same
@@ -134,7 +140,8 @@ module _ (F : File) where
     walked-named j l = rw (w .named-is .at j l) (named-most (F .slaves) k j)
 
     -- and with the first name of node k
-    first-named : (i : ℕ) → i < mostNodes → Table mostNodes (λ j. one (same i j) + namedBy F (F .slaves) k j) (oneMore ns i)
+    first-named : (i : ℕ) → i < mostNodes
+        → Table mostNodes (λ j. one (same i j) + namedBy F (F .slaves) k j) (oneMore ns i)
     first-named i l = table-more _ _ _ ns i (w .named-is) l (λ j. refl)
 
     pub walked-first : (i j : ℕ) → i < mostNodes → j < mostNodes → getD (oneMore ns i) j 0 ≤ F .slaves + 2 * k + 1
@@ -144,7 +151,8 @@ module _ (F : File) where
     pub walked₀ : F .kind k ≡ 0 → F .a k < mostCharts → Walked F (k + 1) ns (oneMore hs (F .a k)) (set os (F .a k) k)
     walked₀ e l =
         record {
-          named-is = table-same _ _ _ ns (w .named-is) (λ j. named-node (F .slaves) k j ∙ rw (names₀ k j e) (omega arith));
+          named-is =
+              table-same _ _ _ ns (w .named-is) (λ j. named-node (F .slaves) k j ∙ rw (names₀ k j e) (omega arith));
           held-is = table-more _ _ _ hs _ (w .held-is) l (λ c. held-node k c ∙ rw (holds₀ k c e));
           holder-is = table-set _ _ _ os _ (w .holder-is) l k (λ c. holder-node k c ∙ rw (holds₀ k c e));
         }
@@ -159,7 +167,8 @@ module _ (F : File) where
             holder-is = table-same _ _ _ os (w .holder-is) (λ c. holder-node k c ∙ rw (holds-not k c e));
           }
 
-    pub walked₁ : F .kind k ≡ 1 → F .a k < mostNodes → F .b k < mostNodes → Walked F (k + 1) (oneMore (oneMore ns (F .a k)) (F .b k)) hs os
+    pub walked₁ : F .kind k ≡ 1 → F .a k < mostNodes → F .b k < mostNodes
+        → Walked F (k + 1) (oneMore (oneMore ns (F .a k)) (F .b k)) hs os
     walked₁ e l m =
         walked-not (λ z. omega arith) _
         (table-more _ _ _ _ (F .b k) (first-named (F .a k) l) m
@@ -172,19 +181,22 @@ module _ (F : File) where
 
   -- ── naming? ──
 
-  module _ (ns hs os : List ℕ) (w : Walked F (F .nodes) ns hs os) (most : (F .charts ≤ mostCharts) × (F .nodes ≤ mostNodes)) where
+  module _ (ns hs os : List ℕ) (w : Walked F (F .nodes) ns hs os)
+      (most : (F .charts ≤ mostCharts) × (F .nodes ≤ mostNodes)) where
     held-asked : heldAmiss (F .charts) hs ≡ anyUpTo (F .charts) (λ c. differ (held F c) 1)
     unfolding held heldBy
     held-asked = any-cong (F .charts) _ _ (λ c l. rw (w .held-is .at c (omega arith)))
 
-    named-asked : namedAmiss (F .nodes) ns ≡ anyUpTo (F .nodes) (λ j. differ (named F j) (cond (same (suc j) (F .nodes)) 0 1))
+    named-asked : namedAmiss (F .nodes) ns
+        ≡ anyUpTo (F .nodes) (λ j. differ (named F j) (cond (same (suc j) (F .nodes)) 0 1))
     unfolding named namedBy
     named-asked = any-cong (F .nodes) _ _ (λ j l. rw (w .named-is .at j (omega arith)))
 
     module _ (h : slaves? F ≡ false) where
       -- where each chart is held once
       masters-asked : anyUpTo (F .charts) (λ c. differ (held F c) 1) ≡ false
-          → mastersAmiss F os ≡ anyUpTo (F .slaves) (λ i. anyUpTo (F .nodes) (λ j. holds F j (F .master i) && notBelow (F .node i) j))
+          → mastersAmiss F os
+          ≡ anyUpTo (F .slaves) (λ i. anyUpTo (F .nodes) (λ j. holds F j (F .master i) && notBelow (F .node i) j))
       unfolding held heldBy
       masters-asked once =
           any-cong (F .slaves) _ _
@@ -199,5 +211,6 @@ module _ (F : File) where
       naming-asked =
           ⊎-elim
           (λ (a : heldAmiss (F .charts) hs ≡ true). rw (← held-asked, a))
-          (λ (a : heldAmiss (F .charts) hs ≡ false). rw (← held-asked, ← named-asked, ← masters-asked (sym held-asked ∙ a)))
+          (λ (a : heldAmiss (F .charts) hs ≡ false).
+          rw (← held-asked, ← named-asked, ← masters-asked (sym held-asked ∙ a)))
           (decided (heldAmiss (F .charts) hs))

@@ -28,11 +28,16 @@ hand-requires c κs =
 
 loop-again : tie.Need-loop-again Inv-loop μ-loop
 loop-again c =
-    let v = c .before .before .before .before .before .loop .inv in
-    (omega arith, c .before .before .hand .kept .1 .1 .1 .0 ∙ v .1, walked-more _ (c .before .before .before .before .before .before .before .before .pre .0 .sound) (c .before .before .before .before .loop-test .taken) (v .2) (c .before .before .hand .ensures))
+    let v = c .before .before .before .before .before .loop .inv in (
+      omega arith,
+      c .before .before .hand .kept .1 .1 .1 .0 ∙ v .1,
+      walked-more _ (c .before .before .before .before .before .before .before .before .pre .0 .sound)
+          (c .before .before .before .before .loop-test .taken) (v .2) (c .before .before .hand .ensures),
+    )
 
 returns : tie.Need-returns Inv-loop μ-loop
-returns c = let e : c .before .loop .j ≡ 0 = omega arith in walked-done _ (c .before .before .before .before .pre .0 .sound) (rw e at (c .before .loop .inv .2))
+returns c = let e : c .before .loop .j ≡ 0 = omega arith in
+    walked-done _ (c .before .before .before .before .pre .0 .sound) (rw e at (c .before .loop .inv .2))
 
 pub hand-down-spec : {M : Type 1} → statement M
 hand-down-spec =

@@ -27,7 +27,13 @@ slice-write-near : tie.Need-slice-write-near Inv-loop μ-loop
 unfolding fileAt
 slice-write-near c =
     let p = c .before .before .before .before .before .before .before .pre in
-    omega (arith, p .0 .sized .nodes, p .1, p .0 .sound .node-there (c .before .before .before .before .loop .i) (c .before .before .if1 .taken) .0, is-slave _ _ (c .before .before .before .before .loop .i) (c .before .slave-at .ensures) .node)
+    omega (
+      arith,
+      p .0 .sized .nodes,
+      p .1,
+      p .0 .sound .node-there (c .before .before .before .before .loop .i) (c .before .before .if1 .taken) .0,
+      is-slave _ _ (c .before .before .before .before .loop .i) (c .before .slave-at .ensures) .node,
+    )
 
 loop-again : tie.Need-loop-again Inv-loop μ-loop
 unfolding fileAt
@@ -36,11 +42,14 @@ loop-again c =
     let v = c .before .before .before .before .loop .inv in (
       omega arith,
       simp length-set (v .1),
-      seeds-more _ (p .0 .sound) (is-slave _ _ _ (c .before .slave-at .ensures)) (c .before .before .if1 .taken) (omega (arith, p .0 .sized .nodes, p .1)) (v .2),
+      seeds-more _ (p .0 .sound) (is-slave _ _ _ (c .before .slave-at .ensures)) (c .before .before .if1 .taken)
+          (omega (arith, p .0 .sized .nodes, p .1)) (v .2),
     )
 
 returns : tie.Need-returns Inv-loop μ-loop
-returns c = let e : c .before .before .loop .i ≡ c .before .before .before .before .before .args .n .slaves = omega arith in rw e at (c .before .before .loop .inv .2)
+returns c =
+    let e : c .before .before .loop .i ≡ c .before .before .before .before .before .args .n .slaves = omega arith in
+    rw e at (c .before .before .loop .inv .2)
 
 pub seed-spec : {M : Type 1} → statement M
 seed-spec =

@@ -1,4 +1,5 @@
--- `opened` meets its contract: 1, then 2 to 4 of the trailer, then 5 to 11 of the body that the trailer tells. Assumes nothing.
+-- `opened` meets its contract: 1, then 2 to 4 of the trailer, then 5 to 11 of the body that the trailer tells. Assumes
+-- nothing.
 use mathlib.Core.Path.{_≡_, sym, _∙_}
 use native.Mathlib.Omega.{arith}
 use borrow.Author.Needs.{needs}
@@ -52,7 +53,8 @@ returns-3 : tie.Need-returns-3
 returns-3 c =
     let e = c .before .before .before .before in
     let t = e .before .before in
-    opens _ _ (is t) (t .before .if1 .left) (past e) _ (c .before .before .before .shape .ensures) _ (c .refusal2 .ensures)
+    opens _ _ (is t) (t .before .if1 .left) (past e) _ (c .before .before .before .shape .ensures) _
+    (c .refusal2 .ensures)
 
 pub opened-spec : {M : Type 1} → statement M
 opened-spec =

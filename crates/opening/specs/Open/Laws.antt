@@ -14,7 +14,8 @@ use Rattle.meaning.specs.Numbers.{tooShort}
 use Rattle.meaning.specs.Count.Laws.{or-left, or-right}
 use Rattle.meaning.specs.File.{endOf, trailer, bodyOf, shapeOf}
 use Rattle.meaning.specs.Check.{firstOf, differ, distance?, bodyTests, fileTests, refusalOf}
-use Rattle.meaning.specs.Check.Laws.{alike, firstOf-here, firstOf-next, Passes, firstOf-passes, firstOf-++, firstOf-before, passed, counted, summed}
+use Rattle.meaning.specs.Check.Laws.{alike, firstOf-here, firstOf-next, Passes, firstOf-passes, firstOf-++}
+use Rattle.meaning.specs.Check.Laws.{firstOf-before, passed, counted, summed}
 use Rattle.checks.specs.Known.{Sized}
 use Rattle.checks.specs.Trailer.{trailerTests}
 use Rattle.opening.specs.Open.{zeroTest, Opens}
@@ -27,7 +28,8 @@ refused-short f h = firstOf-here _ _ (lt-ltb (length f) 12 h)
 
 -- the trailer is read, and its tests come next
 module _ (f : List ℕ) (t : Trailer) (is : t ≡ trailer f) (long : 12 ≤ length f) where
-  tests : refusalOf f ≡ firstOf (trailerTests t (endOf f) ++ (zeroTest f (endOf f) (shapeOf t) (bodyOf f) ∷ bodyTests (shapeOf t) (bodyOf f)))
+  tests : refusalOf f ≡ firstOf (trailerTests t (endOf f)
+      ++ (zeroTest f (endOf f) (shapeOf t) (bodyOf f) ∷ bodyTests (shapeOf t) (bodyOf f)))
   unfolding refusalOf fileTests distance?
   tests = firstOf-next _ _ (le-ltb (length f) 12 long) ∙ rw is
 
@@ -38,13 +40,15 @@ module _ (f : List ℕ) (t : Trailer) (is : t ≡ trailer f) (long : 12 ≤ leng
     passes : Passes (trailerTests t (endOf f))
     passes = firstOf-passes (trailerTests t (endOf f)) (lit< tt, (lit< tt, (lit< tt, tt))) h
 
-    pub refused-rest : refusalOf f ≡ firstOf (zeroTest f (endOf f) (shapeOf t) (bodyOf f) ∷ bodyTests (shapeOf t) (bodyOf f))
+    pub refused-rest : refusalOf f
+        ≡ firstOf (zeroTest f (endOf f) (shapeOf t) (bodyOf f) ∷ bodyTests (shapeOf t) (bodyOf f))
     refused-rest = tests ∙ firstOf-++ (trailerTests t (endOf f)) _ passes
 
     -- ── the body ──
 
     pub within : t .distance ≤ endOf f
-    within = ltb-false (endOf f) (t .distance) (or-right (differ (t .distance) (sizeOf (shapeOf t))) _ (passes .1 .1 .0))
+    within =
+        ltb-false (endOf f) (t .distance) (or-right (differ (t .distance) (sizeOf (shapeOf t))) _ (passes .1 .1 .0))
 
     distance-is : t .distance ≡ sizeOf (shapeOf t)
     distance-is = alike _ _ (or-left (differ (t .distance) (sizeOf (shapeOf t))) _ (passes .1 .1 .0))
@@ -57,7 +61,8 @@ module _ (f : List ℕ) (t : Trailer) (is : t ≡ trailer f) (long : 12 ≤ leng
 
     body-length : length (bodyOf f) ≡ t .distance
     unfolding bodyOf
-    body-length = let l = within in rw (← is) (length-take-le (t .distance) (drop (endOf f - t .distance) f) (rw length-drop (omega arith)))
+    body-length = let l = within in
+        rw (← is) (length-take-le (t .distance) (drop (endOf f - t .distance) f) (rw length-drop (omega arith)))
 
     pub sized : Sized (shapeOf t) (bodyOf f)
     unfolding shapeOf
@@ -85,7 +90,8 @@ module _ (f : List ℕ) (t : Trailer) (is : t ≡ trailer f) (long : 12 ≤ leng
           → Opens f record { refusal = r; shape = n; start = endOf f - t .distance; end = endOf f }
       opens r q =
           let k : r ≡ refusalOf f =
-          q ∙ ap₂ (λ (m : Shape) (b : List ℕ). firstOf (zeroTest f (endOf f) m b ∷ bodyTests m b)) e body-is ∙ sym refused-rest in
+          q ∙ ap₂ (λ (m : Shape) (b : List ℕ). firstOf (zeroTest f (endOf f) m b ∷ bodyTests m b)) e body-is
+          ∙ sym refused-rest in
           let w : n ≡ shapeOf (trailer f) = e ∙ ap shapeOf is in
           record {
             refusal = k;

@@ -16,7 +16,8 @@ use Rattle.parts.proofs.table.Statement.{statement}
 use Rattle.parts.proofs.table.Tie as tie
 
 -- a table that is right below j gets the value of node j
-module _ (F : File) (w : Ordered F) (own : List ℕ) (off : Off) (t : List ℕ) (j v : ℕ) (f : Filled F own off t j) (l : j < F .nodes) (m : j < length t)
+module _ (F : File) (w : Ordered F) (own : List ℕ) (off : Off) (t : List ℕ) (j v : ℕ) (f : Filled F own off t j)
+    (l : j < F .nodes) (m : j < length t)
     (e : v ≡ valueAt F own off t j) where
   right : v ≡ fold (λ c. getD own c 0) (offOf off) (treeOf F j)
   unfolding valueAt
@@ -40,7 +41,8 @@ loop-again c =
     let b = c .before .before .before .before in (
       omega arith,
       simp length-set (b .loop .inv .1),
-      stored _ (b .before .before .pre .1 .ordered) _ _ _ _ _ (b .loop .inv .2) (c .before .before .if1 .taken) (omega arith) (c .value .ensures),
+      stored _ (b .before .before .pre .1 .ordered) _ _ _ _ _ (b .loop .inv .2) (c .before .before .if1 .taken)
+          (omega arith) (c .value .ensures),
     )
 
 returns : tie.Need-returns Inv-loop μ-loop

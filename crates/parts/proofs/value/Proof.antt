@@ -26,7 +26,8 @@ last-kind (suc (suc k)) p q r f g = refl
 -- r is node j
 module _ (n : Shape) (b : List ℕ) (j : ℕ) (r : Node) (e : r ≡ nodeAt n b j) where
   module _ (own : List ℕ) (off : Off) (t : List ℕ) where
-    value₀ : r .kind ≡ 0 → withSlaves (fileAt n b) t (r .a) (getD own (r .a) 0) (n .slaves) ≡ valueAt (fileAt n b) own off t j
+    value₀ : r .kind ≡ 0
+        → withSlaves (fileAt n b) t (r .a) (getD own (r .a) 0) (n .slaves) ≡ valueAt (fileAt n b) own off t j
     unfolding withSlaves valueAt valueOf fileAt
     value₀ h = rw (kind-is n b j r e 0 h, e)
 
@@ -34,7 +35,8 @@ module _ (n : Shape) (b : List ℕ) (j : ℕ) (r : Node) (e : r ≡ nodeAt n b j
     unfolding valueAt valueOf fileAt
     value₁ h = rw (kind-is n b j r e 1 h, e)
 
-    value₂ : (r .kind ≡ 0 → ⊥) → (r .kind ≡ 1 → ⊥) → getD t (r .a) 0 ∖ offOf off (r .x) (r .y) ≡ valueAt (fileAt n b) own off t j
+    value₂ : (r .kind ≡ 0 → ⊥) → (r .kind ≡ 1 → ⊥)
+        → getD t (r .a) 0 ∖ offOf off (r .x) (r .y) ≡ valueAt (fileAt n b) own off t j
     unfolding valueAt valueOf fileAt
     value₂ f g = rw (← e) (last-kind (r .kind) _ _ _ f g)
 
@@ -68,13 +70,15 @@ returns c =
     c .with-slaves .ensures ∙ value₀ _ _ _ _ (m .before .before .before .node-at .ensures) _ _ _ (m .match .keys1)
 
 returns-2 : tie.Need-returns-2
-returns-2 c = let m = c .before .before in value₁ _ _ _ _ (m .before .before .before .node-at .ensures) _ _ _ (m .match .keys2)
+returns-2 c = let m = c .before .before in
+    value₁ _ _ _ _ (m .before .before .before .node-at .ensures) _ _ _ (m .match .keys2)
 
 returns-3 : tie.Need-returns-3
 returns-3 c =
     let m = c .before .before .before in
     c .less .ensures
-    ∙ ap (λ (v : Set). getD (m .before .before .before .before .before .args .table .now) (m .before .before .before .node-at .result .a) 0 ∖ v)
+    ∙ ap (λ (v : Set). getD (m .before .before .before .before .before .args .table .now)
+    (m .before .before .before .node-at .result .a) 0 ∖ v)
     (c .before .taken .ensures)
     ∙ value₂ _ _ _ _ (m .before .before .before .node-at .ensures) _ _ _ (m .match .rest .0 .1) (m .match .rest .1)
 

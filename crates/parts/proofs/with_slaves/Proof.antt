@@ -1,4 +1,5 @@
--- `parts::with_slaves` meets its contract. The loop's invariant: what the slaves passed have is joined. Assumes nothing.
+-- `parts::with_slaves` meets its contract. The loop's invariant: what the slaves passed have is joined. Assumes
+-- nothing.
 use mathlib.Core.Path.{_≡_, sym, ap, ap₂, _∙_}
 use mathlib.Core.List.{List}
 use mathlib.Core.Logic.{⊎-elim}
@@ -34,11 +35,13 @@ module _ (n : Shape) (b : List ℕ) (i : ℕ) (s : Slave) (e : s ≡ slaveAt n b
     unfolding withSlaves fileAt
     taken g =
         ap₂ _∪_ h (ap (λ (s : Slave). getD t (s .node) 0) e)
-        ∙ join-more (fileAt n b .master) (λ i. getD t (fileAt n b .node i) 0) c own i (sym (ap (λ (s : Slave). s .chart) e) ∙ g)
+        ∙ join-more (fileAt n b .master)
+        (λ i. getD t (fileAt n b .node i) 0) c own i (sym (ap (λ (s : Slave). s .chart) e) ∙ g)
 
     left : (s .chart ≡ c → ⊥) → all ≡ withSlaves (fileAt n b) t c own (i + 1)
     unfolding withSlaves fileAt
-    left g = h ∙ join-other (fileAt n b .master) (λ i. getD t (fileAt n b .node i) 0) c own i (λ p. g (ap (λ (s : Slave). s .chart) e ∙ p))
+    left g = h ∙ join-other (fileAt n b .master) (λ i. getD t (fileAt n b .node i) 0) c own i
+        (λ p. g (ap (λ (s : Slave). s .chart) e ∙ p))
 
 element-copy-out-all : tie.Need-element-copy-out-all Inv-loop μ-loop
 element-copy-out-all c =
@@ -51,7 +54,8 @@ loop-again c =
     let s = c .before .before .before in
     let h = s .before .before .before .loop .inv .1 in (
       omega arith,
-      ⊎-elim (λ w. w .2 ∙ taken _ _ _ _ (s .slave-at .ensures) _ _ _ _ h (w .0 .taken)) (λ w. w .1 ∙ left _ _ _ _ (s .slave-at .ensures) _ _ _ _ h (w .0 .left))
+      ⊎-elim (λ w. w .2 ∙ taken _ _ _ _ (s .slave-at .ensures) _ _ _ _ h (w .0 .taken))
+          (λ w. w .1 ∙ left _ _ _ _ (s .slave-at .ensures) _ _ _ _ h (w .0 .left))
           (c .if2 .came),
     )
 

@@ -27,11 +27,19 @@ loop-holds c = (search needs, refl, refl, λ d l. absurd (omega arith))
 asked-of-requires : tie.Need-asked-of-requires Inv-loop μ-loop
 asked-of-requires c κs =
     let s = c .before .before .before .before .before .before .before .before in
-    let l = c .before .before .before .before .before .loop in
-    (s .pre .sized .holds, in-all (s .args .n) (s .args .body .now) (l .c) (l .start) (c .before .before .head-at .ensures) (l .inv .1) (s .pre .summed) (c .before .before .before .if1 .taken))
+    let l = c .before .before .before .before .before .loop in (
+      s .pre .sized .holds,
+      in-all (s .args .n) (s .args .body .now) (l .c) (l .start) (c .before .before .head-at .ensures) (l .inv .1)
+          (s .pre .summed) (c .before .before .before .if1 .taken),
+    )
 
 array-write-asks : tie.Need-array-write-asks Inv-loop μ-loop
-array-write-asks c = omega (arith, c .before .before .before .before .before .before .loop .inv .2, c .before .before .before .before .if1 .taken, c .before .before .before .before .before .before .before .before .before .pre .sized .charts)
+array-write-asks c = omega (
+  arith,
+  c .before .before .before .before .before .before .loop .inv .2,
+  c .before .before .before .before .if1 .taken,
+  c .before .before .before .before .before .before .before .before .before .pre .sized .charts,
+)
 
 add-start : tie.Need-add-start Inv-loop μ-loop
 add-start c =
@@ -40,7 +48,8 @@ add-start c =
     omega (
       arith,
       s .pre .sized .transitions,
-      in-all (s .args .n) (s .args .body .now) (l .c) (l .start) (c .before .before .before .head-at .ensures) (l .inv .1) (s .pre .summed) (c .before .before .before .before .if1 .taken),
+      in-all (s .args .n) (s .args .body .now) (l .c) (l .start) (c .before .before .before .head-at .ensures)
+          (l .inv .1) (s .pre .summed) (c .before .before .before .before .if1 .taken),
     )
 
 loop-again : tie.Need-loop-again Inv-loop μ-loop
@@ -52,7 +61,8 @@ loop-again c =
       omega (arith, r),
       start-next (s .args .n) (s .args .body .now) (l .c) (l .start) h (l .inv .1),
       length-set (l .asks) (l .c) (c .asked-of .result) ∙ l .inv .2,
-      asks-next (s .args .n) (s .args .body .now) (s .args .config .now) (l .c) (l .asks) _ (l .start) _ (l .inv .3) (omega (arith, r, s .pre .sized .charts, l .inv .2)) (l .inv .1) h (c .asked-of .ensures),
+      asks-next (s .args .n) (s .args .body .now) (s .args .config .now) (l .c) (l .asks) _ (l .start) _ (l .inv .3)
+          (omega (arith, r, s .pre .sized .charts, l .inv .2)) (l .inv .1) h (c .asked-of .ensures),
     )
 
 returns : tie.Need-returns Inv-loop μ-loop
@@ -71,12 +81,20 @@ asked-all-spec =
     loop-holds
     (λ c κs. (c .before .before .before .before .before .pre .sized .holds, c .if1 .taken))
     (λ c. search needs)
-    (λ c. omega (arith, c .before .before .before .if1 .taken, c .before .before .before .before .before .before .before .before .pre .configured))
+    (λ c. omega (
+      arith,
+      c .before .before .before .if1 .taken,
+      c .before .before .before .before .before .before .before .before .pre .configured,
+    ))
     asked-of-requires
     (λ c. search needs)
     array-write-asks
     add-start
-    (λ c. omega (arith, c .before .before .before .before .if1 .taken, c .before .before .before .before .before .before .before .before .before .pre .sized .charts))
+    (λ c. omega (
+      arith,
+      c .before .before .before .before .if1 .taken,
+      c .before .before .before .before .before .before .before .before .before .pre .sized .charts,
+    ))
     (λ c. omega (arith, c .before .before .before .before .if1 .taken))
     loop-again
     returns)

@@ -17,7 +17,11 @@ loop-holds : tie.Need-loop-holds Inv-loop μ-loop
 loop-holds c = (search needs, asks-none _ _ _ _)
 
 loop-again : tie.Need-loop-again Inv-loop μ-loop
-loop-again c = (omega arith, asks-more _ _ _ _ _ (c .before .before .loop .u) _ (c .before .before .loop .inv .1) (omega arith) (c .asked-with .ensures))
+loop-again c = (
+  omega arith,
+  asks-more _ _ _ _ _ (c .before .before .loop .u) _ (c .before .before .loop .inv .1) (omega arith)
+      (c .asked-with .ensures),
+)
 
 returns : tie.Need-returns Inv-loop μ-loop
 returns c = asks-done _ _ _ _ _ _ (c .before .loop .inv .1) (omega arith)

@@ -25,8 +25,10 @@ loop-holds c = (search needs, refl)
 loop-again : tie.Need-loop-again Inv-loop μ-loop
 loop-again c =
     let l = c .before .before .before .loop in
-    let a = c .before .before .before .before .before .args in
-    (omega arith, ap (λ (x : ℕ). l .u ∪ x ∩ getD (a .asks .now) (l .c) 0) (c .before .back .ensures) ∙ join-more _ _ _ (l .inv .1))
+    let a = c .before .before .before .before .before .args in (
+      omega arith,
+      ap (λ (x : ℕ). l .u ∪ x ∩ getD (a .asks .now) (l .c) 0) (c .before .back .ensures) ∙ join-more _ _ _ (l .inv .1),
+    )
 
 returns : tie.Need-returns Inv-loop μ-loop
 unfolding readAt

@@ -21,10 +21,16 @@ loop-holds : tie.Need-loop-holds Inv-loop μ-loop
 loop-holds c = (search needs, refl, λ d l. absurd (omega arith))
 
 read-of-requires : tie.Need-read-of-requires Inv-loop μ-loop
-read-of-requires c κs = let s = c .before .before .before .before .before .before .before .before in (s .pre .1, s .pre .0 .sized .charts, c .before .if1 .taken)
+read-of-requires c κs = let s = c .before .before .before .before .before .before .before .before in
+    (s .pre .1, s .pre .0 .sized .charts, c .before .if1 .taken)
 
 array-write-reads : tie.Need-array-write-reads Inv-loop μ-loop
-array-write-reads c = omega (arith, c .before .before .before .before .loop .inv .1, c .before .before .if1 .taken, c .before .before .before .before .before .before .before .before .before .pre .0 .sized .charts)
+array-write-reads c = omega (
+  arith,
+  c .before .before .before .before .loop .inv .1,
+  c .before .before .if1 .taken,
+  c .before .before .before .before .before .before .before .before .before .pre .0 .sized .charts,
+)
 
 loop-again : tie.Need-loop-again Inv-loop μ-loop
 loop-again c =
@@ -33,7 +39,9 @@ loop-again c =
     let r = c .before .before .if1 .taken in (
       omega (arith, r),
       length-set (l .reads) (l .k) (c .read-of .result) ∙ l .inv .1,
-      read-next (s .args .n) (s .args .body .now) (s .args .config .now) (s .args .masks .now) (c .before .before .before .before .before .asked-all .result) (c .before .before .before .before .before .asked-all .ensures) (l .k) (l .reads) _ (l .inv .2)
+      read-next (s .args .n) (s .args .body .now) (s .args .config .now) (s .args .masks .now)
+          (c .before .before .before .before .before .asked-all .result)
+          (c .before .before .before .before .before .asked-all .ensures) (l .k) (l .reads) _ (l .inv .2)
           (omega (arith, r, s .pre .0 .sized .charts, l .inv .1)) (c .read-of .ensures),
     )
 
@@ -55,7 +63,11 @@ rows-spec =
     read-of-requires
     (λ c. search needs)
     array-write-reads
-    (λ c. omega (arith, c .before .before .if1 .taken, c .before .before .before .before .before .before .before .before .before .pre .0 .sized .charts))
+    (λ c. omega (
+      arith,
+      c .before .before .if1 .taken,
+      c .before .before .before .before .before .before .before .before .before .pre .0 .sized .charts,
+    ))
     (λ c. omega (arith, c .before .before .if1 .taken))
     loop-again
     returns)

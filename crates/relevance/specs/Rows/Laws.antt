@@ -31,7 +31,8 @@ module _ (f : ℕ → Transition) (start count q : ℕ) where
   asks-none =
       let s : start + 0 ≡ start = omega arith in
       let k : count - 0 ≡ count = omega arith in
-      sets (asked (fromOn f (start + 0) (count - 0)) q ∷ asked (fromOn f start count) q ∷ []) (A ≐ B ∷ []) (∅ₑ ∪ₑ A ≐ B) tt
+      sets (asked (fromOn f (start + 0) (count - 0)) q ∷ asked (fromOn f start count) q ∷ []) (A ≐ B ∷ [])
+      (∅ₑ ∪ₑ A ≐ B) tt
       (ap₂ (λ x y. asked (fromOn f x y) q) s k)
 
   pub asks-more : (p : ℕ) (u v : Set) → AsksLeft p u → p < count
@@ -50,7 +51,8 @@ module _ (f : ℕ → Transition) (start count q : ℕ) where
 
       one-more : fromOn f (start + p) (count - p) ≡ f (start + p) ∷ rest
       one-more = ap (fromOn f (start + p)) (let x : count - p ≡ suc (count - (p + 1)) = omega arith in x)
-          ∙ ap (λ k. f (start + p) ∷ fromOn f k (count - (p + 1))) (let x : suc (start + p) ≡ start + (p + 1) = omega arith in x)
+          ∙ ap (λ k. f (start + p) ∷ fromOn f k (count - (p + 1)))
+          (let x : suc (start + p) ≡ start + (p + 1) = omega arith in x)
 
   pub asks-done : (p : ℕ) (u : Set) → AsksLeft p u → count ≤ p → u ≡ asked (fromOn f start count) q
   unfolding asked fromOn

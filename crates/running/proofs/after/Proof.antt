@@ -1,5 +1,5 @@
--- `after` meets its contract: an input less is left; a step given has the next states and carries nothing, and a refused one leaves the
--- states and carries what it was offered. Assumes nothing.
+-- `after` meets its contract: an input less is left; a step given has the next states and carries nothing, and a
+-- refused one leaves the states and carries what it was offered. Assumes nothing.
 use mathlib.Core.Path.{_≡_, refl}
 use mathlib.Core.List.{List}
 use Prim.Native.Nat.{ℕ, _+_, _-_, _<_}
@@ -32,7 +32,8 @@ returns c =
     let s = k .before .before .before .before in
     let a = s .args in (
       fewer (a .left) _ (s .pre) (c .present .ensures .2),
-      λ n. keeps (a .t) (a .states) _ (a .offered) _ n _ (k .before .refusal-of .ensures) (k .if1 .taken) (c .present .ensures .0) (c .present .ensures .1),
+      λ n. keeps (a .t) (a .states) _ (a .offered) _ n _ (k .before .refusal-of .ensures) (k .if1 .taken)
+          (c .present .ensures .0) (c .present .ensures .1),
     )
 
 returns-2 : tie.Need-returns-2
@@ -41,8 +42,10 @@ returns-2 c =
     let s = k .before .before .before .before in
     let a = s .args in (
       fewer (a .left) _ (s .pre) (c .present2 .ensures .2),
-      λ n. gives (a .t) (a .states) _ (a .offered) _ n _ (k .before .refusal-of .ensures) (k .if1 .left) (c .present2 .ensures .0) (c .present2 .ensures .1),
+      λ n. gives (a .t) (a .states) _ (a .offered) _ n _ (k .before .refusal-of .ensures) (k .if1 .left)
+          (c .present2 .ensures .0) (c .present2 .ensures .1),
     )
 
 pub after-spec : {M : Type 1} → statement M
-after-spec = tie.close (tie.spec (λ c. search needs) (λ c κs. search needs) (λ c κs. search needs) returns (λ c κs. search needs) returns-2)
+after-spec = tie.close (tie.spec (λ c. search needs) (λ c κs. search needs) (λ c κs. search needs) returns
+    (λ c κs. search needs) returns-2)

@@ -27,13 +27,15 @@ returns : tie.Need-returns
 returns c =
     let p = c .before .before in
     let k = p .before .before .before .before .before in
-    of-given _ (k .before .before .before .args .t) _ _ _ (k .before .refusal-of .ensures) _ (k .if1 .taken) (p .before .mark .ensures) (p .put-fields .ensures)
+    of-given _ (k .before .before .before .args .t) _ _ _ (k .before .refusal-of .ensures) _ (k .if1 .taken)
+    (p .before .mark .ensures) (p .put-fields .ensures)
 
 returns-2 : tie.Need-returns-2
 returns-2 c =
     let p = c .before .before in
     let k = p .before .before in
-    of-refused _ (k .before .before .before .args .t) _ _ _ (k .before .refusal-of .ensures) (k .if1 .left) (p .put-fields2 .ensures)
+    of-refused _ (k .before .before .before .args .t) _ _ _ (k .before .refusal-of .ensures) (k .if1 .left)
+    (p .put-fields2 .ensures)
 
 pub put-row-spec : {M : Type 1} → statement M
 put-row-spec =

@@ -15,7 +15,8 @@ take-next : (s config : List ℕ) (c : ℕ) → c < length s → c < length conf
 take-next s config c h k e = rw (add-one, take-suc-set s c (getD config c 0) h, take-suc config c 0 k, e)
 
 abbrev Inv-loop : tie.InvT-loop
-Inv-loop config states₀ c₀ states c = (c ≤ length config) × (length states ≡ mostCharts) × (take c states ≡ take c config)
+Inv-loop config states₀ c₀ states c =
+    (c ≤ length config) × (length states ≡ mostCharts) × (take c states ≡ take c config)
 
 abbrev μ-loop : tie.MeasureT-loop
 μ-loop config states₀ c₀ states c = length config - c

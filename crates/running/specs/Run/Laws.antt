@@ -1,5 +1,5 @@
--- Laws of the run, in this order: the call's list behind 1 to 11; 20, 21 and 27; a checked body's transitions lead to states of their charts; a row laid
--- over a part of a buffer; one row more, and the last.
+-- Laws of the run, in this order: the call's list behind 1 to 11; 20, 21 and 27; a checked body's transitions lead to
+-- states of their charts; a row laid over a part of a buffer; one row more, and the last.
 use mathlib.Core.Path.{_≡_, sym, _∙_}
 use mathlib.Core.List.{List, [], _∷_, _++_, append-assoc, append-nil}
 use Prim.Native.Nat.{ℕ, _+_, _*_, _-_, _/_, _≤_, _<_}
@@ -17,7 +17,8 @@ use Rattle.meaning.specs.File.{File, fileAt, fileOf}
 use Rattle.meaning.specs.Check.{Test, firstOf, refusalOf}
 use Rattle.meaning.specs.Check.Laws.{firstOf-++, firstOf-before, firstOf-here, firstOf-next, firstOf-[]}
 use Rattle.meaning.specs.Calls.{laidOver, rowOf, rowsOf, carriedOf, runRefusal, runBytes, runCarried}
-use Rattle.meaning.specs.Laws.Runs.{Leads, body-leads, Valid, Stand, stepFrom, standAfter, rowsFrom, carriedFrom, rows-next, carried-next}
+use Rattle.meaning.specs.Laws.Runs.{Leads, body-leads, Valid, Stand, stepFrom, standAfter, rowsFrom, carriedFrom}
+use Rattle.meaning.specs.Laws.Runs.{rows-next, carried-next}
 use Rattle.stepping.specs.Step.{configTestsIn, Checked}
 use Rattle.stepping.specs.Step.Laws.{behind-refused, behind-passed, config-passes}
 use Rattle.running.specs.Run.{runRefusalAfter, runAfter, carriedRun, BodyRuns}
@@ -38,15 +39,18 @@ module _ (f config : List ℕ) (carried : Set) (inputs : List Set) (rows : List 
   unfolding runCarried same
   none-carried h = rw (run-refused h, ne-eqb (refusalOf f) 0 h)
 
-  pub run-passed : refusalOf f ≡ 0 → runRefusal f config (length inputs) (length rows) ≡ runRefusalAfter (fileOf f) config (length inputs) (length rows)
+  pub run-passed : refusalOf f ≡ 0 → runRefusal f config (length inputs) (length rows)
+      ≡ runRefusalAfter (fileOf f) config (length inputs) (length rows)
   unfolding runRefusal runRefusalAfter
   run-passed h = behind-passed f config _ h
 
-  pub bytes-passed : refusalOf f ≡ 0 → runBytes f config carried inputs rows ≡ runAfter (fileOf f) config carried inputs rows
+  pub bytes-passed : refusalOf f ≡ 0
+      → runBytes f config carried inputs rows ≡ runAfter (fileOf f) config carried inputs rows
   unfolding runBytes runAfter
   bytes-passed h = rw (run-passed h)
 
-  pub carried-passed : refusalOf f ≡ 0 → runCarried f config carried inputs (length rows) ≡ carriedRun (fileOf f) config carried inputs (length rows)
+  pub carried-passed : refusalOf f ≡ 0
+      → runCarried f config carried inputs (length rows) ≡ carriedRun (fileOf f) config carried inputs (length rows)
   unfolding runCarried carriedRun
   carried-passed h = rw (run-passed h)
 
@@ -75,16 +79,19 @@ module _ (F : File) (config : List ℕ) (carried : Set) (inputs : List Set) (row
     unfolding runRefusalAfter
     after-room l =
         refuses shortRows (λ e. omega arith)
-        (firstOf-++ (configTestsIn F config) (rows-test ∷ []) (config-passes F config h) ∙ firstOf-here rows-test [] (lt-ltb (length rows) _ l))
+        (firstOf-++ (configTestsIn F config) (rows-test ∷ []) (config-passes F config h)
+        ∙ firstOf-here rows-test [] (lt-ltb (length rows) _ l))
 
     module _ (l : length inputs * (10 + F .charts) ≤ length rows) where
       after-none : runRefusalAfter F config (length inputs) (length rows) ≡ 0
       unfolding runRefusalAfter
       after-none =
-          firstOf-++ (configTestsIn F config) (rows-test ∷ []) (config-passes F config h) ∙ firstOf-next rows-test [] (le-ltb (length rows) _ l)
+          firstOf-++ (configTestsIn F config) (rows-test ∷ []) (config-passes F config h)
+          ∙ firstOf-next rows-test [] (le-ltb (length rows) _ l)
           ∙ firstOf-[]
 
-      pub after-rows : (rows′ : List ℕ) (c : Set) → rows′ ≡ laidOver (rowsOf F config carried inputs) rows → c ≡ carriedOf F config carried inputs
+      pub after-rows : (rows′ : List ℕ) (c : Set) → rows′ ≡ laidOver (rowsOf F config carried inputs) rows
+          → c ≡ carriedOf F config carried inputs
           → BodyRuns F config carried inputs rows (record { refusal = 0; carried = c }) rows′
       unfolding runAfter carriedRun same
       after-rows rows′ c e q = (rw (after-none, q), rw (after-none, e))
@@ -113,14 +120,16 @@ module _ (l row : List ℕ) (at e : ℕ) (from-at : at ≤ e) (to : e ≤ length
 
   pub laid-before : (rest out : List ℕ) → take at l ++ (row ++ rest) ≡ out → take e (laid l row at e) ++ rest ≡ out
   laid-before rest out h =
-      let q : take e (laid l row at e) ≡ take at l ++ row = rw (← append-assoc) (take-at (take at l ++ row) (drop (e - at) (drop at l)) e front) in
+      let q : take e (laid l row at e) ≡ take at l ++ row =
+      rw (← append-assoc) (take-at (take at l ++ row) (drop (e - at) (drop at l)) e front) in
       rw (q, append-assoc) h
 
 -- ── one row more, and the last ──
 
 module _ (F : File) (inputs : List Set) where
   -- input i gives row r and leads from the stand s to t
-  module _ (s t : Stand) (row : List ℕ) (r : Answer) (i : ℕ) (l : i < length inputs) (e : r ≡ stepFrom F s (getD inputs i 0))
+  module _ (s t : Stand) (row : List ℕ) (r : Answer) (i : ℕ) (l : i < length inputs)
+      (e : r ≡ stepFrom F s (getD inputs i 0))
       (q : t ≡ standAfter r s (getD inputs i 0)) where
     pub run-step : row ≡ rowOf r (s .config) → row ++ rowsFrom F t (drop (i + 1) inputs) ≡ rowsFrom F s (drop i inputs)
     run-step p = rw (p, q, e, add-one) (sym (rows-next F s inputs i l))
@@ -128,15 +137,18 @@ module _ (F : File) (inputs : List Set) where
     pub carry-step : carriedFrom F t (drop (i + 1) inputs) ≡ carriedFrom F s (drop i inputs)
     carry-step = rw (q, e, add-one) (sym (carried-next F s inputs i l))
 
-  pub run-done : (start s : Stand) (rows rows₀ : List ℕ) (i at : ℕ) → i ≡ length inputs → length (rowsFrom F start inputs) ≡ at
+  pub run-done : (start s : Stand) (rows rows₀ : List ℕ) (i at : ℕ) → i ≡ length inputs
+      → length (rowsFrom F start inputs) ≡ at
       → take at rows ++ rowsFrom F s (drop i inputs) ≡ rowsFrom F start inputs → drop at rows ≡ drop at rows₀
       → rows ≡ laidOver (rowsFrom F start inputs) rows₀
   unfolding rowsOf
   run-done start s rows rows₀ i at e w h g =
-      let k : take at rows ≡ rowsFrom F start inputs = sym (append-nil (take at rows)) ∙ rw (e, drop-length inputs) at h in
+      let k : take at rows ≡ rowsFrom F start inputs =
+      sym (append-nil (take at rows)) ∙ rw (e, drop-length inputs) at h in
       rw (w, ← k, ← g) (sym (take-append-drop at rows))
 
-  pub carry-done : (start s : Stand) (i : ℕ) → i ≡ length inputs → carriedFrom F s (drop i inputs) ≡ carriedFrom F start inputs
+  pub carry-done : (start s : Stand) (i : ℕ) → i ≡ length inputs
+      → carriedFrom F s (drop i inputs) ≡ carriedFrom F start inputs
       → s .carried ≡ carriedFrom F start inputs
   unfolding carriedOf
   carry-done start s i e h = rw (e, drop-length inputs) at h

@@ -1,6 +1,6 @@
--- `search::hunt` meets its contract. It ends since `left` falls at each call; its loop has been through the candidates below v, and may stop
--- where two permitted choices disagree, since nothing more can change. What it writes stands behind the beginning that it was given, or is what was
--- found.
+-- `search::hunt` meets its contract. It ends since `left` falls at each call; its loop has been through the candidates
+-- below v, and may stop where two permitted choices disagree, since nothing more can change. What it writes stands
+-- behind the beginning that it was given, or is what was found.
 use mathlib.Core.Path.{_≡_, refl, sym, ap, ap₂, subst, subst₂, fun-ext, _∙_}
 use mathlib.Core.Bool.{Bool, true, false, _&&_, not, cond, and-false}
 use mathlib.Core.List.{List, [], _++_}
@@ -66,13 +66,16 @@ abbrev last : List ℕ → List ℕ → List ℕ → List ℕ → ℕ → ℕ �
 last m s gs y left k t = cond (staysAt gs y k) (below m s gs y left k (stayed m s t k)) []
 
 -- no chart is left
-ends-at : (m s gs y w b : List ℕ) (charts left o k : ℕ) (f : Found) → k ≡ charts → left ≡ 0 → calmAll m s gs y (trailIn w b k o) k ≡ true →
+ends-at : (m s gs y w b : List ℕ) (charts left o k : ℕ) (f : Found) → k ≡ charts → left ≡ 0
+    → calmAll m s gs y (trailIn w b k o) k ≡ true →
     over (huntsCalm m s gs y left k (trailIn w b k o)) f ≡ settleOf (outcomeIn b charts o) f
 unfolding huntsCalm
 ends-at m s gs y w b charts left o k f p q h =
-    ap₂ (λ (z : Bool) (l : ℕ). over (cond z (huntsBoth m s gs y l k (trailIn w b k o)) []) f) h q ∙ (unfold huntsBoth over trailIn in rw p)
+    ap₂ (λ (z : Bool) (l : ℕ). over (cond z (huntsBoth m s gs y l k (trailIn w b k o)) []) f) h q
+    ∙ (unfold huntsBoth over trailIn in rw p)
 
-ends : (m s gs y w b : List ℕ) (charts left o : ℕ) (f : Found) → left ≡ 0 → calmAll m s gs y (trailIn w b (charts - left) o) (charts - left) ≡ true →
+ends : (m s gs y w b : List ℕ) (charts left o : ℕ) (f : Found) → left ≡ 0
+    → calmAll m s gs y (trailIn w b (charts - left) o) (charts - left) ≡ true →
     settleOf (outcomeIn b charts o) f
     ≡ over (huntsCalm m s gs y left (charts - left) (trailIn w b (charts - left) o)) f
 ends m s gs y w b charts left o f e h = sym (ends-at m s gs y w b charts left o (charts - left) f (omega arith) e h)
@@ -86,11 +89,13 @@ below-is : (m s gs y : List ℕ) (l k : ℕ) (u : Trail) →
     cond (fineAt m s u k && quietAt m s gs y u k) (huntsBoth m s gs y l (suc k) u) [] ≡ below m s gs y (suc l) k u
 unfolding quietAt huntsCalm
 below-is m s gs y l k u = cond-both (fineAt m s u k) (calmAll m s gs y u (suc k)) (huntsBoth m s gs y l (suc k) u)
-    ∙ ap₂ (λ (n j : ℕ). cond (fineAt m s u k) (cond (calmAll m s gs y u j) (huntsBoth m s gs y n j u) []) []) (sym (sub-one (suc l))) (sym (add-one k))
+    ∙ ap₂ (λ (n j : ℕ). cond (fineAt m s u k) (cond (calmAll m s gs y u j) (huntsBoth m s gs y n j u) []) [])
+    (sym (sub-one (suc l))) (sym (add-one k))
 
 hunts-step : (m s gs y : List ℕ) (left k : ℕ) (t : Trail) → (left ≡ 0 → ⊥) → calmAll m s gs y t k ≡ true →
     huntsCalm m s gs y left k t
-    ≡ cond (wakes m s t k) (inTurn (countAt s k) (block m s gs y left k t) ++ last m s gs y left k t) (below m s gs y left k (rested m s t k))
+    ≡ cond (wakes m s t k) (inTurn (countAt s k) (block m s gs y left k t) ++ last m s gs y left k t)
+    (below m s gs y left k (rested m s t k))
 unfolding huntsCalm huntsBoth
 hunts-step m s gs y zero k t h q = absurd (h refl)
 hunts-step m s gs y (suc l) k t h q =
@@ -105,15 +110,19 @@ module _ (m s gs y : List ℕ) (charts left : ℕ) (some : left ≡ 0 → ⊥) (
   k = charts - left
 
   awake : (t : Trail) → calmAll m s gs y t k ≡ true → wakes m s t k ≡ true
-      → over (huntsCalm m s gs y left k t) f ≡ over (last m s gs y left k t) (over (inTurn (countAt s k) (block m s gs y left k t)) f)
-  awake t q w = rw (hunts-step m s gs y left k t some q, w) (over-append (inTurn (countAt s k) (block m s gs y left k t)) (last m s gs y left k t) f)
+      → over (huntsCalm m s gs y left k t) f
+      ≡ over (last m s gs y left k t) (over (inTurn (countAt s k) (block m s gs y left k t)) f)
+  awake t q w = rw (hunts-step m s gs y left k t some q, w)
+      (over-append (inTurn (countAt s k) (block m s gs y left k t)) (last m s gs y left k t) f)
 
-  asleep : (t : Trail) → calmAll m s gs y t k ≡ true → wakes m s t k ≡ false → over (below m s gs y left k (rested m s t k)) f ≡ over (huntsCalm m s gs y left k t) f
+  asleep : (t : Trail) → calmAll m s gs y t k ≡ true → wakes m s t k ≡ false
+      → over (below m s gs y left k (rested m s t k)) f ≡ over (huntsCalm m s gs y left k t) f
   asleep t q w = rw (hunts-step m s gs y left k t some q, w)
 
   -- a beginning that can still be met, where it stands, and one that cannot
   goes-on : (w b : List ℕ) (o : ℕ) (u : Trail) → trailIn w b (k + 1) o ≡ u → fineAt m s u k ≡ true →
-      over (huntsCalm m s gs y (left - 1) (charts - (left - 1)) (trailIn w b (charts - (left - 1)) o)) f ≡ over (below m s gs y left k u) f
+      over (huntsCalm m s gs y (left - 1) (charts - (left - 1)) (trailIn w b (charts - (left - 1)) o)) f
+      ≡ over (below m s gs y left k u) f
   goes-on w b o u e h = let z : charts - (left - 1) ≡ k + 1 = omega arith in rw (z, e, h)
 
   drops : (u : Trail) → fineAt m s u k ≡ false → f ≡ over (below m s gs y left k u) f
@@ -125,18 +134,22 @@ module _ (m s gs y : List ℕ) (charts left : ℕ) (some : left ≡ 0 → ⊥) (
     here : taken m s (trailIn w b k o) k v ≡ taken m s (trailIn w₀ b₀ k o) k v
     here = ap (λ (u : Trail). taken m s u k v) (trail-kept kept o)
 
-    goes : (w₁ b₁ f₁ g₁ w₂ b₂ f₂ g₂ : List ℕ) (o₁ : ℕ) → foundIn f₁ g₁ ≡ f → true ≡ fineAt m s (taken m s (trailIn w b k o) k v) k →
-        Takes m s k v w b w₁ b₁ → o₁ ≡ o ∪ actionAt m k v ∩ upAt m k → Hunted m s gs y charts (left - 1) o₁ w₁ b₁ f₁ g₁ w₂ b₂ f₂ g₂ →
+    goes : (w₁ b₁ f₁ g₁ w₂ b₂ f₂ g₂ : List ℕ) (o₁ : ℕ) → foundIn f₁ g₁ ≡ f
+        → true ≡ fineAt m s (taken m s (trailIn w b k o) k v) k →
+        Takes m s k v w b w₁ b₁ → o₁ ≡ o ∪ actionAt m k v ∩ upAt m k
+        → Hunted m s gs y charts (left - 1) o₁ w₁ b₁ f₁ g₁ w₂ b₂ f₂ g₂ →
         Keeps k w₀ b₀ w₂ b₂ × (foundIn f₂ g₂ ≡ over (block m s gs y left k (trailIn w₀ b₀ k o) v) f)
     goes w₁ b₁ f₁ g₁ w₂ b₂ f₂ g₂ o₁ q fine t e h =
         let z : charts - (left - 1) ≡ k + 1 = omega arith in (
           keeps-trans kept (keeps-trans (t .kept) (keeps-fewer (charts - (left - 1)) z (h .kept))),
-          h .found ∙ ap (over (huntsCalm m s gs y (left - 1) (charts - (left - 1)) (trailIn w₁ b₁ (charts - (left - 1)) o₁))) q
+          h .found ∙ ap
+              (over (huntsCalm m s gs y (left - 1) (charts - (left - 1)) (trailIn w₁ b₁ (charts - (left - 1)) o₁))) q
               ∙ goes-on w₁ b₁ o₁ (taken m s (trailIn w₀ b₀ k o) k v) (ap (trailIn w₁ b₁ (k + 1)) e ∙ t .grown o ∙ here)
               (ap (λ (u : Trail). fineAt m s u k) (sym here) ∙ sym fine),
         )
 
-    leaves : false ≡ fineAt m s (taken m s (trailIn w b k o) k v) k → f ≡ over (block m s gs y left k (trailIn w₀ b₀ k o) v) f
+    leaves : false ≡ fineAt m s (taken m s (trailIn w b k o) k v) k
+        → f ≡ over (block m s gs y left k (trailIn w₀ b₀ k o) v) f
     leaves fine = drops (taken m s (trailIn w₀ b₀ k o) k v) (ap (λ (u : Trail). fineAt m s u k) (sym here) ∙ sym fine)
 
   -- what the settled charts ask contradicts itself
@@ -148,9 +161,15 @@ module _ (m s gs y : List ℕ) (charts left : ℕ) (some : left ≡ 0 → ⊥) (
     stay-fine : (z : Bool) → eqb (g .needed) 0 ≡ z → fineAt m s (stayed m s (trailIn w b k o) k) k ≡ z
     stay-fine z h = fine-same m s (trailIn w b k o) k ∙ rest-fine z h
 
-    never : calmAll m s gs y (trailIn w b k o) k ≡ true → apart (g .needed) (g .barred) ≡ false → f ≡ over (huntsCalm m s gs y left k (trailIn w b k o)) f
+    never : calmAll m s gs y (trailIn w b k o) k ≡ true → apart (g .needed) (g .barred) ≡ false
+        → f ≡ over (huntsCalm m s gs y left k (trailIn w b k o)) f
     unfolding over
-    never q h = rw (hunts-step m s gs y left k t some q, each-none (countAt s k) (block m s gs y left k t) (λ v l. none v), no-rest, no-stay (staysAt gs y k)) (either (wakes m s t k))
+    never q h = rw (
+      hunts-step m s gs y left k t some q,
+      each-none (countAt s k) (block m s gs y left k t) (λ v l. none v),
+      no-rest,
+      no-stay (staysAt gs y k),
+    ) (either (wakes m s t k))
       where
         t : Trail
         t = trailIn w b k o
@@ -186,13 +205,15 @@ module _ (m s gs y : List ℕ) (left k : ℕ) (t : Trail) (f : Found) where
   open-last h = rw (same-≢ (toldAt y k) 0 h)
 
 -- a settled chart that stays is surely triggered
-not-calm : (m s gs y : List ℕ) (left k : ℕ) (t : Trail) (f : Found) → calmAll m s gs y t k ≡ false → f ≡ over (huntsCalm m s gs y left k t) f
+not-calm : (m s gs y : List ℕ) (left k : ℕ) (t : Trail) (f : Found) → calmAll m s gs y t k ≡ false
+    → f ≡ over (huntsCalm m s gs y left k t) f
 unfolding huntsCalm over
 not-calm m s gs y left k t f h = rw h
 
 -- two that disagree were found, as the code tests it
 stopped : (f : Found) → (f .has && not (f .agree)) ≡ true → Stopped f
-stopped f h = record { has = and-l (f .has) (not (f .agree)) h; agree = not-true (f .agree) (and-r (f .has) (not (f .agree)) h) }
+stopped f h =
+    record { has = and-l (f .has) (not (f .agree)) h; agree = not-true (f .agree) (and-r (f .has) (not (f .agree)) h) }
 
 -- ── the proof ──
 
@@ -202,10 +223,12 @@ abbrev μ-hunt : Measures 8 hunt-kinds.ps ℕ
 abbrev Inv-loop : lts.InvT-loop
 Inv-loop masks small guards stays trail₀ moves₀ best₀ shown₀ charts left output k asked n v₀ trail moves best shown v =
     (v ≤ n) × Keeps k trail₀ moves₀ trail moves
-    × (foundIn best shown ≡ over (inTurn v (block masks small guards stays left k (trailIn trail₀ moves₀ k output))) (foundIn best₀ shown₀)) × Held best shown
+    × (foundIn best shown ≡ over (inTurn v (block masks small guards stays left k (trailIn trail₀ moves₀ k output)))
+    (foundIn best₀ shown₀)) × Held best shown
 
 abbrev μ-loop : lts.MeasureT-loop
-μ-loop masks small guards stays trail₀ moves₀ best₀ shown₀ charts left output k asked n v₀ trail moves best shown v = n - v
+μ-loop masks small guards stays trail₀ moves₀ best₀ shown₀ charts left output k asked n v₀ trail moves best shown v =
+    n - v
 
 -- what the function is given at the measure t, and what its callees ask and give
 abbrev at : ℕ → In 8 hunt-kinds.ps
@@ -245,7 +268,9 @@ callees t = (
 
 module _ (t : ℕ) where
   settle-requires : lts.Need-settle-requires (callees t) (at t) hunt.Post Inv-loop μ-loop
-  settle-requires c κs = let b = c .before .before .before .before .before .before .before .before .before .before .before .before .before in (b .pre .1 .2, b .pre .1 .3)
+  settle-requires c κs = let b =
+      c .before .before .before .before .before .before .before .before .before .before .before .before .before in
+      (b .pre .1 .2, b .pre .1 .3)
 
   returns-2 : lts.Need-returns-2 (callees t) (at t) hunt.Post Inv-loop μ-loop
   returns-2 c =
@@ -259,14 +284,16 @@ module _ (t : ℕ) where
       record {
         found =
             c .settle .ensures .1
-            ∙ ends m s gs y (a .trail .now) (a .moves .now) (a .charts) (a .left) (a .output) (foundIn (a .best .now) (a .shown .now)) (t1 .if2 .taken)
+            ∙ ends m s gs y (a .trail .now) (a .moves .now) (a .charts) (a .left) (a .output)
+            (foundIn (a .best .now) (a .shown .now)) (t1 .if2 .taken)
             (sym (t1 .before .before .all-calm .ensures s (a .output)) ∙ not-false _ (t1 .before .if1 .left));
         held = c .settle .ensures .0;
         kept = keeps-refl _ _ _;
       }
 
   -- the function's entry, from where what is asked was tested, and that some chart is left
-  abbrev entry : lts.After-apart (callees t) (at t) hunt.Post Inv-loop μ-loop → lts.Start (callees t) (at t) hunt.Post Inv-loop μ-loop
+  abbrev entry : lts.After-apart (callees t) (at t) hunt.Post Inv-loop μ-loop
+      → lts.Start (callees t) (at t) hunt.Post Inv-loop μ-loop
   entry c = c .before .before .before .before .before .before .before .before .before .before .before .before .before
 
   abbrev some-left : (c : lts.After-apart (callees t) (at t) hunt.Post Inv-loop μ-loop) → entry c .args .left ≡ 0 → ⊥
@@ -274,21 +301,29 @@ module _ (t : ℕ) where
 
   calmed : (c : lts.After-apart (callees t) (at t) hunt.Post Inv-loop μ-loop) →
       let a = entry c .args in
-      calmAll (a .masks .now) (a .small .now) (a .guards .now) (a .stays .now) (trailIn (a .trail .now) (a .moves .now) (a .charts - a .left) (a .output)) (a .charts - a .left) ≡ true
-  calmed c = sym (c .before .before .before .before .before .all-calm .ensures (entry c .args .small .now) (entry c .args .output)) ∙ not-false _ (c .before .before .before .before .if1 .left)
+      calmAll (a .masks .now) (a .small .now) (a .guards .now) (a .stays .now)
+      (trailIn (a .trail .now) (a .moves .now) (a .charts - a .left) (a .output)) (a .charts - a .left) ≡ true
+  calmed c = sym (c .before .before .before .before .before .all-calm .ensures (entry c .args .small .now)
+      (entry c .args .output)) ∙ not-false _ (c .before .before .before .before .if1 .left)
 
   all-calm-requires : lts.Need-all-calm-requires (callees t) (at t) hunt.Post Inv-loop μ-loop
   all-calm-requires c κs =
-      let b = c .before .before .before .before .before .before .before in
-      (omega (arith, b .pre .1 .0 .masks, b .pre .1 .4), b .pre .1 .5, omega (arith, b .pre .1 .3), omega (arith, b .pre .1 .1 .masks))
+      let b = c .before .before .before .before .before .before .before in (
+        omega (arith, b .pre .1 .0 .masks, b .pre .1 .4),
+        b .pre .1 .5,
+        omega (arith, b .pre .1 .3),
+        omega (arith, b .pre .1 .1 .masks),
+      )
 
   returns : lts.Need-returns (callees t) (at t) hunt.Post Inv-loop μ-loop
   returns c =
       let b = c .before .before .before .before .before .before .before .before .before in
       let a = b .args in
       record {
-        found = not-calm (a .masks .now) (a .small .now) (a .guards .now) (a .stays .now) (a .left) (a .charts - a .left) (trailIn (a .trail .now) (a .moves .now) (a .charts - a .left) (a .output))
-            (foundIn (a .best .now) (a .shown .now)) (sym (c .before .all-calm .ensures (a .small .now) (a .output)) ∙ not-true _ (c .if1 .taken));
+        found = not-calm (a .masks .now) (a .small .now) (a .guards .now) (a .stays .now) (a .left)
+            (a .charts - a .left) (trailIn (a .trail .now) (a .moves .now) (a .charts - a .left) (a .output))
+            (foundIn (a .best .now) (a .shown .now)) (sym (c .before .all-calm .ensures (a .small .now) (a .output))
+            ∙ not-true _ (c .if1 .taken));
         kept = keeps-refl _ _ _;
         held = b .pre .1 .2;
       }
@@ -296,8 +331,11 @@ module _ (t : ℕ) where
   asks-requires : lts.Need-asks-requires (callees t) (at t) hunt.Post Inv-loop μ-loop
   asks-requires c κs =
       let b = c .before .before .before .before .before .before .before .before .before .before .before in
-      let some = c .before .if2 .left in
-      (omega (arith, b .pre .1 .0 .masks, b .pre .1 .4), omega (arith, b .pre .1 .3, b .pre .1 .4), omega (arith, b .pre .1 .1 .masks))
+      let some = c .before .if2 .left in (
+        omega (arith, b .pre .1 .0 .masks, b .pre .1 .4),
+        omega (arith, b .pre .1 .3, b .pre .1 .4),
+        omega (arith, b .pre .1 .1 .masks),
+      )
 
   returns-3 : lts.Need-returns-3 (callees t) (at t) hunt.Post Inv-loop μ-loop
   returns-3 c =
@@ -309,7 +347,8 @@ module _ (t : ℕ) where
       let y = a .stays .now in
       record {
         found =
-            never m s gs y (a .charts) (a .left) (some-left (c .before)) (b .pre .1 .4) (foundIn (a .best .now) (a .shown .now)) (b .pre .1 .3) (a .trail .now) (a .moves .now)
+            never m s gs y (a .charts) (a .left) (some-left (c .before)) (b .pre .1 .4)
+            (foundIn (a .best .now) (a .shown .now)) (b .pre .1 .3) (a .trail .now) (a .moves .now)
             (a .output) (c .before .before .asks .result) (c .before .before .asks .ensures) (calmed (c .before))
             (sym (c .before .apart .ensures) ∙ not-true _ (c .if3 .taken));
         kept = keeps-refl _ _ _;
@@ -335,9 +374,11 @@ module _ (t : ℕ) where
       record {
         found =
             drops m s gs y (a .charts) (a .left) (some-left p) (b .pre .1 .4) (foundIn (a .best .now) (a .shown .now)) _
-            (rest-fine m s gs y (a .charts) (a .left) (some-left p) (b .pre .1 .4) (foundIn (a .best .now) (a .shown .now)) (b .pre .1 .3) (a .trail .now) (a .moves .now)
+            (rest-fine m s gs y (a .charts) (a .left) (some-left p) (b .pre .1 .4)
+            (foundIn (a .best .now) (a .shown .now)) (b .pre .1 .3) (a .trail .now) (a .moves .now)
             (a .output) (p .before .asks .result) (p .before .asks .ensures) false (ne-eqb _ _ (c .if5 .taken)))
-            ∙ asleep m s gs y (a .charts) (a .left) (some-left p) (b .pre .1 .4) (foundIn (a .best .now) (a .shown .now))
+            ∙ asleep m s gs y (a .charts) (a .left) (some-left p) (b .pre .1 .4)
+            (foundIn (a .best .now) (a .shown .now))
             (trailIn (a .trail .now) (a .moves .now) (a .charts - a .left) (a .output)) (calmed p)
             (sym (w .wakes .ensures m (a .trail .now) (a .output)) ∙ not-true _ (c .before .before .if4 .taken));
         kept = keeps-refl _ _ _;
@@ -348,16 +389,29 @@ module _ (t : ℕ) where
   rest-requires c κs =
       let p = c .before .before .before .before .before .before .before .before in
       let b = entry p in
-      let some = some-left p in
-      (omega (arith, b .pre .1 .0 .masks, b .pre .1 .4), b .pre .1 .0 .small, room-fewer _ (omega (arith, b .pre .1 .4)) (b .pre .1 .1), omega (arith, b .pre .1 .3, b .pre .1 .4))
+      let some = some-left p in (
+        omega (arith, b .pre .1 .0 .masks, b .pre .1 .4),
+        b .pre .1 .0 .small,
+        room-fewer _ (omega (arith, b .pre .1 .4)) (b .pre .1 .1),
+        omega (arith, b .pre .1 .3, b .pre .1 .4),
+      )
 
   hunt-requires : lts.Need-hunt-requires (callees t) (at t) hunt.Post Inv-loop μ-loop
   hunt-requires c κs =
       let r = c .before .before .before .before .before .before in
       let p = r .before .before .before .before .before .before .before .before .before in
       let b = entry p in
-      let some = some-left p in
-      (omega (arith, b .pre .0), (b .pre .1 .0, keeps-room (r .rest .ensures .kept) (b .pre .1 .1), b .pre .1 .2, b .pre .1 .3, omega (arith, b .pre .1 .4), b .pre .1 .5))
+      let some = some-left p in (
+        omega (arith, b .pre .0),
+        (
+          b .pre .1 .0,
+          keeps-room (r .rest .ensures .kept) (b .pre .1 .1),
+          b .pre .1 .2,
+          b .pre .1 .3,
+          omega (arith, b .pre .1 .4),
+          b .pre .1 .5,
+        ),
+      )
 
   returns-5 : lts.Need-returns-5 (callees t) (at t) hunt.Post Inv-loop μ-loop
   returns-5 c =
@@ -376,14 +430,19 @@ module _ (t : ℕ) where
       record {
         found =
             h .hunt .ensures .found
-            ∙ goes-on m s gs y (a .charts) (a .left) some (b .pre .1 .4) (foundIn (a .best .now) (a .shown .now)) _ _ (a .output) _
+            ∙ goes-on m s gs y (a .charts) (a .left) some (b .pre .1 .4) (foundIn (a .best .now) (a .shown .now)) _ _
+            (a .output) _
             (r .rest .ensures .grown m (a .output))
-            (rest-fine m s gs y (a .charts) (a .left) some (b .pre .1 .4) (foundIn (a .best .now) (a .shown .now)) (b .pre .1 .3) (a .trail .now) (a .moves .now)
-            (a .output) (p .before .asks .result) (p .before .asks .ensures) true (eq-eqb _ _ (r .before .before .before .if5 .left)))
+            (rest-fine m s gs y (a .charts) (a .left) some (b .pre .1 .4) (foundIn (a .best .now) (a .shown .now))
+            (b .pre .1 .3) (a .trail .now) (a .moves .now)
+            (a .output) (p .before .asks .result) (p .before .asks .ensures) true
+            (eq-eqb _ _ (r .before .before .before .if5 .left)))
             ∙ asleep m s gs y (a .charts) (a .left) some (b .pre .1 .4) (foundIn (a .best .now) (a .shown .now))
             (trailIn (a .trail .now) (a .moves .now) (a .charts - a .left) (a .output)) (calmed p)
-            (sym (w .wakes .ensures m (a .trail .now) (a .output)) ∙ not-true _ (r .before .before .before .before .before .if4 .taken));
-        kept = keeps-trans (r .rest .ensures .kept) (keeps-fewer (a .charts - (a .left - 1)) z (h .hunt .ensures .kept));
+            (sym (w .wakes .ensures m (a .trail .now) (a .output))
+            ∙ not-true _ (r .before .before .before .before .before .if4 .taken));
+        kept =
+            keeps-trans (r .rest .ensures .kept) (keeps-fewer (a .charts - (a .left - 1)) z (h .hunt .ensures .kept));
         held = h .hunt .ensures .held;
       }
 
@@ -396,19 +455,24 @@ module _ (t : ℕ) where
 
   loop-holds : lts.Need-loop-holds (callees t) (at t) hunt.Post Inv-loop μ-loop
   unfolding inTurn over
-  loop-holds c = let b = entry (c .before .before .before .before .before) in (omega arith, keeps-refl _ _ _, refl, b .pre .1 .2)
+  loop-holds c = let b = entry (c .before .before .before .before .before) in
+      (omega arith, keeps-refl _ _ _, refl, b .pre .1 .2)
 
-  -- from the loop's head: where what is asked was tested; that the chart's number is below mostCharts, and a candidate's below mostFromState
-  abbrev tested : lts.At-loop (callees t) (at t) hunt.Post Inv-loop μ-loop → lts.After-apart (callees t) (at t) hunt.Post Inv-loop μ-loop
+  -- from the loop's head: where what is asked was tested; that the chart's number is below mostCharts, and a
+  -- candidate's below mostFromState
+  abbrev tested : lts.At-loop (callees t) (at t) hunt.Post Inv-loop μ-loop
+      → lts.After-apart (callees t) (at t) hunt.Post Inv-loop μ-loop
   tested c = c .before .before .before .before .before .before
 
-  few : (c : lts.At-loop (callees t) (at t) hunt.Post Inv-loop μ-loop) → entry (tested c) .args .charts - entry (tested c) .args .left < mostCharts
+  few : (c : lts.At-loop (callees t) (at t) hunt.Post Inv-loop μ-loop)
+      → entry (tested c) .args .charts - entry (tested c) .args .left < mostCharts
   few c = let b = entry (tested c) in let some = some-left (tested c) in omega (arith, b .pre .1 .3, b .pre .1 .4)
 
   roomy : (c : lts.At-loop (callees t) (at t) hunt.Post Inv-loop μ-loop) →
       let a = entry (tested c) .args in
       masksFor (a .charts - a .left + 1) ≤ length (a .masks .now)
-  roomy c = let b = entry (tested c) in let some = some-left (tested c) in omega (arith, b .pre .1 .0 .masks, b .pre .1 .4)
+  roomy c = let b = entry (tested c) in let some = some-left (tested c) in
+      omega (arith, b .pre .1 .0 .masks, b .pre .1 .4)
 
   -- there is room for chart k
   one-more : (c : lts.At-loop (callees t) (at t) hunt.Post Inv-loop μ-loop) →
@@ -423,16 +487,22 @@ module _ (t : ℕ) where
   counted c =
       let b = entry (tested c) in
       let some = some-left (tested c) in
-      omega (arith, c .before .count .ensures, b .pre .1 .0 .counts (b .args .charts - b .args .left) (omega (arith, b .pre .1 .4)))
+      omega (
+        arith,
+        c .before .count .ensures,
+        b .pre .1 .0 .counts (b .args .charts - b .args .left) (omega (arith, b .pre .1 .4)),
+      )
 
   -- what the charts left give is what all candidates of chart k give, and then its staying
   whole : (c : lts.At-loop (callees t) (at t) hunt.Post Inv-loop μ-loop) →
       let a = entry (tested c) .args in
       let k = a .charts - a .left in
       let u = trailIn (a .trail .now) (a .moves .now) k (a .output) in
-      over (huntsCalm (a .masks .now) (a .small .now) (a .guards .now) (a .stays .now) (a .left) k u) (foundIn (a .best .now) (a .shown .now))
+      over (huntsCalm (a .masks .now) (a .small .now) (a .guards .now) (a .stays .now) (a .left) k u)
+      (foundIn (a .best .now) (a .shown .now))
       ≡ over (last (a .masks .now) (a .small .now) (a .guards .now) (a .stays .now) (a .left) k u)
-      (over (inTurn (countAt (a .small .now) k) (block (a .masks .now) (a .small .now) (a .guards .now) (a .stays .now) (a .left) k u)) (foundIn (a .best .now) (a .shown .now)))
+      (over (inTurn (countAt (a .small .now) k) (block (a .masks .now) (a .small .now) (a .guards .now) (a .stays .now)
+      (a .left) k u)) (foundIn (a .best .now) (a .shown .now)))
   whole c =
       let b = entry (tested c) in
       let a = b .args in
@@ -440,9 +510,11 @@ module _ (t : ℕ) where
       let s = a .small .now in
       let gs = a .guards .now in
       let y = a .stays .now in
-      awake m s gs y (a .charts) (a .left) (some-left (tested c)) (b .pre .1 .4) (foundIn (a .best .now) (a .shown .now))
+      awake m s gs y (a .charts) (a .left) (some-left (tested c)) (b .pre .1 .4)
+      (foundIn (a .best .now) (a .shown .now))
       (trailIn (a .trail .now) (a .moves .now) (a .charts - a .left) (a .output)) (calmed (tested c))
-      (sym (c .before .before .before .wakes .ensures m (a .trail .now) (a .output)) ∙ not-false _ (c .before .before .if4 .left))
+      (sym (c .before .before .before .wakes .ensures m (a .trail .now) (a .output))
+      ∙ not-false _ (c .before .before .if4 .left))
 
   fits-requires : lts.Need-fits-requires (callees t) (at t) hunt.Post Inv-loop μ-loop
   fits-requires c κs =
@@ -473,11 +545,19 @@ module _ (t : ℕ) where
       let b = entry (tested l) in
       let some = some-left (tested l) in (
         omega (arith, b .pre .0),
-        (b .pre .1 .0, keeps-room (r .take .ensures .kept) (keeps-room (l .loop .inv .1) (b .pre .1 .1)), l .loop .inv .3, b .pre .1 .3, omega (arith, b .pre .1 .4), b .pre .1 .5),
+        (
+          b .pre .1 .0,
+          keeps-room (r .take .ensures .kept) (keeps-room (l .loop .inv .1) (b .pre .1 .1)),
+          l .loop .inv .3,
+          b .pre .1 .3,
+          omega (arith, b .pre .1 .4),
+          b .pre .1 .5,
+        ),
       )
 
   sub-left : lts.Need-sub-hunt-2 (callees t) (at t) hunt.Post Inv-loop μ-loop
-  sub-left c = let some = some-left (tested (c .before .before .before .before .before .before .before .before .before .before .before .before .before .before)) in omega arith
+  sub-left c = let some = some-left (tested (c .before .before .before .before .before .before .before .before .before
+      .before .before .before .before .before)) in omega arith
 
   add-v : lts.Need-add-v (callees t) (at t) hunt.Post Inv-loop μ-loop
   add-v c = omega (arith, counted (c .before .before .before .before))
@@ -496,19 +576,32 @@ module _ (t : ℕ) where
       let y = a .stays .now in
       let k = a .charts - a .left in
       let all = block m s gs y (a .left) k (trailIn (a .trail .now) (a .moves .now) k (a .output)) in
-      let one = goes m s gs y (a .charts) (a .left) (some-left (tested l)) (b .pre .1 .4) (foundIn (l .loop .best) (l .loop .shown)) (a .trail .now) (a .moves .now)
+      let one = goes m s gs y (a .charts) (a .left) (some-left (tested l)) (b .pre .1 .4)
+      (foundIn (l .loop .best) (l .loop .shown)) (a .trail .now) (a .moves .now)
       (l .loop .trail) (l .loop .moves) (l .loop .v) (a .output) (l .loop .inv .1) _ _ _ _ _ _ _ _ _ refl
-      (sym (r .before .before .before .if6 .taken) ∙ r .before .before .before .before .fits2 .ensures s (l .loop .moves) (a .output))
+      (sym (r .before .before .before .if6 .taken)
+      ∙ r .before .before .before .before .fits2 .ensures s (l .loop .moves) (a .output))
       (r .take .ensures) (g .shown-by .ensures) (h .hunt2 .ensures) in
       let r′ = foundIn (h .hunt2 .last .1 .1 .1 .1 .1 .1 .0) (h .hunt2 .last .1 .1 .1 .1 .1 .1 .1 .0) in
-      let e : r′ ≡ over (inTurn (l .loop .v + 1) all) (foundIn (a .best .now) (a .shown .now)) = rw (over-each, ← l .loop .inv .2) (one .1) in
-      let end : Stopped r′ = stopped r′ (sym (c .before .disagree .ensures (h .hunt2 .last .1 .1 .1 .1 .1 .1 .1 .0)) ∙ c .if7 .taken) in
+      let e : r′ ≡ over (inTurn (l .loop .v + 1) all) (foundIn (a .best .now) (a .shown .now)) =
+      rw (over-each, ← l .loop .inv .2) (one .1) in
+      let end : Stopped r′ =
+      stopped r′ (sym (c .before .disagree .ensures (h .hunt2 .last .1 .1 .1 .1 .1 .1 .1 .0)) ∙ c .if7 .taken) in
       record {
         found = e ∙ sym (over-each-stopped all (foundIn (a .best .now) (a .shown .now)) (countAt s k) (l .loop .v + 1)
-            (omega (arith, l .before .count .ensures, r .before .before .before .before .before .before .loop-test .taken)) (rw e at end))
+            (omega (
+              arith,
+              l .before .count .ensures,
+              r .before .before .before .before .before .before .loop-test .taken,
+            )) (rw e at end))
             ∙ sym (over-stopped (last m s gs y (a .left) k (trailIn (a .trail .now) (a .moves .now) k (a .output))) _
-            (subst Stopped (e ∙ sym (over-each-stopped all (foundIn (a .best .now) (a .shown .now)) (countAt s k) (l .loop .v + 1)
-            (omega (arith, l .before .count .ensures, r .before .before .before .before .before .before .loop-test .taken)) (rw e at end))) end))
+            (subst Stopped
+            (e ∙ sym (over-each-stopped all (foundIn (a .best .now) (a .shown .now)) (countAt s k) (l .loop .v + 1)
+            (omega (
+              arith,
+              l .before .count .ensures,
+              r .before .before .before .before .before .before .loop-test .taken,
+            )) (rw e at end))) end))
             ∙ sym (whole l);
         kept = one .0;
         held = h .hunt2 .ensures .held;
@@ -528,20 +621,24 @@ module _ (t : ℕ) where
       let fits = c .before .fits2 .ensures s (l .loop .moves) (a .output) in
       let f = foundIn (l .loop .best) (l .loop .shown) in
       let e : Keeps k (a .trail .now) (a .moves .now) (c .if6 .trail) (c .if6 .moves)
-      × (foundIn (c .if6 .best) (c .if6 .shown) ≡ over (block m s gs y (a .left) k (trailIn (a .trail .now) (a .moves .now) k (a .output)) (l .loop .v)) f)
+      × (foundIn (c .if6 .best) (c .if6 .shown)
+      ≡ over (block m s gs y (a .left) k (trailIn (a .trail .now) (a .moves .now) k (a .output)) (l .loop .v)) f)
       × Held (c .if6 .best) (c .if6 .shown) =
       ⊎-elim
       (λ w.
       let one = goes m s gs y (a .charts) (a .left) some (b .pre .1 .4) f (a .trail .now) (a .moves .now)
-      (l .loop .trail) (l .loop .moves) (l .loop .v) (a .output) (l .loop .inv .1) _ _ _ _ _ _ _ _ _ refl (sym (w .0 .taken) ∙ fits)
+      (l .loop .trail) (l .loop .moves) (l .loop .v) (a .output) (l .loop .inv .1) _ _ _ _ _ _ _ _ _ refl
+      (sym (w .0 .taken) ∙ fits)
       (w .3 .ensures) (w .6 .ensures) (w .11 .ensures) in (
         subst₂ (λ (x y : List ℕ). Keeps k (a .trail .now) (a .moves .now) x y) (sym (w .17)) (sym (w .18)) (one .0),
         ap₂ foundIn (w .19) (w .20) ∙ one .1,
         subst₂ Held (sym (w .19)) (sym (w .20)) (w .11 .ensures .held),
       ))
       (λ w. (
-        subst₂ (λ (x y : List ℕ). Keeps k (a .trail .now) (a .moves .now) x y) (sym (w .1)) (sym (w .2)) (l .loop .inv .1),
-        ap₂ foundIn (w .3) (w .4) ∙ leaves m s gs y (a .charts) (a .left) some (b .pre .1 .4) f (a .trail .now) (a .moves .now)
+        subst₂ (λ (x y : List ℕ). Keeps k (a .trail .now) (a .moves .now) x y) (sym (w .1)) (sym (w .2))
+            (l .loop .inv .1),
+        ap₂ foundIn (w .3) (w .4)
+            ∙ leaves m s gs y (a .charts) (a .left) some (b .pre .1 .4) f (a .trail .now) (a .moves .now)
             (l .loop .trail) (l .loop .moves) (l .loop .v) (a .output) (l .loop .inv .1) (sym (w .0 .left) ∙ fits),
         subst₂ Held (sym (w .3)) (sym (w .4)) (l .loop .inv .3),
       ))
@@ -552,7 +649,8 @@ module _ (t : ℕ) where
   told-requires c κs = let l = c .before in let b = entry (tested l) in (b .pre .1 .5 .small, few l)
 
   sub-left-3 : lts.Need-sub-hunt-3 (callees t) (at t) hunt.Post Inv-loop μ-loop
-  sub-left-3 c = let some = some-left (tested (c .before .before .before .before .before .before .before .before .before .before .before .before .before .before)) in omega arith
+  sub-left-3 c = let some = some-left (tested (c .before .before .before .before .before .before .before .before .before
+      .before .before .before .before .before)) in omega arith
 
   -- all candidates were tried: what was found so far
   tried : (c : lts.After-loop (callees t) (at t) hunt.Post Inv-loop μ-loop) →
@@ -560,7 +658,8 @@ module _ (t : ℕ) where
       let a = entry (tested l) .args in
       let k = a .charts - a .left in
       foundIn (l .loop .best) (l .loop .shown)
-      ≡ over (inTurn (countAt (a .small .now) k) (block (a .masks .now) (a .small .now) (a .guards .now) (a .stays .now) (a .left) k (trailIn (a .trail .now) (a .moves .now) k (a .output)))) (foundIn (a .best .now) (a .shown .now))
+      ≡ over (inTurn (countAt (a .small .now) k) (block (a .masks .now) (a .small .now) (a .guards .now) (a .stays .now)
+      (a .left) k (trailIn (a .trail .now) (a .moves .now) k (a .output)))) (foundIn (a .best .now) (a .shown .now))
   tried c =
       let l = c .before in
       let a = entry (tested l) .args in
@@ -579,7 +678,9 @@ module _ (t : ℕ) where
       let k = a .charts - a .left in
       let u = trailIn (a .trail .now) (a .moves .now) k (a .output) in
       record {
-        found = sym (shut-last m s gs y (a .left) k u (foundIn (l .loop .best) (l .loop .shown)) (sym (c .before .told .ensures) ∙ c .if8 .taken)) ∙ ap (over (last m s gs y (a .left) k u)) (tried (c .before .before)) ∙ sym (whole l);
+        found = sym (shut-last m s gs y (a .left) k u (foundIn (l .loop .best) (l .loop .shown))
+            (sym (c .before .told .ensures) ∙ c .if8 .taken))
+            ∙ ap (over (last m s gs y (a .left) k u)) (tried (c .before .before)) ∙ sym (whole l);
         kept = l .loop .inv .1;
         held = l .loop .inv .3;
       }
@@ -599,9 +700,13 @@ module _ (t : ℕ) where
       record {
         found =
             drops m s gs y (a .charts) (a .left) (some-left (tested l)) (b .pre .1 .4) f (stayed m s u k)
-            (stay-fine m s gs y (a .charts) (a .left) (some-left (tested l)) (b .pre .1 .4) f (b .pre .1 .3) (a .trail .now) (a .moves .now)
-            (a .output) (tested l .before .asks .result) (tested l .before .asks .ensures) false (ne-eqb _ _ (c .if9 .taken)))
-            ∙ sym (open-last m s gs y (a .left) k u f (λ e. c .before .before .if8 .left (c .before .before .before .told .ensures ∙ e))) ∙ ap (over (last m s gs y (a .left) k u)) (tried (c .before .before .before .before)) ∙ sym (whole l);
+            (stay-fine m s gs y (a .charts) (a .left) (some-left (tested l)) (b .pre .1 .4) f (b .pre .1 .3)
+            (a .trail .now) (a .moves .now)
+            (a .output) (tested l .before .asks .result) (tested l .before .asks .ensures) false
+            (ne-eqb _ _ (c .if9 .taken)))
+            ∙ sym (open-last m s gs y (a .left) k u f
+            (λ e. c .before .before .if8 .left (c .before .before .before .told .ensures ∙ e)))
+            ∙ ap (over (last m s gs y (a .left) k u)) (tried (c .before .before .before .before)) ∙ sym (whole l);
         kept = l .loop .inv .1;
         held = l .loop .inv .3;
       }
@@ -615,11 +720,19 @@ module _ (t : ℕ) where
   hunt-requires-3 : lts.Need-hunt-requires-3 (callees t) (at t) hunt.Post Inv-loop μ-loop
   hunt-requires-3 c κs =
       let r = c .before .before .before .before .before .before in
-      let l = c .before .before .before .before .before .before .before .before .before .before .before .before .before .before in
+      let l = c .before .before .before .before .before .before .before .before .before .before .before .before
+      .before .before in
       let b = entry (tested l) in
       let some = some-left (tested l) in (
         omega (arith, b .pre .0),
-        (b .pre .1 .0, keeps-room (r .stay .ensures .kept) (keeps-room (l .loop .inv .1) (b .pre .1 .1)), l .loop .inv .3, b .pre .1 .3, omega (arith, b .pre .1 .4), b .pre .1 .5),
+        (
+          b .pre .1 .0,
+          keeps-room (r .stay .ensures .kept) (keeps-room (l .loop .inv .1) (b .pre .1 .1)),
+          l .loop .inv .3,
+          b .pre .1 .3,
+          omega (arith, b .pre .1 .4),
+          b .pre .1 .5,
+        ),
       )
 
   returns-9 : lts.Need-returns-9 (callees t) (at t) hunt.Post Inv-loop μ-loop
@@ -628,7 +741,8 @@ module _ (t : ℕ) where
       let r = h .before .before .before .before .before .before .before in
       let e9 = r .before .before .before in
       let e8 = e9 .before .before in
-      let l = h .before .before .before .before .before .before .before .before .before .before .before .before .before .before .before in
+      let l = h .before .before .before .before .before .before .before .before .before .before .before .before .before
+      .before .before in
       let b = entry (tested l) in
       let a = b .args in
       let m = a .masks .now in
@@ -644,20 +758,32 @@ module _ (t : ℕ) where
         found =
             h .hunt3 .ensures .found
             ∙ goes-on m s gs y (a .charts) (a .left) some (b .pre .1 .4) f _ _ (a .output) (stayed m s u k)
-            (r .stay .ensures .grown m (a .output) ∙ ap (λ (x : Trail). stayed m s x k) (trail-kept (l .loop .inv .1) (a .output)))
-            (stay-fine m s gs y (a .charts) (a .left) some (b .pre .1 .4) f (b .pre .1 .3) (a .trail .now) (a .moves .now)
-            (a .output) (tested l .before .asks .result) (tested l .before .asks .ensures) true (eq-eqb _ _ (e9 .if9 .left)))
-            ∙ sym (open-last m s gs y (a .left) k u f (λ e. e8 .if8 .left (e8 .before .told .ensures ∙ e))) ∙ ap (over (last m s gs y (a .left) k u)) (tried (e8 .before .before)) ∙ sym (whole l);
-        kept = keeps-trans (l .loop .inv .1) (keeps-trans (r .stay .ensures .kept) (keeps-fewer (a .charts - (a .left - 1)) z (h .hunt3 .ensures .kept)));
+            (r .stay .ensures .grown m (a .output)
+            ∙ ap (λ (x : Trail). stayed m s x k) (trail-kept (l .loop .inv .1) (a .output)))
+            (stay-fine m s gs y (a .charts) (a .left) some (b .pre .1 .4) f (b .pre .1 .3) (a .trail .now)
+            (a .moves .now)
+            (a .output) (tested l .before .asks .result) (tested l .before .asks .ensures) true
+            (eq-eqb _ _ (e9 .if9 .left)))
+            ∙ sym (open-last m s gs y (a .left) k u f (λ e. e8 .if8 .left (e8 .before .told .ensures ∙ e)))
+            ∙ ap (over (last m s gs y (a .left) k u)) (tried (e8 .before .before)) ∙ sym (whole l);
+        kept = keeps-trans (l .loop .inv .1) (keeps-trans (r .stay .ensures .kept)
+            (keeps-fewer (a .charts - (a .left - 1)) z (h .hunt3 .ensures .kept)));
         held = h .hunt3 .ensures .held;
       }
 
 pub +hunt-spec : {M : Type 1} → statement M
 +hunt-spec =
     close μ-hunt
-    (λ t. lts.spec (callees t) (at t) hunt.Post Inv-loop μ-loop (λ c. omega (arith, c .before .before .before .before .before .pre .1 .4)) (all-calm-requires t) (λ c. returns t c .kept .masks .long) (returns t)
+    (λ t. lts.spec (callees t) (at t) hunt.Post Inv-loop μ-loop
+    (λ c. omega (arith, c .before .before .before .before .before .pre .1 .4)) (all-calm-requires t)
+    (λ c. returns t c .kept .masks .long) (returns t)
     (settle-requires t) (λ c. returns-2 t c .kept .masks .long) (returns-2 t)
-    (asks-requires t) (λ c κs. search needs) (λ c. returns-3 t c .kept .masks .long) (returns-3 t) (wakes-requires t) (λ c. returns-4 t c .kept .masks .long) (returns-4 t) (rest-requires t) (λ c. omega arith) (hunt-requires t)
-    (λ c. returns-5 t c .kept .masks .long) (returns-5 t) (count-requires t) (loop-holds t) (fits-requires t) (take-requires t) (shown-by-requires t)
-    (sub-left t) (hunt-requires-2 t) (λ c κs. search needs) (λ c. returns-6 t c .kept .masks .long) (returns-6 t) (add-v t) (λ c. omega arith) (loop-again t)
-    (told-requires t) (λ c. returns-7 t c .kept .masks .long) (returns-7 t) (λ c. returns-8 t c .kept .masks .long) (returns-8 t) (stay-requires t) (sub-left-3 t) (hunt-requires-3 t) (λ c. returns-9 t c .kept .masks .long) (returns-9 t))
+    (asks-requires t) (λ c κs. search needs) (λ c. returns-3 t c .kept .masks .long) (returns-3 t) (wakes-requires t)
+    (λ c. returns-4 t c .kept .masks .long) (returns-4 t) (rest-requires t) (λ c. omega arith) (hunt-requires t)
+    (λ c. returns-5 t c .kept .masks .long) (returns-5 t) (count-requires t) (loop-holds t) (fits-requires t)
+    (take-requires t) (shown-by-requires t)
+    (sub-left t) (hunt-requires-2 t) (λ c κs. search needs)
+    (λ c. returns-6 t c .kept .masks .long) (returns-6 t) (add-v t) (λ c. omega arith) (loop-again t)
+    (told-requires t) (λ c. returns-7 t c .kept .masks .long) (returns-7 t)
+    (λ c. returns-8 t c .kept .masks .long) (returns-8 t) (stay-requires t) (sub-left-3 t) (hunt-requires-3 t)
+    (λ c. returns-9 t c .kept .masks .long) (returns-9 t))

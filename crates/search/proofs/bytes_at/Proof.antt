@@ -11,7 +11,8 @@ use Rattle.search.proofs.bytes_at.Statement.{statement}
 use Rattle.search.proofs.bytes_at.Tie as tie
 
 abbrev Inv-loop : tie.InvT-loop
-Inv-loop best at row₀ c₀ row c = (c ≤ mostCharts) × (row ≡ made c (λ d. getD best (at + d) 0) ++ replicate (mostCharts - c) 0)
+Inv-loop best at row₀ c₀ row c =
+    (c ≤ mostCharts) × (row ≡ made c (λ d. getD best (at + d) 0) ++ replicate (mostCharts - c) 0)
 
 abbrev μ-loop : tie.MeasureT-loop
 μ-loop best at row₀ c₀ row c = mostCharts - c
@@ -30,4 +31,5 @@ returns : tie.Need-returns Inv-loop μ-loop
 returns c = let e : c .before .loop .c ≡ mostCharts = omega arith in rw e at (c .before .loop .inv .1) ∙ append-nil _
 
 pub bytes-at-spec : {M : Type 1} → statement M
-bytes-at-spec = tie.close (tie.spec Inv-loop μ-loop loop-holds (λ c. omega arith) (λ c. omega arith) (λ c. omega arith) (λ c. omega arith) (λ c. omega arith) loop-again returns)
+bytes-at-spec = tie.close (tie.spec Inv-loop μ-loop loop-holds (λ c. omega arith) (λ c. omega arith) (λ c. omega arith)
+    (λ c. omega arith) (λ c. omega arith) loop-again returns)

@@ -1,4 +1,5 @@
--- `search::hunted` meets its contract: what each chart is surely offered is put in front, no chart is settled, and nothing was found yet.
+-- `search::hunted` meets its contract: what each chart is surely offered is put in front, no chart is settled, and
+-- nothing was found yet.
 use mathlib.Core.Path.{_≡_, refl, _∙_}
 use mathlib.Core.List.{List}
 use Prim.Native.Nat.{ℕ, _+_, _-_}
@@ -21,9 +22,11 @@ use Rattle.search.proofs.hunted.Tie as tie
 
 -- a search that begins with all charts: none is settled, so none is triggered
 all : (m s gs y w b low : List ℕ) (charts : ℕ) (f : Found) → trailIn w b 0 0 ≡ beginning low → f ≡ nothing →
-    over (huntsCalm m s gs y charts (charts - charts) (trailIn w b (charts - charts) 0)) f ≡ over (huntsBoth m s gs y charts 0 (beginning low)) nothing
+    over (huntsCalm m s gs y charts (charts - charts) (trailIn w b (charts - charts) 0)) f
+    ≡ over (huntsBoth m s gs y charts 0 (beginning low)) nothing
 unfolding huntsCalm
-all m s gs y w b low charts f e q = let z : charts - charts ≡ 0 = omega arith in rw (z, e, q, every-none (calmAt m s gs y (beginning low) 0))
+all m s gs y w b low charts f e q = let z : charts - charts ≡ 0 = omega arith in
+    rw (z, e, q, every-none (calmAt m s gs y (beginning low) 0))
 
 -- nothing was found: zeros, but for the places, of no chart
 module _ (b f : List ℕ) (h : BytesPut mostCharts (columnIn b 0 2 noPlace) (replicate foundSize 0) f) where
@@ -36,8 +39,10 @@ module _ (b f : List ℕ) (h : BytesPut mostCharts (columnIn b 0 2 noPlace) (rep
       rw (
         h .above hasCell (omega arith),
         h .above agreeCell (omega arith),
-        made-cong mostCharts (λ c. getD f (0 + c) 0) (λ c. 0) (λ c l. h .below (0 + c) (omega arith) ∙ getD-replicate foundSize (0 + c) 0 0 (omega arith)),
-        made-cong mostCharts (λ c. getD f (placesCell + c) 0) (λ c. noPlace) (λ c l. h .in-row c l ∙ filled-behind 0 (placeIn b) noPlace c (omega arith) l),
+        made-cong mostCharts (λ c. getD f (0 + c) 0) (λ c. 0)
+            (λ c l. h .below (0 + c) (omega arith) ∙ getD-replicate foundSize (0 + c) 0 0 (omega arith)),
+        made-cong mostCharts (λ c. getD f (placesCell + c) 0) (λ c. noPlace)
+            (λ c l. h .in-row c l ∙ filled-behind 0 (placeIn b) noPlace c (omega arith) l),
       )
 
 offered : (s : tie.Start) → length (s .args .low) ≡ mostCharts
@@ -47,8 +52,14 @@ hunt-requires : tie.Need-hunt-requires
 hunt-requires c κs =
     let b = c .before .before .before .before in
     let r = b .before .before .before .before .before in
-    let s = r .before .before .before .before .before .before .before in
-    (s .pre .0, record { masks = rw (r .put-row .ensures .kept .long) (s .pre .3); small = refl }, begun-held (replicate movesSize 0) _ (b .put-column .ensures), s .pre .1, omega arith, s .pre .2)
+    let s = r .before .before .before .before .before .before .before in (
+      s .pre .0,
+      record { masks = rw (r .put-row .ensures .kept .long) (s .pre .3); small = refl },
+      begun-held (replicate movesSize 0) _ (b .put-column .ensures),
+      s .pre .1,
+      omega arith,
+      s .pre .2,
+    )
 
 returns : tie.Need-returns
 returns c =
@@ -58,9 +69,11 @@ returns c =
     let s = r .before .before .before .before .before .before .before in
     let n = offered s in
     c .found-in .ensures ∙ h .hunt .ensures .found
-    ∙ all (s .args .masks .now) (s .args .small .now) (s .args .guards .now) (s .args .stays .now) _ _ (s .args .low) (s .args .charts) _ (begun _ _ (s .args .low) n (r .put-row .ensures .row))
+    ∙ all (s .args .masks .now) (s .args .small .now) (s .args .guards .now) (s .args .stays .now) _ _ (s .args .low)
+    (s .args .charts) _ (begun _ _ (s .args .low) n (r .put-row .ensures .row))
     (begun-nothing (replicate movesSize 0) _ (b .put-column .ensures))
 
 pub hunted-spec : {M : Type 1} → statement M
 hunted-spec = tie.close
-    (tie.spec (λ c κs. search needs) (λ c κs. search needs) hunt-requires (λ c κs. search needs) (λ c. search needs) returns)
+    (tie.spec (λ c κs. search needs) (λ c κs. search needs) hunt-requires (λ c κs. search needs)
+    (λ c. search needs) returns)

@@ -1,4 +1,5 @@
--- `search::keep` meets its contract: the next states and the places stand in their rows, and both bytes behind them are 1.
+-- `search::keep` meets its contract: the next states and the places stand in their rows, and both bytes behind them are
+-- 1.
 use mathlib.Core.Path.{_≡_, _∙_}
 use mathlib.Core.Bool.{true}
 use mathlib.Core.List.{List, _++_}
@@ -13,7 +14,8 @@ use Rattle.meaning.specs.Calls.{made}
 use Rattle.meaning.specs.Calls.Laws.{made-cong}
 use Rattle.cells.specs.Trail.{steps, nextIn, placeIn, columnIn}
 use Rattle.settling.specs.Trail.Laws.{length-filled, column-next, made-list}
-use Rattle.settling.specs.Hunt.{placesCell, hasCell, agreeCell, foundSize, outcomeIn, firstFound, foundIn, Held, BytesPut}
+use Rattle.settling.specs.Hunt.{placesCell, hasCell, agreeCell, foundSize, outcomeIn, firstFound, foundIn, Held}
+use Rattle.settling.specs.Hunt.{BytesPut}
 use Rattle.search.proofs.keep.Statement.{statement}
 use Rattle.search.proofs.keep.Tie as tie
 
@@ -27,11 +29,15 @@ module _ (f f₁ f₂ g b : List ℕ) (N o : ℕ) (few : N ≤ mostCharts) (held
   size = h₂ .long ∙ h₁ .long ∙ held .bytes
 
   pub keeps-held : Held f₃ (set g 0 o)
-  keeps-held = record { bytes = length-set (set f₂ hasCell 1) agreeCell 1 ∙ length-set f₂ hasCell 1 ∙ size; output = length-set g 0 o ∙ held .output }
+  keeps-held = record {
+    bytes = length-set (set f₂ hasCell 1) agreeCell 1 ∙ length-set f₂ hasCell 1 ∙ size;
+    output = length-set g 0 o ∙ held .output;
+  }
 
   -- what stands before the two bytes
   before : (i : ℕ) → i < hasCell → getD f₃ i 0 ≡ getD f₂ i 0
-  before i l = getD-set-other (set f₂ hasCell 1) agreeCell i 1 0 (λ z. omega arith) ∙ getD-set-other f₂ hasCell i 1 0 (λ z. omega arith)
+  before i l = getD-set-other (set f₂ hasCell 1) agreeCell i 1 0 (λ z. omega arith)
+      ∙ getD-set-other f₂ hasCell i 1 0 (λ z. omega arith)
 
   has-is : same (getD f₃ hasCell 0) 1 ≡ true
   unfolding same
@@ -40,17 +46,20 @@ module _ (f f₁ f₂ g b : List ℕ) (N o : ℕ) (few : N ≤ mostCharts) (held
 
   agree-is : same (getD f₃ agreeCell 0) 1 ≡ true
   unfolding same
-  agree-is = let l : agreeCell < length (set f₂ hasCell 1) = omega (arith, size, length-set f₂ hasCell 1) in rw (getD-set-same (set f₂ hasCell 1) agreeCell 1 0 l)
+  agree-is = let l : agreeCell < length (set f₂ hasCell 1) = omega (arith, size, length-set f₂ hasCell 1) in
+      rw (getD-set-same (set f₂ hasCell 1) agreeCell 1 0 l)
 
   next-is : made mostCharts (λ c. getD f₃ (0 + c) 0) ≡ made N (nextIn b) ++ replicate (mostCharts - N) 0
   next-is =
       made-cong mostCharts (λ c. getD f₃ (0 + c) 0) (λ c. getD (columnIn b N 0 0) c 0)
       (λ c l. before (0 + c) (omega arith) ∙ h₂ .below (0 + c) (omega arith) ∙ h₁ .in-row c l)
-      ∙ made-list mostCharts (columnIn b N 0 0) (length-filled N (λ d. getD b (steps * d + 0) 0) 0 few) ∙ column-next b N 0
+      ∙ made-list mostCharts (columnIn b N 0 0) (length-filled N (λ d. getD b (steps * d + 0) 0) 0 few)
+      ∙ column-next b N 0
 
   places-are : made mostCharts (λ c. getD f₃ (placesCell + c) 0) ≡ columnIn b N 2 noPlace
   places-are =
-      made-cong mostCharts (λ c. getD f₃ (placesCell + c) 0) (λ c. getD (columnIn b N 2 noPlace) c 0) (λ c l. before (placesCell + c) (omega arith) ∙ h₂ .in-row c l)
+      made-cong mostCharts (λ c. getD f₃ (placesCell + c) 0) (λ c. getD (columnIn b N 2 noPlace) c 0)
+      (λ c l. before (placesCell + c) (omega arith) ∙ h₂ .in-row c l)
       ∙ made-list mostCharts (columnIn b N 2 noPlace) (length-filled N (placeIn b) noPlace few)
 
   pub keeps-first : foundIn f₃ (set g 0 o) ≡ firstFound (outcomeIn b N o)
@@ -62,8 +71,10 @@ returns c =
     let p = c .before .before in
     let s = p .before .before in
     let a = s .args in (
-      keeps-held _ _ _ _ (a .moves .now) (a .charts) _ (s .pre .1) (s .pre .0) (p .put-column .ensures) (c .put-column2 .ensures),
-      keeps-first _ _ _ _ (a .moves .now) (a .charts) _ (s .pre .1) (s .pre .0) (p .put-column .ensures) (c .put-column2 .ensures),
+      keeps-held _ _ _ _ (a .moves .now) (a .charts) _ (s .pre .1) (s .pre .0) (p .put-column .ensures)
+          (c .put-column2 .ensures),
+      keeps-first _ _ _ _ (a .moves .now) (a .charts) _ (s .pre .1) (s .pre .0) (p .put-column .ensures)
+          (c .put-column2 .ensures),
     )
 
 put-column-requires : tie.Need-put-column-requires
@@ -76,4 +87,5 @@ put-column-requires-2 c κs =
     (p .put-column .ensures .long ∙ s .pre .0 .bytes, omega arith, s .pre .1, omega arith)
 
 pub keep-spec : {M : Type 1} → statement M
-keep-spec = tie.close (tie.spec put-column-requires put-column-requires-2 (λ c. search needs) (λ c. search needs) (λ c. search needs) returns)
+keep-spec = tie.close (tie.spec put-column-requires put-column-requires-2 (λ c. search needs) (λ c. search needs)
+    (λ c. search needs) returns)

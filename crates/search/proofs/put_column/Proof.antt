@@ -12,7 +12,8 @@ use Rattle.search.proofs.put_column.Statement.{statement}
 use Rattle.search.proofs.put_column.Tie as tie
 
 abbrev Inv-loop : tie.InvT-loop
-Inv-loop best₀ at moves charts column filler c₀ best c = (c ≤ mostCharts) × RowAt at c (λ d. getD (columnIn moves charts column filler) d 0) best₀ best
+Inv-loop best₀ at moves charts column filler c₀ best c =
+    (c ≤ mostCharts) × RowAt at c (λ d. getD (columnIn moves charts column filler) d 0) best₀ best
 
 abbrev μ-loop : tie.MeasureT-loop
 μ-loop best₀ at moves charts column filler c₀ best c = mostCharts - c
@@ -36,5 +37,6 @@ returns c =
 pub put-column-spec : {M : Type 1} → statement M
 put-column-spec =
     tie.close
-    (tie.spec Inv-loop μ-loop loop-holds (λ c κs. search needs) (λ c. omega arith) (λ c. omega arith) (λ c. omega arith) (λ c. omega arith) loop-again
+    (tie.spec Inv-loop μ-loop loop-holds (λ c κs. search needs) (λ c. omega arith) (λ c. omega arith) (λ c. omega arith)
+    (λ c. omega arith) loop-again
     returns)

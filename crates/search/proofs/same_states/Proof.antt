@@ -40,7 +40,8 @@ module _ (f b : List ℕ) (N : ℕ) where
   none c few l h = let n = next-long few in h ∙ eqList-end next first c (omega arith) (omega (arith, first-long))
 
   -- the next one, x, was compared
-  module _ (c : ℕ) (few : N ≤ mostCharts) (l : c < mostCharts) (x : ℕ) (e : x ≡ getD (columnIn b N 0 0) c 0) (h : Left c) where
+  module _ (c : ℕ) (few : N ≤ mostCharts) (l : c < mostCharts) (x : ℕ) (e : x ≡ getD (columnIn b N 0 0) c 0)
+      (h : Left c) where
     next-at : getD next c 0 ≡ x
     next-at = sym (e ∙ ap (λ (r : List ℕ). getD r c 0) (column-next b N 0))
 
@@ -48,10 +49,12 @@ module _ (f b : List ℕ) (N : ℕ) where
     first-at = getD-made mostCharts (λ d. getD f (0 + d) 0) c l ∙ ap (λ (i : ℕ). getD f i 0) (zero-add c)
 
     more : x ≡ getD f c 0 → Left (c + 1)
-    more q = h ∙ eqList-more next first c (omega (arith, next-long few)) (omega (arith, first-long)) (next-at ∙ q ∙ sym first-at)
+    more q = h ∙ eqList-more next first c (omega (arith, next-long few)) (omega (arith, first-long))
+        (next-at ∙ q ∙ sym first-at)
 
     differ : (x ≡ getD f c 0 → ⊥) → eqList next first ≡ false
-    differ q = h ∙ eqList-differ next first c (omega (arith, next-long few)) (omega (arith, first-long)) (λ z. q (sym next-at ∙ z ∙ first-at))
+    differ q = h ∙ eqList-differ next first c (omega (arith, next-long few)) (omega (arith, first-long))
+        (λ z. q (sym next-at ∙ z ∙ first-at))
 
 abbrev Inv-loop : tie.InvT-loop
 Inv-loop best moves charts c₀ c = (c ≤ mostCharts) × Left best moves charts c
@@ -67,8 +70,11 @@ loop-again c =
     let i = c .before .before .before in
     let l = i .before .loop in
     let s = i .before .before in
-    let a = s .args in
-    (omega arith, more (a .best .now) (a .moves .now) (a .charts) (l .c) (s .pre) (i .loop-test .taken) _ (c .before .entry .ensures) (l .inv .1) (c .if1 .left))
+    let a = s .args in (
+      omega arith,
+      more (a .best .now) (a .moves .now) (a .charts) (l .c) (s .pre) (i .loop-test .taken) _
+          (c .before .entry .ensures) (l .inv .1) (c .if1 .left),
+    )
 
 returns : tie.Need-returns Inv-loop μ-loop
 returns c o g =
@@ -76,7 +82,8 @@ returns c o g =
     let l = i .before .loop in
     let s = i .before .before in
     let a = s .args in
-    sym (differ (a .best .now) (a .moves .now) (a .charts) (l .c) (s .pre) (i .loop-test .taken) _ (c .before .entry .ensures) (l .inv .1) (c .if1 .taken))
+    sym (differ (a .best .now) (a .moves .now) (a .charts) (l .c) (s .pre) (i .loop-test .taken) _
+    (c .before .entry .ensures) (l .inv .1) (c .if1 .taken))
 
 returns-2 : tie.Need-returns-2 Inv-loop μ-loop
 returns-2 c o g =
@@ -88,4 +95,5 @@ returns-2 c o g =
 pub same-states-spec : {M : Type 1} → statement M
 same-states-spec =
     tie.close
-    (tie.spec Inv-loop μ-loop loop-holds (λ c. omega arith) (λ c κs. search needs) returns (λ c. omega arith) (λ c. omega arith) loop-again returns-2)
+    (tie.spec Inv-loop μ-loop loop-holds (λ c. omega arith) (λ c κs. search needs) returns (λ c. omega arith)
+    (λ c. omega arith) loop-again returns-2)

@@ -1,4 +1,5 @@
--- `search::settle` meets its contract: a law for each way through the definition. Where the next one differs, the last byte alone is written.
+-- `search::settle` meets its contract: a law for each way through the definition. Where the next one differs, the last
+-- byte alone is written.
 use mathlib.Core.Path.{_≡_, sym, _∙_}
 use mathlib.Core.Bool.{true, false, and-false}
 use mathlib.Core.List.{List}
@@ -27,7 +28,8 @@ module _ (o : Outcome) (acc : Found) where
   again h e q = rw (h, eq-eqb (o .output) (acc .output) e, q)
 
   abbrev Differs : Type 0
-  Differs = record { has = acc .has; agree = false; output = acc .output; next = acc .next; places = acc .places } ≡ settleOf o acc
+  Differs = record { has = acc .has; agree = false; output = acc .output; next = acc .next; places = acc .places }
+      ≡ settleOf o acc
 
   other-next : acc .has ≡ true → eqList (o .next) (acc .next) ≡ false → Differs
   unfolding settleOf same
@@ -43,14 +45,22 @@ module _ (f g : List ℕ) (held : Held f g) where
   written-held x = record { bytes = length-set f agreeCell x ∙ held .bytes; output = held .output }
 
   off : foundIn (set f agreeCell 0) g
-      ≡ record { has = foundIn f g .has; agree = false; output = foundIn f g .output; next = foundIn f g .next; places = foundIn f g .places }
+      ≡ record {
+        has = foundIn f g .has;
+        agree = false;
+        output = foundIn f g .output;
+        next = foundIn f g .next;
+        places = foundIn f g .places;
+      }
   unfolding same
   off = let l : agreeCell < length f = omega (arith, held .bytes) in
       rw (
         getD-set-same f agreeCell 0 0 l,
         getD-set-other f agreeCell hasCell 0 0 (λ z. omega arith),
-        made-cong mostCharts (λ c. getD (set f agreeCell 0) (0 + c) 0) (λ c. getD f (0 + c) 0) (λ c p. getD-set-other f agreeCell (0 + c) 0 0 (λ z. omega arith)),
-        made-cong mostCharts (λ c. getD (set f agreeCell 0) (placesCell + c) 0) (λ c. getD f (placesCell + c) 0) (λ c p. getD-set-other f agreeCell (placesCell + c) 0 0 (λ z. omega arith)),
+        made-cong mostCharts (λ c. getD (set f agreeCell 0) (0 + c) 0) (λ c. getD f (0 + c) 0)
+            (λ c p. getD-set-other f agreeCell (0 + c) 0 0 (λ z. omega arith)),
+        made-cong mostCharts (λ c. getD (set f agreeCell 0) (placesCell + c) 0) (λ c. getD f (placesCell + c) 0)
+            (λ c p. getD-set-other f agreeCell (placesCell + c) 0 0 (λ z. omega arith)),
       )
 
 found-none : (x : ℕ) → (x ≡ 1 → ⊥) → same x 1 ≡ false
@@ -67,7 +77,8 @@ returns c =
     let a = k .before .before .args in (
       c .keep .ensures .0,
       c .keep .ensures .1
-          ∙ first (outcomeIn (a .moves .now) (a .charts) (a .output)) (foundIn (a .best .now) (a .shown .now)) (found-none _ (k .if1 .taken)),
+          ∙ first (outcomeIn (a .moves .now) (a .charts) (a .output)) (foundIn (a .best .now) (a .shown .now))
+          (found-none _ (k .if1 .taken)),
     )
 
 returns-2 : tie.Need-returns-2
@@ -77,7 +88,8 @@ returns-2 c =
     let s = k .before .before in
     let a = s .args in (
       s .pre .0,
-      again (outcomeIn (a .moves .now) (a .charts) (a .output)) (foundIn (a .best .now) (a .shown .now)) (found-one _ (k .if1 .left)) (n .if2 .taken)
+      again (outcomeIn (a .moves .now) (a .charts) (a .output)) (foundIn (a .best .now) (a .shown .now))
+          (found-one _ (k .if1 .left)) (n .if2 .taken)
           (sym (c .before .same-states .ensures (a .output) (a .shown .now)) ∙ c .if3 .taken),
     )
 
@@ -91,7 +103,8 @@ returns-3 c =
       written-held (a .best .now) (a .shown .now) (s .pre .0) _,
       off (a .best .now) (a .shown .now) (s .pre .0)
           ∙ ⊎-elim
-          (λ w. other-next o acc (found-one _ (k .if1 .left)) (sym (w .2 .ensures (a .output) (a .shown .now)) ∙ w .3 .left))
+          (λ w. other-next o acc (found-one _ (k .if1 .left))
+          (sym (w .2 .ensures (a .output) (a .shown .now)) ∙ w .3 .left))
           (λ w. other-output o acc (found-one _ (k .if1 .left)) (w .left))
           (c .if2 .came),
     )
@@ -99,4 +112,5 @@ returns-3 c =
 pub settle-spec : {M : Type 1} → statement M
 settle-spec =
     tie.close
-    (tie.spec (λ c. search needs) (λ c κs. search needs) returns (λ c. search needs) (λ c κs. search needs) returns-2 (λ c. search needs) returns-3)
+    (tie.spec (λ c. search needs) (λ c κs. search needs) returns (λ c. search needs) (λ c κs. search needs) returns-2
+    (λ c. search needs) returns-3)

@@ -14,7 +14,8 @@ use Rattle.settling.proofs.all_calm.Statement.{statement}
 use Rattle.settling.proofs.all_calm.Tie as tie
 
 abbrev Inv-loop : tie.InvT-loop
-Inv-loop masks guards stays trail moves k d₀ d = (d ≤ k) × ((s : List ℕ) (o : ℕ) → every d (calmAt masks s guards stays (trailIn trail moves k o) k) ≡ true)
+Inv-loop masks guards stays trail moves k d₀ d =
+    (d ≤ k) × ((s : List ℕ) (o : ℕ) → every d (calmAt masks s guards stays (trailIn trail moves k o) k) ≡ true)
 
 abbrev μ-loop : tie.MeasureT-loop
 μ-loop masks guards stays trail moves k d₀ d = k - d
@@ -28,7 +29,8 @@ returns c s o =
     sym (calm-all _ s _ _ (e .pre .1) (sym (c .before .some-stay .ensures) ∙ c .if1 .taken) _ (e .args .k) (e .pre .2))
 
 calm-requires : tie.Need-calm-requires Inv-loop μ-loop
-calm-requires c κs = let e = c .before .before .before .before .before .before .before .before in (e .pre .0, e .pre .1, e .pre .2, omega arith, e .pre .3)
+calm-requires c κs = let e = c .before .before .before .before .before .before .before .before in
+    (e .pre .0, e .pre .1, e .pre .2, omega arith, e .pre .3)
 
 returns-2 : tie.Need-returns-2 Inv-loop μ-loop
 returns-2 c s o =
@@ -37,7 +39,11 @@ returns-2 c s o =
     sym (every-off k _ (l .d) (omega arith) (sym (c .before .calm .ensures s o) ∙ not-true _ (c .if2 .taken)))
 
 loop-again : tie.Need-loop-again Inv-loop μ-loop
-loop-again c = (omega arith, λ s o. every-next (c .before .before .before .loop .d) _ (c .before .before .before .loop .inv .1 s o) (sym (c .before .calm .ensures s o) ∙ not-false _ (c .if2 .left)))
+loop-again c = (
+  omega arith,
+  λ s o. every-next (c .before .before .before .loop .d) _ (c .before .before .before .loop .inv .1 s o)
+      (sym (c .before .calm .ensures s o) ∙ not-false _ (c .if2 .left)),
+)
 
 returns-3 : tie.Need-returns-3 Inv-loop μ-loop
 returns-3 c s o =
@@ -48,4 +54,5 @@ returns-3 c s o =
 
 pub all-calm-spec : {M : Type 1} → statement M
 all-calm-spec =
-    tie.close (tie.spec Inv-loop μ-loop (λ c κs. c .before .before .before .before .pre .1 .small) returns loop-holds calm-requires returns-2 (λ c. omega arith) (λ c. omega arith) loop-again returns-3)
+    tie.close (tie.spec Inv-loop μ-loop (λ c κs. c .before .before .before .before .pre .1 .small) returns loop-holds
+    calm-requires returns-2 (λ c. omega arith) (λ c. omega arith) loop-again returns-3)

@@ -41,7 +41,8 @@ loop-again c =
     let w = a .trail .now in (
       omega arith,
       join-more (l .d) (wantsIn m w (a .k)) _ _ (l .inv .1) (rw (less, needs, ahead, bars, low) refl),
-      join-more (l .d) (bansIn m w (a .k)) _ _ (l .inv .2) (rw (c .less2 .ensures, less, needs, ahead, bars, back, low) refl),
+      join-more (l .d) (bansIn m w (a .k)) _ _ (l .inv .2)
+          (rw (c .less2 .ensures, less, needs, ahead, bars, back, low) refl),
     )
 
 returns : tie.Need-returns Inv-loop μ-loop
@@ -54,5 +55,6 @@ returns c =
 pub asks-spec : {M : Type 1} → statement M
 asks-spec =
     tie.close
-    (tie.spec Inv-loop μ-loop loop-holds (λ c κs. search needs) (λ c κs. search needs) (λ c. omega arith) (λ c κs. search needs) (λ c κs. search needs)
+    (tie.spec Inv-loop μ-loop loop-holds (λ c κs. search needs) (λ c κs. search needs) (λ c. omega arith)
+    (λ c κs. search needs) (λ c κs. search needs)
     (λ c κs. tt) (λ c κs. search needs) (λ c κs. tt) (λ c. omega arith) (λ c. omega arith) loop-again returns)

@@ -23,7 +23,8 @@ something (Missing s) k = refl
 something (There s) k = refl
 
 returns : tie.Need-returns
-returns c = something (c .before .look .result) (c .match .keys2) ∙ ap isNothing (c .before .look .ensures) ∙ nothing-is _ _ _ _
+returns c =
+    something (c .before .look .result) (c .match .keys2) ∙ ap isNothing (c .before .look .ensures) ∙ nothing-is _ _ _ _
 
 returns-2 : tie.Need-returns-2
 returns-2 c = ap isNothing (sym (c .enum-told .given .1) ∙ c .before .before .look .ensures) ∙ nothing-is _ _ _ _

@@ -18,7 +18,8 @@ idles : (m s w b : List ℕ) (k z t : ℕ) {w₁ b₁ w′ : List ℕ} {x : ℕ}
     w₁ ≡ putAsked w k 0 0 → x ≡ stateAt s k → b₁ ≡ putMove b k x z t → Lowers m 0 k w₁ w′ → Idles z t s k w b w′ b₁
 idles m s w b k z t {w′ = w′} room few ew ex eb h =
     let l : Lowers m 0 k (putAsked w k 0 0) w′ = rw ew at h in
-    rw (eb, ex) (record { kept = written-keeps m w b w′ k _ _ _ _ _ _ room few l; grown = idle-in m s w b w′ k z t room few l })
+    rw (eb, ex)
+    (record { kept = written-keeps m w b w′ k _ _ _ _ _ _ room few l; grown = idle-in m s w b w′ k z t room few l })
 
 lower-requires : tie.Need-lower-requires
 lower-requires c κs =
@@ -33,9 +34,11 @@ returns c =
     let t = p .before .before in
     let q = t .before .before .before in
     let e = q .before .before .before .before .before in
-    idles (e .args .masks .now) (e .args .small .now) (e .args .trail .now) (e .args .moves .now) (e .args .k) (e .args .active) (e .args .place) (e .pre .2) (e .pre .3)
+    idles (e .args .masks .now) (e .args .small .now) (e .args .trail .now) (e .args .moves .now) (e .args .k)
+    (e .args .active) (e .args .place) (e .pre .2) (e .pre .3)
     (q .put-asked .ensures) (t .state .ensures) (p .put .ensures) (l .lower .ensures)
 
 pub idle-spec : {M : Type 1} → statement M
 idle-spec =
-    tie.close (tie.spec (λ c κs. search needs) (λ c κs. search needs) (λ c κs. search needs) lower-requires (λ c. search needs) returns)
+    tie.close (tie.spec (λ c κs. search needs) (λ c κs. search needs) (λ c κs. search needs) lower-requires
+    (λ c. search needs) returns)

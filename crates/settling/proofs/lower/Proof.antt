@@ -23,8 +23,10 @@ returns c =
       rows =
           λ d l.
           c .before .before .put-row .ensures .row d l ∙ ap (λ (x : List ℕ). getD x d 0) (r .lowered .ensures)
-          ∙ getD-made mostCharts (λ e. lowIn (a .trail .now) (a .k) e ∪ a .action ∩ backAt (a .masks .now) e (a .k)) d l;
+          ∙ getD-made mostCharts
+          (λ e. lowIn (a .trail .now) (a .k) e ∪ a .action ∩ backAt (a .masks .now) e (a .k)) d l;
     }
 
 pub lower-spec : {M : Type 1} → statement M
-lower-spec = tie.close (tie.spec (λ c κs. search needs) (λ c. search needs) (λ c κs. search needs) (λ c. search needs) returns)
+lower-spec =
+    tie.close (tie.spec (λ c κs. search needs) (λ c. search needs) (λ c κs. search needs) (λ c. search needs) returns)

@@ -15,7 +15,8 @@ use Rattle.settling.proofs.lowered.Statement.{statement}
 use Rattle.settling.proofs.lowered.Tie as tie
 
 abbrev Inv-loop : tie.InvT-loop
-Inv-loop masks trail action k row₀ c₀ row c = (c ≤ mostCharts) × (row ≡ made c (λ d. lowIn trail k d ∪ action ∩ backAt masks d k) ++ replicate (mostCharts - c) 0)
+Inv-loop masks trail action k row₀ c₀ row c =
+    (c ≤ mostCharts) × (row ≡ made c (λ d. lowIn trail k d ∪ action ∩ backAt masks d k) ++ replicate (mostCharts - c) 0)
 
 abbrev μ-loop : tie.MeasureT-loop
 μ-loop masks trail action k row₀ c₀ row c = mostCharts - c
@@ -30,7 +31,8 @@ loop-again c =
     let l = t .loop in
     let a = t .before .before .before .args in
     let f : ℕ → ℕ = λ d. lowIn (a .trail .now) (a .k) d ∪ a .action ∩ backAt (a .masks .now) d (a .k) in
-    let e : c .before .low .result ∪ a .action ∩ c .back .result ≡ f (l .c) = ap₂ (λ (x y : ℕ). x ∪ a .action ∩ y) (c .before .low .ensures) (c .back .ensures) in
+    let e : c .before .low .result ∪ a .action ∩ c .back .result ≡ f (l .c) =
+    ap₂ (λ (x y : ℕ). x ∪ a .action ∩ y) (c .before .low .ensures) (c .back .ensures) in
     (omega arith, ap (set (l .row) (l .c)) e ∙ made-filled 0 f (l .c) (l .row) (omega arith) (l .inv .1))
 
 returns : tie.Need-returns Inv-loop μ-loop
@@ -39,5 +41,6 @@ returns c = let e : c .before .loop .c ≡ mostCharts = omega arith in rw e at (
 pub lowered-spec : {M : Type 1} → statement M
 lowered-spec =
     tie.close
-    (tie.spec Inv-loop μ-loop loop-holds (λ c κs. search needs) (λ c κs. search needs) (λ c. omega arith) (λ c. omega arith) (λ c. omega arith) (λ c. omega arith)
+    (tie.spec Inv-loop μ-loop loop-holds (λ c κs. search needs) (λ c κs. search needs) (λ c. omega arith)
+    (λ c. omega arith) (λ c. omega arith) (λ c. omega arith)
     loop-again returns)

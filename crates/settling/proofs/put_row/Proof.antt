@@ -29,8 +29,11 @@ loop-again c =
     let t = c .before .before .before .before .before in
     let l = t .loop in
     let b = t .before .before in
-    let n : trailFor (b .args .k) ≤ length (l .trail) = rw (l .inv .1 .long) (b .pre .0) in
-    (omega arith, rw (c .before .before .put-low .ensures) (row-more (width * b .args .k) (l .c) _ _ (b .args .trail .now) (l .trail) (omega (arith, n)) refl (l .inv .1)))
+    let n : trailFor (b .args .k) ≤ length (l .trail) = rw (l .inv .1 .long) (b .pre .0) in (
+      omega arith,
+      rw (c .before .before .put-low .ensures) (row-more (width * b .args .k) (l .c) _ _ (b .args .trail .now)
+          (l .trail) (omega (arith, n)) refl (l .inv .1)),
+    )
 
 returns : tie.Need-returns Inv-loop μ-loop
 returns c =
@@ -42,5 +45,6 @@ returns c =
 pub put-row-spec : {M : Type 1} → statement M
 put-row-spec =
     tie.close
-    (tie.spec Inv-loop μ-loop loop-holds (λ c. omega arith) (λ c. omega arith) put-low-requires (λ c. omega arith) (λ c. omega arith) loop-again
+    (tie.spec Inv-loop μ-loop loop-holds (λ c. omega arith) (λ c. omega arith) put-low-requires (λ c. omega arith)
+    (λ c. omega arith) loop-again
     (λ c. c .before .loop .inv .1 .long) returns)

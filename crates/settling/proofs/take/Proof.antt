@@ -15,11 +15,14 @@ use Rattle.settling.proofs.take.Tie as tie
 
 -- what was read is candidate v, and what was written is chart k's
 takes : (m s w b : List ℕ) (k v : ℕ) {w₁ b₁ w′ : List ℕ} {n r x t a : ℕ} → Room (k + 1) w b → k < mostCharts →
-    n ≡ neededAt m k v → r ≡ barredAt m k v → w₁ ≡ putAsked w k n r → x ≡ toAt s k v → t ≡ placeAt s k v → b₁ ≡ putMove b k x 1 t → a ≡ actionAt m k v →
+    n ≡ neededAt m k v → r ≡ barredAt m k v → w₁ ≡ putAsked w k n r → x ≡ toAt s k v → t ≡ placeAt s k v
+    → b₁ ≡ putMove b k x 1 t → a ≡ actionAt m k v →
     Lowers m a k w₁ w′ → Takes m s k v w b w′ b₁
 takes m s w b k v {w′ = w′} room few en er ew ex et eb ea h =
-    let l : Lowers m (actionAt m k v) k (putAsked w k (neededAt m k v) (barredAt m k v)) w′ = rw (ea, ew, en, er) at h in
-    rw (eb, ex, et) (record { kept = written-keeps m w b w′ k _ _ _ _ _ _ room few l; grown = take-in m s w b w′ k v room few l })
+    let l : Lowers m (actionAt m k v) k (putAsked w k (neededAt m k v) (barredAt m k v)) w′ =
+    rw (ea, ew, en, er) at h in
+    rw (eb, ex, et)
+    (record { kept = written-keeps m w b w′ k _ _ _ _ _ _ room few l; grown = take-in m s w b w′ k v room few l })
 
 lower-requires : tie.Need-lower-requires
 lower-requires c κs =
@@ -36,12 +39,15 @@ returns c =
     let q = t .before .before .before .before in
     let r = q .before .before in
     let e = r .before .before .before .before .before in
-    takes (e .args .masks .now) (e .args .small .now) (e .args .trail .now) (e .args .moves .now) (e .args .k) (e .args .v) (e .pre .2) (e .pre .3)
-    (r .before .needed .ensures) (r .barred .ensures) (q .put-asked .ensures) (t .before .to .ensures) (t .place .ensures) (p .put .ensures) (a .action .ensures)
+    takes (e .args .masks .now) (e .args .small .now) (e .args .trail .now) (e .args .moves .now) (e .args .k)
+    (e .args .v) (e .pre .2) (e .pre .3)
+    (r .before .needed .ensures) (r .barred .ensures) (q .put-asked .ensures) (t .before .to .ensures)
+    (t .place .ensures) (p .put .ensures) (a .action .ensures)
     (l .lower .ensures)
 
 pub take-spec : {M : Type 1} → statement M
 take-spec =
     tie.close
-    (tie.spec (λ c κs. search needs) (λ c κs. search needs) (λ c κs. search needs) (λ c κs. search needs) (λ c κs. search needs) (λ c κs. search needs)
+    (tie.spec (λ c κs. search needs) (λ c κs. search needs) (λ c κs. search needs) (λ c κs. search needs)
+    (λ c κs. search needs) (λ c κs. search needs)
     (λ c κs. search needs) lower-requires (λ c. search needs) returns)

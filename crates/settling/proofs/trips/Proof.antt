@@ -32,7 +32,8 @@ loop-holds c = (omega arith, any-none _)
 tested : (c : tie.After-holds Inv-loop μ-loop) →
     let l = c .before .before .before .before in
     let a = l .before .before .args in
-    (within (triggerNeeded (a .guards .now) (a .d) (l .loop .v)) (a .low) && apart (triggerBarred (a .guards .now) (a .d) (l .loop .v)) (a .high)) ≡ c .holds .result
+    (within (triggerNeeded (a .guards .now) (a .d) (l .loop .v)) (a .low)
+    && apart (triggerBarred (a .guards .now) (a .d) (l .loop .v)) (a .high)) ≡ c .holds .result
 tested c =
     let barred = c .before .barred .ensures in
     let needed = c .before .before .needed .ensures in
@@ -51,7 +52,8 @@ loop-again c =
     let l = c .before .before .before .before .before in
     let a = l .before .before .args in (
       omega arith,
-      any-more (l .loop .v) (one (a .guards .now) (a .d) (a .low) (a .high)) (l .loop .inv .1) (guard-is _ _ _ _ ∙ tested (c .before) ∙ c .if1 .left),
+      any-more (l .loop .v) (one (a .guards .now) (a .d) (a .low) (a .high)) (l .loop .inv .1)
+          (guard-is _ _ _ _ ∙ tested (c .before) ∙ c .if1 .left),
     )
 
 returns-2 : tie.Need-returns-2 Inv-loop μ-loop
@@ -64,5 +66,6 @@ returns-2 c =
 pub trips-spec : {M : Type 1} → statement M
 trips-spec =
     tie.close
-    (tie.spec Inv-loop μ-loop loop-holds (λ c κs. search needs) (λ c κs. search needs) (λ c κs. search needs) returns (λ c. omega arith) (λ c. omega arith)
+    (tie.spec Inv-loop μ-loop loop-holds (λ c κs. search needs) (λ c κs. search needs) (λ c κs. search needs) returns
+    (λ c. omega arith) (λ c. omega arith)
     loop-again returns-2)

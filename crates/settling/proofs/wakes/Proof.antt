@@ -24,13 +24,15 @@ module _ (m s w b : List ℕ) (k o : ℕ) where
         ≡ (same (awakeIn b (masterAt s k)) 1
         && (same (stateAt s (masterAt s k)) (slaveStateAt s k) || same (nextIn b (masterAt s k)) (slaveStateAt s k)))
     unfolding wakes trailIn
-    inside = rw (lt-ltb (masterAt s k) k h, getD-made k (awakeIn b) (masterAt s k) h, getD-made k (nextIn b) (masterAt s k) h)
+    inside = rw
+        (lt-ltb (masterAt s k) k h, getD-made k (awakeIn b) (masterAt s k) h, getD-made k (nextIn b) (masterAt s k) h)
 
     asleep : (awakeIn b (masterAt s k) ≡ 1 → ⊥) → false ≡ wakes m s (trailIn w b k o) k
     unfolding same
     asleep e = rw (inside, ne-eqb _ _ e)
 
-    before : awakeIn b (masterAt s k) ≡ 1 → stateAt s (masterAt s k) ≡ slaveStateAt s k → true ≡ wakes m s (trailIn w b k o) k
+    before : awakeIn b (masterAt s k) ≡ 1 → stateAt s (masterAt s k) ≡ slaveStateAt s k
+        → true ≡ wakes m s (trailIn w b k o) k
     unfolding same
     before e f = rw (inside, eq-eqb _ _ e, eq-eqb _ _ f)
 
@@ -40,7 +42,8 @@ module _ (m s w b : List ℕ) (k o : ℕ) where
     after e f = rw (inside, eq-eqb _ _ e, ne-eqb _ _ f)
 
 -- what was read is what stands there
-master-is : (c : tie.After-master) → c .master .result ≡ masterAt (c .before .before .args .small .now) (c .before .before .args .k)
+master-is : (c : tie.After-master)
+    → c .master .result ≡ masterAt (c .before .before .args .small .now) (c .before .before .args .k)
 master-is c = c .master .ensures
 
 returns : tie.Need-returns
@@ -48,7 +51,8 @@ returns c m w o =
     let a = c .before in
     let r = a .before .before in
     let z = master-is r in
-    asleep m _ w _ _ o (rw z at (a .before .if1 .taken)) (λ e. c .if2 .taken (a .awake .ensures ∙ ap (awakeIn (r .before .before .args .moves .now)) z ∙ e))
+    asleep m _ w _ _ o (rw z at (a .before .if1 .taken))
+    (λ e. c .if2 .taken (a .awake .ensures ∙ ap (awakeIn (r .before .before .args .moves .now)) z ∙ e))
 
 -- the master is active, and where it was and is
 module _ (c : tie.After-next) where
@@ -68,7 +72,8 @@ module _ (c : tie.After-next) where
   lower = rw (master-is tested) at (c .before .before .before .before .before .if1 .taken)
 
   active : awakeIn moves (masterAt small chart) ≡ 1
-  active = ap (awakeIn moves) (sym (master-is tested)) ∙ sym (c .before .before .before .before .awake .ensures) ∙ c .before .before .before .if2 .left
+  active = ap (awakeIn moves) (sym (master-is tested)) ∙ sym (c .before .before .before .before .awake .ensures)
+      ∙ c .before .before .before .if2 .left
 
   was : c .before .state .result ≡ stateAt small (masterAt small chart)
   was = c .before .state .ensures ∙ ap (stateAt small) (master-is tested)
@@ -94,5 +99,6 @@ returns-4 c m w o = outside m _ w _ _ o (rw (master-is (c .before)) at (c .if1 .
 pub wakes-spec : {M : Type 1} → statement M
 wakes-spec =
     tie.close
-    (tie.spec (λ c κs. search needs) (λ c κs. search needs) returns (λ c κs. search needs) (λ c κs. search needs) (λ c κs. search needs) returns-2 returns-3
+    (tie.spec (λ c κs. search needs) (λ c κs. search needs) returns (λ c κs. search needs) (λ c κs. search needs)
+    (λ c κs. search needs) returns-2 returns-3
     returns-4)

@@ -1,6 +1,6 @@
--- Laws of what settled charts ask of the next chart's action: that it is met exactly if each of them can still be met (`asked`, `asked-none`), and
--- so for a candidate of the next chart (`fine-taken`) and for one that is inactive (`fine-rested`); that it cannot be met where it contradicts
--- itself (`asked-never`).
+-- Laws of what settled charts ask of the next chart's action: that it is met exactly if each of them can still be met
+-- (`asked`, `asked-none`), and so for a candidate of the next chart (`fine-taken`) and for one that is inactive
+-- (`fine-rested`); that it cannot be met where it contradicts itself (`asked-never`).
 use mathlib.Core.Path.{_≡_, refl, sym, ap, ap₂, _∙_}
 use mathlib.Core.Bool.{Bool, true, false, _&&_}
 use mathlib.Core.List.{List, [], _∷_}
@@ -37,7 +37,10 @@ abbrev pub met : ℕ → ℕ → ℕ → Bool
 met n r a = within n a && apart r a
 
 both : (a b c d : ℕ) → (eqb (a ∖ b) 0 && eqb (c ∩ d) 0) ≡ true → (a ∖ b ≡ 0) × (c ∩ d ≡ 0)
-both a b c d e = (eqb-true (a ∖ b) 0 (and-l (eqb (a ∖ b) 0) (eqb (c ∩ d) 0) e), eqb-true (c ∩ d) 0 (and-r (eqb (a ∖ b) 0) (eqb (c ∩ d) 0) e))
+both a b c d e = (
+  eqb-true (a ∖ b) 0 (and-l (eqb (a ∖ b) 0) (eqb (c ∩ d) 0) e),
+  eqb-true (c ∩ d) 0 (and-r (eqb (a ∖ b) 0) (eqb (c ∩ d) 0) e),
+)
 
 -- ── what is asked is met ──
 
@@ -51,9 +54,11 @@ module _ (n r l h b a g q : ℕ) where
           let x = both n (l ∪ a ∩ b ∪ h) r (l ∪ a ∩ b) (and-l (may n r (l ∪ a ∩ b) h) _ e) in
           let y = both g a q a (and-r (may n r (l ∪ a ∩ b) h) _ e) in
           and-i
-          (eq-eqb _ _ (sets (n ∷ r ∷ l ∷ h ∷ b ∷ a ∷ g ∷ q ∷ []) (A ⊑ C ∪ₑ F ∩ₑ E ∪ₑ D ∷ B ⊥ₑ (C ∪ₑ F ∩ₑ E) ∷ G ⊑ F ∷ H ⊥ₑ F ∷ [])
+          (eq-eqb _ _
+          (sets (n ∷ r ∷ l ∷ h ∷ b ∷ a ∷ g ∷ q ∷ []) (A ⊑ C ∪ₑ F ∩ₑ E ∪ₑ D ∷ B ⊥ₑ (C ∪ₑ F ∩ₑ E) ∷ G ⊑ F ∷ H ⊥ₑ F ∷ [])
           (G ∪ₑ (A ∖ₑ (C ∪ₑ D) ∪ₑ B ∩ₑ C) ⊑ F) tt (x .0) (x .1) (y .0) (y .1)))
-          (eq-eqb _ _ (sets (n ∷ r ∷ l ∷ h ∷ b ∷ a ∷ g ∷ q ∷ []) (A ⊑ C ∪ₑ F ∩ₑ E ∪ₑ D ∷ B ⊥ₑ (C ∪ₑ F ∩ₑ E) ∷ G ⊑ F ∷ H ⊥ₑ F ∷ [])
+          (eq-eqb _ _
+          (sets (n ∷ r ∷ l ∷ h ∷ b ∷ a ∷ g ∷ q ∷ []) (A ⊑ C ∪ₑ F ∩ₑ E ∪ₑ D ∷ B ⊥ₑ (C ∪ₑ F ∩ₑ E) ∷ G ⊑ F ∷ H ⊥ₑ F ∷ [])
           ((H ∪ₑ (A ∖ₑ (C ∪ₑ D) ∖ₑ E ∪ₑ B ∩ₑ (C ∪ₑ E))) ⊥ₑ F) tt (x .0) (x .1) (y .0) (y .1)))
 
       back : met (g ∪ wants n r l h b) (q ∪ bans n r l h b) a ≡ true → (may n r (l ∪ a ∩ b) h && met g q a) ≡ true
@@ -62,9 +67,11 @@ module _ (n r l h b a g q : ℕ) where
           and-i
           (and-i
           (eq-eqb _ _ (sets (n ∷ r ∷ l ∷ h ∷ b ∷ a ∷ g ∷ q ∷ [])
-          (G ∪ₑ (A ∖ₑ (C ∪ₑ D) ∪ₑ B ∩ₑ C) ⊑ F ∷ (H ∪ₑ (A ∖ₑ (C ∪ₑ D) ∖ₑ E ∪ₑ B ∩ₑ (C ∪ₑ E))) ⊥ₑ F ∷ []) (A ⊑ C ∪ₑ F ∩ₑ E ∪ₑ D) tt (x .0) (x .1)))
+          (G ∪ₑ (A ∖ₑ (C ∪ₑ D) ∪ₑ B ∩ₑ C) ⊑ F ∷ (H ∪ₑ (A ∖ₑ (C ∪ₑ D) ∖ₑ E ∪ₑ B ∩ₑ (C ∪ₑ E))) ⊥ₑ F ∷ [])
+          (A ⊑ C ∪ₑ F ∩ₑ E ∪ₑ D) tt (x .0) (x .1)))
           (eq-eqb _ _ (sets (n ∷ r ∷ l ∷ h ∷ b ∷ a ∷ g ∷ q ∷ [])
-          (G ∪ₑ (A ∖ₑ (C ∪ₑ D) ∪ₑ B ∩ₑ C) ⊑ F ∷ (H ∪ₑ (A ∖ₑ (C ∪ₑ D) ∖ₑ E ∪ₑ B ∩ₑ (C ∪ₑ E))) ⊥ₑ F ∷ []) (B ⊥ₑ (C ∪ₑ F ∩ₑ E)) tt (x .0) (x .1))))
+          (G ∪ₑ (A ∖ₑ (C ∪ₑ D) ∪ₑ B ∩ₑ C) ⊑ F ∷ (H ∪ₑ (A ∖ₑ (C ∪ₑ D) ∖ₑ E ∪ₑ B ∩ₑ (C ∪ₑ E))) ⊥ₑ F ∷ [])
+          (B ⊥ₑ (C ∪ₑ F ∩ₑ E)) tt (x .0) (x .1))))
           (and-i
           (eq-eqb _ _ (sets (a ∷ g ∷ wants n r l h b ∷ []) (B ∪ₑ C ⊑ A ∷ []) (B ⊑ A) tt (x .0)))
           (eq-eqb _ _ (sets (a ∷ q ∷ bans n r l h b ∷ []) ((B ∪ₑ C) ⊥ₑ A ∷ []) (B ⊥ₑ A) tt (x .1))))
@@ -77,7 +84,8 @@ module _ (n r l h b g : ℕ) where
       there : (may n r l h && eqb g 0) ≡ true → eqb (g ∪ wants n r l h b) 0 ≡ true
       there e =
           let x = both n (l ∪ h) r l (and-l (may n r l h) _ e) in
-          eq-eqb _ _ (sets (n ∷ r ∷ l ∷ h ∷ g ∷ []) (A ⊑ C ∪ₑ D ∷ B ⊥ₑ C ∷ E ≐ ∅ₑ ∷ []) (E ∪ₑ (A ∖ₑ (C ∪ₑ D) ∪ₑ B ∩ₑ C) ≐ ∅ₑ) tt (x .0) (x .1)
+          eq-eqb _ _ (sets (n ∷ r ∷ l ∷ h ∷ g ∷ []) (A ⊑ C ∪ₑ D ∷ B ⊥ₑ C ∷ E ≐ ∅ₑ ∷ [])
+          (E ∪ₑ (A ∖ₑ (C ∪ₑ D) ∪ₑ B ∩ₑ C) ≐ ∅ₑ) tt (x .0) (x .1)
           (eqb-true _ _ (and-r (may n r l h) _ e)))
 
       back : eqb (g ∪ wants n r l h b) 0 ≡ true → (may n r l h && eqb g 0) ≡ true
@@ -107,7 +115,8 @@ module _ (n r l h b : ℕ → ℕ) where
   unfolding every unionUpTo
   asked-none zero = refl
   asked-none (suc k) =
-      ap (λ (z : Bool). may (n k) (r k) (l k) (h k) && z) (asked-none k) ∙ one-none (n k) (r k) (l k) (h k) (b k) (all-want k)
+      ap (λ (z : Bool). may (n k) (r k) (l k) (h k) && z) (asked-none k)
+      ∙ one-none (n k) (r k) (l k) (h k) (b k) (all-want k)
 
 -- what contradicts itself holds of no set
 pub asked-never : (n r a : ℕ) → apart n r ≡ false → met n r a ≡ false
@@ -130,7 +139,8 @@ asked-some n r h = go (eqb n 0) refl
         e ∙ (sym y ∙ h)
 
 -- what is asked stands in the beginning of k charts
-pub asks-kept : (m : List ℕ) {k : ℕ} {w b w′ b′ : List ℕ} → k < mostCharts → Keeps k w b w′ b′ → asksOf m w′ k ≡ asksOf m w k
+pub asks-kept : (m : List ℕ) {k : ℕ} {w b w′ b′ : List ℕ} → k < mostCharts → Keeps k w b w′ b′
+    → asksOf m w′ k ≡ asksOf m w k
 unfolding asksOf
 asks-kept m {k} {w} {b} {w′} {b′} few h =
     ap₂ (λ (x y : ℕ). record { needed = x; barred = y })
@@ -141,7 +151,11 @@ asks-kept m {k} {w} {b} {w′} {b′} few h =
         f (neededIn w′ d) (barredIn w′ d) (lowIn w′ k d) (aheadAt m (k + 1) d) (backAt m d k)
         ≡ f (neededIn w d) (barredIn w d) (lowIn w k d) (aheadAt m (k + 1) d) (backAt m d k)
     five f d l =
-        rw (h .masks .at (needsCell d) (omega arith), h .masks .at (barsCell d) (omega arith), h .masks .at (lowCell k d) (omega arith))
+        rw (
+          h .masks .at (needsCell d) (omega arith),
+          h .masks .at (barsCell d) (omega arith),
+          h .masks .at (lowCell k d) (omega arith),
+        )
 
 -- ── the next chart ──
 
@@ -150,7 +164,8 @@ may-eq p q u v = rw (p, q, u, v)
 
 -- the guard of chart k's candidate v can still be met
 abbrev pub ownAt : List ℕ → List ℕ → ℕ → ℕ → Bool
-ownAt m w k v = may (neededAt m k v) (barredAt m k v) (lowIn w k k ∪ actionAt m k v ∩ backAt m k k) (aheadAt m (k + 1) k)
+ownAt m w k v =
+    may (neededAt m k v) (barredAt m k v) (lowIn w k k ∪ actionAt m k v ∩ backAt m k k) (aheadAt m (k + 1) k)
 
 module _ (m s w b : List ℕ) (k o : ℕ) (few : k < mostCharts) where
   next-ahead : (d : ℕ) → aheadAt m (suc k) d ≡ aheadAt m (k + 1) d
@@ -171,14 +186,17 @@ module _ (m s w b : List ℕ) (k o : ℕ) (few : k < mostCharts) where
         getD-made mostCharts (λ c. getD (made mostCharts (lowIn w k)) c 0 ∪ action ∩ backAt m c k) d l
         ∙ ap (λ (x : ℕ). x ∪ action ∩ backAt m d k) (getD-made mostCharts (lowIn w k) d l)
 
-    pub fine-taken : fineAt m s (taken m s (trailIn w b k o) k v) k ≡ (ownAt m w k v && met (asksOf m w k .needed) (asksOf m w k .barred) action)
+    pub fine-taken : fineAt m s (taken m s (trailIn w b k o) k v) k
+        ≡ (ownAt m w k v && met (asksOf m w k .needed) (asksOf m w k .barred) action)
     unfolding fineAt every passesAt taken trailIn asksOf
     fine-taken =
         ap₂ _&&_
-        (may-eq (getD-last k (neededIn w) (neededAt m k v)) (getD-last k (barredIn w) (barredAt m k v)) (offered-is k few) (next-ahead k))
+        (may-eq (getD-last k (neededIn w) (neededAt m k v)) (getD-last k (barredIn w) (barredAt m k v))
+        (offered-is k few) (next-ahead k))
         (every-cong k _ _
         (λ d l. may-eq (getD-before k (neededIn w) (neededAt m k v) d l ∙ getD-made k (neededIn w) d l)
-        (getD-before k (barredIn w) (barredAt m k v) d l ∙ getD-made k (barredIn w) d l) (offered-is d (omega arith)) (next-ahead d))
+        (getD-before k (barredIn w) (barredAt m k v) d l ∙ getD-made k (barredIn w) d l) (offered-is d (omega arith))
+        (next-ahead d))
         ∙ asked (neededIn w) (barredIn w) (lowIn w k) (aheadAt m (k + 1)) (λ d. backAt m d k) action k)
 
   -- it is inactive: nothing is to be in its action
@@ -186,8 +204,10 @@ module _ (m s w b : List ℕ) (k o : ℕ) (few : k < mostCharts) where
   unfolding fineAt every passesAt idled trailIn asksOf
   fine-rested =
       ap₂ _&&_
-      (may-eq {l = getD (made mostCharts (lowIn w k)) k 0} {h = aheadAt m (suc k) k} (getD-last k (neededIn w) 0) (getD-last k (barredIn w) 0) refl refl
-      ∙ and-i (eq-eqb _ _ (sets (getD (made mostCharts (lowIn w k)) k 0 ∷ aheadAt m (suc k) k ∷ []) [] (∅ₑ ⊑ A ∪ₑ B) tt))
+      (may-eq {l = getD (made mostCharts (lowIn w k)) k 0} {h = aheadAt m (suc k) k} (getD-last k (neededIn w) 0)
+      (getD-last k (barredIn w) 0) refl refl
+      ∙ and-i
+      (eq-eqb _ _ (sets (getD (made mostCharts (lowIn w k)) k 0 ∷ aheadAt m (suc k) k ∷ []) [] (∅ₑ ⊑ A ∪ₑ B) tt))
       (eq-eqb _ _ (sets (getD (made mostCharts (lowIn w k)) k 0 ∷ []) [] (∅ₑ ⊥ₑ A) tt)))
       (every-cong k _ _
       (λ d l. may-eq (getD-before k (neededIn w) 0 d l ∙ getD-made k (neededIn w) d l)

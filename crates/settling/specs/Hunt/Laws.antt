@@ -1,5 +1,6 @@
--- Laws of what a search keeps. In order: `over`, which goes through a list of outcomes; `each`; that `over` gives the answer of the whole list
--- (`answer-over`); lists of outcomes that answer alike (`Alike`), and what may be left out of one.
+-- Laws of what a search keeps. In order: `over`, which goes through a list of outcomes; `each`; that `over` gives the
+-- answer of the whole list (`answer-over`); lists of outcomes that answer alike (`Alike`), and what may be left out of
+-- one.
 use mathlib.Core.Path.{_≡_, refl, sym, ap, ap₂, _∙_}
 use mathlib.Core.Bool.{Bool, true, false, _&&_, and-assoc, and-true}
 use mathlib.Core.Logic.{_⊎_, ⊎-elim}
@@ -31,7 +32,8 @@ pub record Stopped (f : Found) : Type 0 where
 settle-stopped : (o : Outcome) (f : Found) → Stopped f → settleOf o f ≡ f
 unfolding settleOf
 settle-stopped o f h =
-    ap (λ (b : Bool). pickFound b both (record { has = true; agree = true; output = o .output; next = o .next; places = o .places })) (h .has)
+    ap (λ (b : Bool). pickFound b both
+    (record { has = true; agree = true; output = o .output; next = o .next; places = o .places })) (h .has)
     ∙ either (same (o .output) (f .output) && eqList (o .next) (f .next))
   where
     off : Found
@@ -42,7 +44,9 @@ settle-stopped o f h =
 
     either : (b : Bool) → pickFound b f off ≡ f
     either true = refl
-    either false = ap₂ (λ (x y : Bool). record { has = x; agree = y; output = f .output; next = f .next; places = f .places }) (sym (h .has)) (sym (h .agree))
+    either false =
+        ap₂ (λ (x y : Bool). record { has = x; agree = y; output = f .output; next = f .next; places = f .places })
+        (sym (h .has)) (sym (h .agree))
 
 -- nothing more can change
 pub over-stopped : (os : List Outcome) (f : Found) → Stopped f → over os f ≡ f
@@ -63,10 +67,12 @@ module _ (f : ℕ → List Outcome) (acc : Found) where
   unfolding inTurn
   over-each n = rw add-one (over-append (inTurn n f) (f n) acc)
 
-  pub over-each-stopped : (n k : ℕ) → k ≤ n → Stopped (over (inTurn k f) acc) → over (inTurn n f) acc ≡ over (inTurn k f) acc
+  pub over-each-stopped : (n k : ℕ) → k ≤ n → Stopped (over (inTurn k f) acc)
+      → over (inTurn n f) acc ≡ over (inTurn k f) acc
   unfolding inTurn
   over-each-stopped zero k l h = let e : k ≡ 0 = omega arith in rw e
-  over-each-stopped (suc n) k l h = ⊎-elim (λ e. rw e) (λ i. more (over-each-stopped n k (omega arith) h)) (eq-or-lt-of-le l)
+  over-each-stopped (suc n) k l h =
+      ⊎-elim (λ e. rw e) (λ i. more (over-each-stopped n k (omega arith) h)) (eq-or-lt-of-le l)
     where
       more : over (inTurn n f) acc ≡ over (inTurn k f) acc → over (inTurn n f ++ f n) acc ≡ over (inTurn k f) acc
       more e = over-append (inTurn n f) (f n) acc ∙ ap (over (f n)) e ∙ over-stopped (f n) (over (inTurn k f) acc) h
@@ -90,10 +96,17 @@ eqList-comm (c ∷ cs) (d ∷ ds) = ap₂ _&&_ (same-comm c d) (eqList-comm cs d
 
 -- the first stays, and the mark falls where the next one differs from it
 settle-kept : (o : Outcome) (f : Found) → f .has ≡ true →
-    settleOf o f ≡ record { has = true; agree = f .agree && equal (firstIn f) o; output = f .output; next = f .next; places = f .places }
+    settleOf o f ≡ record {
+      has = true;
+      agree = f .agree && equal (firstIn f) o;
+      output = f .output;
+      next = f .next;
+      places = f .places;
+    }
 unfolding settleOf
 settle-kept o f h =
-    ap₂ (λ (b q : Bool). pickFound b (pickFound q f off) (record { has = true; agree = true; output = o .output; next = o .next; places = o .places })) h
+    ap₂ (λ (b q : Bool). pickFound b (pickFound q f off)
+    (record { has = true; agree = true; output = o .output; next = o .next; places = o .places })) h
     (ap₂ _&&_ (same-comm (o .output) (f .output)) (eqList-comm (o .next) (f .next)))
     ∙ either (equal (firstIn f) o) (f .agree) refl
   where
@@ -109,9 +122,17 @@ settle-kept o f h =
     either false false e = ap (λ (b : Bool). with′ true (b && false)) (sym e)
 
 over-kept : (os : List Outcome) (f : Found) → f .has ≡ true →
-    over os f ≡ record { has = true; agree = f .agree && agree (firstIn f) os; output = f .output; next = f .next; places = f .places }
+    over os f ≡ record {
+      has = true;
+      agree = f .agree && agree (firstIn f) os;
+      output = f .output;
+      next = f .next;
+      places = f .places;
+    }
 unfolding over agree
-over-kept [] f h = ap₂ (λ (b c : Bool). record { has = b; agree = c; output = f .output; next = f .next; places = f .places }) h (sym (and-true (f .agree)))
+over-kept [] f h =
+    ap₂ (λ (b c : Bool). record { has = b; agree = c; output = f .output; next = f .next; places = f .places }) h
+    (sym (and-true (f .agree)))
 over-kept (o ∷ os) f h =
     ap (over os) (settle-kept o f h) ∙ over-kept os _ refl
     ∙ ap (λ (b : Bool). record { has = true; agree = b; output = f .output; next = f .next; places = f .places })
@@ -119,9 +140,11 @@ over-kept (o ∷ os) f h =
 
 -- from nothing, the first outcome and whether all others agree with it
 pub over-first : (o : Outcome) (os : List Outcome) →
-    over (o ∷ os) nothing ≡ record { has = true; agree = agree o os; output = o .output; next = o .next; places = o .places }
+    over (o ∷ os) nothing
+    ≡ record { has = true; agree = agree o os; output = o .output; next = o .next; places = o .places }
 unfolding over settleOf
-over-first o os = over-kept os (record { has = true; agree = true; output = o .output; next = o .next; places = o .places }) refl
+over-first o os =
+    over-kept os (record { has = true; agree = true; output = o .output; next = o .next; places = o .places }) refl
 
 pub over-none : over [] nothing .has ≡ false
 unfolding over
@@ -143,7 +166,8 @@ unfoldable pub head : List Outcome → Option Outcome
 head [] = none
 head (o ∷ os) = some (bare o)
 
--- The same first outcome, and the same outcomes agree with all of either: so they answer alike. Under P the first has the same places too.
+-- The same first outcome, and the same outcomes agree with all of either: so they answer alike. Under P the first has
+-- the same places too.
 pub record Alike (P : Type 0) (xs ys : List Outcome) : Type 0 where
   pub first : head xs ≡ head ys
   pub agrees : (a : Outcome) → agree a xs ≡ agree a ys
@@ -157,10 +181,15 @@ module _ {P : Type 0} where
   alike-sym p = record { first = sym (p .first); agrees = λ a. sym (p .agrees a); places = λ q. sym (p .places q) }
 
   pub alike-trans : {xs ys zs : List Outcome} → Alike P xs ys → Alike P ys zs → Alike P xs zs
-  alike-trans p q = record { first = p .first ∙ q .first; agrees = λ a. p .agrees a ∙ q .agrees a; places = λ r. p .places r ∙ q .places r }
+  alike-trans p q = record {
+    first = p .first ∙ q .first;
+    agrees = λ a. p .agrees a ∙ q .agrees a;
+    places = λ r. p .places r ∙ q .places r;
+  }
 
   -- one outcome each
-  pub alike-one : (a b : Outcome) → a .output ≡ b .output → a .next ≡ b .next → (P → a .places ≡ b .places) → Alike P (a ∷ []) (b ∷ [])
+  pub alike-one : (a b : Outcome) → a .output ≡ b .output → a .next ≡ b .next → (P → a .places ≡ b .places)
+      → Alike P (a ∷ []) (b ∷ [])
   unfolding head agree firstPlaces
   alike-one a b p q r = record { first = rw (p, q); agrees = λ x. rw (p, q); places = r }
 
@@ -170,7 +199,8 @@ alike-fewer f h = record { first = h .first; agrees = h .agrees; places = λ p. 
 agree-append : (a : Outcome) (xs ys : List Outcome) → agree a (xs ++ ys) ≡ (agree a xs && agree a ys)
 unfolding agree
 agree-append a [] ys = refl
-agree-append a (x ∷ xs) ys = ap (λ (b : Bool). equal a x && b) (agree-append a xs ys) ∙ sym (and-assoc (equal a x) (agree a xs) (agree a ys))
+agree-append a (x ∷ xs) ys =
+    ap (λ (b : Bool). equal a x && b) (agree-append a xs ys) ∙ sym (and-assoc (equal a x) (agree a xs) (agree a ys))
 
 -- the first of two lists, by the first of each
 abbrev orElse : Option Outcome → Option Outcome → Option Outcome
@@ -183,7 +213,8 @@ head-append [] ys = refl
 head-append (x ∷ xs) ys = refl
 
 -- the first places of two lists: of lists that are both empty or both not
-places-append : (xs ys zs ws : List Outcome) → head xs ≡ head ys → firstPlaces xs ≡ firstPlaces ys → firstPlaces zs ≡ firstPlaces ws
+places-append : (xs ys zs ws : List Outcome) → head xs ≡ head ys → firstPlaces xs ≡ firstPlaces ys
+    → firstPlaces zs ≡ firstPlaces ws
     → firstPlaces (xs ++ zs) ≡ firstPlaces (ys ++ ws)
 unfolding head firstPlaces
 places-append [] [] zs ws h p q = q
@@ -191,7 +222,8 @@ places-append [] (y ∷ ys) zs ws h p q = cc
 places-append (x ∷ xs) [] zs ws h p q = cc
 places-append (x ∷ xs) (y ∷ ys) zs ws h p q = p
 
-pub alike-append : {P : Type 0} {xs ys zs ws : List Outcome} → Alike P xs ys → Alike P zs ws → Alike P (xs ++ zs) (ys ++ ws)
+pub alike-append : {P : Type 0} {xs ys zs ws : List Outcome} → Alike P xs ys → Alike P zs ws
+    → Alike P (xs ++ zs) (ys ++ ws)
 alike-append {P} {xs} {ys} {zs} {ws} p q =
     record {
       first = head-append xs zs ∙ ap₂ orElse (p .first) (q .first) ∙ sym (head-append ys ws);
@@ -211,7 +243,8 @@ answer-first a xs = rw (equal-refl a)
 agree-bare : (a b : Outcome) (xs : List Outcome) → a .output ≡ b .output → a .next ≡ b .next → agree a xs ≡ agree b xs
 unfolding agree
 agree-bare a b [] p q = refl
-agree-bare a b (x ∷ xs) p q = ap₂ _&&_ (ap₂ (λ (o : ℕ) (n : List ℕ). same o (x .output) && eqList n (x .next)) p q) (agree-bare a b xs p q)
+agree-bare a b (x ∷ xs) p q =
+    ap₂ _&&_ (ap₂ (λ (o : ℕ) (n : List ℕ). same o (x .output) && eqList n (x .next)) p q) (agree-bare a b xs p q)
 
 pub alike-answer : {P : Type 0} (xs ys : List Outcome) → Alike P xs ys → answer xs ≡ answer ys
 unfolding head
@@ -291,5 +324,6 @@ unfolding inTurn
 among-each f zero u l = absurd (omega arith)
 among-each f (suc n) u l =
     let l′ : u ≤ n = omega arith in
-    ⊎-elim (λ e. rw e (among-right (inTurn n f) (f n) (among-refl (f n)))) (λ h. among-left (inTurn n f) (f n) (among-each f n u h))
+    ⊎-elim (λ e. rw e (among-right (inTurn n f) (f n) (among-refl (f n))))
+    (λ h. among-left (inTurn n f) (f n) (among-each f n u h))
     (eq-or-lt-of-le l′)

@@ -1,5 +1,5 @@
--- Laws of charts that stay: the test of one where a beginning stands (`calm-by`), of all where none may stay (`calm-all`), and of all
--- charts, one by one (`every-next`, `every-off`).
+-- Laws of charts that stay: the test of one where a beginning stands (`calm-by`), of all where none may stay
+-- (`calm-all`), and of all charts, one by one (`every-next`, `every-off`).
 use mathlib.Core.Path.{_≡_, refl, sym, ap, ap₂, _∙_}
 use mathlib.Core.Bool.{Bool, true, false, _&&_, not, cond, and-false}
 use mathlib.Core.List.{List}
@@ -22,9 +22,11 @@ use Rattle.cells.specs.Triggers.{Guards, toldAt, someStay}
 use Rattle.settling.specs.Stays.{trips, calm, stayed, calmAt}
 
 module _ (m s g y w b : List ℕ) (k d o : ℕ) (few : k ≤ mostCharts) (l : d < k) where
-  calm-by : calmAt m s g y (trailIn w b k o) k d ≡ cond (same (placeIn b d) stayPlace) (calm g y d (lowIn w k d) (lowIn w k d ∪ aheadAt m k d)) true
+  calm-by : calmAt m s g y (trailIn w b k o) k d
+      ≡ cond (same (placeIn b d) stayPlace) (calm g y d (lowIn w k d) (lowIn w k d ∪ aheadAt m k d)) true
   unfolding calmAt trailIn
-  calm-by = ap₂ (λ (p x : ℕ). cond (same p stayPlace) (calm g y d x (x ∪ aheadAt m k d)) true) (getD-made k (placeIn b) d l) (getD-made mostCharts (lowIn w k) d (omega arith))
+  calm-by = ap₂ (λ (p x : ℕ). cond (same p stayPlace) (calm g y d x (x ∪ aheadAt m k d)) true)
+      (getD-made k (placeIn b) d l) (getD-made mostCharts (lowIn w k) d (omega arith))
 
   -- it does not stay
   pub calm-moves : (placeIn b d ≡ stayPlace → ⊥) → true ≡ calmAt m s g y (trailIn w b k o) k d
@@ -35,17 +37,21 @@ module _ (m s g y w b : List ℕ) (k d o : ℕ) (few : k ≤ mostCharts) (l : d 
   unfolding calm trips anyUpTo
   calm-none e z = sym (calm-by ∙ rw (e, same-refl stayPlace, z))
 
-  pub calm-stays : placeIn b d ≡ stayPlace → (r : Bool) → r ≡ trips g d (getD y d 0 - 1) (lowIn w k d) (lowIn w k d ∪ aheadAt m k d)
+  pub calm-stays : placeIn b d ≡ stayPlace → (r : Bool)
+      → r ≡ trips g d (getD y d 0 - 1) (lowIn w k d) (lowIn w k d ∪ aheadAt m k d)
       → not r ≡ calmAt m s g y (trailIn w b k o) k d
   unfolding calm
   calm-stays e r h = ap not h ∙ sym (calm-by ∙ rw (e, same-refl stayPlace))
 
 -- where no chart may stay, all are calm
-pub calm-all : (m s g y : List ℕ) → Guards g y → someStay y ≡ 0 → (t : Trail) (k : ℕ) → k ≤ mostCharts → every k (calmAt m s g y t k) ≡ true
+pub calm-all : (m s g y : List ℕ) → Guards g y → someStay y ≡ 0 → (t : Trail) (k : ℕ) → k ≤ mostCharts
+    → every k (calmAt m s g y t k) ≡ true
 unfolding calmAt calm trips anyUpTo
-calm-all m s g y r e t k few = every-intro k (λ d. calmAt m s g y t k d) (λ d l. either d l (same (getD (t .places) d 0) stayPlace))
+calm-all m s g y r e t k few =
+    every-intro k (λ d. calmAt m s g y t k d) (λ d l. either d l (same (getD (t .places) d 0) stayPlace))
   where
-    either : (d : ℕ) → d < k → (x : Bool) → cond x (calm g y d (getD (t .low) d 0) (getD (t .low) d 0 ∪ aheadAt m k d)) true ≡ true
+    either : (d : ℕ) → d < k → (x : Bool)
+        → cond x (calm g y d (getD (t .low) d 0) (getD (t .low) d 0 ∪ aheadAt m k d)) true ≡ true
     either d l true = rw (r .none-may e d (omega arith))
     either d l false = refl
 

@@ -1,5 +1,5 @@
--- Laws of a beginning of a choice where it stands. In order: lists that are made entry by entry (`made`); what stays (`Keeps`); one chart more
--- (`take-in`, `idle-in`); no chart yet.
+-- Laws of a beginning of a choice where it stands. In order: lists that are made entry by entry (`made`); what stays
+-- (`Keeps`); one chart more (`take-in`, `idle-in`); no chart yet.
 use mathlib.Core.Path.{_≡_, refl, sym, ap, ap₂, _∙_}
 use mathlib.Core.List.{List, [], _∷_, _++_, append-assoc}
 use mathlib.Core.Logic.{_≢_}
@@ -7,7 +7,8 @@ use Prim.Native.Nat.{ℕ, suc, _+_, _-_, _*_, _≤_, _<_}
 use native.Mathlib.Nat.{add-zero}
 use native.Mathlib.Numerals.{add-one}
 use native.Mathlib.Omega.{arith}
-use lib.ListN.{length, getD, set, replicate, length-set, length-append, length-replicate, getD-replicate, List·getD-append}
+use lib.ListN.{length, getD, set, replicate, length-set, length-append, length-replicate, getD-replicate}
+use lib.ListN.{List·getD-append}
 use lib.Seq.{getD-append-seam, getD-append-add, getD-set-same, getD-set-other, lt-length-set, set-at, ext-getD}
 use Rattle.signals.specs.Mask.{_∪_, _∩_}
 use Rattle.signals.specs.Decide.{sets, A, B, ∅ₑ, _∪ₑ_, _∩ₑ_, _≐_}
@@ -15,7 +16,8 @@ use Rattle.meaning.specs.Numbers.{mostCharts}
 use Rattle.meaning.specs.Calls.{made}
 use Rattle.meaning.specs.Calls.Laws.{length-made, getD-made, made-cong}
 use Rattle.cells.specs.Table.{neededAt, barredAt, actionAt, backAt, upAt, toAt, stateAt, placeAt}
-use Rattle.cells.specs.Trail.{lowCell, needsCell, barsCell, nextCell, awakeCell, takenCell, lowIn, neededIn, barredIn, nextIn, awakeIn, placeIn, columnIn, putAsked, putMove, Room}
+use Rattle.cells.specs.Trail.{lowCell, needsCell, barsCell, nextCell, awakeCell, takenCell, lowIn, neededIn, barredIn}
+use Rattle.cells.specs.Trail.{nextIn, awakeIn, placeIn, columnIn, putAsked, putMove, Room}
 use Rattle.settling.specs.Trail.{Trail, beginning, trailIn, Same, Keeps, Lowers}
 use Rattle.settling.specs.Hunt.{taken, idled}
 use Rattle.settling.specs.Stays.{stayed}
@@ -27,15 +29,18 @@ pub getD-before : (n : ℕ) (f : ℕ → ℕ) (x i : ℕ) → i < n → getD (ma
 getD-before n f x i l = let h = length-made n f in List·getD-append (made n f) (x ∷ []) 0 i (omega arith)
 
 pub getD-last : (n : ℕ) (f : ℕ → ℕ) (x : ℕ) → getD (made n f ++ (x ∷ [])) n 0 ≡ x
-getD-last n f x = ap (λ (i : ℕ). getD (made n f ++ (x ∷ [])) i 0) (sym (length-made n f)) ∙ getD-append-seam (made n f) x [] 0
+getD-last n f x =
+    ap (λ (i : ℕ). getD (made n f ++ (x ∷ [])) i 0) (sym (length-made n f)) ∙ getD-append-seam (made n f) x [] 0
 
 -- one more, as code counts
-made-more : (n : ℕ) (f g : ℕ → ℕ) (x : ℕ) → ((i : ℕ) → i < n → f i ≡ g i) → f n ≡ x → made (n + 1) f ≡ made n g ++ (x ∷ [])
+made-more : (n : ℕ) (f g : ℕ → ℕ) (x : ℕ) → ((i : ℕ) → i < n → f i ≡ g i) → f n ≡ x
+    → made (n + 1) f ≡ made n g ++ (x ∷ [])
 unfolding made
 made-more n f g x h e = rw add-one (ap₂ (λ (l : List ℕ) (y : ℕ). l ++ (y ∷ [])) (made-cong n f g h) e)
 
 -- one more in an array that is x behind
-pub made-filled : (x : ℕ) (f : ℕ → ℕ) (d : ℕ) (l : List ℕ) → d < mostCharts → l ≡ made d f ++ replicate (mostCharts - d) x →
+pub made-filled : (x : ℕ) (f : ℕ → ℕ) (d : ℕ) (l : List ℕ) → d < mostCharts
+    → l ≡ made d f ++ replicate (mostCharts - d) x →
     set l d (f d) ≡ made (d + 1) f ++ replicate (mostCharts - (d + 1)) x
 unfolding made
 made-filled x f d l h e =
@@ -47,15 +52,18 @@ made-filled x f d l h e =
 -- a number for each chart, those below n made and x behind them: how many, and an entry of either kind
 module _ (n : ℕ) (f : ℕ → ℕ) (x : ℕ) where
   pub length-filled : n ≤ mostCharts → length (made n f ++ replicate (mostCharts - n) x) ≡ mostCharts
-  length-filled l = length-append (made n f) (replicate (mostCharts - n) x) ∙ rw (length-made n f, length-replicate (mostCharts - n) x) (omega arith)
+  length-filled l = length-append (made n f) (replicate (mostCharts - n) x)
+      ∙ rw (length-made n f, length-replicate (mostCharts - n) x) (omega arith)
 
   pub filled-made : (c : ℕ) → c < n → getD (made n f ++ replicate (mostCharts - n) x) c 0 ≡ f c
-  filled-made c l = let h = length-made n f in List·getD-append (made n f) (replicate (mostCharts - n) x) 0 c (omega arith) ∙ getD-made n f c l
+  filled-made c l = let h = length-made n f in
+      List·getD-append (made n f) (replicate (mostCharts - n) x) 0 c (omega arith) ∙ getD-made n f c l
 
   pub filled-behind : (c : ℕ) → n ≤ c → c < mostCharts → getD (made n f ++ replicate (mostCharts - n) x) c 0 ≡ x
   filled-behind c l h =
       let e : c ≡ length (made n f) + (c - n) = omega (arith, length-made n f) in
-      ap (λ (i : ℕ). getD (made n f ++ replicate (mostCharts - n) x) i 0) e ∙ getD-append-add (made n f) (replicate (mostCharts - n) x) (c - n) 0
+      ap (λ (i : ℕ). getD (made n f ++ replicate (mostCharts - n) x) i 0) e
+      ∙ getD-append-add (made n f) (replicate (mostCharts - n) x) (c - n) 0
       ∙ getD-replicate (mostCharts - n) (c - n) x 0 (omega arith)
 
 -- the first of a chart's small numbers is its next state
@@ -90,7 +98,8 @@ keeps-trans p q = record { masks = same-trans (p .masks) (q .masks); small = sam
 
 -- what stays of one chart more
 pub keeps-fewer : {k : ℕ} {w b w′ b′ : List ℕ} (j : ℕ) → j ≡ k + 1 → Keeps j w b w′ b′ → Keeps k w b w′ b′
-keeps-fewer j e p = record { masks = same-fewer _ (omega arith) (p .masks); small = same-fewer _ (omega arith) (p .small) }
+keeps-fewer j e p =
+    record { masks = same-fewer _ (omega arith) (p .masks); small = same-fewer _ (omega arith) (p .small) }
 
 pub keeps-room : {k N : ℕ} {w b w′ b′ : List ℕ} → Keeps k w b w′ b′ → Room N w b → Room N w′ b′
 keeps-room p r = record { masks = rw (p .masks .long) (r .masks); small = p .small .long ∙ r .small }
@@ -117,7 +126,8 @@ module _ {k : ℕ} {w b w′ b′ : List ℕ} (h : Keeps k w b w′ b′) where
       (made-cong k (awakeIn b′) (awakeIn b) (λ i l. h .small .at (awakeCell i) (omega arith)))
       (made-cong k (placeIn b′) (placeIn b) (λ i l. h .small .at (takenCell i) (omega arith)))
 
-  -- chart k needs n and bars r, goes to x, is active or not, and takes the transition at t; p is what each chart is surely offered then
+  -- chart k needs n and bars r, goes to x, is active or not, and takes the transition at t; p is what each chart is
+  -- surely offered then
   grown : {n r x a t : ℕ} {p : List ℕ} (o : ℕ) → made mostCharts (lowIn w′ (k + 1)) ≡ p →
       neededIn w′ k ≡ n → barredIn w′ k ≡ r → nextIn b′ k ≡ x → awakeIn b′ k ≡ a → placeIn b′ k ≡ t →
       trailIn w′ b′ (k + 1) o
@@ -138,14 +148,18 @@ module _ {k : ℕ} {w b w′ b′ : List ℕ} (h : Keeps k w b w′ b′) where
       (made-more k (awakeIn b′) (awakeIn b) _ (λ i l. h .small .at (awakeCell i) (omega arith)) e₅)
       (made-more k (placeIn b′) (placeIn b) _ (λ i l. h .small .at (takenCell i) (omega arith)) e₆)
 
-  taken-in : (m s : List ℕ) (v o : ℕ) → ((c : ℕ) → c < mostCharts → lowIn w′ (k + 1) c ≡ lowIn w k c ∪ actionAt m k v ∩ backAt m c k) →
-      neededIn w′ k ≡ neededAt m k v → barredIn w′ k ≡ barredAt m k v → nextIn b′ k ≡ toAt s k v → awakeIn b′ k ≡ 1 → placeIn b′ k ≡ placeAt s k v →
+  taken-in : (m s : List ℕ) (v o : ℕ)
+      → ((c : ℕ) → c < mostCharts → lowIn w′ (k + 1) c ≡ lowIn w k c ∪ actionAt m k v ∩ backAt m c k) →
+      neededIn w′ k ≡ neededAt m k v → barredIn w′ k ≡ barredAt m k v → nextIn b′ k ≡ toAt s k v → awakeIn b′ k ≡ 1
+      → placeIn b′ k ≡ placeAt s k v →
       trailIn w′ b′ (k + 1) (o ∪ actionAt m k v ∩ upAt m k) ≡ taken m s (trailIn w b k o) k v
   unfolding trailIn taken
   taken-in m s v o l e₁ e₂ e₃ e₄ e₅ =
       grown (o ∪ actionAt m k v ∩ upAt m k)
-      (made-cong mostCharts (lowIn w′ (k + 1)) (λ c. getD (made mostCharts (lowIn w k)) c 0 ∪ actionAt m k v ∩ backAt m c k)
-      (λ c p. l c p ∙ ap (λ (x : ℕ). x ∪ actionAt m k v ∩ backAt m c k) (sym (getD-made mostCharts (lowIn w k) c p)))) e₁ e₂ e₃ e₄ e₅
+      (made-cong mostCharts (lowIn w′ (k + 1))
+      (λ c. getD (made mostCharts (lowIn w k)) c 0 ∪ actionAt m k v ∩ backAt m c k)
+      (λ c p. l c p ∙ ap (λ (x : ℕ). x ∪ actionAt m k v ∩ backAt m c k) (sym (getD-made mostCharts (lowIn w k) c p))))
+      e₁ e₂ e₃ e₄ e₅
 
   idled-in : (m s : List ℕ) (z t o : ℕ) → ((c : ℕ) → c < mostCharts → lowIn w′ (k + 1) c ≡ lowIn w k c) →
       neededIn w′ k ≡ 0 → barredIn w′ k ≡ 0 → nextIn b′ k ≡ stateAt s k → awakeIn b′ k ≡ z → placeIn b′ k ≡ t →
@@ -162,7 +176,8 @@ module _ (l : List ℕ) (i j x y : ℕ) (apart : j ≢ i) where
   second-written h = getD-set-same (set l i x) j y 0 (lt-length-set l i x h)
 
 -- chart k needs n and bars r, its action is a; it goes to x, z is 1 if it is active, and it takes the transition at t
-module _ (m w b w′ : List ℕ) (k n r x z t a : ℕ) (room : Room (k + 1) w b) (few : k < mostCharts) (h : Lowers m a k (putAsked w k n r) w′) where
+module _ (m w b w′ : List ℕ) (k n r x z t a : ℕ) (room : Room (k + 1) w b) (few : k < mostCharts)
+    (h : Lowers m a k (putAsked w k n r) w′) where
   abbrev moved : List ℕ
   moved = putMove b k x z t
 
@@ -176,12 +191,14 @@ module _ (m w b w′ : List ℕ) (k n r x z t a : ℕ) (room : Room (k + 1) w b)
   needs : neededIn w′ k ≡ n
   needs =
       let q = room .masks in
-      h .kept .at (needsCell k) (omega arith) ∙ first-written w (needsCell k) (barsCell k) n r (λ e. omega arith) (omega arith)
+      h .kept .at (needsCell k) (omega arith)
+      ∙ first-written w (needsCell k) (barsCell k) n r (λ e. omega arith) (omega arith)
 
   bars : barredIn w′ k ≡ r
   bars =
       let q = room .masks in
-      h .kept .at (barsCell k) (omega arith) ∙ second-written w (needsCell k) (barsCell k) n r (λ e. omega arith) (omega arith)
+      h .kept .at (barsCell k) (omega arith)
+      ∙ second-written w (needsCell k) (barsCell k) n r (λ e. omega arith) (omega arith)
 
   goes : nextIn moved k ≡ x
   goes = let q = room .small in
@@ -202,10 +219,12 @@ module _ (m w b w′ : List ℕ) (k n r x z t a : ℕ) (room : Room (k + 1) w b)
   written-keeps =
       record {
         masks =
-            same-trans (same-trans (same-set _ w (needsCell k) n (omega arith)) (same-set _ _ (barsCell k) r (omega arith)))
+            same-trans
+            (same-trans (same-set _ w (needsCell k) n (omega arith)) (same-set _ _ (barsCell k) r (omega arith)))
             (same-fewer _ (omega arith) (h .kept));
         small =
-            same-trans (same-trans (same-set _ b (nextCell k) x (omega arith)) (same-set _ _ (awakeCell k) z (omega arith)))
+            same-trans
+            (same-trans (same-set _ b (nextCell k) x (omega arith)) (same-set _ _ (awakeCell k) z (omega arith)))
             (same-set _ _ (takenCell k) t (omega arith));
       }
 
@@ -216,7 +235,8 @@ module _ (m s w b w′ : List ℕ) (k v : ℕ) (room : Room (k + 1) w b) (few : 
       trailIn w′ (putMove b k (toAt s k v) 1 (placeAt s k v)) (k + 1) (o ∪ actionAt m k v ∩ upAt m k)
       ≡ taken m s (trailIn w b k o) k v
   take-in o =
-      taken-in (written-keeps m w b w′ k (neededAt m k v) (barredAt m k v) (toAt s k v) 1 (placeAt s k v) (actionAt m k v) room few h) m s v o
+      taken-in (written-keeps m w b w′ k (neededAt m k v) (barredAt m k v) (toAt s k v) 1 (placeAt s k v)
+      (actionAt m k v) room few h) m s v o
       (rows m w b w′ k (neededAt m k v) (barredAt m k v) (toAt s k v) 1 (placeAt s k v) (actionAt m k v) room few h)
       (needs m w b w′ k (neededAt m k v) (barredAt m k v) (toAt s k v) 1 (placeAt s k v) (actionAt m k v) room few h)
       (bars m w b w′ k (neededAt m k v) (barredAt m k v) (toAt s k v) 1 (placeAt s k v) (actionAt m k v) room few h)
@@ -225,18 +245,22 @@ module _ (m s w b w′ : List ℕ) (k v : ℕ) (room : Room (k + 1) w b) (few : 
       (takes m w b w′ k (neededAt m k v) (barredAt m k v) (toAt s k v) 1 (placeAt s k v) (actionAt m k v) room few h)
 
 -- chart k takes no transition: z is 1 if it is active, and t stands for its place
-module _ (m s w b w′ : List ℕ) (k z t : ℕ) (room : Room (k + 1) w b) (few : k < mostCharts) (h : Lowers m 0 k (putAsked w k 0 0) w′) where
+module _ (m s w b w′ : List ℕ) (k z t : ℕ) (room : Room (k + 1) w b) (few : k < mostCharts)
+    (h : Lowers m 0 k (putAsked w k 0 0) w′) where
   pub idle-in : (n : List ℕ) (o : ℕ) →
       trailIn w′ (putMove b k (stateAt s k) z t) (k + 1) o ≡ idled n s z t (trailIn w b k o) k
   idle-in n o =
       idled-in (written-keeps m w b w′ k 0 0 (stateAt s k) z t 0 room few h) n s z t o
-      (λ c l. rows m w b w′ k 0 0 (stateAt s k) z t 0 room few h c l ∙ sets (lowIn w k c ∷ backAt m c k ∷ []) [] (A ∪ₑ ∅ₑ ∩ₑ B ≐ A) tt)
+      (λ c l. rows m w b w′ k 0 0 (stateAt s k) z t 0 room few h c l
+      ∙ sets (lowIn w k c ∷ backAt m c k ∷ []) [] (A ∪ₑ ∅ₑ ∩ₑ B ≐ A) tt)
       (needs m w b w′ k 0 0 (stateAt s k) z t 0 room few h) (bars m w b w′ k 0 0 (stateAt s k) z t 0 room few h)
       (goes m w b w′ k 0 0 (stateAt s k) z t 0 room few h) (wakes m w b w′ k 0 0 (stateAt s k) z t 0 room few h)
       (takes m w b w′ k 0 0 (stateAt s k) z t 0 room few h)
 
 -- ── no chart yet ──
 
-pub begun : (w b low : List ℕ) → length low ≡ mostCharts → ((c : ℕ) → c < mostCharts → lowIn w 0 c ≡ getD low c 0) → trailIn w b 0 0 ≡ beginning low
+pub begun : (w b low : List ℕ) → length low ≡ mostCharts → ((c : ℕ) → c < mostCharts → lowIn w 0 c ≡ getD low c 0)
+    → trailIn w b 0 0 ≡ beginning low
 unfolding trailIn beginning made
-begun w b low h e = trail-eq 0 (made-cong mostCharts (lowIn w 0) (λ c. getD low c 0) e ∙ made-list mostCharts low h) refl refl refl refl refl
+begun w b low h e = trail-eq 0
+    (made-cong mostCharts (lowIn w 0) (λ c. getD low c 0) e ∙ made-list mostCharts low h) refl refl refl refl refl

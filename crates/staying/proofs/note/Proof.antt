@@ -24,7 +24,8 @@ module _ (t : Transition) (q c k x : ℕ) (e : x ≡ t .from) (g : List ℕ) whe
       record { table = rw (o, y, i); count = ap (λ b. k + one b) (sym y) }
 
 returns : tie.Need-returns
-returns c = let s = c .before .before .before .before in from-elsewhere _ (s .args .state) (s .args .c) (s .args .have) _ (c .before .from-at .ensures) (s .args .guards .now) (c .if1 .taken)
+returns c = let s = c .before .before .before .before in from-elsewhere _ (s .args .state) (s .args .c)
+    (s .args .have) _ (c .before .from-at .ensures) (s .args .guards .now) (c .if1 .taken)
 
 put-requires : tie.Need-put-requires
 put-requires c κs =
@@ -38,8 +39,10 @@ returns-2 c =
     let t = p .before .before in
     let e = t .before in
     let s = e .before .before .before .before in
-    from-here _ (s .args .state) (s .args .c) (s .args .have) _ (e .before .from-at .ensures) (s .args .guards .now) (e .if1 .left) (t .transition-at .ensures) (p .put .ensures)
+    from-here _ (s .args .state) (s .args .c) (s .args .have) _ (e .before .from-at .ensures) (s .args .guards .now)
+    (e .if1 .left) (t .transition-at .ensures) (p .put .ensures)
 
 pub note-spec : {M : Type 1} → statement M
 note-spec =
-    tie.close (tie.spec (λ c κs. search needs) returns (λ c κs. search needs) put-requires (λ c. search needs) (λ c. search needs) returns-2)
+    tie.close (tie.spec (λ c κs. search needs) returns (λ c κs. search needs) put-requires (λ c. search needs)
+    (λ c. search needs) returns-2)

@@ -10,7 +10,8 @@ use Rattle.staying.proofs.note_chart.Statement.{statement}
 use Rattle.staying.proofs.note_chart.Tie as tie
 
 abbrev Inv-loop : tie.InvT-loop
-Inv-loop n body start count state guards₀ c have₀ p₀ guards have p = (p ≤ count) × Noting (transitionAt n body) start count state c p guards₀ guards have
+Inv-loop n body start count state guards₀ c have₀ p₀ guards have p =
+    (p ≤ count) × Noting (transitionAt n body) start count state c p guards₀ guards have
 
 abbrev μ-loop : tie.MeasureT-loop
 μ-loop n body start count state guards₀ c have₀ p₀ guards have p = count - p
@@ -33,15 +34,19 @@ note-requires c κs =
 loop-again : tie.Need-loop-again Inv-loop μ-loop
 loop-again c =
     let l = c .before .before .before .before .before in
-    let s = l .before .before .before in
-    (omega arith, noting-next _ _ _ _ _ _ (s .pre .4) _ _ _ (l .loop .inv .1) (c .before .before .before .before .loop-test .taken) (s .pre .3) (s .pre .2) _ _ (c .before .before .note .ensures))
+    let s = l .before .before .before in (
+      omega arith,
+      noting-next _ _ _ _ _ _ (s .pre .4) _ _ _ (l .loop .inv .1) (c .before .before .before .before .loop-test .taken)
+          (s .pre .3) (s .pre .2) _ _ (c .before .before .note .ensures),
+    )
 
 returns : tie.Need-returns Inv-loop μ-loop
 returns c =
     let l = c .before .loop in
     let s = c .before .before .before .before in
     let e : l .p ≡ s .args .count = omega arith in (
-      subst (λ p. Noting (transitionAt (s .args .n) (s .args .body .now)) (s .args .start) (s .args .count) (s .args .state) (s .args .c) p (s .args .guards .now) (l .guards) (l .have)) e (l .inv .1),
+      subst (λ p. Noting (transitionAt (s .args .n) (s .args .body .now)) (s .args .start) (s .args .count)
+          (s .args .state) (s .args .c) p (s .args .guards .now) (l .guards) (l .have)) e (l .inv .1),
       noting-few _ _ _ _ _ _ (s .pre .4) _ _ _ (l .inv .1) (l .inv .0),
     )
 

@@ -5,7 +5,8 @@ use Rattle.staying.proofs.stays.Statement.{statement}
 use Rattle.staying.proofs.stays.Tie as tie
 
 returns : tie.Need-returns
-returns c = let s = c .before .before .before .before .before .before in stays-none _ _ _ _ (s .args .t5) _ _ _ (s .pre .0 .sized .charts) (c .if1 .taken)
+returns c = let s = c .before .before .before .before .before .before in
+    stays-none _ _ _ _ (s .args .t5) _ _ _ (s .pre .0 .sized .charts) (c .if1 .taken)
 
 tell-all-requires : tie.Need-tell-all-requires
 tell-all-requires c κs =

@@ -1,6 +1,7 @@
--- Laws of noting triggers. In order: a trigger that is put down (put-needed, put-barred, put-other), what stands beside it (beside-none, beside-put),
--- one transition more (noting-none, noting-next, noting-room, noting-few), what a search is told of a chart (tells-shut, tells-open), of all charts
--- (telling-none, telling-next), and that this is as the search asks for (stays-told, stays-none).
+-- Laws of noting triggers. In order: a trigger that is put down (put-needed, put-barred, put-other), what stands beside
+-- it (beside-none, beside-put), one transition more (noting-none, noting-next, noting-room, noting-few), what a search
+-- is told of a chart (tells-shut, tells-open), of all charts (telling-none, telling-next), and that this is as the
+-- search asks for (stays-told, stays-none).
 use mathlib.Core.Path.{_≡_, refl, sym, _∙_, ap, ap₂, subst}
 use mathlib.Core.Bool.{Bool, true, false, _&&_, not, cond, false≢true}
 use mathlib.Core.List.{List}
@@ -25,12 +26,14 @@ use Rattle.meaning.specs.File.{chartOf}
 use Rattle.meaning.specs.Laws.Bools.{same-refl, same→≡, same-≢}
 use Rattle.wiring.specs.Dropped.{join-cong}
 use Rattle.cells.specs.Table.{backAt}
-use Rattle.cells.specs.Triggers.{triggerNeededCell, triggerBarredCell, triggersFor, triggerNeeded, triggerBarred, putTrigger, staysSize}
+use Rattle.cells.specs.Triggers.{triggerNeededCell, triggerBarredCell, triggersFor, triggerNeeded, triggerBarred}
+use Rattle.cells.specs.Triggers.{putTrigger, staysSize}
 use Rattle.settling.specs.Stays.{trips}
 use Rattle.tables.specs.Read.Laws.{quiet-narrowed}
 use Rattle.tables.specs.Fill.{othersAt, keepAt}
 use Rattle.tables.specs.Fill.Laws.{keep-stay}
-use Rattle.tables.specs.Triggers.{Noted, begun, passed, noted, SameTriggers, noted-kept, noted-trips, Told, shut, listed, told-kept, told-narrowed, stayers}
+use Rattle.tables.specs.Triggers.{Noted, begun, passed, noted, SameTriggers, noted-kept, noted-trips, Told, shut}
+use Rattle.tables.specs.Triggers.{listed, told-kept, told-narrowed, stayers}
 use Rattle.candidates.specs.Candidates.{Mays, readCharts}
 use Rattle.meaning.specs.Laws.Choices.{nth-from}
 use Rattle.candidates.specs.Candidates.Laws.{length-from}
@@ -38,33 +41,44 @@ use Rattle.staying.specs.Staying.{Notes, Beside, Noting, Tells, quiet, T
 
 -- ── a trigger that is put down ──
 
-module _ (g : List ℕ) (c k : ℕ) (t : Transition) (l : c < mostCharts) (r : k < mostFromState) (z : triggersFor (c + 1) ≤ length g) where
+module _ (g : List ℕ) (c k : ℕ) (t : Transition) (l : c < mostCharts) (r : k < mostFromState)
+    (z : triggersFor (c + 1) ≤ length g) where
   put-needed : triggerNeeded (putTrigger g c k t) c k ≡ t .needed
   unfolding putTrigger
-  put-needed = getD-set-other (set g (triggerNeededCell c k) (t .needed)) (triggerBarredCell c k) (triggerNeededCell c k) (t .barred) 0 (λ e. omega arith)
+  put-needed = getD-set-other (set g (triggerNeededCell c k) (t .needed)) (triggerBarredCell c k)
+      (triggerNeededCell c k) (t .barred) 0 (λ e. omega arith)
       ∙ getD-set-same g (triggerNeededCell c k) (t .needed) 0 (omega arith)
 
   put-barred : triggerBarred (putTrigger g c k t) c k ≡ t .barred
   unfolding putTrigger
-  put-barred = getD-set-same (set g (triggerNeededCell c k) (t .needed)) (triggerBarredCell c k) (t .barred) 0 (rw (length-set g (triggerNeededCell c k) (t .needed)) (omega arith))
+  put-barred = getD-set-same (set g (triggerNeededCell c k) (t .needed)) (triggerBarredCell c k) (t .barred) 0
+      (rw (length-set g (triggerNeededCell c k) (t .needed)) (omega arith))
 
   -- at any other place
-  put-other : (i : ℕ) → i ≢ triggerNeededCell c k → i ≢ triggerBarredCell c k → getD (putTrigger g c k t) i 0 ≡ getD g i 0
+  put-other : (i : ℕ) → i ≢ triggerNeededCell c k → i ≢ triggerBarredCell c k
+      → getD (putTrigger g c k t) i 0 ≡ getD g i 0
   unfolding putTrigger
-  put-other i p q = getD-set-other (set g (triggerNeededCell c k) (t .needed)) (triggerBarredCell c k) i (t .barred) 0 q ∙ getD-set-other g (triggerNeededCell c k) i (t .needed) 0 p
+  put-other i p q = getD-set-other (set g (triggerNeededCell c k) (t .needed)) (triggerBarredCell c k) i (t .barred) 0 q
+      ∙ getD-set-other g (triggerNeededCell c k) i (t .needed) 0 p
 
   put-earlier : SameTriggers g (putTrigger g c k t) c k
-  put-earlier v h = (put-other (triggerNeededCell c v) (λ e. omega arith) (λ e. omega arith), put-other (triggerBarredCell c v) (λ e. omega arith) (λ e. omega arith))
+  put-earlier v h = (
+    put-other (triggerNeededCell c v) (λ e. omega arith) (λ e. omega arith),
+    put-other (triggerBarredCell c v) (λ e. omega arith) (λ e. omega arith),
+  )
 
   put-size : length (putTrigger g c k t) ≡ length g
   unfolding putTrigger
-  put-size = length-set (set g (triggerNeededCell c k) (t .needed)) (triggerBarredCell c k) (t .barred) ∙ length-set g (triggerNeededCell c k) (t .needed)
+  put-size = length-set (set g (triggerNeededCell c k) (t .needed)) (triggerBarredCell c k) (t .barred)
+      ∙ length-set g (triggerNeededCell c k) (t .needed)
 
   beside-put : (g₀ : List ℕ) → Beside c g₀ g → Beside c g₀ (putTrigger g c k t)
   beside-put g₀ b =
       record {
-        others = λ d m n v h. let o = b .others d m n v h in
-            (put-other (triggerNeededCell d v) (λ e. n (omega arith)) (λ e. n (omega arith)) ∙ o .0, put-other (triggerBarredCell d v) (λ e. n (omega arith)) (λ e. n (omega arith)) ∙ o .1);
+        others = λ d m n v h. let o = b .others d m n v h in (
+          put-other (triggerNeededCell d v) (λ e. n (omega arith)) (λ e. n (omega arith)) ∙ o .0,
+          put-other (triggerBarredCell d v) (λ e. n (omega arith)) (λ e. n (omega arith)) ∙ o .1,
+        );
         size = put-size ∙ b .size;
       }
 
@@ -80,14 +94,18 @@ module _ (f : ℕ → Transition) (start count q c : ℕ) (g₀ : List ℕ) wher
   abbrev fromState : ℕ → ℕ
   fromState u = one (same (f (start + u) .from) q)
 
-  module _ (few : tally count fromState ≤ mostFromState) (p : ℕ) (g : List ℕ) (k : ℕ) (h : Noting f start count q c p g₀ g k) where
+  module _ (few : tally count fromState ≤ mostFromState) (p : ℕ) (g : List ℕ) (k : ℕ)
+      (h : Noting f start count q c p g₀ g k) where
     pub noting-few : p ≤ count → k ≤ mostFromState
     noting-few l = let a = tally-mono p count fromState l in let b = h .counts in omega arith
 
     pub noting-room : p < count → f (start + p) .from ≡ q → k < mostFromState
-    noting-room l e = let a = tally-plus count fromState p l in let b = h .counts in let x : same (f (start + p) .from) q ≡ true = rw e (same-refl q) in let d : fromState p ≡ 1 = ap one x in omega arith
+    noting-room l e = let a = tally-plus count fromState p l in let b = h .counts in
+        let x : same (f (start + p) .from) q ≡ true = rw e (same-refl q) in
+        let d : fromState p ≡ 1 = ap one x in omega arith
 
-    pub noting-next : p < count → c < mostCharts → triggersFor (c + 1) ≤ length g₀ → (g′ : List ℕ) (k′ : ℕ) → Notes (f (start + p)) q c k g g′ k′ → Noting f start count q c (p + 1) g₀ g′ k′
+    pub noting-next : p < count → c < mostCharts → triggersFor (c + 1) ≤ length g₀ → (g′ : List ℕ) (k′ : ℕ)
+        → Notes (f (start + p)) q c k g g′ k′ → Noting f start count q c (p + 1) g₀ g′ k′
     noting-next l m z g′ k′ o = go (same (f (start + p) .from) q) refl
       where
         t : Transition
@@ -97,23 +115,29 @@ module _ (f : ℕ → Transition) (start count q c : ℕ) (g₀ : List ℕ) wher
         counted e = let a = tally-more p fromState in let b = h .counts in let d = ap one e in omega arith
 
         go : (x : Bool) → same (t .from) q ≡ x → Noting f start count q c (p + 1) g₀ g′ k′
-        go true e = let r = noting-room l (same→≡ (t .from) q e) in let z′ : triggersFor (c + 1) ≤ length g = rw (h .beside .size) z in
+        go true e = let r = noting-room l (same→≡ (t .from) q e) in
+            let z′ : triggersFor (c + 1) ≤ length g = rw (h .beside .size) z in
             rw (o .table ∙ ap (λ x. cond x (putTrigger g c k t) g) e, o .count ∙ ap (λ x. k + one x) e) (record {
-              noted = rw (add-one p, add-one k) (noted (noted-kept g (putTrigger g c k t) c (fromOn f start count) q (put-earlier g c k t m r z′) (h .noted)) t (nth-from noMove f start count p l)
+              noted = rw (add-one p, add-one k) (noted (noted-kept g (putTrigger g c k t) c (fromOn f start count) q
+                  (put-earlier g c k t m r z′) (h .noted)) t (nth-from noMove f start count p l)
                   (same→≡ (t .from) q e) (put-needed g c k t m r z′) (put-barred g c k t m r z′));
               counts = counted e;
               beside = beside-put g c k t m r z′ g₀ (h .beside);
             })
-        go false e = rw (o .table ∙ ap (λ x. cond x (putTrigger g c k t) g) e, o .count ∙ ap (λ x. k + one x) e) (record {
-          noted = rw (add-one p) (subst (λ j. Noted g c (fromOn f start count) q (suc p) j) (let w : k ≡ k + 0 = omega arith in w)
-              (passed (h .noted) t (nth-from noMove f start count p l) (λ w. false≢true (sym e ∙ rw w (same-refl q)))));
-          counts = counted e;
-          beside = h .beside;
-        })
+        go false e =
+            rw (o .table ∙ ap (λ x. cond x (putTrigger g c k t) g) e, o .count ∙ ap (λ x. k + one x) e) (record {
+              noted = rw (add-one p)
+                  (subst (λ j. Noted g c (fromOn f start count) q (suc p) j) (let w : k ≡ k + 0 = omega arith in w)
+                  (passed (h .noted) t (nth-from noMove f start count p l)
+                  (λ w. false≢true (sym e ∙ rw w (same-refl q)))));
+              counts = counted e;
+              beside = h .beside;
+            })
 
   -- ── what a search is told of the chart ──
 
-  module _ (g : List ℕ) (k : ℕ) (h : Noting f start count q c count g₀ g k) (few : k ≤ mostFromState) (low high closed : Set) where
+  module _ (g : List ℕ) (k : ℕ) (h : Noting f start count q c count g₀ g k) (few : k ≤ mostFromState)
+      (low high closed : Set) where
     abbrev ts : List Transition
     ts = fromOn f start count
 
@@ -138,15 +162,26 @@ module _ (f : ℕ → Transition) (start count q c : ℕ) (g₀ : List ℕ) wher
 -- ── all charts ──
 
 module _ (n : Shape) (b config lows may shuts m : List ℕ) where
-  pub telling-none : (g : List ℕ) → triggersFor (n .charts) ≤ length g → Telling n b config lows may shuts m 0 g (set (replicate staysSize 0) mostCharts 1)
-  telling-none g z = record { told = λ c l. absurd (omega arith); few = λ c l. let z = none c l in omega arith; rest = λ c k l. none c l; size = z; small = refl; some-may = refl }
+  pub telling-none : (g : List ℕ) → triggersFor (n .charts) ≤ length g
+      → Telling n b config lows may shuts m 0 g (set (replicate staysSize 0) mostCharts 1)
+  telling-none g z = record {
+    told = λ c l. absurd (omega arith);
+    few = λ c l. let z = none c l in omega arith;
+    rest = λ c k l. none c l;
+    size = z;
+    small = refl;
+    some-may = refl;
+  }
     where
       none : (c : ℕ) → c < mostCharts → getD {A = ℕ} (set (replicate staysSize 0) mostCharts 1) c 0 ≡ 0
-      none c l = getD-set-other (replicate staysSize 0) mostCharts c 1 0 (λ e. omega arith) ∙ getD-replicate {A = ℕ} staysSize c 0 0 (omega arith)
+      none c l = getD-set-other (replicate staysSize 0) mostCharts c 1 0 (λ e. omega arith)
+          ∙ getD-replicate {A = ℕ} staysSize c 0 0 (omega arith)
 
-  pub telling-next : (c : ℕ) (g y g′ : List ℕ) (start k : ℕ) (head : Head) (others : Set) → Telling n b config lows may shuts m c g y → c < mostCharts → start ≡ startOf n b c → head ≡ headAt n b c
+  pub telling-next : (c : ℕ) (g y g′ : List ℕ) (start k : ℕ) (head : Head) (others : Set)
+      → Telling n b config lows may shuts m c g y → c < mostCharts → start ≡ startOf n b c → head ≡ headAt n b c
       → others ≡ othersAt m (n .charts) (λ e. getD may e 0) c
-      → Tells (fromOn (transitionAt n b) start (head .transitions)) (getD config c 0) c (getD lows c 0) (getD lows c 0 ∪ others) (getD shuts c 0) g g′ k
+      → Tells (fromOn (transitionAt n b) start (head .transitions)) (getD config c 0) c (getD lows c 0)
+      (getD lows c 0 ∪ others) (getD shuts c 0) g g′ k
       → Telling n b config lows may shuts m (c + 1) g′ (set y c k)
   unfolding transitionsOf
   telling-next c g y g′ start k head others h l es eh eo t =
@@ -168,10 +203,12 @@ module _ (n : Shape) (b config lows may shuts m : List ℕ) where
       off : (d : ℕ) → same d c ≡ false → getD (set y c k) d 0 ≡ getD y d 0
       off d e = getD-set-other y c d k 0 (apart? d e)
 
-      go : (d : ℕ) → d < c + 1 → (x : Bool) → same d c ≡ x → Told g′ d (fromOn (transitionAt n b) (startOf n b d) (headAt n b d .transitions)) (getD config d 0) (quiet n b config lows may shuts m d) (getD (set y c k) d 0)
+      go : (d : ℕ) → d < c + 1 → (x : Bool) → same d c ≡ x → Told g′ d (fromOn (transitionAt n b) (startOf n b d)
+          (headAt n b d .transitions)) (getD config d 0) (quiet n b config lows may shuts m d) (getD (set y c k) d 0)
       go d r true e = rw (same→≡ d c e, at, ← eo, ← es, ← eh) (t .told)
       go d r false e = let w = apart? d e in rw (off d e)
-          (told-kept g g′ d _ (getD config d 0) _ (getD y d 0) (h .few d (omega arith)) (t .beside .others d (omega arith) w) (h .told d (omega arith)))
+          (told-kept g g′ d _ (getD config d 0) _ (getD y d 0) (h .few d (omega arith))
+          (t .beside .others d (omega arith) w) (h .told d (omega arith)))
 
       less : (d : ℕ) → d < mostCharts → (x : Bool) → same d c ≡ x → getD (set y c k) d 0 ≤ mostFromState + 1
       less d r true e = rw (same→≡ d c e, at) (t .few)
@@ -197,7 +234,12 @@ module _ (n : Shape) (b config lows may shuts m : List ℕ) where
             (λ c l. subst (λ x. Told g c (E reads c .transitions) (cfg c) x (getD y c 0)) (sym (kept reads my c))
             (told-narrowed g c (getD reads c 0) (transitionsOf n b c) (cfg c) (quiet n b config lows may shuts m c)
             (getD y c 0) (h .told c l)));
-        guards = record { masks = room; small = h .small; counts = h .few; none-may = λ e. absurd (let z = h .some-may in omega arith) };
+        guards = record {
+          masks = room;
+          small = h .small;
+          counts = h .few;
+          none-may = λ e. absurd (let z = h .some-may in omega arith);
+        };
       }
     where
       room : (c : ℕ) → c < mostCharts → getD y c 0 ≢ 0 → triggersFor (c + 1) ≤ length g
@@ -228,7 +270,12 @@ module _ (n : Shape) (b config lows may shuts m : List ℕ) where
         stayers = λ reads my. stayers (E reads) cfg (n .charts) (keep reads) g (replicate staysSize 0)
             (λ c l. shut (ap (λ x. x && keep reads c (lastPlace (E reads c))) (same-≢ (n .edition) stayEdition one))
             (none c (omega arith)));
-        guards = record { masks = λ c l w. absurd (w (none c l)); small = length-replicate {A = ℕ} staysSize 0; counts = λ c l. let z = none c l in omega arith; none-may = λ e. none };
+        guards = record {
+          masks = λ c l w. absurd (w (none c l));
+          small = length-replicate {A = ℕ} staysSize 0;
+          counts = λ c l. let z = none c l in omega arith;
+          none-may = λ e. none;
+        };
       }
     where
       none : (c : ℕ) → c < mostCharts → getD {A = ℕ} (replicate staysSize 0) c 0 ≡ 0

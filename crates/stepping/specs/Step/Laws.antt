@@ -1,5 +1,6 @@
--- Laws of the step, in this order: a call's list behind 1 to 11; what a checked body and a valid configuration give the choosing of candidates; the
--- tables after it, and what is read by their wiring; what the search over them answers; what was found, as an answer; how many choices are open; what was tried.
+-- Laws of the step, in this order: a call's list behind 1 to 11; what a checked body and a valid configuration give the
+-- choosing of candidates; the tables after it, and what is read by their wiring; what the search over them answers;
+-- what was found, as an answer; how many choices are open; what was tried.
 use mathlib.Core.Path.{_≡_, refl, sym, ap, subst, _∙_}
 use mathlib.Core.Bool.{Bool, true, false, not, cond}
 use mathlib.Core.List.{List, [], _∷_, _++_, append-assoc}
@@ -16,12 +17,15 @@ use Rattle.layout.specs.declared.body.Shape.{Shape}
 use Rattle.meaning.specs.Numbers.{mostCharts, mostOpen, mostFromState, stayPlace, shortBuffer, noStep, manyOpen}
 use Rattle.meaning.specs.Count.{anyUpTo}
 use Rattle.meaning.specs.Count.Laws.{or-right, any-never}
-use Rattle.meaning.specs.Meaning.{Set, same, Move, noMove, takes, stay, pick, after, Answer, refused, given, answer, firstPlaces}
+use Rattle.meaning.specs.Meaning.{Set, same, Move, noMove, takes, stay, pick, after, Answer, refused, given, answer}
+use Rattle.meaning.specs.Meaning.{firstPlaces}
 use Rattle.meaning.specs.File.{File, trailer, shapeOf, bodyOf, chartOf, fileAt, fileOf, wholeOf}
 use Rattle.meaning.specs.Check.{Test, firstOf, fileTests, refusalOf, notBelow, ends?, leaving, transitions?}
-use Rattle.meaning.specs.Check.Laws.{below, alike, charted, call-refused, call-passed, passed, Passes, firstOf-passes, firstOf-++, firstOf-before, firstOf-here, firstOf-next, firstOf-[]}
+use Rattle.meaning.specs.Check.Laws.{below, alike, charted, call-refused, call-passed, passed, Passes, firstOf-passes}
+use Rattle.meaning.specs.Check.Laws.{firstOf-++, firstOf-before, firstOf-here, firstOf-next, firstOf-[]}
 use Rattle.meaning.specs.Check.Nodes.{sound}
-use Rattle.meaning.specs.Calls.{configTests, Valid, stepRefusal, foundIn, stepIn, stepOf, allPlaces, placesFound, placesIn, placesOf, openFor, openOf, nextIn}
+use Rattle.meaning.specs.Calls.{configTests, Valid, stepRefusal, foundIn, stepIn, stepOf, allPlaces, placesFound}
+use Rattle.meaning.specs.Calls.{placesIn, placesOf, openFor, openOf, nextIn}
 use Rattle.meaning.specs.Calls.Laws.{behind-refused as places-refused, places-by}
 use Rattle.meaning.specs.Open.{openChart, openIn}
 use Rattle.meaning.specs.Laws.Names.{kap}
@@ -51,34 +55,42 @@ use Rattle.staying.specs.Staying.{Stays}
 use Rattle.stepping.specs.declared.step.Stepped.{Stepped}
 use Rattle.stepping.specs.declared.step.Tried.{Tried}
 use Rattle.stepping.specs.Answer.{steppedOf, refusedOf}
-use Rattle.stepping.specs.Step.{configTestsIn, refusalAfter, stepAfter, placesAfter, openAfter, Checked, Prepared, Shut, AllRead, searchedOf, Finds, triedAnswer, triedRefusal, Tries}
+use Rattle.stepping.specs.Step.{configTestsIn, refusalAfter, stepAfter, placesAfter, openAfter, Checked, Prepared}
+use Rattle.stepping.specs.Step.{Shut, AllRead, searchedOf, Finds, triedAnswer, triedRefusal, Tries}
 
 -- ── behind 1 to 11 ──
 
 -- a list of tests behind the file's own
-behind : (f config : List ℕ) (t : Test) → firstOf (fileTests f ++ configTests f config ++ (t ∷ [])) ≡ firstOf (fileTests f ++ (configTestsIn (fileOf f) config ++ (t ∷ [])))
+behind : (f config : List ℕ) (t : Test) → firstOf (fileTests f ++ configTests f config ++ (t ∷ []))
+    ≡ firstOf (fileTests f ++ (configTestsIn (fileOf f) config ++ (t ∷ [])))
 unfolding configTests configTestsIn
 behind f config t = ap firstOf (append-assoc (fileTests f) (configTests f config) (t ∷ []))
 
-pub behind-refused : (f config : List ℕ) (t : Test) → (refusalOf f ≡ 0 → ⊥) → firstOf (fileTests f ++ configTests f config ++ (t ∷ [])) ≡ refusalOf f
+pub behind-refused : (f config : List ℕ) (t : Test) → (refusalOf f ≡ 0 → ⊥)
+    → firstOf (fileTests f ++ configTests f config ++ (t ∷ [])) ≡ refusalOf f
 behind-refused f config t h = behind f config t ∙ call-refused f _ h
 
-pub behind-passed : (f config : List ℕ) (t : Test) → refusalOf f ≡ 0 → firstOf (fileTests f ++ configTests f config ++ (t ∷ [])) ≡ firstOf (configTestsIn (fileOf f) config ++ (t ∷ []))
+pub behind-passed : (f config : List ℕ) (t : Test) → refusalOf f ≡ 0
+    → firstOf (fileTests f ++ configTests f config ++ (t ∷ [])) ≡ firstOf (configTestsIn (fileOf f) config ++ (t ∷ []))
 behind-passed f config t h = behind f config t ∙ call-passed f _ h
 
-pub step-refused : (f config : List ℕ) (i : Set) (room : ℕ) → (refusalOf f ≡ 0 → ⊥) → stepOf f config i room ≡ refused (refusalOf f)
+pub step-refused : (f config : List ℕ) (i : Set) (room : ℕ) → (refusalOf f ≡ 0 → ⊥)
+    → stepOf f config i room ≡ refused (refusalOf f)
 unfolding stepOf stepRefusal same
 step-refused f config i room h = rw (behind-refused f config _ h, ne-eqb (refusalOf f) 0 h)
 
-pub step-passed : (f config : List ℕ) (i : Set) (room : ℕ) → refusalOf f ≡ 0 → stepOf f config i room ≡ stepAfter (fileOf f) config i room
+pub step-passed : (f config : List ℕ) (i : Set) (room : ℕ) → refusalOf f ≡ 0
+    → stepOf f config i room ≡ stepAfter (fileOf f) config i room
 unfolding stepOf stepRefusal stepAfter refusalAfter
 step-passed f config i room h = rw (behind-passed f config _ h)
 
-pub places-passed : (f config : List ℕ) (i : Set) (room : ℕ) → refusalOf f ≡ 0 → placesOf f config i room ≡ placesAfter (fileOf f) config i room
+pub places-passed : (f config : List ℕ) (i : Set) (room : ℕ) → refusalOf f ≡ 0
+    → placesOf f config i room ≡ placesAfter (fileOf f) config i room
 unfolding placesOf stepRefusal placesAfter refusalAfter
 places-passed f config i room h = rw (behind-passed f config _ h)
 
-pub open-passed : (f config : List ℕ) (i : Set) (room : ℕ) → refusalOf f ≡ 0 → openOf f config i room ≡ openAfter (fileOf f) config i room
+pub open-passed : (f config : List ℕ) (i : Set) (room : ℕ) → refusalOf f ≡ 0
+    → openOf f config i room ≡ openAfter (fileOf f) config i room
 unfolding openOf
 open-passed f config i room h = ap (λ a. openFor a (openIn (fileOf f) config)) (step-passed f config i room h)
 
@@ -115,29 +127,45 @@ module _ (F : File) (config : List ℕ) where
     abbrev room-test : Test
     room-test = record { number = shortBuffer; applies = ltb room (F .charts) }
 
-    pub after-config : (firstOf (configTestsIn F config) ≡ 0 → ⊥) → stepAfter F config i room ≡ refused (firstOf (configTestsIn F config))
+    pub after-config : (firstOf (configTestsIn F config) ≡ 0 → ⊥)
+        → stepAfter F config i room ≡ refused (firstOf (configTestsIn F config))
     unfolding stepAfter refusalAfter same
     after-config h = rw (firstOf-before (configTestsIn F config) _ h, ne-eqb (firstOf (configTestsIn F config)) 0 h)
 
-    pub after-room : firstOf (configTestsIn F config) ≡ 0 → room < F .charts → stepAfter F config i room ≡ refused shortBuffer
+    pub after-room : firstOf (configTestsIn F config) ≡ 0 → room < F .charts
+        → stepAfter F config i room ≡ refused shortBuffer
     unfolding stepAfter refusalAfter same
-    after-room h l = rw (firstOf-++ (configTestsIn F config) (room-test ∷ []) (config-passes h), firstOf-here room-test [] (lt-ltb room (F .charts) l))
+    after-room h l = rw (
+      firstOf-++ (configTestsIn F config) (room-test ∷ []) (config-passes h),
+      firstOf-here room-test [] (lt-ltb room (F .charts) l),
+    )
 
-    pub after-step : firstOf (configTestsIn F config) ≡ 0 → F .charts ≤ room → stepAfter F config i room ≡ stepIn F config i
+    pub after-step : firstOf (configTestsIn F config) ≡ 0 → F .charts ≤ room
+        → stepAfter F config i room ≡ stepIn F config i
     unfolding stepAfter refusalAfter same
-    after-step h l = rw (firstOf-++ (configTestsIn F config) (room-test ∷ []) (config-passes h), firstOf-next room-test [] (le-ltb room (F .charts) l), firstOf-[])
+    after-step h l = rw (
+      firstOf-++ (configTestsIn F config) (room-test ∷ []) (config-passes h),
+      firstOf-next room-test [] (le-ltb room (F .charts) l),
+      firstOf-[],
+    )
 
     -- the places, likewise
-    pub after-places : firstOf (configTestsIn F config) ≡ 0 → F .charts ≤ room → placesAfter F config i room ≡ placesIn F config i
+    pub after-places : firstOf (configTestsIn F config) ≡ 0 → F .charts ≤ room
+        → placesAfter F config i room ≡ placesIn F config i
     unfolding placesAfter refusalAfter same
-    after-places h l = rw (firstOf-++ (configTestsIn F config) (room-test ∷ []) (config-passes h), firstOf-next room-test [] (le-ltb room (F .charts) l), firstOf-[])
+    after-places h l = rw (
+      firstOf-++ (configTestsIn F config) (room-test ∷ []) (config-passes h),
+      firstOf-next room-test [] (le-ltb room (F .charts) l),
+      firstOf-[],
+    )
 
     pub after-refused : (r : ℕ) → stepAfter F config i room ≡ refused r → placesAfter F config i room ≡ allPlaces []
     unfolding stepAfter placesAfter
     after-refused r e = places-refused r (refusalAfter F config room) F config i e
 
 -- the body that a file is opened to
-pub checked : (f : List ℕ) (n : Shape) (b : List ℕ) → refusalOf f ≡ 0 → n ≡ shapeOf (trailer f) → b ≡ bodyOf f → Sized n b → startOf n b (n .charts) ≡ n .transitions → Checked n b
+pub checked : (f : List ℕ) (n : Shape) (b : List ℕ) → refusalOf f ≡ 0 → n ≡ shapeOf (trailer f) → b ≡ bodyOf f
+    → Sized n b → startOf n b (n .charts) ≡ n .transitions → Checked n b
 unfolding fileOf
 checked f n b h en eb sz sm =
     let p = passed f h in
@@ -157,20 +185,29 @@ file-is f n b en eb = rw (en, eb)
 
 module _ (n : Shape) (b : List ℕ) (k : Checked n b) where
   -- each state of a chart is left by mostFromState transitions at the most
-  few-leave : (c s : ℕ) → c < n .charts → s < headAt n b c .states → leaving n b c s (headAt n b c .transitions) ≤ mostFromState
+  few-leave : (c s : ℕ) → c < n .charts → s < headAt n b c .states
+      → leaving n b c s (headAt n b c .transitions) ≤ mostFromState
   unfolding transitions?
   few-leave c s l m =
       ltb-false mostFromState (leaving n b c s (headAt n b c .transitions))
-      (any-never (headAt n b c .states) _ (or-right (anyUpTo (headAt n b c .transitions) (ends? n b c)) _ (any-never (n .charts) _ (k .transitions) c l)) s m)
+      (any-never (headAt n b c .states) _ (or-right (anyUpTo (headAt n b c .transitions) (ends? n b c)) _
+      (any-never (n .charts) _ (k .transitions) c l)) s m)
 
-  pub ready : (config : List ℕ) → n .charts ≤ length config → ((c : ℕ) → c < n .charts → getD config c 0 < headAt n b c .states) → Ready n b config
+  pub ready : (config : List ℕ) → n .charts ≤ length config
+      → ((c : ℕ) → c < n .charts → getD config c 0 < headAt n b c .states) → Ready n b config
   ready config l v =
-      record { sized = k .sized; summed = k .summed; configured = l; room = λ c m. few-leave c (getD config c 0) m (v c m) }
+      record {
+        sized = k .sized;
+        summed = k .summed;
+        configured = l;
+        room = λ c m. few-leave c (getD config c 0) m (v c m);
+      }
 
   pub wirable : Wirable n b
   wirable = record { sized = k .sized; sound = k .sound }
 
-pub valid-config : (n : Shape) (b config : List ℕ) → anyUpTo (n .charts) (λ c. notBelow (getD config c 0) (headAt n b c .states)) ≡ false
+pub valid-config : (n : Shape) (b config : List ℕ)
+    → anyUpTo (n .charts) (λ c. notBelow (getD config c 0) (headAt n b c .states)) ≡ false
     → (c : ℕ) → c < n .charts → getD config c 0 < headAt n b c .states
 valid-config n b config h c l = below _ _ (any-never (n .charts) _ h c l)
 
@@ -197,9 +234,12 @@ module _ (n : Shape) (b a m s m′ s′ config reads base shuts lows : List ℕ)
       record {
         down-is = p .wired .down-is;
         up-is = λ d l. ch .wires .ups d (omega (arith, sz .charts)) ∙ p .wired .up-is d l;
-        back-is = λ c d l r. ch .wires .backs c d (omega (arith, sz .charts)) (omega (arith, sz .charts)) ∙ p .wired .back-is c d l r;
-        nearest-is = λ c l. let q = p .wired .nearest-is c l in
-            (ch .masters (masterCell c) (omega (arith, sz .charts)) (omega (arith, sz .charts)) ∙ q .0, ch .masters (slaveStateCell c) (omega (arith, sz .charts)) (omega (arith, sz .charts)) ∙ q .1);
+        back-is = λ c d l r. ch .wires .backs c d (omega (arith, sz .charts)) (omega (arith, sz .charts))
+            ∙ p .wired .back-is c d l r;
+        nearest-is = λ c l. let q = p .wired .nearest-is c l in (
+          ch .masters (masterCell c) (omega (arith, sz .charts)) (omega (arith, sz .charts)) ∙ q .0,
+          ch .masters (slaveStateCell c) (omega (arith, sz .charts)) (omega (arith, sz .charts)) ∙ q .1,
+        );
       }
 
   pub prepared-again : Prepared n b a m′ s′
@@ -218,14 +258,16 @@ module _ (n : Shape) (b a m s m′ s′ config reads base shuts lows : List ℕ)
         few = sz .charts;
         back-at = wired-again .back-is;
         up-at = λ d l. wired-again .up-is d l;
-        outside = λ c l e. let q : masterAt s′ c ≡ 255 = wired-again .nearest-is c l .0 ∙ ap (masterBy F) e in omega arith;
+        outside =
+            λ c l e. let q : masterAt s′ c ≡ 255 = wired-again .nearest-is c l .0 ∙ ap (masterBy F) e in omega arith;
         inside = λ c i l e. let q = wired-again .nearest-is c l in (q .0 ∙ ap (masterBy F) e, q .1 ∙ ap (stateBy F) e);
         state-at = ch .chosen .state-at;
       }
 
   -- ── what the search answers ──
 
-  module _ (all : AllBytes b) (k : Checked n b) (inp : Set) (fits : inp < 2 ^ 64) (lw : Row base (λ c. inp ∩ getD a c 0)) (g y may : List ℕ)
+  module _ (all : AllBytes b) (k : Checked n b) (inp : Set) (fits : inp < 2 ^ 64)
+      (lw : Row base (λ c. inp ∩ getD a c 0)) (g y may : List ℕ)
       (sy : Stays n b config may lows shuts m′ g y) (my : Mays n b config reads (n .charts) may)
       (sh : Shut n b config shuts) (ar : AllRead n b config reads) where
     base-is : (c : ℕ) → c < F .charts → getD base c 0 ≡ inp ∩ down (wholeOf F) c
@@ -239,15 +281,20 @@ module _ (n : Shape) (b a m s m′ s′ config reads base shuts lows : List ℕ)
     -- a chart has at most 64 transitions, so 254 is no transition's place
     few : (c : ℕ) → c < F .charts → length (F .chart c .transitions) ≤ stayPlace
     unfolding fileAt chartOf transitionsOf
-    few c l = let h = length-from (transitionAt n b) (startOf n b c) (headAt n b c .transitions) in let q = charted n b (k .charts) c l .transitions in omega arith
+    few c l = let h = length-from (transitionAt n b) (startOf n b c) (headAt n b c .transitions) in
+        let q = charted n b (k .charts) c l .transitions in omega arith
 
     pub found-here : Finds n b config inp (searchedOf (n .charts) lows m′ s′ g y)
     unfolding fileAt chartOf
     found-here =
         let t = k .sound in
         record {
-          answers = step-found F (sz .some-node) (t .ordered) (t .rule10) (t .rule11) (t .chart-there) (t .node-there) config inp small-input (actions-small n b all) m′ s′ g y base lows shuts few (sh inp) rows (λ c. getD reads c 0) ar (ch .chosen) (ch .raised) base-is (sy .stayers reads my);
-          places = step-places F (sz .some-node) (t .ordered) (t .rule10) (t .rule11) (t .chart-there) (t .node-there) config inp small-input (actions-small n b all) m′ s′ g y base lows shuts few (sh inp) rows (λ c. getD reads c 0) ar (ch .chosen) (ch .raised) base-is (sy .stayers reads my);
+          answers = step-found F (sz .some-node) (t .ordered) (t .rule10) (t .rule11) (t .chart-there)
+              (t .node-there) config inp small-input (actions-small n b all) m′ s′ g y base lows shuts few (sh inp) rows
+              (λ c. getD reads c 0) ar (ch .chosen) (ch .raised) base-is (sy .stayers reads my);
+          places = step-places F (sz .some-node) (t .ordered) (t .rule10) (t .rule11) (t .chart-there)
+              (t .node-there) config inp small-input (actions-small n b all) m′ s′ g y base lows shuts few (sh inp) rows
+              (λ c. getD reads c 0) ar (ch .chosen) (ch .raised) base-is (sy .stayers reads my);
         }
 
 -- ── what was found ──
@@ -261,7 +308,8 @@ unfolding trimmed
 answer-given N f h = rw h
 
 -- a refusal gives nothing and leaves the buffer; k choices are open, and it says j of them
-pub refuses : (a : Answer) (places b : List ℕ) (r k j : ℕ) (s : Stepped) → a ≡ refused r → places ≡ allPlaces [] → j ≡ openFor (refused r) k
+pub refuses : (a : Answer) (places b : List ℕ) (r k j : ℕ) (s : Stepped) → a ≡ refused r → places ≡ allPlaces []
+    → j ≡ openFor (refused r) k
     → s ≡ refusedOf r j → (s ≡ steppedOf a places (openFor a k)) × (b ≡ nextIn a b)
 refuses a places b r k j s e q w h = rw (e, q, h, w) (refl, refl)
 
@@ -284,7 +332,8 @@ module _ (n : Shape) (b config : List ℕ) (k : Checked n b) (v : Valid (fileAt 
   ready-valid = ready n b k config (omega (arith, configured)) (v .states)
 
   -- the rows of masters and of states stand in the tables
-  pub countable : (s m t : List ℕ) → NearestIn (fileAt n b) s → InRow m (masterAt s) → InRow t (slaveStateAt s) → Countable n b config m t
+  pub countable : (s m t : List ℕ) → NearestIn (fileAt n b) s → InRow m (masterAt s) → InRow t (slaveStateAt s)
+      → Countable n b config m t
   unfolding fileAt
   countable s m t w rm rt =
       let few = k .sized .charts in
@@ -341,7 +390,8 @@ module _ (t : Tried) where
   pub refusal-else : (triedRefusal t ≡ manyOpen → ⊥) → triedRefusal t < manyOpen
   refusal-else h = go (ltb mostOpen (t .open_choices)) (t .found .has) h
     where
-      go : (x y : Bool) → (cond x manyOpen (cond y 0 noStep) ≡ manyOpen → ⊥) → cond x manyOpen (cond y 0 noStep) < manyOpen
+      go : (x y : Bool) → (cond x manyOpen (cond y 0 noStep) ≡ manyOpen → ⊥)
+          → cond x manyOpen (cond y 0 noStep) < manyOpen
       go true y z = absurd (z refl)
       go false true z = lit< tt
       go false false z = lit< tt
@@ -363,11 +413,13 @@ module _ (N : ℕ) (t : Tried) where
       go false true e z = absurd (z refl)
       go false false e z = answer-none N (t .found) e
 
-  pub tried-given : triedRefusal t ≡ 0 → triedAnswer N t ≡ given (t .found .output) (take N (t .found .next)) (t .found .agree)
+  pub tried-given : triedRefusal t ≡ 0
+      → triedAnswer N t ≡ given (t .found .output) (take N (t .found .next)) (t .found .agree)
   tried-given h = go (ltb mostOpen (t .open_choices)) (t .found .has) refl h
     where
       go : (x y : Bool) → t .found .has ≡ y → cond x manyOpen (cond y 0 noStep) ≡ 0
-          → cond x (refused manyOpen) (answerOf N (t .found)) ≡ given (t .found .output) (take N (t .found .next)) (t .found .agree)
+          → cond x (refused manyOpen) (answerOf N (t .found))
+          ≡ given (t .found .output) (take N (t .found .next)) (t .found .agree)
       go true y e z = absurd (omega (arith, z))
       go false true e z = answer-given N (t .found) e
       go false false e z = absurd (omega (arith, z))
@@ -404,7 +456,8 @@ module _ (n : Shape) (b config : List ℕ) (i : Set) (t : Tried) (e : t .open_ch
         let f : openIn G config ≤ mostOpen = omega (arith, o) in
         record {
           counts = e;
-          answers = tried-few (n .charts) t (omega (arith, z)) ∙ answer-none (n .charts) (t .found) (ap (λ f. f .has) none)
+          answers =
+              tried-few (n .charts) t (omega (arith, z)) ∙ answer-none (n .charts) (t .found) (ap (λ f. f .has) none)
               ∙ sym (step-few G config i f ∙ found-none o);
           places = none-places ∙ sym (places-by G config i false (few-is G config i f) ∙ places-none o);
         }

@@ -1,7 +1,7 @@
 -- Laws of what is read. In order: a narrowed list (length-narrowed to narrow-from), a narrowed move (narrowMove to
--- place-narrowed), the wiring (back-narrowed), what a chart asks of what it is offered (join-at to awake-narrowed), and a
--- choice: it is permitted of narrowed charts exactly if it is of the charts (permitted-narrowed), and all outcomes are
--- the same, with their places (outcomes-narrowed). Last, what has all that is read (reads-all, reads-at).
+-- place-narrowed), the wiring (back-narrowed), what a chart asks of what it is offered (join-at to awake-narrowed), and
+-- a choice: it is permitted of narrowed charts exactly if it is of the charts (permitted-narrowed), and all outcomes
+-- are the same, with their places (outcomes-narrowed). Last, what has all that is read (reads-all, reads-at).
 use mathlib.Core.Path.{_≡_, refl, sym, _∙_, ap, ap₂}
 use mathlib.Core.Bool.{Bool, true, false, _&&_, _||_, not, cond, false≢true}
 use mathlib.Core.Option.{Option, none, some}
@@ -14,7 +14,10 @@ use Rattle.signals.specs.Mask.{_∪_, _∩_, _∖_, Within}
 use Rattle.signals.specs.Decide.{sets, A, B, C, D, E as Eₑ, F as Fₑ, ∅ₑ, _∪ₑ_, _∩ₑ_, _≐_, _⊑_}
 use Rattle.layout.specs.Body.{from as fromOn}
 use Rattle.layout.specs.declared.record.Transition.{Transition}
-use Rattle.meaning.specs.Meaning.{Set, ∅, same, Chart, Tree, Slaves, leaf, comp, hide, dec, nil, snoc, Move, noMove, takes, stay, nth, behind, pick, lastPlace, actionOf, after, met?, untriggered, meets, permitted, moves, nexts, placeOf, placesFrom, upd, out, upto, outcomeOf, outcome, search, outcomes}
+use Rattle.meaning.specs.Meaning.{Set, ∅, same, Chart, Tree, Slaves, leaf, comp, hide, dec, nil, snoc, Move, noMove}
+use Rattle.meaning.specs.Meaning.{takes, stay, nth, behind, pick, lastPlace, actionOf, after, met?, untriggered, meets}
+use Rattle.meaning.specs.Meaning.{permitted, moves, nexts, placeOf, placesFrom, upd, out, upto, outcomeOf, outcome}
+use Rattle.meaning.specs.Meaning.{search, outcomes}
 use Rattle.meaning.specs.Laws.Bools.{same-refl, same→≡, and-cong}
 use Rattle.meaning.specs.Laws.Guards.{met-cut}
 use Rattle.meaning.specs.Laws.Choices.{upto-cong}
@@ -333,5 +336,6 @@ module _ (E : ℕ → Chart) (cfg : ℕ → ℕ) (N : ℕ) (t : Tree) where
   unfolding readOf readAt
   reads-at m r b u h k l =
       let asks = join-cong N _ _ (λ c q. ap (λ z. z ∩ asked (E c .transitions) (cfg c)) (b c k q l)) in
-      sets ((up t k ∪ unionUpTo N (λ c. back E t c k ∩ asked (E c .transitions) (cfg c))) ∷ full ∷ r k ∷ []) (C ≐ A ∷ [])
+      sets ((up t k ∪ unionUpTo N (λ c. back E t c k ∩ asked (E c .transitions) (cfg c))) ∷ full ∷ r k ∷ [])
+      (C ≐ A ∷ [])
       (A ∩ₑ B ⊑ C) tt (h k l ∙ ap₂ _∪_ (u k l) asks)

@@ -8,4 +8,5 @@ use Rattle.cells.proofs.small.put_nearest.Tie as tie
 pub put-nearest-spec : {M : Type 1} → statement M
 put-nearest-spec =
     tie.close
-    (tie.spec (λ c. search needs) (λ c. search needs) (λ c. search needs) (λ c. simp length-set (omega arith)) (λ c. search needs) (λ c. search needs))
+    (tie.spec (λ c. search needs) (λ c. search needs) (λ c. search needs) (λ c. simp length-set (omega arith))
+    (λ c. search needs) (λ c. search needs))

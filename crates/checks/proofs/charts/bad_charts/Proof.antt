@@ -1,4 +1,5 @@
--- `charts::bad_charts` meets its contract. The charts passed are good, and `sum` is where the transitions of the next one start. Assumes nothing.
+-- `charts::bad_charts` meets its contract. The charts passed are good, and `sum` is where the transitions of the next
+-- one start. Assumes nothing.
 use mathlib.Core.Path.{_≡_, sym, ap, _∙_}
 use mathlib.Core.Bool.{false, not}
 use mathlib.Core.List.{List}
@@ -18,7 +19,8 @@ use Rattle.checks.proofs.charts.bad_charts.Statement.{statement}
 use Rattle.checks.proofs.charts.bad_charts.Tie as tie
 
 abbrev Inv-loop : tie.InvT-loop
-Inv-loop n body charts sum₀ c₀ sum c = (c ≤ charts) × (sum ≤ 255 * c) × (sum ≡ startOf n body c) × (anyUpTo c (chart? n body) ≡ false)
+Inv-loop n body charts sum₀ c₀ sum c =
+    (c ≤ charts) × (sum ≤ 255 * c) × (sum ≡ startOf n body c) × (anyUpTo c (chart? n body) ≡ false)
 
 abbrev μ-loop : tie.MeasureT-loop
 μ-loop n body charts sum₀ c₀ sum c = charts - c
@@ -28,14 +30,16 @@ loop-holds c = (omega arith, omega arith, sym (startOf-none _ _), any-none _)
 
 -- what the code asks of the chart is `chart?`
 asked : (c : tie.After-bad-chart Inv-loop μ-loop)
-    → c .bad-chart .result ≡ chart? (c .before .before .before .before .before .args .n) (c .before .before .before .before .before .args .body .now)
+    → c .bad-chart .result ≡ chart? (c .before .before .before .before .before .args .n)
+    (c .before .before .before .before .before .args .body .now)
     (c .before .before .before .loop .c)
 unfolding chart?
 asked c = c .bad-chart .ensures ∙ rw (c .before .head-at .ensures)
 
 returns : tie.Need-returns Inv-loop μ-loop
 unfolding charts?
-returns c = rw (any-at _ (chart? _ _) (c .before .before .before .before .loop .c) (c .before .before .before .loop-test .taken)
+returns c =
+    rw (any-at _ (chart? _ _) (c .before .before .before .before .loop .c) (c .before .before .before .loop-test .taken)
     (sym (asked (c .before)) ∙ c .if1 .taken))
 
 loop-again : tie.Need-loop-again Inv-loop μ-loop
@@ -44,7 +48,11 @@ loop-again c =
     let a = c .before .before .before .before .before .before .before .args in (
       omega arith,
       omega arith,
-      omega (arith, startOf-next (a .n) (a .body .now) (l .c), ap (λ (h : Head). h .transitions) (c .before .before .before .head-at .ensures)),
+      omega (
+        arith,
+        startOf-next (a .n) (a .body .now) (l .c),
+        ap (λ (h : Head). h .transitions) (c .before .before .before .head-at .ensures),
+      ),
       any-more _ _ (l .inv .3) (sym (asked (c .before .before)) ∙ c .before .if1 .left),
     )
 

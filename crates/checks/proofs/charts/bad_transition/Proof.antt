@@ -13,7 +13,8 @@ returns c = (simp (le-ltb _ _ (c .if1 .taken)), λ e. absurd (false≢true (sym 
 
 returns-2 : tie.Need-returns-2
 unfolding next?
-returns-2 c = (simp (lt-ltb _ _ (c .before .before .if1 .left), le-ltb _ _ (c .if2 .taken)), λ e. absurd (false≢true (sym e)))
+returns-2 c =
+    (simp (lt-ltb _ _ (c .before .before .if1 .left), le-ltb _ _ (c .if2 .taken)), λ e. absurd (false≢true (sym e)))
 
 returns-3 : tie.Need-returns-3
 unfolding next?

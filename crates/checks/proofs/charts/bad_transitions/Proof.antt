@@ -1,5 +1,5 @@
--- `charts::bad_transitions` meets its contract. The charts passed are good, and so are the transitions passed of the present chart, of which `left`
--- counts how many left each state. Assumes nothing.
+-- `charts::bad_transitions` meets its contract. The charts passed are good, and so are the transitions passed of the
+-- present chart, of which `left` counts how many left each state. Assumes nothing.
 use mathlib.Core.Path.{_≡_, refl, sym, ap, _∙_}
 use mathlib.Core.Bool.{false}
 use Prim.Native.Nat.{_+_, _-_, _≤_, _<_}
@@ -19,14 +19,16 @@ use Rattle.checks.proofs.charts.bad_transitions.Tie as tie
 
 abbrev Inv-loop : tie.InvT-loop
 Inv-loop n body charts found₀ at₀ c count states left₀ t₀ found at left t =
-    (t ≤ count) × (at ≡ startOf n body c + t) × (found ≡ false) × (anyUpTo t (badAt n body c) ≡ false) × Counts n body c left t
+    (t ≤ count) × (at ≡ startOf n body c + t) × (found ≡ false) × (anyUpTo t (badAt n body c) ≡ false)
+    × Counts n body c left t
 
 abbrev μ-loop : tie.MeasureT-loop
 μ-loop n body charts found₀ at₀ c count states left₀ t₀ found at left t = count - t
 
 abbrev Inv-scan : tie.InvT-scan
 Inv-scan n body charts found₀ at₀ c₀ found at c =
-    (c ≤ charts) × (at ≡ startOf n body c) × (found ≡ false) × (anyUpTo c (λ d. anyUpTo (headAt n body d .transitions) (badAt n body d)) ≡ false)
+    (c ≤ charts) × (at ≡ startOf n body c) × (found ≡ false)
+    × (anyUpTo c (λ d. anyUpTo (headAt n body d .transitions) (badAt n body d)) ≡ false)
 
 abbrev μ-scan : tie.MeasureT-scan
 μ-scan n body charts found₀ at₀ c₀ found at c = charts - c
@@ -48,7 +50,8 @@ within c =
     let h = ap (λ (r : Head). r .transitions) (c .before .before .head-at .ensures) in
     omega (
       arith,
-      startOf-mono (a .n) (a .body .now) (c .before .before .before .before .scan .c) (a .n .charts) (c .before .before .before .scan-test .taken),
+      startOf-mono (a .n) (a .body .now) (c .before .before .before .before .scan .c) (a .n .charts)
+          (c .before .before .before .scan-test .taken),
       summed (a .n) (a .body .now) (c .before .before .before .before .before .before .pre .1),
     )
 
@@ -56,24 +59,28 @@ within c =
 few : (c : tie.After-head-at Inv-loop μ-loop Inv-scan μ-scan)
     → headAt (c .before .before .before .before .args .n) (c .before .before .before .before .args .body .now)
     (c .before .before .scan .c) .states ≤ mostStates
-few c = charted _ _ (c .before .before .before .before .pre .1) (c .before .before .scan .c) (c .before .scan-test .taken) .states
+few c = charted _ _ (c .before .before .before .before .pre .1) (c .before .before .scan .c)
+    (c .before .scan-test .taken) .states
 
 -- the transition read is transition t of the chart
 is : (c : tie.After-transition-at Inv-loop μ-loop Inv-scan μ-scan)
     → c .transition-at .result ≡ inChart (c .before .before .before .before .before .before .before .args .n)
-    (c .before .before .before .before .before .before .before .args .body .now) (c .before .before .before .before .before .scan .c)
+    (c .before .before .before .before .before .before .before .args .body .now)
+    (c .before .before .before .before .before .scan .c)
     (c .before .before .loop .t)
 is c = c .transition-at .ensures ∙ ap (transitionAt _ _) (c .before .before .loop .inv .1)
 
 -- what the code asks of it is `badAt`
 asked : (c : tie.After-bad-transition Inv-loop μ-loop Inv-scan μ-scan)
-    → c .bad-transition .result ≡ badAt (c .before .before .before .before .before .before .before .before .before .args .n)
+    → c .bad-transition .result
+    ≡ badAt (c .before .before .before .before .before .before .before .before .before .args .n)
     (c .before .before .before .before .before .before .before .before .before .args .body .now)
     (c .before .before .before .before .before .before .before .scan .c) (c .before .before .before .before .loop .t)
 asked c =
     let h = c .before .before .before .before .before in
     c .bad-transition .ensures .0
-    ∙ rw (is (c .before .before), h .head-at .ensures) (next-is _ _ _ _ _ (c .before .before .before .before .loop .inv .4) (few h))
+    ∙ rw (is (c .before .before), h .head-at .ensures)
+    (next-is _ _ _ _ _ (c .before .before .before .before .loop .inv .4) (few h))
 
 loop-again : tie.Need-loop-again Inv-loop μ-loop Inv-scan μ-scan
 loop-again c =
@@ -85,7 +92,8 @@ loop-again c =
       omega arith,
       i .2,
       any-more _ _ (i .3) g,
-      rw (c .before .bad-transition .ensures .1 (c .if1 .left), is (c .before .before .before)) (counts-more _ _ _ _ _ (i .4) (omega arith)),
+      rw (c .before .bad-transition .ensures .1 (c .if1 .left), is (c .before .before .before))
+          (counts-more _ _ _ _ _ (i .4) (omega arith)),
     )
 
 scan-again : tie.Need-scan-again Inv-loop μ-loop Inv-scan μ-scan
@@ -94,8 +102,12 @@ scan-again c =
     let s = c .before .before .before .before .scan in
     let a = c .before .before .before .before .before .before .args in
     let h = ap (λ (r : Head). r .transitions) (c .before .before .head-at .ensures) in
-    let e : c .before .loop .t ≡ headAt (a .n) (a .body .now) (s .c) .transitions = omega arith in
-    (omega arith, omega (arith, startOf-next (a .n) (a .body .now) (s .c)), i .2, any-more _ _ (s .inv .3) (rw e at (i .3)))
+    let e : c .before .loop .t ≡ headAt (a .n) (a .body .now) (s .c) .transitions = omega arith in (
+      omega arith,
+      omega (arith, startOf-next (a .n) (a .body .now) (s .c)),
+      i .2,
+      any-more _ _ (s .inv .3) (rw e at (i .3)),
+    )
 
 returns : tie.Need-returns Inv-loop μ-loop Inv-scan μ-scan
 returns c =
@@ -110,7 +122,8 @@ returns-2 c =
     sym
     (transitions-walked _ _
     ∙ any-at _ _ (l .before .before .before .scan .c) (l .before .before .scan-test .taken)
-    (any-at _ _ (l .loop .t) (omega (arith, c .before .before .before .before .loop-test .taken, h)) (sym (asked (c .before)) ∙ c .if1 .taken)))
+    (any-at _ _ (l .loop .t) (omega (arith, c .before .before .before .before .loop-test .taken, h))
+    (sym (asked (c .before)) ∙ c .if1 .taken)))
 
 pub bad-transitions-spec : {M : Type 1} → statement M
 bad-transitions-spec =

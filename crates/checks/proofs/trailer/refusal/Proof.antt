@@ -17,14 +17,16 @@ returns-2 c =
 returns-3 : tie.Need-returns-3
 returns-3 c =
     sym
-    (firstOf-next _ _ (sym (c .before .before .before .before .before .other-edition .ensures) ∙ c .before .before .before .before .if1 .left)
+    (firstOf-next _ _ (sym (c .before .before .before .before .before .other-edition .ensures)
+    ∙ c .before .before .before .before .if1 .left)
     ∙ firstOf-next _ _ (sym (c .before .before .before .bad-counts .ensures) ∙ c .before .before .if2 .left)
     ∙ firstOf-here _ _ (sym (c .before .bad-distance .ensures) ∙ c .if3 .taken))
 
 returns-4 : tie.Need-returns-4
 returns-4 c =
     sym
-    (firstOf-next _ _ (sym (c .before .before .before .before .before .other-edition .ensures) ∙ c .before .before .before .before .if1 .left)
+    (firstOf-next _ _ (sym (c .before .before .before .before .before .other-edition .ensures)
+    ∙ c .before .before .before .before .if1 .left)
     ∙ firstOf-next _ _ (sym (c .before .before .before .bad-counts .ensures) ∙ c .before .before .if2 .left)
     ∙ firstOf-next _ _ (sym (c .before .bad-distance .ensures) ∙ c .if3 .left)
     ∙ firstOf-[])
@@ -32,4 +34,5 @@ returns-4 c =
 pub refusal-spec : {M : Type 1} → statement M
 refusal-spec =
     tie.close
-    (tie.spec (λ c κs. search needs) returns (λ c κs. search needs) returns-2 (λ c κs. search needs) returns-3 returns-4)
+    (tie.spec (λ c κs. search needs) returns (λ c κs. search needs) returns-2
+    (λ c κs. search needs) returns-3 returns-4)

@@ -1,4 +1,5 @@
--- `zeros::any_nonzero` meets its contract. The records passed are zero where they should be; the next one stands at `place`. Assumes nothing.
+-- `zeros::any_nonzero` meets its contract. The records passed are zero where they should be; the next one stands at
+-- `place`. Assumes nothing.
 use mathlib.Core.Path.{_≡_, sym, _∙_}
 use mathlib.Core.Bool.{false}
 use Prim.Native.Nat.{_+_, _*_, _-_, _≤_}
@@ -23,7 +24,11 @@ abbrev μ-loop : tie.MeasureT-loop
 within : (c : tie.In-loop Inv-loop μ-loop)
     → c .before .loop .place + c .before .before .before .args .size ≤ length (c .before .before .before .args .s .now)
 within c =
-    omega (arith, next-in (c .before .before .before .args .size) (c .before .loop .i) (c .before .before .before .args .count) (c .loop-test .taken))
+    omega (
+      arith,
+      next-in (c .before .before .before .args .size) (c .before .loop .i) (c .before .before .before .args .count)
+          (c .loop-test .taken),
+    )
 
 loop-holds : tie.Need-loop-holds Inv-loop μ-loop
 loop-holds c = (omega arith, omega (arith, mul-zero (c .before .args .size)), any-none _)
@@ -32,7 +37,8 @@ loop-holds c = (omega arith, omega (arith, mul-zero (c .before .args .size)), an
 returns : tie.Need-returns Inv-loop μ-loop
 returns c =
     let l = c .before .before .before .loop in
-    sym (any-at _ _ (l .i) (c .before .before .loop-test .taken) (rw (← l .inv .1) (sym (c .before .nonzero .ensures) ∙ c .if1 .taken)))
+    sym (any-at _ _ (l .i) (c .before .before .loop-test .taken)
+    (rw (← l .inv .1) (sym (c .before .nonzero .ensures) ∙ c .if1 .taken)))
 
 loop-again : tie.Need-loop-again Inv-loop μ-loop
 loop-again c =

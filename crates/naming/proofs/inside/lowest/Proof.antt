@@ -1,4 +1,5 @@
--- `inside::lowest` meets its contract: each arm is the lowest chart at its kind, and names lower nodes. Assumes nothing.
+-- `inside::lowest` meets its contract: each arm is the lowest chart at its kind, and names lower nodes. Assumes
+-- nothing.
 use mathlib.Core.Path.{_≡_, sym, ap, ap₂, _∙_}
 use mathlib.Core.List.{List}
 use Prim.Native.Nat.{ℕ, _<_}
@@ -18,7 +19,8 @@ use Rattle.naming.proofs.inside.lowest.Statement.{statement}
 use Rattle.naming.proofs.inside.lowest.Tie as tie
 
 -- r is node j, and the table t is right below it
-module _ (n : Shape) (b : List ℕ) (j : ℕ) (r : Node) (e : r ≡ nodeAt n b j) (w : Treed (fileAt n b)) (l : j < n .nodes) (t : List ℕ) (h : Lows (fileAt n b) t j) where
+module _ (n : Shape) (b : List ℕ) (j : ℕ) (r : Node) (e : r ≡ nodeAt n b j) (w : Treed (fileAt n b)) (l : j < n .nodes)
+    (t : List ℕ) (h : Lows (fileAt n b) t j) where
   arm₀ : r .kind ≡ 0 → r .a ≡ lowest (treeOf (fileAt n b) j)
   unfolding fileAt
   arm₀ k = ap (λ (x : Node). x .a) e ∙ sym (lowest₀ (fileAt n b) w j l (kind-is n b j r e 0 k))
@@ -37,10 +39,12 @@ module _ (n : Shape) (b : List ℕ) (j : ℕ) (r : Node) (e : r ≡ nodeAt n b j
       rw e (h .at _ (w .ordered .lower₂ j l g) ∙ sym (lowest₂ (fileAt n b) w j l g))
 
 -- the nodes that a composed node names are in the table
-named : (c : tie.At-match-keys2) → let r = c .before .before .before .node-at .result in (r .a < mostNodes) × (r .b < mostNodes)
+named : (c : tie.At-match-keys2) → let r = c .before .before .before .node-at .result in
+    (r .a < mostNodes) × (r .b < mostNodes)
 named c =
     let s = c .before .before .before in
-    let p = s .before .before .pre in lower₁ _ _ _ _ (s .node-at .ensures) (p .0) (p .1 .0) (p .1 .1 .0) (c .match .keys2)
+    let p = s .before .before .pre in
+    lower₁ _ _ _ _ (s .node-at .ensures) (p .0) (p .1 .0) (p .1 .1 .0) (c .match .keys2)
 
 hidden : tie.Need-element-copy-out-result-3
 hidden c =
@@ -49,16 +53,20 @@ hidden c =
     lower₂ _ _ _ _ (s .node-at .ensures) (p .0) (p .1 .0) (p .1 .1 .0) (c .match .rest .0 .1) (c .match .rest .1)
 
 -- the lower of the two
-composed : (c : tie.At-match-keys2) → let s = c .before .before .before in let a = s .before .before .args in let r = s .node-at .result in
-    lower (getD (a .low .now) (r .a) 0) (getD (a .low .now) (r .b) 0) ≡ lowest (treeOf (fileAt (a .n) (a .body .now)) (a .j))
+composed : (c : tie.At-match-keys2) → let s = c .before .before .before in let a = s .before .before .args in
+    let r = s .node-at .result in
+    lower (getD (a .low .now) (r .a) 0) (getD (a .low .now) (r .b) 0)
+    ≡ lowest (treeOf (fileAt (a .n) (a .body .now)) (a .j))
 composed c =
     let s = c .before .before .before in
-    let p = s .before .before .pre in arm₁ _ _ _ _ (s .node-at .ensures) (p .1 .0) (p .1 .1 .0) _ (p .1 .1 .1) (c .match .keys2)
+    let p = s .before .before .pre in
+    arm₁ _ _ _ _ (s .node-at .ensures) (p .1 .0) (p .1 .1 .0) _ (p .1 .1 .1) (c .match .keys2)
 
 returns : tie.Need-returns
 returns c =
     let s = c .before .before .before in
-    let p = s .before .before .pre in arm₀ _ _ _ _ (s .node-at .ensures) (p .1 .0) (p .1 .1 .0) _ (p .1 .1 .1) (c .match .keys1)
+    let p = s .before .before .pre in
+    arm₀ _ _ _ _ (s .node-at .ensures) (p .1 .0) (p .1 .1 .0) _ (p .1 .1 .1) (c .match .keys1)
 
 returns-2 : tie.Need-returns-2
 returns-2 c = rw (lt-ltb _ _ (c .before .if1 .taken)) at (composed (c .before .before .before .before))

@@ -26,7 +26,10 @@ loop-again c =
     let a = b .before .before .args in (
       omega arith,
       simp length-set (b .loop .inv .1),
-      record { at = fill-more (λ k. lowest (treeOf (fileAt (a .n) (a .body .now)) k)) (b .loop .low) (b .loop .j) _ (b .loop .inv .2 .at) (c .lowest .ensures) (omega arith) },
+      record {
+        at = fill-more (λ k. lowest (treeOf (fileAt (a .n) (a .body .now)) k)) (b .loop .low) (b .loop .j) _
+            (b .loop .inv .2 .at) (c .lowest .ensures) (omega arith);
+      },
     )
 
 returns : tie.Need-returns Inv-loop μ-loop

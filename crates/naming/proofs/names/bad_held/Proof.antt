@@ -19,7 +19,8 @@ abbrev μ-loop : tie.MeasureT-loop
 
 returns : tie.Need-returns Inv-loop μ-loop
 returns c =
-    let b = c .before .before in sym (any-at _ _ (b .before .before .loop .c) (b .if1 .taken) (differs _ _ (c .if2 .taken)))
+    let b = c .before .before in
+    sym (any-at _ _ (b .before .before .loop .c) (b .if1 .taken) (differs _ _ (c .if2 .taken)))
 
 loop-again : tie.Need-loop-again Inv-loop μ-loop
 loop-again c = (omega arith, any-more _ _ (c .before .before .before .before .loop .inv .1) (agrees _ _ (c .if2 .left)))

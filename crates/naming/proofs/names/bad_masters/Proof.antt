@@ -41,7 +41,8 @@ abbrev μ-loop : tie.MeasureT-loop
 master-in : tie.Need-element-copy-out-if2 Inv-loop μ-loop
 master-in c =
     let p = c .before .before .before .before .before .before .pre in
-    slave-there _ _ _ _ (c .before .slave-at .ensures) (p .sized) (slaves-there _ (p .slaves)) (c .before .before .if1 .taken) .1
+    slave-there _ _ _ _ (c .before .slave-at .ensures) (p .sized) (slaves-there _ (p .slaves))
+    (c .before .before .if1 .taken) .1
 
 returns : tie.Need-returns Inv-loop μ-loop
 unfolding fileAt
@@ -54,8 +55,11 @@ returns c =
 loop-again : tie.Need-loop-again Inv-loop μ-loop
 loop-again c =
     let s = c .before .before .before .before in
-    let t = s .before .before .before .before .before .args .holder .now in
-    (omega arith, any-more _ _ (s .before .before .before .loop .inv .1) (passed _ _ t _ _ (s .slave-at .ensures) (omega (arith, c .if2 .left))))
+    let t = s .before .before .before .before .before .args .holder .now in (
+      omega arith,
+      any-more _ _ (s .before .before .before .loop .inv .1)
+          (passed _ _ t _ _ (s .slave-at .ensures) (omega (arith, c .if2 .left))),
+    )
 
 returns-2 : tie.Need-returns-2 Inv-loop μ-loop
 unfolding fileAt

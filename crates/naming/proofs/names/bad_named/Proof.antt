@@ -13,7 +13,8 @@ use Rattle.naming.proofs.names.bad_named.Statement.{statement}
 use Rattle.naming.proofs.names.bad_named.Tie as tie
 
 abbrev Inv-loop : tie.InvT-loop
-Inv-loop n named j₀ j = (j ≤ n .nodes) × (anyUpTo j (λ j. differ (getD named j 0) (cond (same (suc j) (n .nodes)) 0 1)) ≡ false)
+Inv-loop n named j₀ j =
+    (j ≤ n .nodes) × (anyUpTo j (λ j. differ (getD named j 0) (cond (same (suc j) (n .nodes)) 0 1)) ≡ false)
 
 abbrev μ-loop : tie.MeasureT-loop
 μ-loop n named j₀ j = n .nodes - j
@@ -21,11 +22,15 @@ abbrev μ-loop : tie.MeasureT-loop
 returns : tie.Need-returns Inv-loop μ-loop
 returns c =
     let b = c .before .before .before in
-    sym (any-at _ _ (b .before .before .loop .j) (b .if1 .taken) (rw (← c .before .due .ensures) (differs _ _ (c .if2 .taken))))
+    sym (any-at _ _ (b .before .before .loop .j) (b .if1 .taken)
+    (rw (← c .before .due .ensures) (differs _ _ (c .if2 .taken))))
 
 loop-again : tie.Need-loop-again Inv-loop μ-loop
-loop-again c =
-    (omega arith, any-more _ _ (c .before .before .before .before .before .loop .inv .1) (rw (← c .before .due .ensures) (agrees _ _ (c .if2 .left))))
+loop-again c = (
+  omega arith,
+  any-more _ _ (c .before .before .before .before .before .loop .inv .1)
+      (rw (← c .before .due .ensures) (agrees _ _ (c .if2 .left))),
+)
 
 returns-2 : tie.Need-returns-2 Inv-loop μ-loop
 returns-2 c = any-done _ _ _ (c .before .before .loop .inv .0) (c .if1 .left) (c .before .before .loop .inv .1)

@@ -1,4 +1,5 @@
--- `names::bad_naming` meets its contract: it asks the tables for the three parts of the definition in turn. Assumes nothing.
+-- `names::bad_naming` meets its contract: it asks the tables for the three parts of the definition in turn. Assumes
+-- nothing.
 use mathlib.Core.Path.{_≡_, sym, _∙_}
 use mathlib.Core.Bool.{Bool, true, false, _||_}
 use mathlib.Core.List.{List}
@@ -25,7 +26,8 @@ module _ (n : Shape) (b ns hs os : List ℕ) (z : Ranged n b) (w : Walked (fileA
   second : heldAmiss (n .charts) hs ≡ false → namedAmiss (n .nodes) ns ≡ true → true ≡ naming? (fileAt n b)
   second e f = sym (asked ∙ rw (e, f))
 
-  third : heldAmiss (n .charts) hs ≡ false → namedAmiss (n .nodes) ns ≡ false → (r : Bool) → r ≡ mastersAmiss (fileAt n b) os
+  third : heldAmiss (n .charts) hs ≡ false → namedAmiss (n .nodes) ns ≡ false → (r : Bool)
+      → r ≡ mastersAmiss (fileAt n b) os
       → r ≡ naming? (fileAt n b)
   third e f r g = g ∙ sym (asked ∙ rw (e, f))
 

@@ -1,4 +1,5 @@
--- `names::named_by_slaves` meets its contract. The loop's invariant: the table has how often the slaves passed name each node. Assumes nothing.
+-- `names::named_by_slaves` meets its contract. The loop's invariant: the table has how often the slaves passed name
+-- each node. Assumes nothing.
 use mathlib.Core.Path.{_≡_}
 use mathlib.Core.List.{List}
 use Prim.Native.Nat.{ℕ, _+_, _≤_, _<_, _-_}
@@ -38,15 +39,23 @@ module _ (n : Shape) (b : List ℕ) (i : ℕ) (s : Slave) (e : s ≡ slaveAt n b
 node-in : (c : tie.After-struct-known2 Inv-loop μ-loop) → c .before .slave-at .result .node < mostNodes
 node-in c =
     let p = c .before .before .before .before .before .before .pre in
-    slave-there _ _ _ _ (c .before .slave-at .ensures) (p .sized) (slaves-there _ (p .slaves)) (c .before .before .if1 .taken) .0
+    slave-there _ _ _ _ (c .before .slave-at .ensures) (p .sized) (slaves-there _ (p .slaves))
+    (c .before .before .if1 .taken) .0
 
 add-named : tie.Need-add-named Inv-loop μ-loop
 add-named c =
     let p = c .before .before .before .before .before .before .pre in
-    omega (arith, few _ _ _ _ (c .before .slave-at .ensures) (node-in c) _ (c .before .before .before .before .loop .inv .1), p .sized .slaves)
+    omega (
+      arith,
+      few _ _ _ _ (c .before .slave-at .ensures) (node-in c) _ (c .before .before .before .before .loop .inv .1),
+      p .sized .slaves,
+    )
 
 loop-again : tie.Need-loop-again Inv-loop μ-loop
-loop-again c = (omega arith, next _ _ _ _ (c .before .slave-at .ensures) (node-in c) _ (c .before .before .before .before .loop .inv .1))
+loop-again c = (
+  omega arith,
+  next _ _ _ _ (c .before .slave-at .ensures) (node-in c) _ (c .before .before .before .before .loop .inv .1),
+)
 
 returns : tie.Need-returns Inv-loop μ-loop
 returns c =

@@ -1,4 +1,5 @@
--- `names::walk_node` meets its contract: each arm adds what a node of its kind names or holds, at places that 9 keeps in the tables. Assumes nothing.
+-- `names::walk_node` meets its contract: each arm adds what a node of its kind names or holds, at places that 9 keeps
+-- in the tables. Assumes nothing.
 use mathlib.Core.Path.{_≡_, sym, ap, _∙_}
 use mathlib.Core.Bool.{false}
 use mathlib.Core.List.{List}
@@ -39,7 +40,8 @@ module _ (n : Shape) (b : List ℕ) (k : ℕ) (r : Node) (e : r ≡ nodeAt n b k
 
   in₁ : r .kind ≡ 1 → (r .a < mostNodes) × (r .b < mostNodes)
   unfolding fileAt
-  in₁ g = let m = kind₁ (fileAt n b) _ k (kind-is 1 g) passes in let c = z .sized .nodes in rw e (omega arith, omega arith)
+  in₁ g = let m = kind₁ (fileAt n b) _ k (kind-is 1 g) passes in let c = z .sized .nodes in
+      rw e (omega arith, omega arith)
 
   in₂ : r .kind ≡ 2 → r .a < mostNodes
   unfolding fileAt
@@ -64,7 +66,8 @@ held-at c =
     let s = c .before .before .before in
     let p = s .before .before .pre in in₀ _ _ _ _ (s .node-at .ensures) (p .0) (p .1 .0) (c .match .keys1)
 
-named-at : (c : tie.At-match-keys2) → let r = c .before .before .before .node-at .result in (r .a < mostNodes) × (r .b < mostNodes)
+named-at : (c : tie.At-match-keys2) → let r = c .before .before .before .node-at .result in
+    (r .a < mostNodes) × (r .b < mostNodes)
 named-at c =
     let s = c .before .before .before in
     let p = s .before .before .pre in in₁ _ _ _ _ (s .node-at .ensures) (p .0) (p .1 .0) (c .match .keys2)

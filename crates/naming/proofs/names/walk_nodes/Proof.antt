@@ -1,4 +1,5 @@
--- `names::walk_nodes` meets its contract. The loop's invariant: the tables have what the nodes passed name and hold. Assumes nothing.
+-- `names::walk_nodes` meets its contract. The loop's invariant: the tables have what the nodes passed name and hold.
+-- Assumes nothing.
 use mathlib.Core.Path.{_≡_}
 use Prim.Native.Nat.{_≤_, _-_}
 use native.Mathlib.Omega.{arith}
@@ -9,7 +10,8 @@ use Rattle.naming.proofs.names.walk_nodes.Statement.{statement}
 use Rattle.naming.proofs.names.walk_nodes.Tie as tie
 
 abbrev Inv-loop : tie.InvT-loop
-Inv-loop n body named₀ held₀ holder₀ k₀ named held holder k = (k ≤ n .nodes) × Walked (fileAt n body) k named held holder
+Inv-loop n body named₀ held₀ holder₀ k₀ named held holder k =
+    (k ≤ n .nodes) × Walked (fileAt n body) k named held holder
 
 abbrev μ-loop : tie.MeasureT-loop
 μ-loop n body named₀ held₀ holder₀ k₀ named held holder k = n .nodes - k

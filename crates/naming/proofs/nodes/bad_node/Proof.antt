@@ -19,11 +19,13 @@ module _ (n : Shape) (b : List ℕ) (j : ℕ) (r : Node) (er : r ≡ nodeAt n b 
   kind-is : (k : ℕ) → r .kind ≡ k → nodeAt n b j .kind ≡ k
   kind-is k e = sym (ap (λ (x : Node). x .kind) er) ∙ e
 
-  kind₀ : r .kind ≡ 0 → (not (ltb (r .a) (n .charts)) || not (eqb (r .b) 0) || not (eqb (r .x) 0) || not (eqb (r .y) 0)) ≡ nodeOfKind? (fileAt n b) (nodeAt n b j .kind) j
+  kind₀ : r .kind ≡ 0 → (not (ltb (r .a) (n .charts)) || not (eqb (r .b) 0) || not (eqb (r .x) 0) || not (eqb (r .y) 0))
+      ≡ nodeOfKind? (fileAt n b) (nodeAt n b j .kind) j
   unfolding nodeOfKind? fileAt same
   kind₀ e = rw (kind-is 0 e, ← er)
 
-  kind₁ : r .kind ≡ 1 → (not (ltb (r .a) j) || not (ltb (r .b) j) || not (eqb (r .y) 0)) ≡ nodeOfKind? (fileAt n b) (nodeAt n b j .kind) j
+  kind₁ : r .kind ≡ 1 → (not (ltb (r .a) j) || not (ltb (r .b) j) || not (eqb (r .y) 0))
+      ≡ nodeOfKind? (fileAt n b) (nodeAt n b j .kind) j
   unfolding nodeOfKind? fileAt same
   kind₁ e = rw (kind-is 1 e, ← er)
 
@@ -39,7 +41,8 @@ module _ (n : Shape) (b : List ℕ) (j : ℕ) (r : Node) (er : r ≡ nodeAt n b 
   other (suc (suc (suc k))) p q s = refl
 
 returns : tie.Need-returns
-returns c = let m = c .before .before .before in kind₀ _ _ _ _ (m .before .before .before .node-at .ensures) (m .match .keys1)
+returns c = let m = c .before .before .before in
+    kind₀ _ _ _ _ (m .before .before .before .node-at .ensures) (m .match .keys1)
 
 returns-2 : tie.Need-returns-2
 returns-2 c = let m = c .before in kind₁ _ _ _ _ (m .before .before .before .node-at .ensures) (m .match .keys2)
@@ -50,8 +53,10 @@ returns-3 c = kind₂ _ _ _ _ (c .before .before .before .node-at .ensures) (c .
 returns-4 : tie.Need-returns-4
 returns-4 c =
     let e = ap (λ (x : Node). x .kind) (c .before .before .before .node-at .ensures) in
-    other _ _ _ _ (c .before .before .before .node-at .ensures) _ (λ p. c .match .rest .0 .0 .1 (e ∙ p)) (λ p. c .match .rest .0 .1 (e ∙ p)) (λ p. c .match .rest .1 (e ∙ p))
+    other _ _ _ _ (c .before .before .before .node-at .ensures) _ (λ p. c .match .rest .0 .0 .1 (e ∙ p))
+    (λ p. c .match .rest .0 .1 (e ∙ p)) (λ p. c .match .rest .1 (e ∙ p))
 
 pub bad-node-spec : {M : Type 1} → statement M
 bad-node-spec =
-    tie.close (tie.spec (λ c κs. search needs) (λ c. search needs) (λ c. search needs) returns returns-2 returns-3 returns-4)
+    tie.close (tie.spec (λ c κs. search needs) (λ c. search needs)
+    (λ c. search needs) returns returns-2 returns-3 returns-4)

@@ -24,10 +24,14 @@ loop-holds c = (omega arith, any-none _)
 returns : tie.Need-returns Inv-loop μ-loop
 unfolding nodes? fileAt
 returns c =
-    sym (any-at _ _ (c .before .before .before .before .loop .j) (c .before .before .if1 .taken) (sym (c .before .bad-node .ensures) ∙ c .if2 .taken))
+    sym (any-at _ _ (c .before .before .before .before .loop .j) (c .before .before .if1 .taken)
+    (sym (c .before .bad-node .ensures) ∙ c .if2 .taken))
 
 loop-again : tie.Need-loop-again Inv-loop μ-loop
-loop-again c = (omega arith, any-more _ _ (c .before .before .before .before .loop .inv .1) (sym (c .before .bad-node .ensures) ∙ c .if2 .left))
+loop-again c = (
+  omega arith,
+  any-more _ _ (c .before .before .before .before .loop .inv .1) (sym (c .before .bad-node .ensures) ∙ c .if2 .left),
+)
 
 returns-2 : tie.Need-returns-2 Inv-loop μ-loop
 unfolding nodes? fileAt
@@ -36,4 +40,5 @@ returns-2 c = any-done _ _ _ (c .before .before .loop .inv .0) (c .if1 .left) (c
 pub bad-nodes-spec : {M : Type 1} → statement M
 bad-nodes-spec =
     tie.close
-    (tie.spec Inv-loop μ-loop loop-holds (λ c κs. search needs) returns (λ c. omega arith) (λ c. omega arith) loop-again returns-2)
+    (tie.spec Inv-loop μ-loop loop-holds (λ c κs. search needs) returns (λ c. omega arith)
+    (λ c. omega arith) loop-again returns-2)

@@ -29,11 +29,13 @@ module _ (n : Shape) (b : List ℕ) (i : ℕ) (s : Slave) (es : s ≡ slaveAt n 
     module _ (k : s .state < m .states) where
       no-node : n .nodes ≤ s .node → true ≡ slave? (fileAt n b) i
       unfolding slave? fileAt chartOf
-      no-node l = rw (← es, lt-ltb (s .chart) (n .charts) h, ← em, lt-ltb (s .state) (m .states) k, le-ltb (s .node) (n .nodes) l)
+      no-node l = rw
+          (← es, lt-ltb (s .chart) (n .charts) h, ← em, lt-ltb (s .state) (m .states) k, le-ltb (s .node) (n .nodes) l)
 
       by-order : s .node < n .nodes → not (inOrder (fileAt n b) i) ≡ slave? (fileAt n b) i
       unfolding slave? fileAt chartOf
-      by-order l = rw (← es, lt-ltb (s .chart) (n .charts) h, ← em, lt-ltb (s .state) (m .states) k, lt-ltb (s .node) (n .nodes) l)
+      by-order l = rw
+          (← es, lt-ltb (s .chart) (n .charts) h, ← em, lt-ltb (s .state) (m .states) k, lt-ltb (s .node) (n .nodes) l)
 
 -- the first slave, and one that is not
 first : (F : File) (i : ℕ) → i ≡ 0 → false ≡ not (inOrder F i)
@@ -50,22 +52,26 @@ returns c = no-chart _ _ _ _ (c .before .before .before .slave-at .ensures) (c .
 returns-2 : tie.Need-returns-2
 returns-2 c =
     let b = c .before .before .before in
-    no-state _ _ _ _ (b .before .before .before .before .slave-at .ensures) (b .before .if1 .left) _ (b .head-at .ensures) (c .if2 .taken)
+    no-state _ _ _ _ (b .before .before .before .before .slave-at .ensures) (b .before .if1 .left) _
+    (b .head-at .ensures) (c .if2 .taken)
 
 returns-3 : tie.Need-returns-3
 returns-3 c =
     let e = c .before .before .before in
     let b = e .before .before .before in
-    no-node _ _ _ _ (b .before .before .before .before .slave-at .ensures) (b .before .if1 .left) _ (b .head-at .ensures) (e .if2 .left)
+    no-node _ _ _ _ (b .before .before .before .before .slave-at .ensures) (b .before .if1 .left) _
+    (b .head-at .ensures) (e .if2 .left)
     (c .if3 .taken)
 
 -- where all but the order is tested
-ordered : (c : tie.Else3) → let a = c .before .before .before .before .before .before .before .before .before .before .before .before .args in
+ordered : (c : tie.Else3)
+    → let a = c .before .before .before .before .before .before .before .before .before .before .before .before .args in
     not (inOrder (fileAt (a .n) (a .body .now)) (a .i)) ≡ slave? (fileAt (a .n) (a .body .now)) (a .i)
 ordered c =
     let e = c .before .before .before in
     let b = e .before .before .before in
-    by-order _ _ _ _ (b .before .before .before .before .slave-at .ensures) (b .before .if1 .left) _ (b .head-at .ensures) (e .if2 .left)
+    by-order _ _ _ _ (b .before .before .before .before .slave-at .ensures) (b .before .if1 .left) _
+    (b .head-at .ensures) (e .if2 .left)
     (c .if3 .left)
 
 returns-4 : tie.Need-returns-4

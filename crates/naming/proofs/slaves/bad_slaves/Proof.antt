@@ -27,7 +27,10 @@ returns c =
     (sym (c .before .bad-slave .ensures) ∙ c .if2 .taken))
 
 loop-again : tie.Need-loop-again Inv-loop μ-loop
-loop-again c = (omega arith, any-more _ _ (c .before .before .before .before .loop .inv .1) (sym (c .before .bad-slave .ensures) ∙ c .if2 .left))
+loop-again c = (
+  omega arith,
+  any-more _ _ (c .before .before .before .before .loop .inv .1) (sym (c .before .bad-slave .ensures) ∙ c .if2 .left),
+)
 
 returns-2 : tie.Need-returns-2 Inv-loop μ-loop
 unfolding slaves? fileAt
@@ -36,4 +39,5 @@ returns-2 c = any-done _ _ _ (c .before .before .loop .inv .0) (c .if1 .left) (c
 pub bad-slaves-spec : {M : Type 1} → statement M
 bad-slaves-spec =
     tie.close
-    (tie.spec Inv-loop μ-loop loop-holds (λ c κs. search needs) returns (λ c. omega arith) (λ c. omega arith) loop-again returns-2)
+    (tie.spec Inv-loop μ-loop loop-holds (λ c κs. search needs) returns (λ c. omega arith)
+    (λ c. omega arith) loop-again returns-2)

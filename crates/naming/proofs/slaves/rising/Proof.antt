@@ -14,7 +14,8 @@ returns : tie.Need-returns
 unfolding rising fileAt same
 returns c =
     let b = c .before .before .before .before .before .before in
-    ap₂ (λ (p q : Slave). ltb (p .chart) (q .chart) || (eqb (p .chart) (q .chart) && ltb (p .state) (q .state))) (b .before .slave-at .ensures)
+    ap₂ (λ (p q : Slave). ltb (p .chart) (q .chart) || (eqb (p .chart) (q .chart) && ltb (p .state) (q .state)))
+    (b .before .slave-at .ensures)
     (b .slave-at2 .ensures)
 
 pub rising-spec : {M : Type 1} → statement M

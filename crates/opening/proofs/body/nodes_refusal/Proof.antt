@@ -25,14 +25,16 @@ bad-inside-requires c κs =
 returns-3 : tie.Need-returns-3
 returns-3 c =
     sym
-    (firstOf-next _ _ (sym (c .before .before .before .before .before .bad-nodes .ensures) ∙ c .before .before .before .before .if1 .left)
+    (firstOf-next _ _
+    (sym (c .before .before .before .before .before .bad-nodes .ensures) ∙ c .before .before .before .before .if1 .left)
     ∙ firstOf-next _ _ (sym (c .before .before .before .bad-naming .ensures) ∙ c .before .before .if2 .left)
     ∙ firstOf-here _ _ (sym (c .before .bad-inside .ensures) ∙ c .if3 .taken))
 
 returns-4 : tie.Need-returns-4
 returns-4 c =
     sym
-    (firstOf-next _ _ (sym (c .before .before .before .before .before .bad-nodes .ensures) ∙ c .before .before .before .before .if1 .left)
+    (firstOf-next _ _
+    (sym (c .before .before .before .before .before .bad-nodes .ensures) ∙ c .before .before .before .before .if1 .left)
     ∙ firstOf-next _ _ (sym (c .before .before .before .bad-naming .ensures) ∙ c .before .before .if2 .left)
     ∙ firstOf-next _ _ (sym (c .before .bad-inside .ensures) ∙ c .if3 .left)
     ∙ firstOf-[])

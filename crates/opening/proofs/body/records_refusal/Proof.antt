@@ -19,19 +19,24 @@ returns-2 c =
 returns-3 : tie.Need-returns-3
 returns-3 c =
     sym
-    (firstOf-next _ _ (sym (c .before .before .before .before .before .bad-charts .ensures) ∙ c .before .before .before .before .if1 .left)
+    (firstOf-next _ _ (sym (c .before .before .before .before .before .bad-charts .ensures)
+    ∙ c .before .before .before .before .if1 .left)
     ∙ firstOf-next _ _ (sym (c .before .before .before .bad-transitions .ensures) ∙ c .before .before .if2 .left)
     ∙ firstOf-here _ _ (sym (c .before .bad-slaves .ensures) ∙ c .if3 .taken))
 
 nodes-refusal-requires : tie.Need-nodes-refusal-requires
-nodes-refusal-requires c κs = (c .before .before .before .before .before .before .before .pre, sym (c .before .bad-slaves .ensures) ∙ c .if3 .left)
+nodes-refusal-requires c κs = (
+  c .before .before .before .before .before .before .before .pre,
+  sym (c .before .bad-slaves .ensures) ∙ c .if3 .left,
+)
 
 returns-4 : tie.Need-returns-4
 returns-4 c =
     let e = c .before in
     c .nodes-refusal .ensures
     ∙ sym
-    (firstOf-next _ _ (sym (e .before .before .before .before .before .bad-charts .ensures) ∙ e .before .before .before .before .if1 .left)
+    (firstOf-next _ _ (sym (e .before .before .before .before .before .bad-charts .ensures)
+    ∙ e .before .before .before .before .if1 .left)
     ∙ firstOf-next _ _ (sym (e .before .before .before .bad-transitions .ensures) ∙ e .before .before .if2 .left)
     ∙ firstOf-next _ _ (sym (e .before .bad-slaves .ensures) ∙ e .if3 .left))
 

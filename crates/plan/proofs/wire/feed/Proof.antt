@@ -37,7 +37,8 @@ module _ (N n : ℕ) (few : N ≤ mostCharts) (s x : Set) (r l m : List ℕ) (h 
             below-more (λ (d : ℕ). backAt m′ c d ≡ fedAt s x r l c d) n
             (λ k z. f .below (backCell c k) (omega arith) ∙ h .in-rows c k p z)
             (f .in-row c p
-            ∙ ap₂ (λ (u w : Set). cond (bit s c) (u ∪ (w ∩ x ∩ getD r c 0)) u) (h .rest (backCell c n) (omega arith)) (e ∙ h .ups n)
+            ∙ ap₂ (λ (u w : Set). cond (bit s c) (u ∪ (w ∩ x ∩ getD r c 0)) u) (h .rest (backCell c n) (omega arith))
+            (e ∙ h .ups n)
             ∙ sym (ap (λ (t : Bool). cond t (fedRow s (upAt l n ∩ x) n r l c) (backAt l c n)) b))
             d q;
         rest = λ k p. f .above k (omega arith) ∙ h .rest k (omega arith);
@@ -54,7 +55,8 @@ module _ (N n : ℕ) (few : N ≤ mostCharts) (s x : Set) (r l m : List ℕ) (h 
         in-rows = λ c d p q.
             below-more (λ (d : ℕ). backAt m c d ≡ fedAt s x r l c d) n
             (λ k z. h .in-rows c k p z)
-            (h .rest (backCell c n) (omega arith) ∙ sym (ap (λ (t : Bool). cond t (fedRow s (upAt l n ∩ x) n r l c) (backAt l c n)) b))
+            (h .rest (backCell c n) (omega arith)
+            ∙ sym (ap (λ (t : Bool). cond t (fedRow s (upAt l n ∩ x) n r l c) (backAt l c n)) b))
             d q;
         rest = λ k p. h .rest k (omega arith);
         ups = h .ups;
@@ -67,7 +69,8 @@ nothing true false v u x r h = refl
 nothing false b v u x r h = refl
 
 abbrev Inv-loop : tie.InvT-loop
-Inv-loop masks₀ charts set x down d₀ masks d = (d ≤ charts) × (length masks ≡ length masks₀) × Fed charts d set x down masks₀ masks
+Inv-loop masks₀ charts set x down d₀ masks d =
+    (d ≤ charts) × (length masks ≡ length masks₀) × Fed charts d set x down masks₀ masks
 
 abbrev μ-loop : tie.MeasureT-loop
 μ-loop masks₀ charts set x down d₀ masks d = charts - d
@@ -75,7 +78,11 @@ abbrev μ-loop : tie.MeasureT-loop
 returns-empty : tie.Need-returns Inv-loop μ-loop
 returns-empty c =
     let a = c .before .before .args in
-    record { back-is = λ k d p q. nothing (bit (a .set) d) (bit (a .set) k) _ (upAt (a .masks .now) d) (a .x) (getD (a .down .now) k 0) (c .if1 .taken); up-is = λ d p. refl }
+    record {
+      back-is = λ k d p q. nothing (bit (a .set) d) (bit (a .set) k) _ (upAt (a .masks .now) d) (a .x)
+          (getD (a .down .now) k 0) (c .if1 .taken);
+      up-is = λ d p. refl;
+    }
 
 loop-again : tie.Need-loop-again Inv-loop μ-loop
 loop-again c =
@@ -84,15 +91,21 @@ loop-again c =
     let l = t .loop in
     let s = t .before .before .before in
     let a = s .args in
-    let Now : List ℕ → Type 0 = λ m. (length m ≡ length (a .masks .now)) × Fed (a .charts) (l .d + 1) (a .set) (a .x) (a .down .now) (a .masks .now) m in
+    let Now : List ℕ → Type 0 = λ m. (length m ≡ length (a .masks .now))
+    × Fed (a .charts) (l .d + 1) (a .set) (a .x) (a .down .now) (a .masks .now) m in
     let z : Now (c .if2 .masks) =
     ⊎-elim
     (λ w. subst Now (sym (w .7)) (
       w .4 .kept .0 ∙ l .inv .1,
-      fed-in (a .charts) (l .d) (s .pre .1) (a .set) (a .x) (a .down .now) (a .masks .now) (l .masks) (l .inv .2) _ (w .2 .result)
+      fed-in (a .charts) (l .d) (s .pre .1) (a .set) (a .x) (a .down .now) (a .masks .now) (l .masks) (l .inv .2) _
+          (w .2 .result)
           (sym (h .ensures) ∙ w .0 .taken) (w .2 .ensures) (w .4 .ensures),
     ))
-    (λ w. subst Now (sym (w .1)) (l .inv .1, fed-out (a .charts) (l .d) (s .pre .1) (a .set) (a .x) (a .down .now) (a .masks .now) (l .masks) (l .inv .2) (sym (h .ensures) ∙ w .0 .left)))
+    (λ w. subst Now (sym (w .1)) (
+      l .inv .1,
+      fed-out (a .charts) (l .d) (s .pre .1) (a .set) (a .x) (a .down .now) (a .masks .now) (l .masks) (l .inv .2)
+          (sym (h .ensures) ∙ w .0 .left),
+    ))
     (c .if2 .came) in
     (omega arith, z .0, z .1)
 
@@ -111,8 +124,10 @@ feed-spec =
     (λ c. (omega arith, refl, fed-none _ _ _ _ _))
     (λ c. omega arith)
     (λ c κs. omega arith)
-    (λ c κs. let t = c .before .before .before .before in let p = t .before .before .before .pre in (omega (arith, t .loop .inv .1, p .0), omega (arith, p .1)))
-    (λ c κs. let t = c .before .before .before .before .before .before in let p = t .before .before .before .pre in (omega (arith, t .loop .inv .1, p .0), p .1, omega arith))
+    (λ c κs. let t = c .before .before .before .before in let p = t .before .before .before .pre in
+    (omega (arith, t .loop .inv .1, p .0), omega (arith, p .1)))
+    (λ c κs. let t = c .before .before .before .before .before .before in let p = t .before .before .before .pre in
+    (omega (arith, t .loop .inv .1, p .0), p .1, omega arith))
     (λ c. omega arith)
     (λ c. omega arith)
     loop-again

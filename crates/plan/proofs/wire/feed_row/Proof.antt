@@ -1,4 +1,5 @@
--- `wire::feed_row` meets its contract: the masks below c are joined, if their chart is in the set; an empty m feeds nothing.
+-- `wire::feed_row` meets its contract: the masks below c are joined, if their chart is in the set; an empty m feeds
+-- nothing.
 use mathlib.Core.Path.{_≡_, refl, sym, ap, _∙_, subst}
 use mathlib.Core.Bool.{Bool, true, false, cond}
 use mathlib.Core.List.{List, [], _∷_}
@@ -16,7 +17,8 @@ use Rattle.plan.proofs.wire.feed_row.Statement.{statement}
 use Rattle.plan.proofs.wire.feed_row.Tie as tie
 
 abbrev Inv-loop : tie.InvT-loop
-Inv-loop masks₀ charts d m set down c₀ masks c = (c ≤ charts) × RowAt (backRow d) c (fedRow set m d down masks₀) masks₀ masks
+Inv-loop masks₀ charts d m set down c₀ masks c =
+    (c ≤ charts) × RowAt (backRow d) c (fedRow set m d down masks₀) masks₀ masks
 
 abbrev μ-loop : tie.MeasureT-loop
 μ-loop masks₀ charts d m set down c₀ masks c = charts - c
@@ -26,7 +28,8 @@ nothing true x m y e = sets (x ∷ m ∷ y ∷ []) (B ≐ ∅ₑ ∷ []) (A ≐ 
 nothing false x m y e = refl
 
 returns-empty : tie.Need-returns Inv-loop μ-loop
-returns-empty c = let a = c .before .before .args in row-same _ _ _ _ (λ k p. nothing (bit (a .set) k) _ _ (getD (a .down .now) k 0) (c .if1 .taken))
+returns-empty c = let a = c .before .before .args in
+    row-same _ _ _ _ (λ k p. nothing (bit (a .set) k) _ _ (getD (a .down .now) k 0) (c .if1 .taken))
 
 loop-holds : tie.Need-loop-holds Inv-loop μ-loop
 loop-holds c = (omega arith, row-none _ _ _)
@@ -49,18 +52,22 @@ loop-again c =
       omega arith,
       ⊎-elim
           (λ w.
-          let e = ap (λ (x : ℕ). x ∪ (a .m ∩ getD (a .down .now) (l .c) 0)) (w .2 .ensures ∙ l .inv .1 .above (backCell (l .c) (a .d)) (omega arith)) in
+          let e = ap (λ (x : ℕ). x ∪ (a .m ∩ getD (a .down .now) (l .c) 0))
+          (w .2 .ensures ∙ l .inv .1 .above (backCell (l .c) (a .d)) (omega arith)) in
           let b : bit (a .set) (l .c) ≡ true = sym (h .ensures) ∙ w .0 .taken in
           subst Now (sym (w .8)) (rw (w .5 .ensures)
-          (row-more (backRow (a .d)) (l .c) _ f (a .masks .now) (l .masks) (omega (arith, roomy t)) (e ∙ sym (ap (λ (x : Bool). cond x new old) b)) (l .inv .1))))
+          (row-more (backRow (a .d)) (l .c) _ f (a .masks .now) (l .masks) (omega (arith, roomy t))
+          (e ∙ sym (ap (λ (x : Bool). cond x new old) b)) (l .inv .1))))
           (λ w.
           let b : bit (a .set) (l .c) ≡ false = sym (h .ensures) ∙ w .0 .left in
-          subst Now (sym (w .1)) (row-kept (backRow (a .d)) (l .c) f (a .masks .now) (l .masks) (sym (ap (λ (x : Bool). cond x new old) b)) (l .inv .1)))
+          subst Now (sym (w .1)) (row-kept (backRow (a .d)) (l .c) f (a .masks .now) (l .masks)
+          (sym (ap (λ (x : Bool). cond x new old) b)) (l .inv .1)))
           (c .if2 .came),
     )
 
 returns : tie.Need-returns-2 Inv-loop μ-loop
-returns c = let e : c .before .loop .c ≡ c .before .before .before .before .args .charts = omega arith in rw e at (c .before .loop .inv .1)
+returns c = let e : c .before .loop .c ≡ c .before .before .before .before .args .charts = omega arith in
+    rw e at (c .before .loop .inv .1)
 
 pub feed-row-spec : {M : Type 1} → statement M
 feed-row-spec =
@@ -72,10 +79,12 @@ feed-row-spec =
     loop-holds
     (λ c. omega (arith, c .before .before .before .before .pre .1))
     (λ c κs. omega (arith, c .before .before .before .before .pre .1))
-    (λ c κs. let t = c .before .before .before .before in let p = t .before .before .before .pre in (roomy t, omega (arith, p .1), omega (arith, p .1, p .2)))
+    (λ c κs. let t = c .before .before .before .before in let p = t .before .before .before .pre in
+    (roomy t, omega (arith, p .1), omega (arith, p .1, p .2)))
     (λ c. omega arith)
     (λ c. omega arith)
-    (λ c κs. let t = c .before .before .before .before .before .before .before in let p = t .before .before .before .pre in (roomy t, omega (arith, p .1), omega (arith, p .1, p .2)))
+    (λ c κs. let t = c .before .before .before .before .before .before .before in
+    let p = t .before .before .before .pre in (roomy t, omega (arith, p .1), omega (arith, p .1, p .2)))
     (λ c. omega arith)
     (λ c. omega arith)
     loop-again

@@ -47,11 +47,13 @@ module _ (n : ℕ) (s x y : Set) (r q l m : List ℕ) (h : Hidden n s x y r q l 
       record {
         down-is = below-more (λ (c : ℕ). getD (set q n u) c 0 ≡ left (bit s c) (getD r c 0) x) n
             (λ c p. getD-set-other q n c u 0 (λ z. omega arith) ∙ h .down-is c p)
-            (getD-set-same q n u 0 a ∙ e ∙ ap (λ (w : Set). w ∖ x) (h .down-rest n (omega arith)) ∙ sym (ap (λ (t : Bool). left t (getD r n 0) x) i));
+            (getD-set-same q n u 0 a ∙ e ∙ ap (λ (w : Set). w ∖ x) (h .down-rest n (omega arith))
+            ∙ sym (ap (λ (t : Bool). left t (getD r n 0) x) i));
         down-rest = λ c p. getD-set-other q n c u 0 (λ z. omega arith) ∙ h .down-rest c (omega arith);
         up-is = below-more (λ (d : ℕ). upAt (set m (upCell n) v) d ≡ left (bit s d) (upAt l d) y) n
             (λ d p. getD-set-other m (upCell n) (upCell d) v 0 (λ z. omega arith) ∙ h .up-is d p)
-            (getD-set-same m (upCell n) v 0 b ∙ f ∙ ap (λ (w : Set). w ∖ y) (h .up-rest n (omega arith)) ∙ sym (ap (λ (t : Bool). left t (upAt l n) y) i));
+            (getD-set-same m (upCell n) v 0 b ∙ f ∙ ap (λ (w : Set). w ∖ y) (h .up-rest n (omega arith))
+            ∙ sym (ap (λ (t : Bool). left t (upAt l n) y) i));
         up-rest = λ d p. getD-set-other m (upCell n) (upCell d) v 0 (λ z. omega arith) ∙ h .up-rest d (omega arith);
         back-is = λ c d p. getD-set-other m (upCell n) (backCell c d) v 0 (λ z. omega arith) ∙ h .back-is c d p;
         long = length-set q n u ∙ h .long;
@@ -71,7 +73,8 @@ module _ (n : ℕ) (s x y : Set) (r q l m : List ℕ) (h : Hidden n s x y r q l 
       }
 
 abbrev Inv-loop : tie.InvT-loop
-Inv-loop masks₀ charts set x y down₀ c₀ masks down c = (c ≤ charts) × (length masks ≡ length masks₀) × Hidden c set x y down₀ down masks₀ masks
+Inv-loop masks₀ charts set x y down₀ c₀ masks down c =
+    (c ≤ charts) × (length masks ≡ length masks₀) × Hidden c set x y down₀ down masks₀ masks
 
 abbrev μ-loop : tie.MeasureT-loop
 μ-loop masks₀ charts set x y down₀ c₀ masks down c = charts - c
@@ -83,15 +86,21 @@ loop-again c =
     let l = t .loop in
     let s = t .before .before in
     let a = s .args in
-    let Now : List ℕ → List ℕ → Type 0 = λ m q. (length m ≡ length (a .masks .now)) × Hidden (l .c + 1) (a .set) (a .x) (a .y) (a .down .now) q (a .masks .now) m in
+    let Now : List ℕ → List ℕ → Type 0 = λ m q. (length m ≡ length (a .masks .now))
+    × Hidden (l .c + 1) (a .set) (a .x) (a .y) (a .down .now) q (a .masks .now) m in
     let z : Now (c .if1 .masks) (c .if1 .down) =
     ⊎-elim
     (λ w. subst₂ Now (sym (w .10)) (sym (w .11)) (rw (w .7 .ensures) (
       length-set (l .masks) _ _ ∙ l .inv .1,
       hidden-in (l .c) (a .set) (a .x) (a .y) (a .down .now) (l .down) (a .masks .now) (l .masks) (l .inv .2) _ _
-          (omega (arith, l .inv .2 .long, s .pre .2, s .pre .1)) (omega (arith, l .inv .1, s .pre .0)) (sym (h .ensures) ∙ w .0 .taken) (w .2 .ensures) (w .5 .ensures ∙ ap (λ (u : Set). u ∖ a .y) (w .4 .ensures)),
+          (omega (arith, l .inv .2 .long, s .pre .2, s .pre .1)) (omega (arith, l .inv .1, s .pre .0))
+          (sym (h .ensures) ∙ w .0 .taken) (w .2 .ensures) (w .5 .ensures ∙ ap (λ (u : Set). u ∖ a .y) (w .4 .ensures)),
     )))
-    (λ w. subst₂ Now (sym (w .1)) (sym (w .2)) (l .inv .1, hidden-out (l .c) (a .set) (a .x) (a .y) (a .down .now) (l .down) (a .masks .now) (l .masks) (l .inv .2) (sym (h .ensures) ∙ w .0 .left)))
+    (λ w. subst₂ Now (sym (w .1)) (sym (w .2)) (
+      l .inv .1,
+      hidden-out (l .c) (a .set) (a .x) (a .y) (a .down .now) (l .down) (a .masks .now) (l .masks) (l .inv .2)
+          (sym (h .ensures) ∙ w .0 .left),
+    ))
     (c .if1 .came) in
     (omega arith, z .0, z .1)
 
@@ -107,7 +116,8 @@ returns c =
     }
 
 -- the masks are as many as they were
-room : (c : tie.In-loop Inv-loop μ-loop) → (masksFor (c .before .loop .c + 1) ≤ length (c .before .loop .masks)) × (c .before .loop .c < mostCharts)
+room : (c : tie.In-loop Inv-loop μ-loop)
+    → (masksFor (c .before .loop .c + 1) ≤ length (c .before .loop .masks)) × (c .before .loop .c < mostCharts)
 room c = let p = c .before .before .before .pre in (omega (arith, p .0, c .before .loop .inv .1), omega (arith, p .1))
 
 pub hide-spec : {M : Type 1} → statement M

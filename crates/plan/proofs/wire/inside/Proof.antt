@@ -39,13 +39,15 @@ module _ (F : File) {i : ℕ} {s : Slave} (e : IsSlave F i s) (d : ℕ) (l : Lis
   inside-in o y r c = rw add-one
       (bit-union c x y
       ∙ ap₂ _||_ (h c) (ap (λ (z : Set). bit z c) (r ∙ ap (λ (k : ℕ). getD l k 0) (e .node))
-      ∙ sym (ap (λ (y : Bool). y && bit (getD l (F .node i) 0) c) (ap (λ (k : ℕ). same k d) (sym (e .chart) ∙ o) ∙ same-refl d))))
+      ∙ sym (ap (λ (y : Bool). y && bit (getD l (F .node i) 0) c)
+      (ap (λ (k : ℕ). same k d) (sym (e .chart) ∙ o) ∙ same-refl d))))
 
   inside-out : (s .chart ≡ d → ⊥) → Inside F d l (i + 1) x
   unfolding anyUpTo
   inside-out o c = rw add-one
       (h c ∙ behind _
-      ∙ ap (λ (y : Bool). inside F d l i c || y) (sym (ap (λ (y : Bool). y && bit (getD l (F .node i) 0) c) (same-≢ (F .master i) d (λ z. o (e .chart ∙ z))))))
+      ∙ ap (λ (y : Bool). inside F d l i c || y)
+      (sym (ap (λ (y : Bool). y && bit (getD l (F .node i) 0) c) (same-≢ (F .master i) d (λ z. o (e .chart ∙ z))))))
 
 loop-holds : tie.Need-loop-holds Inv-loop μ-loop
 loop-holds c = (omega arith, λ k. bit-none k ∙ sym (any-none _))
@@ -60,8 +62,10 @@ loop-again c =
     let Now : Set → Type 0 = Inside F (a .c) (a .sets .now) (l .loop .i + 1) in (
       omega arith,
       ⊎-elim
-          (λ w. subst Now (sym (w .4)) (inside-in F s (a .c) (a .sets .now) (l .loop .set) (l .loop .inv .1) (w .0 .taken) (w .3 .result) (w .3 .ensures)))
-          (λ w. subst Now (sym (w .1)) (inside-out F s (a .c) (a .sets .now) (l .loop .set) (l .loop .inv .1) (w .0 .left)))
+          (λ w. subst Now (sym (w .4)) (inside-in F s (a .c) (a .sets .now) (l .loop .set) (l .loop .inv .1)
+          (w .0 .taken) (w .3 .result) (w .3 .ensures)))
+          (λ w. subst Now (sym (w .1))
+          (inside-out F s (a .c) (a .sets .now) (l .loop .set) (l .loop .inv .1) (w .0 .left)))
           (c .if2 .came),
     )
 

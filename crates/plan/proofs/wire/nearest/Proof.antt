@@ -1,4 +1,5 @@
--- `wire::nearest` meets its contract. The loop's invariant: the charts of the nodes passed have their nearest slaves noted. Assumes nothing.
+-- `wire::nearest` meets its contract. The loop's invariant: the charts of the nodes passed have their nearest slaves
+-- noted. Assumes nothing.
 use mathlib.Core.Path.{_≡_, refl, _∙_}
 use Prim.Native.Nat.{ℕ, _-_, _≤_, _<_}
 use native.Mathlib.Omega.{arith}
@@ -12,14 +13,17 @@ use Rattle.plan.proofs.wire.nearest.Tie as tie
 
 abbrev Inv-loop : tie.InvT-loop
 Inv-loop n body small₀ near nodes j₀ small j =
-    (j ≤ nodes) × (length small ≡ length small₀) × ((k : ℕ) → k < j → fileAt n body .kind k ≡ 0 → Noted (fileAt n body) small (fileAt n body .a k))
+    (j ≤ nodes) × (length small ≡ length small₀)
+    × ((k : ℕ) → k < j → fileAt n body .kind k ≡ 0 → Noted (fileAt n body) small (fileAt n body .a k))
 
 abbrev μ-loop : tie.MeasureT-loop
 μ-loop n body small₀ near nodes j₀ small j = nodes - j
 
 returns : tie.Need-returns Inv-loop μ-loop
 unfolding fileAt
-returns c = let s = c .before .before .before .before .before .before .before .before in nearest-none (fileAt (s .args .n) (s .args .body .now)) (c .before .before .before .before .if1 .taken) (s .pre .0 .sized .charts) (c .before .before .note-none .last .0) (c .before .before .note-none .ensures)
+returns c = let s = c .before .before .before .before .before .before .before .before in
+    nearest-none (fileAt (s .args .n) (s .args .body .now)) (c .before .before .before .before .if1 .taken)
+    (s .pre .0 .sized .charts) (c .before .before .note-none .last .0) (c .before .before .note-none .ensures)
 
 loop-holds : tie.Need-loop-holds Inv-loop μ-loop
 loop-holds c = (omega arith, refl, λ k p. absurd (omega arith))
@@ -35,12 +39,18 @@ note-requires c κs =
 loop-again : tie.Need-loop-again Inv-loop μ-loop
 unfolding fileAt
 loop-again c =
-    let i = c .before .before .before .before .before .before .loop in
-    (omega arith, c .before .before .note .kept .1 .1 .1 .1 .0 ∙ i .inv .1, noted-more _ (c .before .before .before .before .before .before .before .before .before .before .before .before .pre .0 .sound) (i .j) (i .small) _ (c .before .before .before .before .before .loop-test .taken) (i .inv .2) (c .before .before .note .ensures))
+    let i = c .before .before .before .before .before .before .loop in (
+      omega arith,
+      c .before .before .note .kept .1 .1 .1 .1 .0 ∙ i .inv .1,
+      noted-more _ (c .before .before .before .before .before .before .before .before .before .before .before .before
+          .pre .0 .sound) (i .j) (i .small) _ (c .before .before .before .before .before .loop-test .taken) (i .inv .2)
+          (c .before .before .note .ensures),
+    )
 
 returns-2 : tie.Need-returns-2 Inv-loop μ-loop
 unfolding fileAt
-returns-2 c = noted-done _ (c .before .before .before .before .before .before .before .pre .0 .sound) (c .before .loop .j) (c .before .loop .small) (c .loop-test .left) (c .before .loop .inv .2)
+returns-2 c = noted-done _ (c .before .before .before .before .before .before .before .pre .0 .sound)
+    (c .before .loop .j) (c .before .loop .small) (c .loop-test .left) (c .before .loop .inv .2)
 
 pub nearest-spec : {M : Type 1} → statement M
 nearest-spec =

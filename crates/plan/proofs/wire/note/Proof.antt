@@ -24,12 +24,14 @@ returns c =
     let v = c .before .before .before .before in
     let p = v .before .before .before .before .before .before .before .before .pre in
     rw (c .before .before .put-nearest .ensures)
-    (notes-chart _ (p .0 .sound) (p .1) (is-node _ _ _ (v .before .before .before .before .node-at .ensures)) (v .before .before .if1 .taken) (p .0 .sized .charts) (p .4)
+    (notes-chart _ (p .0 .sound) (p .1) (is-node _ _ _ (v .before .before .before .before .node-at .ensures))
+    (v .before .before .if1 .taken) (p .0 .sized .charts) (p .4)
     (v .before .enclosing .ensures .0) (v .before .enclosing .ensures .1))
 
 returns-2 : tie.Need-returns-2
 unfolding fileAt
-returns-2 c = let p = c .before .before .before .before .before .before .pre in notes-none _ (p .0 .sound) (p .1) (is-node _ _ _ (c .before .before .node-at .ensures)) (c .if1 .left)
+returns-2 c = let p = c .before .before .before .before .before .before .pre in
+    notes-none _ (p .0 .sound) (p .1) (is-node _ _ _ (c .before .before .node-at .ensures)) (c .if1 .left)
 
 pub note-spec : {M : Type 1} → statement M
 note-spec =

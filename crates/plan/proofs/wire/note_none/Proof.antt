@@ -23,8 +23,11 @@ loop-again c =
     let p = c .before .before in
     let t = p .before .before .before in
     let l = t .loop in
-    let e = p .put-nearest .ensures in
-    (omega arith, ap length e ∙ simp length-set (l .inv .1), rw e (noted-none-more (l .c) (l .small) (omega arith) (l .inv .1 ∙ t .before .before .pre) (l .inv .2)))
+    let e = p .put-nearest .ensures in (
+      omega arith,
+      ap length e ∙ simp length-set (l .inv .1),
+      rw e (noted-none-more (l .c) (l .small) (omega arith) (l .inv .1 ∙ t .before .before .pre) (l .inv .2)),
+    )
 
 returns : tie.Need-returns Inv-loop μ-loop
 returns c k l = c .before .loop .inv .2 k (omega arith)

@@ -1,4 +1,5 @@
--- `wire::wire_chart` meets its contract: the set is the chart with what is inside it. Without slaves, feedback of the chart alone is all there is to feed.
+-- `wire::wire_chart` meets its contract: the set is the chart with what is inside it. Without slaves, feedback of the
+-- chart alone is all there is to feed.
 use mathlib.Core.Path.{_≡_, refl, sym, ap, ap₂, subst, subst₂, _∙_}
 use mathlib.Core.Bool.{Bool, true, false, _||_, cond, or-comm}
 use mathlib.Core.List.{List, [], _∷_}
@@ -26,14 +27,17 @@ use Rattle.plan.proofs.wire.wire_chart.Tie as tie
 
 with-is : (x d c : ℕ) → bit (x ∪ single d) c ≡ (same c d || bit x c)
 unfolding same
-with-is x d c = bit-union c x (single d) ∙ or-comm (bit x c) (bit (single d) c) ∙ ap (λ (b : Bool). b || bit x c) (bit-single d c ∙ same-comm d c)
+with-is x d c = bit-union c x (single d) ∙ or-comm (bit x c) (bit (single d) c)
+    ∙ ap (λ (b : Bool). b || bit x c) (bit-single d c ∙ same-comm d c)
 
-is-feedback : (n : Shape) (b : List ℕ) (c : ℕ) {h : Head} → h ≡ headAt n b c → h .feedback ≡ fileAt n b .chart c .feedback
+is-feedback : (n : Shape) (b : List ℕ) (c : ℕ) {h : Head} → h ≡ headAt n b c
+    → h .feedback ≡ fileAt n b .chart c .feedback
 unfolding fileAt chartOf
 is-feedback n b c e = ap (λ (h : Head). h .feedback) e
 
 -- feedback of x over chart d alone
-module _ (N d : ℕ) (few : N ≤ mostCharts) (z x : Set) (r m : List ℕ) (there : d < N) (only : (c : ℕ) → bit z c ≡ same c d)
+module _ (N d : ℕ) (few : N ≤ mostCharts) (z x : Set) (r m : List ℕ) (there : d < N)
+    (only : (c : ℕ) → bit z c ≡ same c d)
     (down : getD r d 0 ≡ full) (up : upAt m d ≡ full) (room : masksFor N ≤ length m) where
   abbrev m′ : List ℕ
   m′ = set m (backCell d d) (backAt m d d ∪ (full ∩ x))
@@ -42,7 +46,8 @@ module _ (N d : ℕ) (few : N ≤ mostCharts) (z x : Set) (r m : List ℕ) (ther
   fed-alone =
       record {
         back-is = λ c e p q. go c e p q (same e d) (same c d) refl refl
-            ∙ ap₂ (λ (b b′ : Bool). cond b (cond b′ (backAt m c e ∪ (upAt m e ∩ x ∩ getD r c 0)) (backAt m c e)) (backAt m c e)) (sym (only e)) (sym (only c));
+            ∙ ap₂ (λ (b b′ : Bool). cond b (cond b′ (backAt m c e ∪ (upAt m e ∩ x ∩ getD r c 0)) (backAt m c e))
+            (backAt m c e)) (sym (only e)) (sym (only c));
         up-is = λ e p. getD-set-other m (backCell d d) (upCell e) _ 0 (up-back d d e (omega arith));
       }
     where
@@ -56,7 +61,8 @@ module _ (N d : ℕ) (few : N ≤ mostCharts) (z x : Set) (r m : List ℕ) (ther
           → backAt m′ c e ≡ cond b (cond b′ (backAt m c e ∪ (upAt m e ∩ x ∩ getD r c 0)) (backAt m c e)) (backAt m c e)
       go c e p q true true i k = let ec : c ≡ d = same→≡ c d k in let ee : e ≡ d = same→≡ e d i in
           ap₂ backAt′ ec ee ∙ getD-set-same m (backCell d d) _ 0 (omega arith)
-          ∙ sets (backAt m d d ∷ full ∷ x ∷ upAt m d ∷ getD r d 0 ∷ []) (D ≐ B ∷ Eₑ ≐ B ∷ []) (A ∪ₑ (B ∩ₑ C) ≐ A ∪ₑ (D ∩ₑ C ∩ₑ Eₑ)) tt up down
+          ∙ sets (backAt m d d ∷ full ∷ x ∷ upAt m d ∷ getD r d 0 ∷ []) (D ≐ B ∷ Eₑ ≐ B ∷ [])
+          (A ∪ₑ (B ∩ₑ C) ≐ A ∪ₑ (D ∩ₑ C ∩ₑ Eₑ)) tt up down
           ∙ ap₂ (λ (c e : ℕ). backAt m c e ∪ (upAt m e ∩ x ∩ getD r c 0)) (sym ec) (sym ee)
         where
           backAt′ : ℕ → ℕ → ℕ
@@ -65,12 +71,14 @@ module _ (N d : ℕ) (few : N ≤ mostCharts) (z x : Set) (r m : List ℕ) (ther
       go c e p q false b′ i k = other c e p q (λ u v. same→≢ e d i v)
 
 -- the set of the chart and of what is inside it
-set-is : (F : File) (d : ℕ) (l : List ℕ) (z x : Set) → z ≡ x ∪ single d → Inside F d l (F .slaves) x → (c : ℕ) → bit z c ≡ (same c d || inside F d l (F .slaves) c)
+set-is : (F : File) (d : ℕ) (l : List ℕ) (z x : Set) → z ≡ x ∪ single d → Inside F d l (F .slaves) x → (c : ℕ)
+    → bit z c ≡ (same c d || inside F d l (F .slaves) c)
 set-is F d l z x e h c = ap (λ (s : Set). bit s c) e ∙ with-is x d c ∙ ap (λ (b : Bool). same c d || b) (h c)
 
 only-it : (d : ℕ) (z x : Set) → z ≡ x ∪ single d → x ≡ 0 → (c : ℕ) → bit z c ≡ same c d
 only-it d z x e h c =
-    ap (λ (s : Set). bit s c) e ∙ with-is x d c ∙ ap (λ (b : Bool). same c d || b) (ap (λ (s : Set). bit s c) h ∙ bit-none c) ∙ or-false (same c d)
+    ap (λ (s : Set). bit s c) e ∙ with-is x d c
+    ∙ ap (λ (b : Bool). same c d || b) (ap (λ (s : Set). bit s c) h ∙ bit-none c) ∙ or-false (same c d)
 
 returns-alone : tie.Need-returns
 unfolding fileAt full
@@ -97,13 +105,16 @@ returns-alone c =
     let e : p .put-back .last .0 ≡ set m (backCell d d) (backAt m d d ∪ (full ∩ x)) =
     p .put-back .ensures
     ∙ ap₂ (λ (m : List ℕ) (v : ℕ). set m (backCell d d) v) (u .put-up .ensures)
-    (ap₂ (λ (v f : ℕ). v ∪ (full ∩ f)) (b .back .ensures ∙ ap (λ (m : List ℕ). backAt m d d) (u .put-up .ensures)) fb) in
+    (ap₂ (λ (v f : ℕ). v ∪ (full ∩ f))
+    (b .back .ensures ∙ ap (λ (m : List ℕ). backAt m d d) (u .put-up .ensures)) fb) in
     record {
       set-is = set-is F d (a .sets .now) z (n .inside .result) (w .with .ensures) (n .inside .ensures);
       down-is = refl;
       fed = subst (Feeds (a .n .charts) z x (set (a .down .now) d full) m) (sym e)
-          (fed-alone (a .n .charts) d few z x (set (a .down .now) d full) m there (only-it d z (n .inside .result) (w .with .ensures) (i .if1 .taken))
-          (getD-set-same (a .down .now) d full 0 (omega arith)) (getD-set-same (a .masks .now) (upCell d) full 0 (omega arith))
+          (fed-alone (a .n .charts) d few z x (set (a .down .now) d full) m there
+          (only-it d z (n .inside .result) (w .with .ensures) (i .if1 .taken))
+          (getD-set-same (a .down .now) d full 0 (omega arith))
+          (getD-set-same (a .masks .now) (upCell d) full 0 (omega arith))
           (rw (length-set (a .masks .now) (upCell d) full) room));
     }
 
@@ -120,9 +131,11 @@ returns-fed c =
     let a = s .args in
     let F = fileAt (a .n) (a .body .now) in
     record {
-      set-is = set-is F (a .a) (a .sets .now) (w .with .result) (n .inside .result) (w .with .ensures) (n .inside .ensures);
+      set-is =
+          set-is F (a .a) (a .sets .now) (w .with .result) (n .inside .result) (w .with .ensures) (n .inside .ensures);
       down-is = refl;
-      fed = subst₂ (λ (x : Set) (m : List ℕ). Feeds (a .n .charts) (w .with .result) x (set (a .down .now) (a .a) full) m (f .feed .last .0))
+      fed = subst₂ (λ (x : Set) (m : List ℕ). Feeds (a .n .charts) (w .with .result) x
+          (set (a .down .now) (a .a) full) m (f .feed .last .0))
           (is-feedback (a .n) (a .body .now) (a .a) (h .head-at .ensures)) (u .put-up .ensures) (f .feed .ensures);
     }
 

@@ -20,8 +20,12 @@ use Rattle.plan.proofs.wire.wire_node.Tie as tie
 wire-chart-requires : tie.Need-wire-chart-requires
 wire-chart-requires c κs =
     let r = c .before .before .before .before in
-    let s = r .before .before .before in
-    (s .pre .0, below-charts (s .pre .0) (s .pre .1) (r .node-at .ensures) (c .before .before .if1 .taken), s .pre .2, s .pre .4 .long)
+    let s = r .before .before .before in (
+      s .pre .0,
+      below-charts (s .pre .0) (s .pre .1) (r .node-at .ensures) (c .before .before .if1 .taken),
+      s .pre .2,
+      s .pre .4 .long,
+    )
 
 returns-chart : tie.Need-returns
 unfolding fileAt
@@ -33,7 +37,8 @@ returns-chart c =
     let a = s .args in
     let F = fileAt (a .n) (a .body .now) in
     let i = is-node (a .n) (a .body .now) (a .j) (r .node-at .ensures) in
-    let h = wired-chart F (s .pre .0 .sound) (a .j) (s .pre .1) (sym (i .kind) ∙ k .if1 .taken) (r .node-at .result .a) (i .a) (s .pre .0 .sized .charts) (s .pre .2) (s .pre .3) (s .pre .4)
+    let h = wired-chart F (s .pre .0 .sound) (a .j) (s .pre .1) (sym (i .kind) ∙ k .if1 .taken) (r .node-at .result .a)
+    (i .a) (s .pre .0 .sized .charts) (s .pre .2) (s .pre .3) (s .pre .4)
     (w .wire-chart .ensures) in
     (h .0, rw add-one (h .1))
 
@@ -43,7 +48,8 @@ returns-chart c =
 abbrev comp-read : tie.Then2 → tie.After-node-at
 comp-read c = c .before .before .before .before .before
 
-parts-there : (c : tie.Then2) → (comp-read c .node-at .result .a < mostNodes) × (comp-read c .node-at .result .b < mostNodes)
+parts-there : (c : tie.Then2)
+    → (comp-read c .node-at .result .a < mostNodes) × (comp-read c .node-at .result .b < mostNodes)
 parts-there c =
     let r = comp-read c in
     let s = r .before .before .before in
@@ -64,9 +70,13 @@ returns-comp c =
     let i = is-node (a .n) (a .body .now) (a .j) (r .node-at .ensures) in
     let e = sym (i .kind) ∙ k .if2 .taken in
     let at : (m : ℕ) → ℕ = λ m. getD (a .sets .now) m 0 in
-    let ch = charts-comp F (s .pre .0 .sound) (a .j) (s .pre .1) e (a .sets .now) (w .wide .result) (w′ .wide2 .result) (s .pre .3) (w .wide .ensures ∙ ap at (i .a)) (w′ .wide2 .ensures ∙ ap at (i .b)) in
-    let g : Feeds (a .n .charts) (w .wide .result ∪ w′ .wide2 .result) (r .node-at .result .x) (a .down .now) (a .masks .now) (f .feed .last .0) = f .feed .ensures in
-    (ch, rw add-one (wired-comp F (s .pre .0 .sound) (a .j) (s .pre .1) (r .node-at .result .x) e ch (i .x) (s .pre .4) g))
+    let ch = charts-comp F (s .pre .0 .sound) (a .j) (s .pre .1) e (a .sets .now) (w .wide .result) (w′ .wide2 .result)
+    (s .pre .3) (w .wide .ensures ∙ ap at (i .a)) (w′ .wide2 .ensures ∙ ap at (i .b)) in
+    let g : Feeds (a .n .charts) (w .wide .result ∪ w′ .wide2 .result) (r .node-at .result .x) (a .down .now)
+    (a .masks .now) (f .feed .last .0) = f .feed .ensures in (
+      ch,
+      rw add-one (wired-comp F (s .pre .0 .sound) (a .j) (s .pre .1) (r .node-at .result .x) e ch (i .x) (s .pre .4) g),
+    )
 
 -- ── a hiding ──
 
@@ -98,8 +108,12 @@ returns-hide c =
     let F = fileAt (a .n) (a .body .now) in
     let i = is-node (a .n) (a .body .now) (a .j) (r .node-at .ensures) in
     let e = sym (i .kind) ∙ hides k in
-    let ch = charts-hide F (s .pre .0 .sound) (a .j) (s .pre .1) e (a .sets .now) (w .wide3 .result) (s .pre .3) (w .wide3 .ensures ∙ ap (λ (m : ℕ). getD (a .sets .now) m 0) (i .a)) in
-    (ch, rw add-one (wired-hide F (s .pre .0 .sound) (a .j) (s .pre .1) (r .node-at .result .x) (r .node-at .result .y) e ch (i .x) (i .y) (s .pre .4) (f .hide .ensures)))
+    let ch = charts-hide F (s .pre .0 .sound) (a .j) (s .pre .1) e (a .sets .now) (w .wide3 .result) (s .pre .3)
+    (w .wide3 .ensures ∙ ap (λ (m : ℕ). getD (a .sets .now) m 0) (i .a)) in (
+      ch,
+      rw add-one (wired-hide F (s .pre .0 .sound) (a .j) (s .pre .1) (r .node-at .result .x)
+          (r .node-at .result .y) e ch (i .x) (i .y) (s .pre .4) (f .hide .ensures)),
+    )
 
 pub wire-node-spec : {M : Type 1} → statement M
 wire-node-spec =

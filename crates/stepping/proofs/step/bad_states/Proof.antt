@@ -22,7 +22,8 @@ good-here : (s : ℕ) (h k : Head) → h ≡ k → s < h .states → notBelow s 
 good-here s h k e l = ap not (lt-ltb s (k .states) (rw (ap (λ (x : Head). x .states) e) at l))
 
 abbrev Inv-loop : tie.InvT-loop
-Inv-loop n body config charts c₀ c = (c ≤ charts) × (anyUpTo c (λ d. notBelow (getD config d 0) (headAt n body d .states)) ≡ false)
+Inv-loop n body config charts c₀ c =
+    (c ≤ charts) × (anyUpTo c (λ d. notBelow (getD config d 0) (headAt n body d .states)) ≡ false)
 
 abbrev μ-loop : tie.MeasureT-loop
 μ-loop n body config charts c₀ c = charts - c
@@ -38,8 +39,11 @@ returns c =
 
 loop-again : tie.Need-loop-again Inv-loop μ-loop
 loop-again c =
-    let d = c .before .before in
-    (omega arith, any-more _ _ (d .before .before .before .loop .inv .1) (good-here _ (d .head-at .result) _ (d .head-at .ensures) (c .if1 .left)))
+    let d = c .before .before in (
+      omega arith,
+      any-more _ _ (d .before .before .before .loop .inv .1)
+          (good-here _ (d .head-at .result) _ (d .head-at .ensures) (c .if1 .left)),
+    )
 
 returns-2 : tie.Need-returns-2 Inv-loop μ-loop
 returns-2 c = any-done _ _ _ (c .before .loop .inv .0) (c .loop-test .left) (c .before .loop .inv .1)

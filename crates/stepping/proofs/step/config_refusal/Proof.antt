@@ -24,7 +24,8 @@ module _ (n : Shape) (b config : List ℕ) where
   by-length h = sym (firstOf-here _ _ (ap not (same-≢ (length config) (n .charts) h)))
 
   -- the length is right
-  module _ (e : length config ≡ n .charts) (r : Bool) (is : r ≡ anyUpTo (n .charts) (λ c. notBelow (getD config c 0) (headAt n b c .states))) where
+  module _ (e : length config ≡ n .charts) (r : Bool)
+      (is : r ≡ anyUpTo (n .charts) (λ c. notBelow (getD config c 0) (headAt n b c .states))) where
     long : not (same (length config) (n .charts)) ≡ false
     long = ap not (ap (λ (k : ℕ). same k (n .charts)) e ∙ same-refl (n .charts))
 

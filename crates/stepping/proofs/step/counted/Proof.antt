@@ -11,7 +11,8 @@ use Rattle.stepping.proofs.step.counted.Tie as tie
 -- the rows, from where both are read
 rows : (c : tie.After-slave-states) →
     let s = c .before .before .before .before .before in
-    Countable (s .args .n) (s .args .body .now) (s .args .config .now) (c .before .masters .result .now) (c .slave-states .result .now)
+    Countable (s .args .n) (s .args .body .now) (s .args .config .now) (c .before .masters .result .now)
+    (c .slave-states .result .now)
 rows c =
     let s = c .before .before .before .before .before in
     countable _ _ _ (s .pre .0) (s .pre .1) (s .args .small .now) _ _ (s .pre .2) (c .before .masters .ensures)
@@ -44,7 +45,8 @@ returns c =
     let s = o .before .before .before .before .before .before .before in
     let w = rows (o .before .before) in (
       o .open-choices .ensures .0,
-      shut-is _ _ _ (s .pre .0) (s .pre .1) _ _ (o .open-choices .last .1 .1 .1 .1 .1 .0) (c .shut .last .1 .1 .1 .1 .1 .0) w
+      shut-is _ _ _ (s .pre .0) (s .pre .1) _ _ (o .open-choices .last .1 .1 .1 .1 .1 .0)
+          (c .shut .last .1 .1 .1 .1 .1 .0) w
           (o .open-choices .ensures .1 .right) (c .shut .ensures),
       o .open-choices .ensures .1 .long ∙ s .pre .4,
     )

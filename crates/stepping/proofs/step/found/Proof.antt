@@ -1,5 +1,5 @@
--- `step::found` meets its contract: the tables hold the file's wiring and candidates, and the search is told which charts may stay, none but in the
--- second edition; so what it finds answers the step.
+-- `step::found` meets its contract: the tables hold the file's wiring and candidates, and the search is told which
+-- charts may stay, none but in the second edition; so what it finds answers the step.
 use mathlib.Core.Path.{_≡_}
 use mathlib.Core.List.{List, []}
 use Prim.Native.Nat.{ℕ}
@@ -31,15 +31,18 @@ returns c =
     let s = l .before .before .before .before .before in
     let q = c .found-staying .ensures in (
       rw (q .found)
-          (found-here _ _ _ _ _ _ _ _ _ _ _ _ (s .pre .0 .sized) (s .pre .2) (k .choose .ensures) (λ i. l .before .before .before .before .shared-slice-known .given i .fits) (s .pre .0)
-          _ (s .fits .input .fits) (l .lows .ensures) (q .guards) (q .stays) _ (q .told) (s .pre .4 .mays) (s .pre .3) (s .pre .4 .read)),
+          (found-here _ _ _ _ _ _ _ _ _ _ _ _ (s .pre .0 .sized) (s .pre .2) (k .choose .ensures)
+          (λ i. l .before .before .before .before .shared-slice-known .given i .fits) (s .pre .0)
+          _ (s .fits .input .fits) (l .lows .ensures) (q .guards) (q .stays) _ (q .told) (s .pre .4 .mays) (s .pre .3)
+          (s .pre .4 .read)),
       prepared-again _ _ _ _ _ _ _ _ _ _ _ _ (s .pre .0 .sized) (s .pre .2) (k .choose .ensures),
     )
 
 -- no chart may stay
 none : (c : tie.Else1) → let d = c .before .before .before .before .before .before in
     let s = d .before .before .before .before .before .before .before .before .before in
-    (m : List ℕ) → Stays (s .args .n) (s .args .body .now) (s .args .config .now) (s .args .may .now) (d .choose .last .1 .1 .1 .1 .1 .1 .1 .0) (s .args .shuts .now) m [] (replicate staysSize 0)
+    (m : List ℕ) → Stays (s .args .n) (s .args .body .now) (s .args .config .now) (s .args .may .now)
+    (d .choose .last .1 .1 .1 .1 .1 .1 .1 .0) (s .args .shuts .now) m [] (replicate staysSize 0)
 none c = let d = c .before .before .before .before .before .before in
     let s = d .before .before .before .before .before .before .before .before .before in
     λ m. stays-none _ _ _ _ (s .args .may .now) _ m [] (s .pre .0 .sized .charts) (c .if1 .left)
@@ -49,8 +52,11 @@ searched-requires c κs =
     let e = c .before .before .before .before in
     let d = e .before .before .before .before .before .before in
     let s = d .before .before .before .before .before .before .before .before .before in
-    let k = d .choose .ensures in
-    (record { masks = k .tabled .masks; small = k .tabled .small; counts = k .chosen .counts }, s .pre .0 .sized .charts, none e [] .guards)
+    let k = d .choose .ensures in (
+      record { masks = k .tabled .masks; small = k .tabled .small; counts = k .chosen .counts },
+      s .pre .0 .sized .charts,
+      none e [] .guards,
+    )
 
 returns-2 : tie.Need-returns-2
 returns-2 c =
@@ -59,8 +65,10 @@ returns-2 c =
     let l = k .before .before .before .before in
     let s = l .before .before .before .before .before in (
       rw (c .searched .ensures)
-          (found-here _ _ _ _ _ _ _ _ _ _ _ _ (s .pre .0 .sized) (s .pre .2) (k .choose .ensures) (λ i. l .before .before .before .before .shared-slice-known .given i .fits) (s .pre .0)
-          _ (s .fits .input .fits) (l .lows .ensures) [] (replicate staysSize 0) _ (none e _) (s .pre .4 .mays) (s .pre .3) (s .pre .4 .read)),
+          (found-here _ _ _ _ _ _ _ _ _ _ _ _ (s .pre .0 .sized) (s .pre .2) (k .choose .ensures)
+          (λ i. l .before .before .before .before .shared-slice-known .given i .fits) (s .pre .0)
+          _ (s .fits .input .fits) (l .lows .ensures) [] (replicate staysSize 0) _ (none e _) (s .pre .4 .mays)
+          (s .pre .3) (s .pre .4 .read)),
       prepared-again _ _ _ _ _ _ _ _ _ _ _ _ (s .pre .0 .sized) (s .pre .2) (k .choose .ensures),
     )
 

@@ -11,7 +11,8 @@ use Rattle.stepping.proofs.step.lows.Statement.{statement}
 use Rattle.stepping.proofs.step.lows.Tie as tie
 
 abbrev Inv-loop : tie.InvT-loop
-Inv-loop input down low₀ c₀ low c = (c ≤ mostCharts) × (length low ≡ mostCharts) × ((k : ℕ) → k < c → getD low k 0 ≡ input ∩ getD down k 0)
+Inv-loop input down low₀ c₀ low c =
+    (c ≤ mostCharts) × (length low ≡ mostCharts) × ((k : ℕ) → k < c → getD low k 0 ≡ input ∩ getD down k 0)
 
 abbrev μ-loop : tie.MeasureT-loop
 μ-loop input down low₀ c₀ low c = mostCharts - c

@@ -11,10 +11,12 @@ returns-2 c =
     let p = c .puts-all .ensures in
     λ a z q.
     record {
-      read = read-rows (s .args .n) (s .args .body .now) a (s .args .masks .now) z (s .args .config .now) q (r .rows .result) (r .rows .ensures);
+      read = read-rows (s .args .n) (s .args .body .now) a (s .args .masks .now) z (s .args .config .now) q
+          (r .rows .result) (r .rows .ensures);
       mays = p .mays;
       sure = p .sure;
     }
 
 pub read-by-spec : {M : Type 1} → statement M
-read-by-spec = tie.close (tie.spec (λ c. λ a z q. c .before .before .before .before .pre .2) (λ c κs. search needs) (λ c κs. search needs) returns-2)
+read-by-spec = tie.close (tie.spec (λ c. λ a z q. c .before .before .before .before .pre .2) (λ c κs. search needs)
+    (λ c κs. search needs) returns-2)

@@ -15,10 +15,14 @@ try-wired-requires c κs =
     let s = w .before .before .before .before .before .before in (
       s .pre .0,
       s .pre .1,
-      record { wired = w .wired .ensures; tabled = record { masks = omega (arith, s .pre .2, w .wired .kept .1 .1 .0); small = search needs } },
+      record {
+        wired = w .wired .ensures;
+        tabled = record { masks = omega (arith, s .pre .2, w .wired .kept .1 .1 .0); small = search needs };
+      },
     )
 
 pub try-in-spec : {M : Type 1} → statement M
 try-in-spec =
     tie.close
-    (tie.spec (λ c. search needs) wired-requires (λ c. search needs) try-wired-requires (λ c. search needs) (λ c. c .before .before .before .try-wired .ensures .0))
+    (tie.spec (λ c. search needs) wired-requires (λ c. search needs) try-wired-requires (λ c. search needs)
+    (λ c. c .before .before .before .try-wired .ensures .0))

@@ -1,5 +1,5 @@
--- `step::try_wired` meets its contract: where no choice is open, or too many are, a search is not made, and what was found is nothing; else it is
--- what the search finds.
+-- `step::try_wired` meets its contract: where no choice is open, or too many are, a search is not made, and what was
+-- found is nothing; else it is what the search finds.
 use mathlib.Core.Path.{_∙_}
 use borrow.Author.Needs.{needs}
 use Rattle.wiring.specs.Wire.{full}
@@ -15,8 +15,15 @@ puts-all-requires c κs =
 counted-requires : tie.Need-counted-requires
 counted-requires c κs =
     let p = c .before .before .before in
-    let s = p .before .before .before .before .before .before .before .before .before in
-    (s .pre .0, s .pre .1, s .pre .2 .wired .nearest-is, s .pre .2 .tabled .small, p .puts-all .ensures .counts-long, p .puts-all .ensures .many, search needs)
+    let s = p .before .before .before .before .before .before .before .before .before in (
+      s .pre .0,
+      s .pre .1,
+      s .pre .2 .wired .nearest-is,
+      s .pre .2 .tabled .small,
+      p .puts-all .ensures .counts-long,
+      p .puts-all .ensures .many,
+      search needs,
+    )
 
 returns : tie.Need-returns
 returns c =
@@ -41,7 +48,11 @@ read-by-requires c κs =
     let e = p .puts-all .ensures in (
       ready-valid _ _ _ (s .pre .0) (s .pre .1),
       s .pre .2 .tabled .masks,
-      record { read = read-all (s .args .n) (s .args .body .now) (s .args .config .now) (s .pre .0 .sized .charts); mays = e .mays; sure = e .sure },
+      record {
+        read = read-all (s .args .n) (s .args .body .now) (s .args .config .now) (s .pre .0 .sized .charts);
+        mays = e .mays;
+        sure = e .sure;
+      },
       e .may-long,
       e .sures-long,
       k .counted .ensures .2,
@@ -51,8 +62,13 @@ found-requires : tie.Need-found-requires
 found-requires c κs =
     let r = c .before .before .before .before .before .before in
     let k = r .before .before .before .before .before .before .before .before in
-    let s = k .before .before .before .before .before .before .before .before .before .before .before .before .before in
-    (s .pre .0, ready-valid _ _ _ (s .pre .0) (s .pre .1), s .pre .2, k .counted .ensures .1, r .read-by .ensures _ _ (s .pre .2))
+    let s = k .before .before .before .before .before .before .before .before .before .before .before .before .before in (
+      s .pre .0,
+      ready-valid _ _ _ (s .pre .0) (s .pre .1),
+      s .pre .2,
+      k .counted .ensures .1,
+      r .read-by .ensures _ _ (s .pre .2),
+    )
 
 returns-3 : tie.Need-returns-3
 returns-3 c =
