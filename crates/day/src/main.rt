@@ -8,47 +8,31 @@ ghost use Rattle.meaning.specs.File.{fileOf};
 ghost use Rattle.meaning.specs.Meaning.{∅};
 ghost use Rattle.meaning.specs.Calls.{laidOver, initials, rowsOf};
 ghost use Rattle.line.specs.Line.{inputsOf, linesOf, dayOf};
-ghost use Rattle.day.specs.Day.{Opened, Accepted, DaySays};
+ghost use Rattle.day.specs.Day.{Opened, Accepted, Body, DaySays};
 use checks::limits;
+use layout::body::Shape;
+use opening::Opening;
 
-// What the check of an input found: its refusal, and, if there is none, how many charts it has and how many inputs
-// stand in front of them.
-struct Front {
-    refusal: u8,
-    charts: usize,
-    inputs: usize,
-}
-
-fn refused(r: u8) -> Front
-    ensures { λ o. ⌜ o .refusal ≡ r ⌝ }
-{
-    Front {
-        refusal: r,
-        charts: 0,
-        inputs: 0,
-    }
-}
-
-// 1 to 11, then 30.
-fn opened(input: &[u8]) -> Front
+// 1 to 11, then 30; and where the body stands, behind the inputs.
+fn opened(input: &[u8]) -> Opening
     requires { ⌜ length (now input) ≤ 65536 ⌝ }
     ensures { λ o. ⌜ Opened (now (input .entry)) o ⌝ }
 {
     let o = opening::opened(input);
-    let r = o.refusal;
-    if r != limits::ACCEPTED {
-        return refused(r);
+    if o.refusal != limits::ACCEPTED {
+        return o;
     }
-    let front = o.start;
-    if front % 8 != 0 {
-        return refused(limits::ODD_FRONT);
+    let start = o.start;
+    if start % 8 != 0 {
+        let shape = o.shape;
+        return Opening {
+            refusal: limits::ODD_FRONT,
+            shape,
+            start,
+            end: o.end,
+        };
     }
-    let n = o.shape;
-    Front {
-        refusal: limits::ACCEPTED,
-        charts: n.charts,
-        inputs: front / 8,
-    }
+    o
 }
 
 // The most inputs: 8 bytes each.
@@ -87,17 +71,20 @@ fn read_inputs(input: &[u8], inputs: &mut [u64])
     }
 }
 
-// The rows of all inputs, from the first configuration on, with nothing carried.
-fn put_rows(input: &[u8], charts: usize, n: usize, rows: &mut [u8])
-    requires { ⌜ Accepted (now input) charts n × (n ≤ 8192) × (n * (10 + charts) ≤ length (now rows)) ⌝ }
+// The rows of all inputs, from the first configuration on, with nothing carried. The body was opened, and is not checked
+// again.
+fn put_rows(input: &[u8], n: Shape, body: &[u8], count: usize, rows: &mut [u8])
+    requires { ⌜ Accepted (now input) (n .charts) count × Body (now input) n (now body) × (count ≤ 8192)
+        × (count * (10 + n .charts) ≤ length (now rows)) ⌝ }
     ensures { λ _. ⌜ now (rows .exit) ≡ laidOver (rowsOf (fileOf (now (input .entry))) (initials (now (input .entry))) ∅
-        (inputsOf n (now (input .entry)))) (now (rows .entry)) ⌝ }
+        (inputsOf count (now (input .entry)))) (now (rows .entry)) ⌝ }
 {
+    let charts = n.charts;
     let mut config = [0u8; layout::limits::CHARTS];
-    engine::file::first(input, &mut config);
+    queries::file::put_initials(n, body, &mut config);
     let mut inputs = input_room();
-    read_inputs(input, &mut inputs[..n]);
-    engine::run::run(input, &config[..charts], 0, &inputs[..n], rows);
+    read_inputs(input, &mut inputs[..count]);
+    running::of_body(n, body, &config[..charts], 0, &inputs[..count], rows);
 }
 
 // The lines of n rows of w bytes each, at the front of `out`; returns their length.
@@ -131,11 +118,13 @@ fn lines_for(input: &[u8], out: &mut [u8]) -> usize
     if r != limits::ACCEPTED {
         return line::refused_file(r, out);
     }
-    let charts = o.charts;
-    let n = o.inputs;
+    let n = o.shape;
+    let start = o.start;
+    let end = o.end;
+    let count = start / 8;
     let mut rows = row_room();
-    put_rows(input, charts, n, &mut rows);
-    put_lines(&rows, layout::row::STATES + charts, n, out)
+    put_rows(input, n, &input[start..end], count, &mut rows);
+    put_lines(&rows, layout::row::STATES + n.charts, count, out)
 }
 
 // The same for any input: its first bytes, at most 65,536, and how many of the byte behind them came.

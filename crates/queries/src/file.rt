@@ -72,7 +72,7 @@ pub fn states(file: &[u8]) -> StateCounts
 }
 
 // Each chart's initial state, over the front of `config`.
-fn put_initials(n: Shape, body: &[u8], config: &mut [u8])
+pub fn put_initials(n: Shape, body: &[u8], config: &mut [u8])
     requires { ⌜ Holds n (now body) × (n .charts ≤ length (now config)) ⌝ }
     ensures { λ _. ⌜ now (config .exit)
         ≡ laidOver (made (n .charts) (λ c. headAt n (now (body .entry)) c .initial)) (now (config .entry)) ⌝ }

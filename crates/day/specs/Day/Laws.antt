@@ -13,7 +13,8 @@ use borrow.Author.Tests.{eq-eqb, ne-eqb, lt-ltb, le-ltb}
 use lib.Dec.{ltb}
 use lib.ListN.{length, getD, take, drop, length-append, length-take, length-drop, take-append-drop}
 use lib.Seq.{take-at, take-all, drop-at, drop-drop, length-take-le, drop-append-le, take-append-le}
-use Rattle.layout.specs.Body.{sizeOf}
+use Rattle.layout.specs.Body.{sizeOf, headAt}
+use Rattle.layout.specs.declared.body.Shape.{Shape}
 use Rattle.meaning.specs.Numbers.{mostCharts, mostInput, tooLong, oddFront}
 use Rattle.meaning.specs.Meaning.{∅, same}
 use Rattle.meaning.specs.File.{trailer, shapeOf, bodyOf, chartOf, fileAt, fileOf}
@@ -21,7 +22,7 @@ use Rattle.meaning.specs.Check.{Test, firstOf, fileTests, refusalOf, differ, di
 use Rattle.meaning.specs.Count.Laws.{or-left, any-all}
 use Rattle.meaning.specs.Check.Laws.{alike, firstOf-here, firstOf-next, firstOf-[], call-refused, call-passed, passed}
 use Rattle.meaning.specs.Check.Laws.{charted}
-use Rattle.meaning.specs.Calls.{laidOver, firstRefusal, initials, firstBytes, rowsOf, runBytes}
+use Rattle.meaning.specs.Calls.{made, laidOver, initials, rowsOf, runBytes}
 use Rattle.meaning.specs.Calls.Laws.{length-made, getD-made}
 use Rattle.meaning.specs.Laws.Runs.{Leads, Valid, rows-all}
 use Rattle.opening.specs.Open.{Stands}
@@ -31,7 +32,7 @@ use Rattle.stepping.specs.Step.{configTestsIn}
 use Rattle.stepping.specs.Step.Laws.{checked}
 use Rattle.running.specs.Run.Laws.{leads, bytes-passed, after-rows}
 use Rattle.line.specs.Line.{lineOf, fileRefused, frontOf, dayRefusal, inputsOf, linesOf, dayLines, dayOf, dayFrom}
-use Rattle.day.specs.Day.{Accepted, DaySays}
+use Rattle.day.specs.Day.{Accepted, Body, DaySays}
 
 -- ── a text laid over the front of the bytes from `at` up to e ──
 
@@ -145,14 +146,17 @@ module _ (f : List ℕ) (a : refusalOf f ≡ 0) where
             (charted (shapeOf (trailer f)) (bodyOf f) (passed f a .charts) c l .initial);
       }
 
-  -- what `first` leaves in a buffer
-  pub starts : (charts : ℕ) (b b′ : List ℕ) → charts ≡ fileOf f .charts → charts ≤ length b → b′ ≡ firstBytes f b
-      → take charts b′ ≡ initials f
-  unfolding firstBytes firstRefusal same
-  starts charts b b′ e l p =
-      let z : firstRefusal f (length b) ≡ 0 =
-      call-passed f _ a ∙ firstOf-next _ _ (rw (← e) (le-ltb (length b) charts l)) ∙ firstOf-[] in
-      rw (p, z) (take-at (initials f) _ charts (initials-valid .long ∙ sym e))
+  -- the initial states of the body's charts are the first configuration
+  first-states : (n : Shape) (b : List ℕ) → Body f n b → made (n .charts) (λ c. headAt n b c .initial) ≡ initials f
+  unfolding initials fileOf fileAt chartOf
+  first-states n b w = rw (w .shape, w .body)
+
+  -- laid over the front of a buffer
+  pub starts : (n : Shape) (b buffer buffer′ : List ℕ) → Body f n b → n .charts ≡ fileOf f .charts
+      → buffer′ ≡ laidOver (made (n .charts) (λ c. headAt n b c .initial)) buffer
+      → take (n .charts) buffer′ ≡ initials f
+  starts n b buffer buffer′ w e p =
+      rw (p, first-states n b w) (take-at (initials f) _ (n .charts) (initials-valid .long ∙ sym e))
 
   -- a run from a valid configuration is not refused
   module _ (config inputs rows : List ℕ) (v : Valid (fileOf f) config)
