@@ -71,8 +71,8 @@ fn read_inputs(input: &[u8], inputs: &mut [u64])
     }
 }
 
-// The rows of all inputs, from the first configuration on, with nothing carried. The body was opened, and is not checked
-// again.
+// The rows of all inputs, from the first configuration on, with nothing carried. The body was opened: it is not
+// checked again.
 fn put_rows(input: &[u8], n: Shape, body: &[u8], count: usize, rows: &mut [u8])
     requires { ⌜ Accepted (now input) (n .charts) count × Body (now input) n (now body) × (count ≤ 8192)
         × (count * (10 + n .charts) ≤ length (now rows)) ⌝ }
