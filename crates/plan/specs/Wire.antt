@@ -22,6 +22,14 @@ Blank l = (k : ℕ) → getD l k 0 ≡ 0
 
 -- ── a part with the charts s; N is the number of all charts ──
 
+-- what gets down to chart c by the row r, if c is one of the part's charts
+abbrev pub downIn : Set → List ℕ → ℕ → Set
+downIn s r c = cond (bit s c) (getD r c 0) 0
+
+-- q has this for the first n charts
+abbrev pub DownRow : Set → List ℕ → ℕ → List ℕ → Type 0
+DownRow s r n q = (c : ℕ) → c < n → getD q c 0 ≡ downIn s r c
+
 -- what chart c is offered of chart d's action, where of that action m is fed back: what the masks l have and, if c is
 -- one of the part's charts, what is in m and gets down to it by the row r
 abbrev pub fedRow : Set → Set → ℕ → List ℕ → List ℕ → ℕ → Set

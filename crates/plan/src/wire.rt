@@ -4,14 +4,15 @@
 // by them too.
 ghost use mathlib.Core.Path.{_≡_};
 ghost use Prim.Native.Nat.{_+_, _≤_, _<_};
-ghost use lib.ListN.{length};
+ghost use lib.ListN.{length, getD};
+ghost use Rattle.signals.specs.Mask.{_∪_, _∩_};
 ghost use Rattle.meaning.specs.Numbers.{mostCharts};
 ghost use Rattle.meaning.specs.File.{treeOf, fileAt};
-ghost use Rattle.cells.specs.Table.{backRow, masksFor, smallSize};
+ghost use Rattle.cells.specs.Table.{backRow, masksFor, backAt, smallSize};
 ghost use Rattle.nesting.specs.Known.{Wirable};
 ghost use Rattle.nesting.specs.Nearest.{Right};
 ghost use Rattle.layout.specs.Row.{RowAt};
-ghost use Rattle.plan.specs.Wire.{Blank, fedRow, Feeds, Hides, Inside, Charted, ChartsOf, Sets, WiredTo};
+ghost use Rattle.plan.specs.Wire.{Blank, downIn, DownRow, Feeds, Hides, Inside, Charted, ChartsOf, Sets, WiredTo};
 ghost use Rattle.plan.specs.Noted.{Notes, NotedNone, NearestIn};
 ghost use Rattle.plan.specs.Wired.{Wired};
 use cells::CHARTS;
@@ -23,10 +24,11 @@ use layout::record::COMPOSES;
 use layout::record::HOLDS;
 use nesting::NONE;
 
-// Each chart of a set is offered of chart d's action what is in m and gets down to it. Most rows have nothing to feed.
-fn feed_row(masks: &mut [u64], charts: usize, d: usize, m: u64, set: u64, down: &[u64; CHARTS])
+// Each chart is offered of chart d's action what is in m and in its entry of `offered`. Most rows have nothing to feed.
+fn feed_row(masks: &mut [u64], charts: usize, d: usize, m: u64, offered: &[u64; CHARTS])
     requires { ⌜ (masksFor charts ≤ length (now masks)) × (charts ≤ mostCharts) × (d < charts) ⌝ }
-    ensures { λ _. ⌜ RowAt (backRow d) charts (fedRow set m d (now (down .entry)) (now (masks .entry)))
+    ensures { λ _. ⌜ RowAt (backRow d) charts
+        (λ c. backAt (now (masks .entry)) c d ∪ (m ∩ getD (now (offered .entry)) c 0))
         (now (masks .entry)) (now (masks .exit)) ⌝ }
 {
     if m == 0 {
@@ -34,12 +36,35 @@ fn feed_row(masks: &mut [u64], charts: usize, d: usize, m: u64, set: u64, down: 
     }
     let mut c: usize = 0;
     while c < charts {
-        if signals::has(set, c as u32) {
-            let offered = masks::back(masks, c, d) | (m & down[c]);
-            masks::put_back(masks, c, d, offered);
-        }
+        let all = masks::back(masks, c, d) | (m & offered[c]);
+        masks::put_back(masks, c, d, all);
         c += 1;
     }
+}
+
+// What gets down to chart c, if it is in the set; else nothing.
+fn down_in(set: u64, down: &[u64; CHARTS], c: usize) -> u64
+    requires { ⌜ c < mostCharts ⌝ }
+    ensures { λ r. ⌜ r ≡ downIn set (now (down .entry)) c ⌝ }
+{
+    if signals::has(set, c as u32) {
+        return down[c];
+    }
+    0
+}
+
+// The same for all charts. Rows are fed from it without a test for each mask, many masks at a time.
+fn down_row(set: u64, down: &[u64; CHARTS], charts: usize) -> [u64; CHARTS]
+    requires { ⌜ charts ≤ mostCharts ⌝ }
+    ensures { λ r. ⌜ DownRow set (now (down .entry)) charts r ⌝ }
+{
+    let mut row = [0u64; CHARTS];
+    let mut c: usize = 0;
+    while c < charts {
+        row[c] = down_in(set, down, c);
+        c += 1;
+    }
+    row
 }
 
 // Feedback of x over the charts of a part: what gets up from d, is in x and gets down to c. Many parts have none.
@@ -50,11 +75,12 @@ fn feed(masks: &mut [u64], charts: usize, set: u64, x: u64, down: &[u64; CHARTS]
     if x == 0 {
         return;
     }
+    let offered = down_row(set, down, charts);
     let mut d: usize = 0;
     while d < charts {
         if signals::has(set, d as u32) {
             let m = masks::up(masks, d) & x;
-            feed_row(masks, charts, d, m, set, down);
+            feed_row(masks, charts, d, m, &offered);
         }
         d += 1;
     }

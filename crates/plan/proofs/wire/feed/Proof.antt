@@ -14,9 +14,25 @@ use Rattle.meaning.specs.Numbers.{mostCharts}
 use Rattle.meaning.specs.Meaning.{Set}
 use Rattle.cells.specs.Table.{backRow, backCell, upCell, backAt, upAt}
 use Rattle.layout.specs.Row.{RowAt}
-use Rattle.plan.specs.Wire.{fedRow, fedAt}
+use Rattle.plan.specs.Wire.{DownRow, fedRow, fedAt}
 use Rattle.plan.proofs.wire.feed.Statement.{statement}
 use Rattle.plan.proofs.wire.feed.Tie as tie
+
+-- what is fed by the row q of the part's charts, for one of them and for another
+fed-is : (b : Bool) (u m v : Set) → u ∪ (m ∩ cond b v 0) ≡ cond b (u ∪ (m ∩ v)) u
+fed-is true u m v = refl
+fed-is false u m v = sets (u ∷ m ∷ []) [] (A ∪ₑ (B ∩ₑ ∅ₑ) ≐ A) tt
+
+fed-row : (N n : ℕ) (s v : Set) (r q m m′ : List ℕ) → DownRow s r N q
+    → RowAt (backRow n) N (λ c. backAt m c n ∪ (v ∩ getD q c 0)) m m′ → RowAt (backRow n) N (fedRow s v n r m) m m′
+fed-row N n s v r q m m′ d h =
+    record {
+      in-row = λ c p. h .in-row c p ∙ ap (λ z. backAt m c n ∪ (v ∩ z)) (d c p)
+          ∙ fed-is (bit s c) (backAt m c n) v (getD r c 0);
+      below = h .below;
+      above = h .above;
+      long = h .long;
+    }
 
 -- the first n rows of N charts are fed
 record Fed (N n : ℕ) (s x : Set) (r l m : List ℕ) : Type 0 where
@@ -69,11 +85,11 @@ nothing true false v u x r h = refl
 nothing false b v u x r h = refl
 
 abbrev Inv-loop : tie.InvT-loop
-Inv-loop masks₀ charts set x down d₀ masks d =
+Inv-loop masks₀ charts set x down offered d₀ masks d =
     (d ≤ charts) × (length masks ≡ length masks₀) × Fed charts d set x down masks₀ masks
 
 abbrev μ-loop : tie.MeasureT-loop
-μ-loop masks₀ charts set x down d₀ masks d = charts - d
+μ-loop masks₀ charts set x down offered d₀ masks d = charts - d
 
 returns-empty : tie.Need-returns Inv-loop μ-loop
 returns-empty c =
@@ -89,17 +105,19 @@ loop-again c =
     let h = c .before .has in
     let t = c .before .before .before in
     let l = t .loop in
-    let s = t .before .before .before in
+    let s = t .before .before .before .before in
     let a = s .args in
     let Now : List ℕ → Type 0 = λ m. (length m ≡ length (a .masks .now))
     × Fed (a .charts) (l .d + 1) (a .set) (a .x) (a .down .now) (a .masks .now) m in
     let z : Now (c .if2 .masks) =
     ⊎-elim
-    (λ w. subst Now (sym (w .7)) (
-      w .4 .kept .0 ∙ l .inv .1,
+    (λ w. subst Now (sym (w .8)) (
+      w .5 .kept .0 ∙ l .inv .1,
       fed-in (a .charts) (l .d) (s .pre .1) (a .set) (a .x) (a .down .now) (a .masks .now) (l .masks) (l .inv .2) _
           (w .2 .result)
-          (sym (h .ensures) ∙ w .0 .taken) (w .2 .ensures) (w .4 .ensures),
+          (sym (h .ensures) ∙ w .0 .taken) (w .2 .ensures) (fed-row (a .charts) (l .d) (a .set) (w .2 .result ∩ a .x)
+          (a .down .now) (t .before .down-row .result) (l .masks) _
+          (t .before .down-row .ensures) (w .5 .ensures)),
     ))
     (λ w. subst Now (sym (w .1)) (
       l .inv .1,
@@ -121,12 +139,14 @@ feed-spec =
     Inv-loop
     μ-loop
     returns-empty
+    (λ c κs. c .before .before .pre .1)
     (λ c. (omega arith, refl, fed-none _ _ _ _ _))
     (λ c. omega arith)
     (λ c κs. omega arith)
-    (λ c κs. let t = c .before .before .before .before in let p = t .before .before .before .pre in
+    (λ c κs. let t = c .before .before .before .before in let p = t .before .before .before .before .pre in
     (omega (arith, t .loop .inv .1, p .0), omega (arith, p .1)))
-    (λ c κs. let t = c .before .before .before .before .before .before in let p = t .before .before .before .pre in
+    (λ c κs. let t = c .before .before .before .before .before .before .before in
+    let p = t .before .before .before .before .pre in
     (omega (arith, t .loop .inv .1, p .0), p .1, omega arith))
     (λ c. omega arith)
     (λ c. omega arith)
