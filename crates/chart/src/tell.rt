@@ -4,12 +4,14 @@ ghost use Prim.Native.Nat.{_+_, _*_, _≤_};
 ghost use lib.ListN.{length};
 ghost use Rattle.layout.specs.Body.{Holds};
 ghost use Rattle.meaning.specs.Numbers.{mostCharts};
+ghost use Rattle.stepping.specs.Step.{Checked};
 use crate::ask;
 use crate::words;
 use crate::words::say;
 use checks::limits;
 use layout::body::Shape;
 use libc::STDOUT_FILENO;
+use stepping::step::Stepped;
 
 // The most sets of one run.
 const MOST_SETS: usize = 1024;
@@ -150,18 +152,18 @@ fn rows(rows: &[u8], w: usize, n: usize)
     }
 }
 
-// A run of a file with so many charts, with nothing carried into it. Returns what is carried after it.
-fn run_of(file: &[u8], charts: usize, config: &[u8], inputs: &[u64]) -> u64
-    requires { ⌜ (charts ≤ mostCharts) × (length (now inputs) ≤ 1024) ⌝ }
+// A run of a file that was opened, with nothing carried into it. Returns what is carried after it.
+fn run_of(n: Shape, body: &[u8], config: &[u8], inputs: &[u64]) -> u64
+    requires { ⌜ Checked n (now body) × (length (now inputs) ≤ 1024) ⌝ }
 {
     let mut space = row_room();
-    let a = engine::run::run(file, config, 0, inputs, &mut space);
+    let a = running::of_body(n, body, config, 0, inputs, &mut space);
     let r = a.refusal;
     if r != limits::ACCEPTED {
         words::refusal(r);
         return 0;
     }
-    rows(&space, layout::row::STATES + charts, inputs.len());
+    rows(&space, layout::row::STATES + n.charts, inputs.len());
     a.carried
 }
 
@@ -211,13 +213,39 @@ fn open_choices(n: u64) {
     }
 }
 
-// What each of so many charts did in a step that is given; and how many choices are open, if the answer says it.
-fn step_of(file: &[u8], charts: usize, config: &[u8], input: u64)
-    requires { ⌜ charts ≤ mostCharts ⌝ }
+// The row of a step's answer, with the configuration after it.
+fn answer_row(s: Stepped, next: [u8; layout::limits::CHARTS]) -> [u8; layout::row::MOST_BYTES] {
+    let mut row = [0u8; layout::row::MOST_BYTES];
+    layout::number::put64(&mut row, 0, s.output);
+    if s.mark {
+        row[layout::row::MARK] = 1;
+    }
+    row[layout::row::REFUSAL] = s.refusal;
+    let mut c: usize = 0;
+    while c < layout::limits::CHARTS {
+        row[layout::row::STATES + c] = next[c];
+        c += 1;
+    }
+    row
+}
+
+// A step of a file that was opened: its row; what each chart did, if it is given; and how many choices are open, if the
+// answer says it.
+fn step_of(n: Shape, body: &[u8], config: &[u8], input: u64)
+    requires { ⌜ Checked n (now body) ⌝ }
 {
     let mut next = [0u8; layout::limits::CHARTS];
-    let s = engine::step::step(file, config, input, &mut next);
-    if s.refusal == limits::ACCEPTED {
+    let s = stepping::step::of_body(n, body, config, input, &mut next);
+    let r = s.refusal;
+    if (r != limits::ACCEPTED) & (r < limits::NO_STEP) {
+        words::refusal(r);
+        return;
+    }
+    let charts = n.charts;
+    let all = answer_row(s, next);
+    let w = layout::row::STATES + charts;
+    row(1, &all[..w]);
+    if r == limits::ACCEPTED {
         let places = s.places;
         taken(charts, places);
     }
@@ -226,28 +254,26 @@ fn step_of(file: &[u8], charts: usize, config: &[u8], input: u64)
     }
 }
 
-// A run of the sets that were typed, as many as there is room for. It also says what is left to carry; a step says what
-// each chart took and how many choices are open.
-fn run_typed(file: &[u8], charts: usize, config: &[u8], inputs: &mut [u64], is_step: bool)
-    requires { ⌜ (charts ≤ mostCharts) × (length (now inputs) ≤ 1024) ⌝ }
+// A run of the sets that were typed, as many as there is room for, and what is left to carry; or a step.
+fn run_typed(n: Shape, body: &[u8], config: &[u8], inputs: &mut [u64], is_step: bool)
+    requires { ⌜ Checked n (now body) × (length (now inputs) ≤ 1024) ⌝ }
 {
     if !ask::sets(inputs) {
         return;
     }
-    let left = run_of(file, charts, config, inputs);
     if !is_step {
-        carried(left);
+        carried(run_of(n, body, config, inputs));
         return;
     }
     if inputs.len() > 0 {
-        step_of(file, charts, config, inputs[0]);
+        step_of(n, body, config, inputs[0]);
     }
 }
 
-// A step's row is that of a run of one set.
+// The file is opened once.
 pub fn run(file: &[u8], is_step: bool) {
-    let n = ask::set_count();
-    if n > MOST_SETS {
+    let count = ask::set_count();
+    if count > MOST_SETS {
         words::complain(b"chart: a run takes at most 1,024 sets.\n");
         return;
     }
@@ -256,13 +282,24 @@ pub fn run(file: &[u8], is_step: bool) {
     if k == 0 {
         return;
     }
-    let charts = charts(file);
-    if charts == 0 {
+    let o = opening::opened(file);
+    let r = o.refusal;
+    if r != limits::ACCEPTED {
+        words::refusal(r);
         return;
     }
+    let n = o.shape;
+    let start = o.start;
+    let end = o.end;
     let config = c.states;
     let mut inputs = set_room();
-    run_typed(file, charts, &config[..k], &mut inputs[..n], is_step);
+    run_typed(
+        n,
+        &file[start..end],
+        &config[..k],
+        &mut inputs[..count],
+        is_step,
+    );
 }
 
 // Writes a file of this name, whatever it had before.
