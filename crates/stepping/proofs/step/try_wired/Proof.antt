@@ -28,14 +28,16 @@ counted-requires c κs =
 returns : tie.Need-returns
 returns c =
     let k = c .before .before in
-    let s = k .before .before .before .before .before .before .before .before .before .before .before .before .before in
+    let p = k .before .before .before .before in
+    let s = p .before .before .before .before .before .before .before .before .before in
     let u = c .untried .ensures in
     (tries-none _ _ _ _ _ (u .0 ∙ k .counted .ensures .0) (u .1) (u .0 ∙ c .before .if1 .taken), s .pre .2)
 
 returns-2 : tie.Need-returns-2
 returns-2 c =
     let k = c .before .before .before in
-    let s = k .before .before .before .before .before .before .before .before .before .before .before .before .before in
+    let p = k .before .before .before .before in
+    let s = p .before .before .before .before .before .before .before .before .before in
     let u = c .untried2 .ensures in
     (tries-many _ _ _ _ _ (u .0 ∙ k .counted .ensures .0) (u .1) (rw (u .0) (c .before .if2 .taken)), s .pre .2)
 
@@ -62,7 +64,8 @@ found-requires : tie.Need-found-requires
 found-requires c κs =
     let r = c .before .before .before .before .before .before in
     let k = r .before .before .before .before .before .before .before .before in
-    let s = k .before .before .before .before .before .before .before .before .before .before .before .before .before in (
+    let p = k .before .before .before .before in
+    let s = p .before .before .before .before .before .before .before .before .before in (
       s .pre .0,
       ready-valid _ _ _ (s .pre .0) (s .pre .1),
       s .pre .2,
