@@ -14,7 +14,8 @@ use Rattle.day.proofs.lines_for.Tie as tie
 
 -- a file that is not refused, and its body
 accepted : (c : tie.Else1) → let o = c .before in
-    Accepted (o .before .before .before .args .input .now) (o .opened .result .shape .charts) (o .opened .result .start / 8)
+    Accepted (o .before .before .before .args .input .now) (o .opened .result .shape .charts)
+    (o .opened .result .start / 8)
 accepted c = c .before .opened .ensures .accepted (c .if1 .left)
 
 stands : (c : tie.Else1) → Stands (c .before .before .before .before .args .input .now) (c .before .opened .result)

@@ -21,8 +21,10 @@ stands c = c .before .opened .ensures .stands (c .if3 .left)
 run-typed-requires : tie.Need-run-typed-requires
 run-typed-requires c κs =
     let e = c .before .before .before .before .before .before in
-    let w = stands e in
-    (checked _ _ _ (accepted e) (w .shape) (w .body) (rw (w .body) (w .sized)) (rw (w .body) (w .summed)), rw length-take (omega arith))
+    let w = stands e in (
+      checked _ _ _ (accepted e) (w .shape) (w .body) (rw (w .body) (w .sized)) (rw (w .body) (w .summed)),
+      rw length-take (omega arith),
+    )
 
 pub run-spec : {M : Type 1} → statement M
 run-spec =
