@@ -8,7 +8,7 @@ use Rattle.layout.specs.declared.body.Shape.{Shape}
 use Rattle.meaning.specs.Meaning.{same}
 use Rattle.meaning.specs.File.{File, treeOf, fileAt}
 use Rattle.notation.specs.Syntax.{larger, depth}
-use Rattle.writing.specs.Typed.{typedOf}
+use Rattle.spelling.specs.Typed.{typedOf}
 
 -- how deep node j is
 abbrev pub depthAt : File → ℕ → ℕ

@@ -13,7 +13,7 @@ use Rattle.meaning.specs.File.{File, gather, whole, treeOf}
 use Rattle.meaning.specs.Laws.Bools.{same-refl, same→≡, same-≢}
 use Rattle.meaning.specs.Laws.Trees.{Ordered, tree₀, tree₁, tree₂}
 use Rattle.notation.specs.Syntax.{Chart, larger, depth, depthSlaves}
-use Rattle.writing.specs.Typed.{typedOf, slavesOf}
+use Rattle.spelling.specs.Typed.{typedOf, slavesOf}
 use Rattle.depths.specs.Depths.{depthAt, deepest}
 
 -- ── the larger of two numbers ──

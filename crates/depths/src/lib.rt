@@ -5,7 +5,7 @@ ghost use Rattle.meaning.specs.File.{fileAt};
 ghost use Rattle.meaning.specs.Check.Nodes.{Treed};
 ghost use Rattle.notation.specs.Syntax.{larger, depth};
 ghost use Rattle.reading.specs.Numbers.{mostDepth};
-ghost use Rattle.writing.specs.Write.{chartIn};
+ghost use Rattle.spelling.specs.Write.{chartIn};
 ghost use Rattle.checks.specs.Known.{Sized};
 ghost use Rattle.depths.specs.Depths.{depthAt, deepestBy, Depths, Reached};
 use layout::body::Shape;

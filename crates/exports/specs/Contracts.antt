@@ -16,7 +16,7 @@ use Rattle.meaning.specs.Plain.{plainOf}
 use Rattle.clearing.specs.Clearing.{clearRefusal, clearLength, clearOut}
 use Rattle.lacks.specs.Lacking.{lackingOf, caseIn, signalIn}
 use Rattle.reading.specs.Read.{readRefusal, readLength, readPlace, readOut}
-use Rattle.writing.specs.Write.{writeRefusal, writeLength, writeOut}
+use Rattle.spelling.specs.Write.{writeRefusal, writeLength, writeOut}
 use Rattle.lacks.specs.Lacking.{refusalIn as refusedIn}
 pub mod Laws
 

@@ -9,8 +9,8 @@ use lib.ListN.{length, drop}
 use Rattle.signals.specs.Mask.{_∪_, single}
 use Rattle.meaning.specs.Check.{notBelow}
 use Rattle.notation.specs.Syntax.{OneOrMore, Signals, Literal, Transition}
-use Rattle.notation.specs.Spelling.{letS, rbrace, slash, sign, Tokens, ofNames, ofSet, ofLiteral, ofLiterals}
-use Rattle.notation.specs.Spelling.{ofGuard, ofTransition, Text}
+use Rattle.notation.specs.Grammar.{letS, rbrace, slash, sign, Tokens, ofNames, ofSet, ofLiteral, ofLiterals}
+use Rattle.notation.specs.Grammar.{ofGuard, ofTransition, Text}
 use Rattle.reading.specs.Numbers.{namedSignals}
 use Rattle.reading.specs.Names.{membersOf, membersOr, signals?, set?, signalOf}
 use Rattle.reading.specs.Meant.{maskOf, neededIn, barredIn, transitionFor}

@@ -7,7 +7,7 @@ use Prim.Native.Nat.{ℕ, _≤_}
 use Prim.Native.Char.{code}
 use lib.ListN.{length, drop}
 use Rattle.notation.specs.Syntax.{Signals, Single, sequential, decomposed, hidden, Chart, single, composed}
-use Rattle.notation.specs.Spelling.{letter, sign, name, Tokens, ofOptional, ofPart, Text}
+use Rattle.notation.specs.Grammar.{letter, sign, name, Tokens, ofOptional, ofPart, Text}
 use Rattle.notation.specs.Reader.{firstByte}
 use Rattle.fields.specs.declared.SignalSet.{SignalSet}
 use Rattle.lists.specs.Lists.{GivesExtra}

@@ -17,7 +17,7 @@ ghost use mathlib.Core.Path.{_≡_};
 ghost use mathlib.Core.Bool.{true, false};
 ghost use Prim.Native.Nat.{_≤_, _<_};
 ghost use lib.ListN.{length, getD};
-ghost use Rattle.notation.specs.Spelling.{blank};
+ghost use Rattle.notation.specs.Grammar.{blank};
 ghost use Rattle.scan.specs.Look.{opener, around};
 ghost use Rattle.scan.specs.Levels.{secondOf, slaveOf};
 ghost use Rattle.levels.specs.Ring.{flag, StepsBack, slotOf, MakesRoom, Opens, Shuts, Changes, Notes};

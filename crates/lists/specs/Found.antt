@@ -7,8 +7,8 @@ use Prim.Native.Nat.{ℕ, _+_, _≤_, _<_}
 use lib.Dec.{eqb}
 use lib.ListN.{length, drop}
 use Rattle.notation.specs.Syntax.{Sequential}
-use Rattle.notation.specs.Spelling.{Sign, lpar, rpar, lbrace, rbrace, lsq, rsq, comma, bar, slash, amp, minus, wordDec}
-use Rattle.notation.specs.Spelling.{wordBy, Letter, letC, letQ, letS, Token, sign, name, Tokens, ofSequential, Text}
+use Rattle.notation.specs.Grammar.{Sign, lpar, rpar, lbrace, rbrace, lsq, rsq, comma, bar, slash, amp, minus, wordDec}
+use Rattle.notation.specs.Grammar.{wordBy, Letter, letC, letQ, letS, Token, sign, name, Tokens, ofSequential, Text}
 use Rattle.tokens.specs.Tokens.{blanks}
 
 -- tokens begin with a chart's name

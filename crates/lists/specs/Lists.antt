@@ -9,8 +9,8 @@ use lib.ListN.{length, drop}
 use Rattle.signals.specs.Mask.{_∪_, bit, single, within}
 use Rattle.meaning.specs.Check.{notBelow, differ}
 use Rattle.notation.specs.Syntax.{OneOrMore, Signals, Heading, Transition, Sequential}
-use Rattle.notation.specs.Spelling.{letQ, lbrace, rbrace, rpar, comma, sign, Tokens, ofNames, ofHeading}
-use Rattle.notation.specs.Spelling.{ofTransition, ofTransitionList, ofTransitions, ofExtra, ofSequential, Text}
+use Rattle.notation.specs.Grammar.{letQ, lbrace, rbrace, rpar, comma, sign, Tokens, ofNames, ofHeading}
+use Rattle.notation.specs.Grammar.{ofTransition, ofTransitionList, ofTransitions, ofExtra, ofSequential, Text}
 use Rattle.reading.specs.Numbers.{namedStates}
 use Rattle.reading.specs.Names.{membersOf, membersOr, first, any, twice?, notAll?, set?, optional?}
 use Rattle.reading.specs.Names.{transition?, sequential?, nameOf}

@@ -10,8 +10,8 @@ use Rattle.line.specs.Ascii.{ascii}
 use Rattle.notation.specs.Syntax.{OneOrMore, one, _▸_, Signals, Literal, needed, barred, Transition, Heading}
 use Rattle.notation.specs.Syntax.{Sequential, Single, sequential, decomposed, hidden, Chart, single, composed}
 use Rattle.notation.specs.Syntax.{Slaves, firstSlave, moreSlaves}
-use Rattle.notation.specs.Spelling.{Sign, lpar, rpar, lbrace, rbrace, lsq, rsq, comma, bar, slash, amp, minus}
-use Rattle.notation.specs.Spelling.{wordDec, wordBy, Letter, letC, letQ, letS, name, letter, blank}
+use Rattle.notation.specs.Grammar.{Sign, lpar, rpar, lbrace, rbrace, lsq, rsq, comma, bar, slash, amp, minus}
+use Rattle.notation.specs.Grammar.{wordDec, wordBy, Letter, letC, letQ, letS, name, letter, blank}
 
 -- ── where a chart stands ──
 

@@ -8,7 +8,7 @@ use Prim.Native.Nat.{ℕ, suc, _+_, _≤_}
 use lib.Dec.{ltb}
 use lib.ListN.{length, drop}
 use Rattle.notation.specs.Syntax.{Chart, single, composed, Slaves, firstSlave, larger, depth, depthSlaves}
-use Rattle.notation.specs.Spelling.{rbrace, sign, Tokens, ofChart, ofPart, ofSlaves, Text, Spells}
+use Rattle.notation.specs.Grammar.{rbrace, sign, Tokens, ofChart, ofPart, ofSlaves, Text, Spells}
 use Rattle.reading.specs.Numbers.{mostDepth}
 use Rattle.reading.specs.Names.{any, sequential?, sequentialsOf, parts?}
 use Rattle.tokens.specs.Tokens.{cap}

@@ -5,7 +5,7 @@ use Prim.Native.Nat.{ℕ}
 use Rattle.layout.specs.declared.record.Head.{Head}
 use Rattle.meaning.specs.Meaning.{same}
 use Rattle.notation.specs.Syntax.{OneOrMore, one, Literal, needed, barred, Heading}
-use Rattle.writing.specs.Typed.{fromAll, followed, signalsOf}
+use Rattle.spelling.specs.Typed.{fromAll, followed, signalsOf}
 
 -- a signal in a guard
 abbrev pub literalOf : Bool → ℕ → Literal

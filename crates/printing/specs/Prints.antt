@@ -5,8 +5,8 @@ use mathlib.Core.List.{List, [], _∷_}
 use Prim.Native.Nat.{ℕ, _+_, _≤_}
 use lib.ListN.{length}
 use Rattle.layout.specs.Put.{Put}
-use Rattle.notation.specs.Spelling.{Tokens, Sign, Letter, sign₁, name₁, signBytes, letter, bytesOfAll}
-use Rattle.writing.specs.Numbers.{mostText}
+use Rattle.notation.specs.Grammar.{Tokens, Sign, Letter, sign₁, name₁, signBytes, letter, bytesOfAll}
+use Rattle.spelling.specs.Numbers.{mostText}
 
 -- xs was written at a place of a buffer, if it ends where a text can end
 pub record Writes (before : List ℕ) (at : ℕ) (xs after : List ℕ) (next : ℕ) : Type 0 where

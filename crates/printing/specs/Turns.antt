@@ -3,7 +3,7 @@ use mathlib.Core.Path.{_≡_}
 use mathlib.Core.List.{List, [], _∷_, _++_}
 use Prim.Native.Nat.{ℕ, _+_}
 use lib.ListN.{length}
-use Rattle.notation.specs.Spelling.{Tokens, Sign, sign₁, signBytes, bytesOfAll}
+use Rattle.notation.specs.Grammar.{Tokens, Sign, sign₁, signBytes, bytesOfAll}
 use Rattle.printing.specs.Prints.{Prints}
 
 -- each member behind the sign k

@@ -2,8 +2,8 @@
 ghost use mathlib.Core.List.{List};
 ghost use Prim.Native.Nat.{ℕ, _<_};
 ghost use Rattle.signals.specs.Mask.{bit};
-ghost use Rattle.notation.specs.Spelling.{amp, letS, name₁, ofLiteral, ofGuard};
-ghost use Rattle.writing.specs.Typed.{ifSo, literals, listed};
+ghost use Rattle.notation.specs.Grammar.{amp, letS, name₁, ofLiteral, ofGuard};
+ghost use Rattle.spelling.specs.Typed.{ifSo, literals, listed};
 ghost use Rattle.printing.specs.Prints.{Prints};
 ghost use Rattle.printing.specs.Turns.{Adds};
 ghost use Rattle.printing.specs.Forms.{literalOf};

@@ -1,8 +1,8 @@
 // Sets of signals.
 ghost use Prim.Native.Nat.{_<_};
 ghost use Rattle.signals.specs.Mask.{bit};
-ghost use Rattle.notation.specs.Spelling.{comma, letS, name₁, ofSet};
-ghost use Rattle.writing.specs.Typed.{ifSo, members as membersOf, signalsOf};
+ghost use Rattle.notation.specs.Grammar.{comma, letS, name₁, ofSet};
+ghost use Rattle.spelling.specs.Typed.{ifSo, members as membersOf, signalsOf};
 ghost use Rattle.printing.specs.Prints.{Prints};
 ghost use Rattle.printing.specs.Turns.{inTurn, PrintsApart, Adds};
 use crate::signs;

@@ -2,7 +2,7 @@
 ghost use mathlib.Core.List.{[], _∷_};
 ghost use Prim.Native.Nat.{_<_};
 ghost use Rattle.line.specs.Line.{decimal};
-ghost use Rattle.notation.specs.Spelling.{wordDec, wordBy, sign₁};
+ghost use Rattle.notation.specs.Grammar.{wordDec, wordBy, sign₁};
 ghost use Rattle.printing.specs.Prints.{Writes, Prints, PrintsSign, PrintsName};
 use layout::limits;
 

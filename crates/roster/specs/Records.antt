@@ -9,7 +9,7 @@ use Rattle.layout.specs.Record.{headBytes, transitionBytes}
 use Rattle.layout.specs.declared.record.Head.{Head}
 use Rattle.layout.specs.declared.record.Transition.{Transition as Record}
 use Rattle.notation.specs.Syntax.{OneOrMore, Transition, Sequential}
-use Rattle.notation.specs.Spelling.{rbrace, sign, Tokens, ofTransitionList, Text}
+use Rattle.notation.specs.Grammar.{rbrace, sign, Tokens, ofTransitionList, Text}
 use Rattle.reading.specs.Numbers.{namedStates}
 use Rattle.reading.specs.Names.{membersOf, membersOr, any, signals?, set?, signalOf, sequential?}
 use Rattle.reading.specs.Meant.{all, gathered, transitionFor, transitionsIn, headFor}

@@ -8,7 +8,7 @@ use lib.Dec.{ltb}
 use lib.ListN.{length, drop, getD}
 use Rattle.meaning.specs.Numbers.{mostInChart}
 use Rattle.notation.specs.Syntax.{Sequential, Chart}
-use Rattle.notation.specs.Spelling.{Tokens, ofSequential, ofChart, Text}
+use Rattle.notation.specs.Grammar.{Tokens, ofSequential, ofChart, Text}
 use Rattle.reading.specs.Numbers.{namedCharts}
 use Rattle.reading.specs.Names.{any, notAll?, sequential?, sequentialsOf, nameOf}
 use Rattle.reading.specs.Meant.{transitionsIn, chartsOf, transitionsOf}

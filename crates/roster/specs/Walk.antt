@@ -7,7 +7,7 @@ use lib.Dec.{ltb}
 use lib.ListN.{length, drop, getD, set}
 use Rattle.meaning.specs.Numbers.{mostInChart}
 use Rattle.notation.specs.Syntax.{Sequential, Chart}
-use Rattle.notation.specs.Spelling.{Tokens, Text}
+use Rattle.notation.specs.Grammar.{Tokens, Text}
 use Rattle.reading.specs.Numbers.{namedCharts}
 use Rattle.reading.specs.Names.{any, sequential?, sequentialsOf, nameOf}
 use Rattle.reading.specs.Meant.{gathered, transitionsIn}

@@ -6,7 +6,7 @@ use Prim.Native.Nat.{ℕ}
 use lib.ListN.{length}
 use Rattle.layout.specs.Le.{AllBytes}
 use Rattle.reading.specs.Read.{readRefusal, readFile}
-use Rattle.writing.specs.Write.{textOf, writeRefusal}
+use Rattle.spelling.specs.Write.{textOf, writeRefusal}
 
 -- w is read without refusal, into a buffer that has room for its file, and what was read is written as w again
 pub record InWrittenForm (w : List ℕ) : Type 0 where

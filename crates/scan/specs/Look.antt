@@ -6,7 +6,7 @@ use mathlib.Core.List.{List, [], _∷_}
 use Prim.Native.Nat.{ℕ, zero, suc, _+_}
 use Prim.Native.Char.{code}
 use lib.Dec.{eqb}
-use Rattle.notation.specs.Spelling.{blank}
+use Rattle.notation.specs.Grammar.{blank}
 
 unfoldable pub opener : ℕ → Bool
 opener b = eqb b (code "(") || (eqb b (code "[") || eqb b (code "{"))

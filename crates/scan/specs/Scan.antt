@@ -7,7 +7,7 @@ use mathlib.Core.List.{List, [], _∷_}
 use Prim.Native.Nat.{ℕ, suc, _+_, _*_, _/_, _%_}
 use Prim.Native.Char.{code}
 use lib.Dec.{eqb}
-use Rattle.notation.specs.Spelling.{blank}
+use Rattle.notation.specs.Grammar.{blank}
 use Rattle.notation.specs.Reader.{isDigit}
 use Rattle.scan.specs.Look.{look}
 use Rattle.scan.specs.Table.{table, lookup, refine}

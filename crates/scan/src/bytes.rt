@@ -1,6 +1,6 @@
 // Kinds of bytes.
 ghost use mathlib.Core.Path.{_≡_};
-ghost use Rattle.notation.specs.Spelling.{blank};
+ghost use Rattle.notation.specs.Grammar.{blank};
 ghost use Rattle.notation.specs.Reader.{isDigit};
 ghost use Rattle.scan.specs.Look.{opener, closer};
 

@@ -20,12 +20,12 @@ use Rattle.meaning.specs.Meaning.{Slaves as Held}
 use Rattle.meaning.specs.File.{File, fileAt, build, treeOf, gather, whole, byKind}
 use Rattle.meaning.specs.Check.{nodeOfKind?}
 use Rattle.meaning.specs.Check.Nodes.{slaves-there, kind-at-most, kind₀, kind₁, kind₂, node-passes}
-use Rattle.notation.specs.Spelling.{Tokens, Sign, bytesOfAll, write}
-use Rattle.notation.specs.Spelling.{lpar, rpar, bar, comma, lbrace, rbrace, lsq, rsq, wordDec, wordBy, letQ, sign₁}
-use Rattle.notation.specs.Spelling.{name₁, ofSet, ofOptional, ofSequential, ofSingle, ofChart, ofPart, ofSlaves}
-use Rattle.writing.specs.Typed.{signalsOf, sequentialOf, typedOf, masterOf, slavesOf}
-use Rattle.writing.specs.Numbers.{mostText}
-use Rattle.writing.specs.Write.{textIn}
+use Rattle.notation.specs.Grammar.{Tokens, Sign, bytesOfAll, write}
+use Rattle.notation.specs.Grammar.{lpar, rpar, bar, comma, lbrace, rbrace, lsq, rsq, wordDec, wordBy, letQ, sign₁}
+use Rattle.notation.specs.Grammar.{name₁, ofSet, ofOptional, ofSequential, ofSingle, ofChart, ofPart, ofSlaves}
+use Rattle.spelling.specs.Typed.{signalsOf, sequentialOf, typedOf, masterOf, slavesOf}
+use Rattle.spelling.specs.Numbers.{mostText}
+use Rattle.spelling.specs.Write.{textIn}
 use Rattle.printing.specs.Prints.{Prints}
 use Rattle.printing.specs.Turns.{inTurn, Adds}
 use Rattle.printing.specs.Laws.Prints.{prints-put}

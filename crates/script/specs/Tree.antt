@@ -7,8 +7,8 @@ use Rattle.layout.specs.declared.record.Node.{Node}
 use Rattle.meaning.specs.Count.{anyUpTo}
 use Rattle.meaning.specs.Meaning.{Tree, leaf, comp, hide, dec, Slaves, nil, snoc, same}
 use Rattle.meaning.specs.File.{File, build, gather, whole}
-use Rattle.notation.specs.Spelling.{Tokens, lpar, rpar, comma, letQ, sign₁, name₁, ofChart, ofPart}
-use Rattle.writing.specs.Typed.{typedOf}
+use Rattle.notation.specs.Grammar.{Tokens, lpar, rpar, comma, letQ, sign₁, name₁, ofChart, ofPart}
+use Rattle.spelling.specs.Typed.{typedOf}
 use Rattle.checks.specs.Known.{Ranged, Summed}
 
 -- what is known of a body that is written: its nodes, its slaves and its charts' transitions are there

@@ -8,7 +8,7 @@ use lib.Dec.{ltb}
 use Rattle.layout.specs.declared.body.Shape.{Shape}
 use Rattle.meaning.specs.Check.{counts?}
 use Rattle.notation.specs.Syntax.{Chart, depth}
-use Rattle.notation.specs.Spelling.{Spells}
+use Rattle.notation.specs.Grammar.{Spells}
 use Rattle.reading.specs.Numbers.{mostDepth}
 use Rattle.reading.specs.Names.{any, names?}
 use Rattle.reading.specs.Meant.{chartsOf, trailerFor}

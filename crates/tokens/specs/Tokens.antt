@@ -5,7 +5,7 @@ use mathlib.Core.List.{List, [], _∷_}
 use Prim.Native.Nat.{ℕ, suc, _+_, _*_, _-_, _≤_, _<_}
 use lib.Dec.{ltb}
 use lib.ListN.{length, drop}
-use Rattle.notation.specs.Spelling.{blank}
+use Rattle.notation.specs.Grammar.{blank}
 use Rattle.notation.specs.Reader.{isDigit}
 use Rattle.tokens.specs.declared.Name.{Name}
 

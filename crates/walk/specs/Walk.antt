@@ -13,8 +13,8 @@ use Rattle.layout.specs.Put.{Room, Put}
 use Rattle.meaning.specs.Numbers.{mostNodes}
 use Rattle.notation.specs.Syntax.{Signals, Sequential, Single, sequential, decomposed, hidden, Chart, single, composed}
 use Rattle.notation.specs.Syntax.{Slaves, firstSlave, moreSlaves, depth, depthSlaves}
-use Rattle.notation.specs.Spelling.{lpar, rpar, rbrace, sign, Tokens, ofSequential, ofChart, ofPart, ofSlaves, Text}
-use Rattle.notation.specs.Spelling.{Spells}
+use Rattle.notation.specs.Grammar.{lpar, rpar, rbrace, sign, Tokens, ofSequential, ofChart, ofPart, ofSlaves, Text}
+use Rattle.notation.specs.Grammar.{Spells}
 use Rattle.reading.specs.Numbers.{mostDepth, namedCharts, namedStates}
 use Rattle.reading.specs.Names.{set?, optional?, nameOf, names?}
 use Rattle.reading.specs.Meant.{withKey, sortedBy, all, Laid, laySlaves, chartNode, laySingle, layChart}

@@ -13,8 +13,8 @@ use Rattle.meaning.specs.File.{File, fileAt}
 use Rattle.meaning.specs.Check.{firstOf}
 use Rattle.meaning.specs.Check.Nodes.{Treed}
 use Rattle.meaning.specs.Calls.{laidOver}
-use Rattle.writing.specs.Numbers.{mostText}
-use Rattle.writing.specs.Write.{textIn, deepTest, writeRefusal, writeLength, writeOut}
+use Rattle.spelling.specs.Numbers.{mostText}
+use Rattle.spelling.specs.Write.{textIn, deepTest, writeRefusal, writeLength, writeOut}
 use Rattle.script.specs.Tree.{Legible}
 use Rattle.writer.specs.declared.Written.{Written}
 

@@ -27,8 +27,8 @@ use Rattle.meaning.specs.Check.Laws.{passed, counted}
 use Rattle.notation.specs.Syntax.{Sequential, Chart}
 use Rattle.reading.specs.Names.{nameOf}
 use Rattle.reading.specs.Meant.{bodyFor, trailerFor}
-use Rattle.writing.specs.Write.{chartIn}
-use Rattle.writing.specs.Laws.Charts.{name-written}
+use Rattle.spelling.specs.Write.{chartIn}
+use Rattle.spelling.specs.Laws.Charts.{name-written}
 use Rattle.faithful.specs.Typed.{ChartIs, ChartsTyped}
 use Rattle.faithful.specs.Laws.Back.{shapeFor, file-back}
 use Rattle.faithful.specs.Laws.Charts.{charts-typed as read-charts}

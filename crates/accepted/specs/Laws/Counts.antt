@@ -31,10 +31,10 @@ use Rattle.reading.specs.Meant.{gathered, transitionsIn, chartsOf, nodesOf, sla
 use Rattle.outline.specs.Tree.{nodesInSingle, nodesIn, nodesInSlaves, slavesInSingle, slavesIn, slavesInSlaves}
 use Rattle.outline.specs.Laws.Filed.{nodes-filed, slaves-filed}
 use Rattle.roster.specs.Laws.Sorted.{length-perm, any-perm, gathered-perm}
-use Rattle.writing.specs.Typed.{typedOf, masterOf}
-use Rattle.writing.specs.Typed.{slavesOf as slavesTyped}
-use Rattle.writing.specs.Write.{chartIn}
-use Rattle.writing.specs.Laws.Charts.{transitions-count}
+use Rattle.spelling.specs.Typed.{typedOf, masterOf}
+use Rattle.spelling.specs.Typed.{slavesOf as slavesTyped}
+use Rattle.spelling.specs.Write.{chartIn}
+use Rattle.spelling.specs.Laws.Charts.{transitions-count}
 use Rattle.faithful.specs.Laws.Charts.{gathered-append, same-charts}
 use Rattle.accepted.specs.Tree.{chartsIn}
 use Rattle.accepted.specs.Laws.Records.{slave-passes}

@@ -16,10 +16,10 @@ use Rattle.meaning.specs.Check.Laws.{passed, charted}
 use Rattle.agreement.specs.Every.{Every}
 use Rattle.agreement.specs.Encoded.{Small}
 use Rattle.agreement.specs.Passed.{ended, body-bytes, smalls}
-use Rattle.writing.specs.Typed.{sequentialOf}
-use Rattle.writing.specs.Fits.{FitsIn, Fits}
-use Rattle.writing.specs.Laws.Sets.{set-written, optional-written}
-use Rattle.writing.specs.Laws.Charts.{states-length, transitions-written}
+use Rattle.spelling.specs.Typed.{sequentialOf}
+use Rattle.spelling.specs.Fits.{FitsIn, Fits}
+use Rattle.spelling.specs.Laws.Sets.{set-written, optional-written}
+use Rattle.spelling.specs.Laws.Charts.{states-length, transitions-written}
 use Rattle.faithful.specs.Typed.{ChartIs}
 
 -- between the first m states, with sets of 64 signals

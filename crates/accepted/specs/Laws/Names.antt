@@ -23,12 +23,12 @@ use Rattle.reading.specs.Names.{membersOf, any, has, twice?, notAll?, optional?
 use Rattle.reading.specs.Names.{sequentialsOf, sequentialsOfSlaves, singleParts?, parts?, slaveParts?, nameOf, names?}
 use Rattle.reading.specs.Laws.Lists.{any-of}
 use Rattle.outline.specs.Laws.Sorted.{total, total-append}
-use Rattle.writing.specs.Typed.{sequentialOf, typedOf, masterOf, slavesOf}
-use Rattle.writing.specs.Write.{chartIn}
-use Rattle.writing.specs.Laws.Lists.{numbers-named}
-use Rattle.writing.specs.Laws.Sets.{set-named}
-use Rattle.writing.specs.Fits.{Fits}
-use Rattle.writing.specs.Laws.Charts.{states-has, name-written, sequential-named}
+use Rattle.spelling.specs.Typed.{sequentialOf, typedOf, masterOf, slavesOf}
+use Rattle.spelling.specs.Write.{chartIn}
+use Rattle.spelling.specs.Laws.Lists.{numbers-named}
+use Rattle.spelling.specs.Laws.Sets.{set-named}
+use Rattle.spelling.specs.Fits.{Fits}
+use Rattle.spelling.specs.Laws.Charts.{states-has, name-written, sequential-named}
 use Rattle.accepted.specs.Tree.{chartsIn, chartsInAll, Within, WithinBy}
 
 -- ── the charts of a tree ──

@@ -34,9 +34,9 @@ use Rattle.outline.specs.Laws.Sorted.{Each, none, more, each-of, each-append, t
 use Rattle.outline.specs.Laws.Sorted.{each-sorted}
 use Rattle.outline.specs.Laws.Sorted.{total-sorted}
 use Rattle.outline.specs.Laws.Filed.{all-fit}
-use Rattle.writing.specs.Typed.{sequentialOf, typedOf, masterOf}
-use Rattle.writing.specs.Typed.{slavesOf as slavesTyped}
-use Rattle.writing.specs.Write.{chartIn}
+use Rattle.spelling.specs.Typed.{sequentialOf, typedOf, masterOf}
+use Rattle.spelling.specs.Typed.{slavesOf as slavesTyped}
+use Rattle.spelling.specs.Write.{chartIn}
 use Rattle.faithful.specs.Typed.{Rising}
 use Rattle.faithful.specs.Laws.Back.{At, shapeFor, slave-is}
 use Rattle.faithful.specs.Laws.Charts.{at-more, at-head, at-place}

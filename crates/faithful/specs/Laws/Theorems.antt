@@ -13,7 +13,7 @@ use Rattle.meaning.specs.Check.Nodes.{Treed, treed}
 use Rattle.meaning.specs.File.{File, treeOf, wholeOf, shapeOf, fileAt, fileOf}
 use Rattle.meaning.specs.Count.Laws.{or-left, or-right}
 use Rattle.notation.specs.Syntax.{Chart}
-use Rattle.notation.specs.Spelling.{Spells}
+use Rattle.notation.specs.Grammar.{Spells}
 use Rattle.notation.specs.Reader.{Reading, spelt, wrongAt, reader}
 use Rattle.notation.specs.Laws.Theorems.{sound}
 use Rattle.reading.specs.Numbers.{namedCharts, notNotation}

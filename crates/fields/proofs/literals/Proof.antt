@@ -7,7 +7,7 @@ use native.Mathlib.Omega.{arith}
 use borrow.Author.Needs.{needs}
 use lib.ListN.{length, drop}
 use Rattle.notation.specs.Syntax.{OneOrMore, Literal}
-use Rattle.notation.specs.Spelling.{slash, sign, Tokens, ofLiterals, Text}
+use Rattle.notation.specs.Grammar.{slash, sign, Tokens, ofLiterals, Text}
 use Rattle.tokens.specs.Tokens.{blanks}
 use Rattle.tokens.specs.Laws.Steps.{peek-some}
 use Rattle.fields.specs.Laws.Guards.{means-none, Through, through-first, through-more, through-end}

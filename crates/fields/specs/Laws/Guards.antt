@@ -9,8 +9,8 @@ use lib.ListN.{length, drop, getD}
 use Rattle.signals.specs.Mask.{_∪_, single}
 use Rattle.meaning.specs.Check.{notBelow}
 use Rattle.notation.specs.Syntax.{OneOrMore, one, _▸_, Literal, needed, barred}
-use Rattle.notation.specs.Spelling.{amp, minus, slash, letS, letter, sign, signBytes, Tokens, ofLiteral, ofLiterals}
-use Rattle.notation.specs.Spelling.{ofGuard, Text}
+use Rattle.notation.specs.Grammar.{amp, minus, slash, letS, letter, sign, signBytes, Tokens, ofLiteral, ofLiterals}
+use Rattle.notation.specs.Grammar.{ofGuard, Text}
 use Rattle.notation.specs.Reader.{firstByte}
 use Rattle.reading.specs.Numbers.{namedSignals}
 use Rattle.reading.specs.Names.{membersOf, membersOr, any, signals?, signalOf}

@@ -7,8 +7,8 @@ use native.Mathlib.Omega.{arith}
 use lib.ListN.{drop}
 use Rattle.meaning.specs.Count.Laws.{or-left, or-right}
 use Rattle.notation.specs.Syntax.{Transition}
-use Rattle.notation.specs.Spelling.{lpar, rpar, comma, slash, letQ, sign, signBytes, name, Tokens, ofSet, ofGuard}
-use Rattle.notation.specs.Spelling.{ofTransition, Text}
+use Rattle.notation.specs.Grammar.{lpar, rpar, comma, slash, letQ, sign, signBytes, name, Tokens, ofSet, ofGuard}
+use Rattle.notation.specs.Grammar.{ofTransition, Text}
 use Rattle.reading.specs.Names.{membersOr, signals?, set?, signalOf}
 use Rattle.reading.specs.Meant.{transitionFor}
 use Rattle.tokens.specs.declared.Name.{Name}

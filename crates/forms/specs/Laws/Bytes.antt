@@ -9,8 +9,8 @@ use Prim.Native.Nat.{ℕ, _≤_}
 use native.Mathlib.Omega.{arith}
 use lib.ListN.{length, drop, getD}
 use Rattle.notation.specs.Syntax.{Signals, Single, sequential, decomposed, hidden, Chart, single, composed}
-use Rattle.notation.specs.Spelling.{lpar, rpar, lsq, rsq, bar, sign, name, Tokens}
-use Rattle.notation.specs.Spelling.{ofSet, ofOptional, ofHeading, ofSequential, ofSingle, ofPart, Text}
+use Rattle.notation.specs.Grammar.{lpar, rpar, lsq, rsq, bar, sign, name, Tokens}
+use Rattle.notation.specs.Grammar.{ofSet, ofOptional, ofHeading, ofSequential, ofSingle, ofPart, Text}
 use Rattle.notation.specs.Reader.{firstByte}
 use Rattle.reading.specs.Names.{optional?, set?}
 use Rattle.reading.specs.Meant.{optionalOf}

@@ -4,7 +4,7 @@ use mathlib.Core.Path.{_≡_, refl, ap, _∙_}
 use mathlib.Core.List.{List, [], _∷_, _++_}
 use Prim.Native.Nat.{ℕ}
 use Rattle.notation.specs.Syntax.{Chart, Slaves, firstSlave, moreSlaves}
-use Rattle.notation.specs.Spelling.{comma, sign, Tokens, ofSlaves}
+use Rattle.notation.specs.Grammar.{comma, sign, Tokens, ofSlaves}
 use Rattle.lists.specs.Laws.Found.{pairText, pair-text, pairs-text}
 
 -- a slave with its state

@@ -10,9 +10,9 @@ use borrow.Author.Tests.{ne-eqb, lt-ltb}
 use lib.ListN.{replicate}
 use Rattle.line.specs.Line.{digit, digits, width, decimal}
 use Rattle.notation.specs.Syntax.{Chart}
-use Rattle.notation.specs.Spelling.{Sign, lpar, rpar, lbrace, rbrace, lsq, rsq, comma, bar, slash, amp, minus, wordDec}
-use Rattle.notation.specs.Spelling.{wordBy, Letter, letC, letQ, letS, Token, sign, name, Tokens, signBytes, letter}
-use Rattle.notation.specs.Spelling.{bytesOf, blank, Text, end, blankThen, tokenThen, Spells}
+use Rattle.notation.specs.Grammar.{Sign, lpar, rpar, lbrace, rbrace, lsq, rsq, comma, bar, slash, amp, minus, wordDec}
+use Rattle.notation.specs.Grammar.{wordBy, Letter, letC, letQ, letS, Token, sign, name, Tokens, signBytes, letter}
+use Rattle.notation.specs.Grammar.{bytesOf, blank, Text, end, blankThen, tokenThen, Spells}
 use Rattle.indent.specs.declared.Place.{Place}
 use Rattle.indent.specs.Layout.{quiet, behind, ofByte, closes, breakAt, nextOf, shownFrom, shown, start}
 

@@ -2,7 +2,7 @@
 use mathlib.Core.Path.{_≡_, sym, _∙_}
 use mathlib.Core.Bool.{false}
 use borrow.Author.Needs.{needs}
-use Rattle.notation.specs.Spelling.{blank}
+use Rattle.notation.specs.Grammar.{blank}
 use Rattle.levels.specs.Laws.Ring.{keeps-blank, keeps-opener}
 use Rattle.levels.specs.Laws.Marks.{marks-same}
 use Rattle.levels.proofs.noted.Statement.{statement}

@@ -3,7 +3,7 @@ use mathlib.Core.Path.{_≡_, sym, ap, _∙_}
 use mathlib.Core.Bool.{true, false}
 use native.Mathlib.Omega.{arith}
 use borrow.Author.Needs.{needs}
-use Rattle.notation.specs.Spelling.{blank}
+use Rattle.notation.specs.Grammar.{blank}
 use Rattle.scan.specs.Look.{closer, opener}
 use Rattle.scan.specs.Laws.Back.{back-closer, back-found, back-open, back-first, back-bar, back-blank, back-else}
 use Rattle.levels.proofs.one_back.Statement.{statement}

@@ -10,7 +10,7 @@ use native.Mathlib.Omega.{arith}
 use borrow.Author.Tests.{eq-eqb, ne-eqb}
 use lib.ListN.{length, take, getD, set, length-set}
 use lib.Seq.{getD-set-same, getD-set-other}
-use Rattle.notation.specs.Spelling.{blank}
+use Rattle.notation.specs.Grammar.{blank}
 use Rattle.scan.specs.Look.{opener, closer, around, levels, rev}
 use Rattle.scan.specs.Levels.{below, onFirst, secondOf, fresh, slaveOf}
 use Rattle.scan.specs.Laws.Levels.{levels-closer, opener-closer, levels-opener, levels-bar, levels-q, levels-blank}

@@ -8,7 +8,7 @@ use native.Mathlib.Omega.{arith}
 use borrow.Author.Needs.{needs}
 use lib.ListN.{length, drop}
 use Rattle.notation.specs.Syntax.{OneOrMore}
-use Rattle.notation.specs.Spelling.{letQ, rbrace, sign, Tokens, ofNames, Text}
+use Rattle.notation.specs.Grammar.{letQ, rbrace, sign, Tokens, ofNames, Text}
 use Rattle.tokens.specs.Tokens.{blanks}
 use Rattle.tokens.specs.Laws.Steps.{peek-some}
 use Rattle.lists.specs.Laws.States.{Going, going-first, going-more, going-end}

@@ -8,7 +8,7 @@ use native.Mathlib.Omega.{arith}
 use borrow.Author.Needs.{needs}
 use lib.ListN.{length, drop}
 use Rattle.notation.specs.Syntax.{OneOrMore, Transition}
-use Rattle.notation.specs.Spelling.{rbrace, sign, Tokens, ofTransitionList, Text}
+use Rattle.notation.specs.Grammar.{rbrace, sign, Tokens, ofTransitionList, Text}
 use Rattle.tokens.specs.Tokens.{blanks}
 use Rattle.tokens.specs.Laws.Steps.{peek-some}
 use Rattle.lists.specs.Laws.Transitions.{Along, along-first, along-more, along-end}

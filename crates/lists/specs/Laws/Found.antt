@@ -6,9 +6,9 @@ use mathlib.Core.List.{List, [], _∷_, _++_, append-assoc, append-nil}
 use Prim.Native.Nat.{ℕ}
 use Rattle.notation.specs.Syntax.{OneOrMore, one, _▸_, Signals, Sequential, Single, sequential, decomposed, hidden}
 use Rattle.notation.specs.Syntax.{Chart, single, composed, Slaves, firstSlave, moreSlaves}
-use Rattle.notation.specs.Spelling.{lpar, rpar, lbrace, rbrace, lsq, rsq, comma, bar, wordDec, wordBy, letQ, letS}
-use Rattle.notation.specs.Spelling.{sign, name, Tokens, ofNames, ofSet, ofOptional, ofHeading, ofSequential, ofSingle}
-use Rattle.notation.specs.Spelling.{ofChart, ofPart, ofSlaves}
+use Rattle.notation.specs.Grammar.{lpar, rpar, lbrace, rbrace, lsq, rsq, comma, bar, wordDec, wordBy, letQ, letS}
+use Rattle.notation.specs.Grammar.{sign, name, Tokens, ofNames, ofSet, ofOptional, ofHeading, ofSequential, ofSingle}
+use Rattle.notation.specs.Grammar.{ofChart, ofPart, ofSlaves}
 use Rattle.reading.specs.Names.{sequentialsIn, sequentialsOf, sequentialsOfSlaves}
 use Rattle.lists.specs.Found.{named?, begins?, Found, nothing, passed, found}
 

@@ -12,8 +12,8 @@ use Rattle.meaning.specs.Meaning.{same}
 use Rattle.meaning.specs.Check.{notBelow, differ}
 use Rattle.meaning.specs.Count.Laws.{or-left, or-right}
 use Rattle.notation.specs.Syntax.{OneOrMore, Heading}
-use Rattle.notation.specs.Spelling.{lpar, comma, lbrace, rbrace, letC, letQ, sign, signBytes, name, Tokens, ofNames}
-use Rattle.notation.specs.Spelling.{ofSet, ofHeading, Text}
+use Rattle.notation.specs.Grammar.{lpar, comma, lbrace, rbrace, letC, letQ, sign, signBytes, name, Tokens, ofNames}
+use Rattle.notation.specs.Grammar.{ofSet, ofHeading, Text}
 use Rattle.reading.specs.Numbers.{namedStates}
 use Rattle.reading.specs.Names.{membersOf, first, any, notAll?, twice?, leftOut?, set?}
 use Rattle.tokens.specs.declared.Name.{Name}

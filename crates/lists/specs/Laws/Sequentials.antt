@@ -13,8 +13,8 @@ use Rattle.meaning.specs.Meaning.{same}
 use Rattle.meaning.specs.Check.{notBelow, differ}
 use Rattle.meaning.specs.Count.Laws.{or-left, or-right}
 use Rattle.notation.specs.Syntax.{Signals, Heading, Sequential}
-use Rattle.notation.specs.Spelling.{comma, rpar, sign, signBytes, Tokens, ofSet, ofHeading, ofTransitions, ofExtra}
-use Rattle.notation.specs.Spelling.{ofSequential, Text}
+use Rattle.notation.specs.Grammar.{comma, rpar, sign, signBytes, Tokens, ofSet, ofHeading, ofTransitions, ofExtra}
+use Rattle.notation.specs.Grammar.{ofSequential, Text}
 use Rattle.notation.specs.Reader.{firstByte}
 use Rattle.reading.specs.Numbers.{namedStates}
 use Rattle.reading.specs.Names.{membersOf, membersOr, first, any, notAll?, set?, optional?, transition?, sequential?}

@@ -14,7 +14,7 @@ use Rattle.signals.specs.Mask.Laws.{bit-suc, within-at, within-of}
 use Rattle.meaning.specs.Check.{notBelow}
 use Rattle.meaning.specs.Count.Laws.{or-left, or-right}
 use Rattle.notation.specs.Syntax.{OneOrMore, one, _▸_}
-use Rattle.notation.specs.Spelling.{comma, rbrace, lbrace, letQ, sign, signBytes, Tokens, ofNames, Text}
+use Rattle.notation.specs.Grammar.{comma, rbrace, lbrace, letQ, sign, signBytes, Tokens, ofNames, Text}
 use Rattle.notation.specs.Reader.{firstByte}
 use Rattle.reading.specs.Numbers.{namedStates}
 use Rattle.reading.specs.Names.{membersOf, first, any, has, twice?, lacksBefore, leftOut?, notAll?}

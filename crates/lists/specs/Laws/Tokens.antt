@@ -7,9 +7,9 @@ use Prim.Native.Nat.{ℕ, suc, _+_, _≤_, _<_}
 use native.Mathlib.Omega.{arith}
 use lib.Dec.{eqb}
 use lib.ListN.{length, drop, getD, length-drop}
-use Rattle.notation.specs.Spelling.{Sign, lpar, rpar, lbrace, rbrace, lsq, rsq, comma, bar, slash, amp, minus, wordDec}
-use Rattle.notation.specs.Spelling.{wordBy, Letter, letC, letQ, letS, letter, Token, sign, signBytes, name, Tokens}
-use Rattle.notation.specs.Spelling.{bytesOf, Text, end, blankThen}
+use Rattle.notation.specs.Grammar.{Sign, lpar, rpar, lbrace, rbrace, lsq, rsq, comma, bar, slash, amp, minus, wordDec}
+use Rattle.notation.specs.Grammar.{wordBy, Letter, letC, letQ, letS, letter, Token, sign, signBytes, name, Tokens}
+use Rattle.notation.specs.Grammar.{bytesOf, Text, end, blankThen}
 use Rattle.notation.specs.Reader.{firstByte}
 use Rattle.tokens.specs.declared.Name.{Name}
 use Rattle.tokens.specs.Tokens.{blanks, afterBlanks, BehindSign, NameFrom}

@@ -11,8 +11,8 @@ use Rattle.signals.specs.Mask.{bit}
 use Rattle.meaning.specs.Check.{notBelow}
 use Rattle.meaning.specs.Count.Laws.{or-left}
 use Rattle.notation.specs.Syntax.{OneOrMore, one, _▸_, Transition}
-use Rattle.notation.specs.Spelling.{lpar, comma, lbrace, rbrace, sign, signBytes, Tokens, ofTransition}
-use Rattle.notation.specs.Spelling.{ofTransitionList, ofTransitions, Text}
+use Rattle.notation.specs.Grammar.{lpar, comma, lbrace, rbrace, sign, signBytes, Tokens, ofTransition}
+use Rattle.notation.specs.Grammar.{ofTransitionList, ofTransitions, Text}
 use Rattle.notation.specs.Reader.{firstByte}
 use Rattle.reading.specs.Numbers.{namedStates}
 use Rattle.reading.specs.Names.{membersOf, membersOr, any, has, notAll?, twice?, leftOut?, signals?, set?, signalOf}

@@ -4,7 +4,7 @@ use mathlib.Core.Bool.{false}
 use Prim.Native.Nat.{ℕ, _+_, _*_}
 use native.Mathlib.Omega.{arith}
 use borrow.Author.Needs.{needs}
-use Rattle.notation.specs.Spelling.{blank}
+use Rattle.notation.specs.Grammar.{blank}
 use Rattle.scan.specs.Table.{table, lookup, refine}
 use Rattle.scan.specs.Scan.{advanceBetween}
 use Rattle.scan.specs.Laws.Steps.{pack-zero, token-after-le, gap-wrong, gap-lands}

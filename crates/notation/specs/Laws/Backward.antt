@@ -1,17 +1,17 @@
 -- The same grammar with the last token first, over which the proofs go: lists grow at their end, so that every form
--- only puts tokens in front (`put..`) and no law about appending is needed. It is the grammar of Spelling
+-- only puts tokens in front (`put..`) and no law about appending is needed. It spells the same texts as Grammar
 -- (`spells-laid`, `laid-spells`).
 use mathlib.Core.Path.{_≡_, refl, sym, ap, _∙_, subst}
 use mathlib.Core.Bool.{true}
 use mathlib.Core.Option.{Option, none, some}
 use mathlib.Core.List.{List, [], _∷_, _++_, append-assoc, append-nil}
 use Prim.Native.Nat.{ℕ}
-use Rattle.notation.specs.Spelling.{bytesOf, blank, Spells, lpar, rpar, lbrace, rbrace, lsq, rsq, comma, bar}
-use Rattle.notation.specs.Spelling.{slash, amp, minus, wordDec, wordBy, Letter, letC, letQ, letS, Token, sign}
-use Rattle.notation.specs.Spelling.{name, Tokens, sign₁, name₁, Text, end, blankThen, tokenThen, ofNames}
-use Rattle.notation.specs.Spelling.{ofSet, ofOptional, ofLiteral, ofLiterals, ofGuard, ofTransition}
-use Rattle.notation.specs.Spelling.{ofTransitionList, ofTransitions, ofHeading, ofExtra, ofSequential, ofSingle}
-use Rattle.notation.specs.Spelling.{ofChart, ofPart, ofSlaves}
+use Rattle.notation.specs.Grammar.{bytesOf, blank, Spells, lpar, rpar, lbrace, rbrace, lsq, rsq, comma, bar}
+use Rattle.notation.specs.Grammar.{slash, amp, minus, wordDec, wordBy, Letter, letC, letQ, letS, Token, sign}
+use Rattle.notation.specs.Grammar.{name, Tokens, sign₁, name₁, Text, end, blankThen, tokenThen, ofNames}
+use Rattle.notation.specs.Grammar.{ofSet, ofOptional, ofLiteral, ofLiterals, ofGuard, ofTransition}
+use Rattle.notation.specs.Grammar.{ofTransitionList, ofTransitions, ofHeading, ofExtra, ofSequential, ofSingle}
+use Rattle.notation.specs.Grammar.{ofChart, ofPart, ofSlaves}
 use Rattle.notation.specs.Syntax.{OneOrMore, one, _▸_, Signals, Literal, needed, barred, Transition, Heading}
 use Rattle.notation.specs.Syntax.{Sequential, Single, sequential, decomposed, hidden, Chart, single, composed}
 use Rattle.notation.specs.Syntax.{Slaves, firstSlave, moreSlaves}
@@ -109,7 +109,7 @@ pub data Laid : Tokens → List ℕ → Type 0 where
 abbrev pub LaidAs : List ℕ → Chart → Type 0
 LaidAs w t = Laid (tokensOf t) w
 
--- ── it is the grammar of Spelling ──
+-- ── it spells the same texts as Grammar ──
 
 -- tokens put behind others, one after the other
 unfoldable pub onto : Tokens → Tokens → Tokens

@@ -5,8 +5,8 @@ use mathlib.Core.List.{List, [], _∷_}
 use Prim.Native.Nat.{ℕ}
 use Rattle.notation.specs.Syntax.{OneOrMore, _▸_, Signals, Literal, barred, Transition, Heading, Sequential}
 use Rattle.notation.specs.Syntax.{Single, sequential, decomposed, hidden, Chart, single, composed, Slaves}
-use Rattle.notation.specs.Spelling.{lpar, rpar, lbrace, rbrace, lsq, rsq, comma, bar, slash, amp, minus, wordDec}
-use Rattle.notation.specs.Spelling.{wordBy, letC, letQ, letS, sign, name, Tokens}
+use Rattle.notation.specs.Grammar.{lpar, rpar, lbrace, rbrace, lsq, rsq, comma, bar, slash, amp, minus, wordDec}
+use Rattle.notation.specs.Grammar.{wordBy, letC, letQ, letS, sign, name, Tokens}
 use Rattle.notation.specs.Laws.Backward.{putNames, putSet, putOptional, putLiteral, putLiterals, putGuard}
 use Rattle.notation.specs.Laws.Backward.{putTransition, putTransitionList, putTransitions, putHeading, putExtra}
 use Rattle.notation.specs.Laws.Backward.{putSequential, putSingle, putChart, putPart, putSlaves}

@@ -5,8 +5,8 @@ use mathlib.Core.Option.{Option, none, some}
 use mathlib.Core.List.{List, [], _∷_, _++_, append-assoc, append-nil}
 use Prim.Native.Nat.{ℕ}
 use Rattle.line.specs.Line.{decimal}
-use Rattle.notation.specs.Spelling.{letter, bytesOf, lpar, rbrace, comma, slash, minus, wordDec, letQ}
-use Rattle.notation.specs.Spelling.{letS, Token, sign, name, Tokens}
+use Rattle.notation.specs.Grammar.{letter, bytesOf, lpar, rbrace, comma, slash, minus, wordDec, letQ}
+use Rattle.notation.specs.Grammar.{letS, Token, sign, name, Tokens}
 use Rattle.notation.specs.Laws.Backward.{Laid, token, LaidAs, putNames, putSet, putOptional, putLiteral}
 use Rattle.notation.specs.Laws.Backward.{putLiterals, putGuard, putTransition, putTransitionList}
 use Rattle.notation.specs.Laws.Backward.{putTransitions, putHeading}

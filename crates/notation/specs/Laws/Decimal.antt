@@ -8,7 +8,7 @@ use borrow.Author.Tests.{leb-true, eqb-true, lt-ltb, le-leb}
 use lib.Dec.{eqb, leb}
 use Rattle.line.specs.Line.{digit, digits, decimal}
 use Rattle.line.specs.Line.Laws.{width-one, width-suc}
-use Rattle.notation.specs.Spelling.{blank}
+use Rattle.notation.specs.Grammar.{blank}
 use Rattle.notation.specs.Reader.{isDigit}
 
 -- ── numbers ──

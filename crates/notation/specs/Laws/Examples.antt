@@ -5,7 +5,7 @@ use mathlib.Core.Option.{Option, none, some}
 use mathlib.Core.List.{List, [], _∷_, _++_, map}
 use Prim.Native.Nat.{ℕ}
 use Rattle.line.specs.Ascii.{ascii}
-use Rattle.notation.specs.Spelling.{letter, blank}
+use Rattle.notation.specs.Grammar.{letter, blank}
 use Rattle.notation.specs.Reader.{Reading, spelt, wrongAt, reader, readFrom, atEnd, onTo, step, stepGap, begin}
 use Rattle.notation.specs.Reader.{onward, behind, firstByte, isDigit, ending, final, ways, lastSet, follow, close}
 use Rattle.notation.specs.Reader.{setEnd, sequentialEnd, addSlave, _▸?_}

@@ -8,7 +8,7 @@ use native.Mathlib.Omega.{arith}
 use borrow.Author.Tests.{eqb-true, eq-eqb, ne-eqb, ltb-true, ltb-false}
 use lib.Dec.{eqb, ltb}
 use Rattle.line.specs.Line.{decimal}
-use Rattle.notation.specs.Spelling.{letter, bytesOf, Sign, Letter, Token, sign, name, Tokens}
+use Rattle.notation.specs.Grammar.{letter, bytesOf, Sign, Letter, Token, sign, name, Tokens}
 use Rattle.notation.specs.Laws.Backward.{Laid, nothing, space, token}
 use Rattle.notation.specs.Reader.{whole, firstIn, State, part, Way, on, read, ways, final, firstByte, behind}
 use Rattle.notation.specs.Reader.{isDigit, Position, gap, letterRead, number, onward, begin, stepGap, step}

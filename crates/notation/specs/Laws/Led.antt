@@ -8,7 +8,7 @@ use native.Mathlib.Omega.{arith}
 use borrow.Author.Tests.{eqb-true, eqb-false}
 use lib.Dec.{eqb}
 use Rattle.line.specs.Line.{decimal}
-use Rattle.notation.specs.Spelling.{signBytes, letter, bytesOf, blank, Sign, Letter, sign, name, Tokens}
+use Rattle.notation.specs.Grammar.{signBytes, letter, bytesOf, blank, Sign, Letter, sign, name, Tokens}
 use Rattle.notation.specs.Laws.Backward.{Laid, space, token}
 use Rattle.notation.specs.Reader.{State, Way, on, read, ways, firstByte, behind, isDigit, Position, gap, inside}
 use Rattle.notation.specs.Reader.{letterRead, number, onward, begin, stepGap, step}

@@ -5,8 +5,8 @@ use mathlib.Core.Option.{Option, none, some}
 use mathlib.Core.List.{List, [], _∷_}
 use Prim.Native.Nat.{ℕ}
 use lib.Dec.{eqb}
-use Rattle.notation.specs.Spelling.{letter, Sign, lpar, rpar, lbrace, lsq, rsq, bar, slash, wordDec, letC, letQ}
-use Rattle.notation.specs.Spelling.{letS, Token, sign, name, Tokens}
+use Rattle.notation.specs.Grammar.{letter, Sign, lpar, rpar, lbrace, lsq, rsq, bar, slash, wordDec, letC, letQ}
+use Rattle.notation.specs.Grammar.{letS, Token, sign, name, Tokens}
 use Rattle.notation.specs.Syntax.{OneOrMore, one, _▸_, Signals, Literal, needed, barred, Transition, Heading}
 use Rattle.notation.specs.Syntax.{Sequential, Single, sequential, decomposed, hidden, Chart, single, composed}
 use Rattle.notation.specs.Syntax.{Slaves, firstSlave, moreSlaves}

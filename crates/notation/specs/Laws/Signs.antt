@@ -7,8 +7,8 @@ use Prim.Native.Nat.{ℕ}
 use Prim.Native.Char.{code}
 use borrow.Author.Tests.{eqb-true}
 use lib.Dec.{eqb}
-use Rattle.notation.specs.Spelling.{signBytes, letter, blank, Sign, lpar, rpar, lbrace, rbrace, lsq, rsq, comma}
-use Rattle.notation.specs.Spelling.{bar, slash, amp, minus, wordDec, wordBy, Letter, letC, letQ, letS}
+use Rattle.notation.specs.Grammar.{signBytes, letter, blank, Sign, lpar, rpar, lbrace, rbrace, lsq, rsq, comma}
+use Rattle.notation.specs.Grammar.{bar, slash, amp, minus, wordDec, wordBy, Letter, letC, letQ, letS}
 use Rattle.notation.specs.Reader.{firstByte, behind, isDigit}
 
 pub sign-bytes : (k : Sign) → signBytes k ≡ firstByte k ∷ behind (firstByte k)

@@ -8,7 +8,7 @@ use native.Mathlib.Nat.{add-zero}
 use native.Mathlib.Omega.{arith}
 use lib.ListN.{length, take, drop, take-append-drop}
 use lib.Seq.{take-take}
-use Rattle.notation.specs.Spelling.{Spells, Begins, FirstWrong}
+use Rattle.notation.specs.Grammar.{Spells, Begins, FirstWrong}
 use Rattle.notation.specs.Laws.Backward.{Laid, nothing, putSingle, tokensOf, LaidAs, spells-laid, laid-spells}
 use Rattle.notation.specs.Syntax.{Chart}
 use Rattle.notation.specs.Reader.{whole, inSlave, inHiding, inBrackets, firstIn, secondIn, State, part, opened}

@@ -4,7 +4,7 @@ use mathlib.Core.Path.{_≡_, ap}
 use mathlib.Core.List.{List, [], _∷_}
 use Prim.Native.Nat.{ℕ}
 use Rattle.notation.specs.Syntax.{Chart}
-use Rattle.notation.specs.Spelling.{Tokens, bytesOfAll, write, ofChart, Text, end, tokenThen, Spells}
+use Rattle.notation.specs.Grammar.{Tokens, bytesOfAll, write, ofChart, Text, end, tokenThen, Spells}
 use Rattle.notation.specs.Reader.{spelt, reader}
 use Rattle.notation.specs.Laws.Theorems.{complete}
 

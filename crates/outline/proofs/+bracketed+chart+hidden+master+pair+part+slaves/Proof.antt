@@ -12,7 +12,7 @@ use borrow.Fn.Kinds.{In}
 use borrow.Fn.PlainCycle.{Measures, is, falls, and}
 use lib.ListN.{length, drop}
 use Rattle.notation.specs.Syntax.{Slaves}
-use Rattle.notation.specs.Spelling.{rbrace, sign, Tokens, ofSlaves, Text}
+use Rattle.notation.specs.Grammar.{rbrace, sign, Tokens, ofSlaves, Text}
 use Rattle.tokens.specs.Tokens.{blanks}
 use Rattle.tokens.specs.Laws.Steps.{peek-some}
 use Rattle.outline.specs.Laws.Forms.{chart-deep, chart-single, chart-composed, part-none, part-right}

@@ -13,8 +13,8 @@ use lib.ListN.{length, drop, getD}
 use Rattle.meaning.specs.Count.Laws.{or-left}
 use Rattle.notation.specs.Syntax.{Signals, Sequential as Tree, sequential, decomposed, hidden, Chart, single, composed}
 use Rattle.notation.specs.Syntax.{Slaves, firstSlave, larger, depth, depthSlaves}
-use Rattle.notation.specs.Spelling.{lpar, rpar, lbrace, lsq, rsq, comma, bar, wordDec, wordBy, letQ, sign}
-use Rattle.notation.specs.Spelling.{signBytes, Tokens, ofSet, ofChart, ofPart, Text, Spells}
+use Rattle.notation.specs.Grammar.{lpar, rpar, lbrace, lsq, rsq, comma, bar, wordDec, wordBy, letQ, sign}
+use Rattle.notation.specs.Grammar.{signBytes, Tokens, ofSet, ofChart, ofPart, Text, Spells}
 use Rattle.notation.specs.Reader.{firstByte}
 use Rattle.reading.specs.Numbers.{namedStates, mostDepth}
 use Rattle.reading.specs.Names.{membersOf, notAll?, set?, sequential?}

@@ -9,7 +9,7 @@ use borrow.Author.Tests.{lt-ltb, le-ltb, ltb-true, ltb-false}
 use lib.Dec.{ltb}
 use lib.ListN.{drop, getD}
 use Rattle.notation.specs.Syntax.{Chart, Slaves, firstSlave, moreSlaves, larger, depth, depthSlaves}
-use Rattle.notation.specs.Spelling.{comma, rbrace, sign, signBytes, Tokens, ofSlaves, Text}
+use Rattle.notation.specs.Grammar.{comma, rbrace, sign, signBytes, Tokens, ofSlaves, Text}
 use Rattle.notation.specs.Reader.{firstByte}
 use Rattle.tokens.specs.Tokens.{cap, afterBlanks, BehindSign}
 use Rattle.tokens.specs.Laws.Text.{behind-right}

@@ -13,10 +13,10 @@ use Rattle.layout.specs.Body.Laws.{from-more}
 use Rattle.meaning.specs.Meaning.{same}
 use Rattle.meaning.specs.File.{fileAt, chartOf}
 use Rattle.notation.specs.Syntax.{OneOrMore, one, _▸_, Literal, needed, barred, Transition}
-use Rattle.notation.specs.Spelling.{Tokens, Sign, Letter, letS, comma, amp, lbrace, rbrace, sign₁, name₁, ofNames}
-use Rattle.notation.specs.Spelling.{ofSet, ofLiteral, ofLiterals, ofGuard, ofTransition, ofTransitionList}
-use Rattle.notation.specs.Spelling.{rpar, ofTransitions, ofHeading, ofExtra, ofSequential}
-use Rattle.writing.specs.Typed.{followed, listed, fromAll, signalsOf, orLeftOut, transitionOf, others, sequentialOf}
+use Rattle.notation.specs.Grammar.{Tokens, Sign, Letter, letS, comma, amp, lbrace, rbrace, sign₁, name₁, ofNames}
+use Rattle.notation.specs.Grammar.{ofSet, ofLiteral, ofLiterals, ofGuard, ofTransition, ofTransitionList}
+use Rattle.notation.specs.Grammar.{rpar, ofTransitions, ofHeading, ofExtra, ofSequential}
+use Rattle.spelling.specs.Typed.{followed, listed, fromAll, signalsOf, orLeftOut, transitionOf, others, sequentialOf}
 use Rattle.printing.specs.Turns.{behindEach, inTurn}
 use Rattle.printing.specs.Forms.{headingOf}
 use Rattle.printing.specs.Laws.Turns.{Solid}

@@ -9,10 +9,10 @@ use lib.Seq.{set-out}
 use Rattle.layout.specs.Put.{Put}
 use Rattle.layout.specs.Put.Laws.{put-none, put-append, put-byte}
 use Rattle.line.specs.Line.{decimal}
-use Rattle.notation.specs.Spelling.{Tokens, Token, sign, name, Sign, sign₁, signBytes, bytesOf}
-use Rattle.notation.specs.Spelling.{lpar, rpar, lbrace, rbrace, lsq, rsq, comma, bar, slash, amp, minus}
-use Rattle.notation.specs.Spelling.{wordDec, wordBy, bytesOfAll}
-use Rattle.writing.specs.Numbers.{mostText}
+use Rattle.notation.specs.Grammar.{Tokens, Token, sign, name, Sign, sign₁, signBytes, bytesOf}
+use Rattle.notation.specs.Grammar.{lpar, rpar, lbrace, rbrace, lsq, rsq, comma, bar, slash, amp, minus}
+use Rattle.notation.specs.Grammar.{wordDec, wordBy, bytesOfAll}
+use Rattle.spelling.specs.Numbers.{mostText}
 use Rattle.printing.specs.Prints.{Writes, Prints, PrintsSign, PrintsName}
 
 -- ── the bytes of tokens ──

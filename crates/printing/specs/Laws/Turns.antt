@@ -5,7 +5,7 @@ use mathlib.Core.List.{List, [], _∷_, _++_, append-assoc, append-nil}
 use Prim.Native.Nat.{ℕ, _<_}
 use native.Mathlib.Omega.{arith}
 use lib.ListN.{length}
-use Rattle.notation.specs.Spelling.{Tokens, Sign, sign₁, signBytes, bytesOfAll}
+use Rattle.notation.specs.Grammar.{Tokens, Sign, sign₁, signBytes, bytesOfAll}
 use Rattle.printing.specs.Prints.{Prints}
 use Rattle.printing.specs.Turns.{behindEach, inTurn, apart, PrintsApart, Adds}
 use Rattle.printing.specs.Laws.Prints.{length-bytes, bytes-some, prints-none, prints-append}

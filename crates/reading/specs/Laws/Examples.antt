@@ -22,7 +22,7 @@ use Rattle.meaning.specs.Check.{transitions?, rising, slave?, slaves?, nodeOfKi
 use Rattle.meaning.specs.Check.{inside?, fileTests}
 use Rattle.line.specs.Ascii.{ascii}
 use Rattle.notation.specs.Syntax.{depth}
-use Rattle.notation.specs.Spelling.{letter, blank}
+use Rattle.notation.specs.Grammar.{letter, blank}
 use Rattle.notation.specs.Reader.{reader, readFrom, atEnd, onTo, step, stepGap, begin, onward, behind, firstByte}
 use Rattle.notation.specs.Reader.{isDigit, ending, final, ways, lastSet, follow, close, setEnd, sequentialEnd}
 use Rattle.notation.specs.Reader.{addSlave, _▸?_}

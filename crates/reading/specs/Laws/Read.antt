@@ -9,7 +9,7 @@ use native.Mathlib.Omega.{arith}
 use lib.ListN.{length}
 use Rattle.meaning.specs.Check.{Test, firstOf, fileTests, refusalOf}
 use Rattle.notation.specs.Syntax.{Chart}
-use Rattle.notation.specs.Spelling.{Spells, FirstWrong}
+use Rattle.notation.specs.Grammar.{Spells, FirstWrong}
 use Rattle.notation.specs.Reader.{Reading, spelt, wrongAt, reader}
 use Rattle.notation.specs.Laws.Theorems.{sound, complete, refused, refused-exact}
 use Rattle.reading.specs.Numbers.{notNotation}

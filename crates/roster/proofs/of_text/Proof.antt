@@ -5,7 +5,7 @@ use native.Mathlib.Omega.{arith}
 use borrow.Author.Needs.{needs}
 use lib.ListN.{length}
 use Rattle.notation.specs.Syntax.{Chart}
-use Rattle.notation.specs.Spelling.{ofChart, Text}
+use Rattle.notation.specs.Grammar.{ofChart, Text}
 use Rattle.roster.specs.Walk.{Walked}
 use Rattle.roster.specs.Laws.Walk.{walked-begun, walked-end}
 use Rattle.roster.proofs.of_text.Statement.{statement}

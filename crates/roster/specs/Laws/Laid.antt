@@ -12,7 +12,7 @@ use Rattle.layout.specs.Put.{Room, Put}
 use Rattle.layout.specs.Put.Laws.{put-none, put-append, room-first, room-next}
 use Rattle.meaning.specs.Count.Laws.{or-left, or-right}
 use Rattle.notation.specs.Syntax.{Sequential}
-use Rattle.notation.specs.Spelling.{ofSequential, Text}
+use Rattle.notation.specs.Grammar.{ofSequential, Text}
 use Rattle.reading.specs.Names.{any}
 use Rattle.reading.specs.Meant.{all, gathered}
 use Rattle.reading.specs.Laws.Lists.{all-append}

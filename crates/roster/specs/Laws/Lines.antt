@@ -11,8 +11,8 @@ use Rattle.layout.specs.declared.record.Transition.{Transition as Record}
 use Rattle.layout.specs.Put.{Room, Put}
 use Rattle.layout.specs.Put.Laws.{put-none, put-append, room-first, room-next}
 use Rattle.notation.specs.Syntax.{OneOrMore, Transition, Sequential}
-use Rattle.notation.specs.Spelling.{comma, rbrace, sign, signBytes, Tokens, ofTransition}
-use Rattle.notation.specs.Spelling.{ofTransitions, Text}
+use Rattle.notation.specs.Grammar.{comma, rbrace, sign, signBytes, Tokens, ofTransition}
+use Rattle.notation.specs.Grammar.{ofTransitions, Text}
 use Rattle.notation.specs.Reader.{firstByte}
 use Rattle.reading.specs.Names.{membersOr}
 use Rattle.reading.specs.Meant.{all, gathered, transitionFor, transitionsIn}

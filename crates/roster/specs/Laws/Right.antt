@@ -14,7 +14,7 @@ use Rattle.meaning.specs.Numbers.{mostInChart}
 use Rattle.meaning.specs.Check.{notBelow, differ}
 use Rattle.meaning.specs.Count.Laws.{or-left, or-right}
 use Rattle.notation.specs.Syntax.{Transition, Sequential}
-use Rattle.notation.specs.Spelling.{Tokens}
+use Rattle.notation.specs.Grammar.{Tokens}
 use Rattle.reading.specs.Numbers.{namedStates}
 use Rattle.reading.specs.Names.{membersOf, membersOr, first, any, has, notAll?, set?, optional?, transition?}
 use Rattle.reading.specs.Names.{sequential?}

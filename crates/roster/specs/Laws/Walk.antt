@@ -17,7 +17,7 @@ use Rattle.meaning.specs.Check.{notBelow}
 use Rattle.meaning.specs.Numbers.{mostInChart}
 use Rattle.meaning.specs.Count.Laws.{or-left, or-right}
 use Rattle.notation.specs.Syntax.{Sequential, Chart}
-use Rattle.notation.specs.Spelling.{Token, Tokens, ofHeading, ofSequential, ofChart, Text}
+use Rattle.notation.specs.Grammar.{Token, Tokens, ofHeading, ofSequential, ofChart, Text}
 use Rattle.reading.specs.Numbers.{namedCharts}
 use Rattle.reading.specs.Names.{any, has, twice?, leftOut?, notAll?, sequential?, sequentialsOf, nameOf}
 use Rattle.reading.specs.Meant.{maskOf, headFor, gathered, transitionsIn, chartsOf}

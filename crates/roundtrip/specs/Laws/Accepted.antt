@@ -20,7 +20,7 @@ use Rattle.reading.specs.Numbers.{mostDepth}
 use Rattle.reading.specs.Meant.{bodyFor, trailerFor, fileFor}
 use Rattle.reading.specs.Read.{chartTests, readRefusal}
 use Rattle.reading.specs.Laws.Read.{read-spells}
-use Rattle.writing.specs.Write.{chartIn, textIn, textOf}
+use Rattle.spelling.specs.Write.{chartIn, textIn, textOf}
 use Rattle.faithful.specs.Laws.Back.{shapeFor, trailer-back-is, body-back}
 use Rattle.accepted.specs.Laws.Shape.{shape-passes}
 use Rattle.accepted.specs.Laws.Nodes.{nodes-pass}

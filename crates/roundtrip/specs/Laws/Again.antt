@@ -25,7 +25,7 @@ use Rattle.reading.specs.Meant.{setOf, optionalOf, nodesOf, transitionsOf, body
 use Rattle.reading.specs.Laws.Body.{headsFor, linesFor, slavesFor, nodesFor, body-for}
 use Rattle.reading.specs.Laws.Lists.{all-append}
 use Rattle.roster.specs.Laws.Sorted.{InOrder, length-perm}
-use Rattle.writing.specs.Write.{chartIn}
+use Rattle.spelling.specs.Write.{chartIn}
 use Rattle.faithful.specs.Typed.{ChartIs}
 use Rattle.faithful.specs.Laws.Back.{trailer-back-is}
 use Rattle.faithful.specs.Laws.Charts.{mem-perm, same-charts, in-order, charts-typed}

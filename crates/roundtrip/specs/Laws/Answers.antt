@@ -20,7 +20,7 @@ use Rattle.meaning.specs.Rewriting.{stayTest}
 use Rattle.meaning.specs.Plain.{plainOf}
 use Rattle.meaning.specs.Laws.Alike.{accepted-node, accepted-sound}
 use Rattle.notation.specs.Syntax.{depth}
-use Rattle.notation.specs.Spelling.{write}
+use Rattle.notation.specs.Grammar.{write}
 use Rattle.notation.specs.Laws.Write.{write-spells}
 use Rattle.reading.specs.Numbers.{mostDepth, tooDeep}
 use Rattle.reading.specs.Meant.{trailerFor, fileFor}
@@ -31,7 +31,7 @@ use Rattle.propositions.specs.Exchange.Answers.{answer-output, answer-step, ans
 use Rattle.propositions.specs.Exchange.Answers.{answer-run-refusal, answer-run, answer-carried, answer-plain}
 use Rattle.lacks.specs.Lacking.{lackingOf}
 use Rattle.lacks.specs.Exchanged.{answer-lacking}
-use Rattle.writing.specs.Write.{chartIn, textIn, textOf, deepTest, writeRefusal, writeLength, writeOut}
+use Rattle.spelling.specs.Write.{chartIn, textIn, textOf, deepTest, writeRefusal, writeLength, writeOut}
 use Rattle.faithful.specs.Laws.Back.{trailer-back-is}
 use Rattle.accepted.specs.Laws.Counts.{counts-right}
 use Rattle.roundtrip.specs.Same.{SameCharts}

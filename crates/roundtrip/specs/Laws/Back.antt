@@ -19,7 +19,7 @@ use Rattle.agreement.specs.Calls.{regular}
 use Rattle.notation.specs.Syntax.{Chart}
 use Rattle.reading.specs.Names.{names?}
 use Rattle.reading.specs.Meant.{bodyFor, trailerFor, fileFor}
-use Rattle.writing.specs.Write.{chartIn}
+use Rattle.spelling.specs.Write.{chartIn}
 use Rattle.faithful.specs.Laws.Back.{shapeFor, file-back}
 use Rattle.faithful.specs.Laws.Theorems.{body-means}
 use Rattle.accepted.specs.Laws.Nodes.{nodes-pass}

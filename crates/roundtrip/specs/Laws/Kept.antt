@@ -13,8 +13,8 @@ use Rattle.propositions.specs.Exchange.Trees.{Exchanged, Slaved, chart, parts, 
 use Rattle.propositions.specs.Exchange.Answers.{TreesAlike}
 use Rattle.whole.specs.Weigh.{fedIn}
 use Rattle.whole.specs.Laws.Whole.{whole-fed}
-use Rattle.writing.specs.Typed.{sequentialOf, typedOf, masterOf, slavesOf, signalsOf}
-use Rattle.writing.specs.Write.{chartIn}
+use Rattle.spelling.specs.Typed.{sequentialOf, typedOf, masterOf, slavesOf, signalsOf}
+use Rattle.spelling.specs.Write.{chartIn}
 use Rattle.roundtrip.specs.Same.{SameCharts}
 use Rattle.roundtrip.specs.Laws.Proper.{Proper, ProperAll}
 

@@ -13,8 +13,8 @@ use Rattle.notation.specs.Syntax.{Signals, Sequential, sequential, decomposed, 
 use Rattle.reading.specs.Names.{nameOf}
 use Rattle.reading.specs.Meant.{setOf, optionalOf}
 use Rattle.forms.specs.Laws.Slaves.{Pair}
-use Rattle.writing.specs.Typed.{sequentialOf, typedOf, slavesOf}
-use Rattle.writing.specs.Laws.Sets.{set-written}
+use Rattle.spelling.specs.Typed.{sequentialOf, typedOf, slavesOf}
+use Rattle.spelling.specs.Laws.Sets.{set-written}
 use Rattle.faithful.specs.Typed.{pairsOf, Rising, ByState, Means, a-chart, a-master, a-hiding, a-pair, MeansAll}
 use Rattle.faithful.specs.Typed.{no-slave, one-more}
 use Rattle.faithful.specs.Laws.Charts.{mem-perm}

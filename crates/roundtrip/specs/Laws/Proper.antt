@@ -16,7 +16,7 @@ use Rattle.meaning.specs.Laws.Trees.{tree₀, tree₁, tree₂}
 use Rattle.meaning.specs.Laws.Alike.{accepted-treed, accepted-node}
 use Rattle.forms.specs.Laws.Slaves.{Pair}
 use Rattle.outline.specs.Laws.Sorted.{Each, none, more, each-append}
-use Rattle.writing.specs.Typed.{typedOf}
+use Rattle.spelling.specs.Typed.{typedOf}
 use Rattle.accepted.specs.Tree.{keyOf, Climbs}
 use Rattle.accepted.specs.Laws.Records.{climbs-all, state-below, climbing}
 

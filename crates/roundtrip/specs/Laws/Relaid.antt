@@ -16,8 +16,8 @@ use Rattle.reading.specs.Meant.{sortedBy, setOf, optionalOf, Laid, lastOf, Plac
 use Rattle.reading.specs.Meant.{chartNode, layHidden, layBoth, laySingle, layChart}
 use Rattle.forms.specs.Laws.Slaves.{Pair}
 use Rattle.outline.specs.Laws.Sorted.{Each, none, more, each-append}
-use Rattle.writing.specs.Typed.{sequentialOf, typedOf, masterOf, slavesOf}
-use Rattle.writing.specs.Laws.Sets.{set-written}
+use Rattle.spelling.specs.Typed.{sequentialOf, typedOf, masterOf, slavesOf}
+use Rattle.spelling.specs.Laws.Sets.{set-written}
 use Rattle.faithful.specs.Typed.{pairsOf, ByState, Means, a-chart, a-master, a-hiding, a-pair, MeansAll}
 use Rattle.faithful.specs.Typed.{no-slave, one-more}
 use Rattle.faithful.specs.Laws.Parts.{placedOf, byState, by-state}

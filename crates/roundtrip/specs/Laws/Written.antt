@@ -27,7 +27,7 @@ use Rattle.reading.specs.Numbers.{mostDepth, notNotation}
 use Rattle.reading.specs.Names.{names?}
 use Rattle.reading.specs.Meant.{trailerFor, fileFor}
 use Rattle.reading.specs.Read.{chartTests, refusalIn, readRefusal, fileIn, readFile}
-use Rattle.writing.specs.Write.{chartIn, textIn, textOf, writeRefusal}
+use Rattle.spelling.specs.Write.{chartIn, textIn, textOf, writeRefusal}
 use Rattle.faithful.specs.Laws.Back.{trailer-back-is}
 use Rattle.roundtrip.specs.Written.{InWrittenForm, TextOfFile}
 use Rattle.roundtrip.specs.Laws.Accepted.{written-accepted}

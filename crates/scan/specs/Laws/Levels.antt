@@ -8,7 +8,7 @@ use native.Mathlib.Omega.{arith}
 use borrow.Author.Tests.{eqb-true}
 use lib.Dec.{eqb, ltb}
 use lib.ListN.{length, getD}
-use Rattle.notation.specs.Spelling.{blank}
+use Rattle.notation.specs.Grammar.{blank}
 use Rattle.scan.specs.Look.{opener, closer, around, level, backTo, look, levels}
 use Rattle.scan.specs.Levels.{below, secondOf, onFirst, fresh, slaveOf}
 

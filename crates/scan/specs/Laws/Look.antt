@@ -8,9 +8,9 @@ use Prim.Native.Nat.{ℕ, zero, suc, _+_, _-_, _/_, _%_, _≤_, _<_}
 use native.Mathlib.Omega.{arith}
 use borrow.Author.Tests.{ltb-false, eqb-true, ne-eqb, ltb-true}
 use lib.Dec.{eqb, ltb}
-use Rattle.notation.specs.Spelling.{blank, signBytes, letter, bytesOf, Sign, lpar, rpar, lbrace, rbrace, lsq}
-use Rattle.notation.specs.Spelling.{rsq, comma, bar, slash, amp, minus, wordDec, wordBy, Letter, letC, letQ, letS}
-use Rattle.notation.specs.Spelling.{Token, sign, name, Tokens}
+use Rattle.notation.specs.Grammar.{blank, signBytes, letter, bytesOf, Sign, lpar, rpar, lbrace, rbrace, lsq}
+use Rattle.notation.specs.Grammar.{rsq, comma, bar, slash, amp, minus, wordDec, wordBy, Letter, letC, letQ, letS}
+use Rattle.notation.specs.Grammar.{Token, sign, name, Tokens}
 use Rattle.line.specs.Line.{decimal}
 use Rattle.notation.specs.Laws.Decimal.{decimal-one, decimal-more}
 use Rattle.notation.specs.Laws.Backward.{Laid, nothing, space, token, putNames, putSet, putOptional, putLiteral}

@@ -9,8 +9,8 @@ use native.Mathlib.Omega.{arith}
 use borrow.Author.Tests.{eqb-true, eq-eqb, ne-eqb}
 use lib.Dec.{eqb}
 use Rattle.meaning.specs.Laws.Bools.{eqb-sym}
-use Rattle.notation.specs.Spelling.{letter, blank, Spells, Sign, lpar, rpar, lbrace, rbrace, lsq, rsq, comma, bar}
-use Rattle.notation.specs.Spelling.{slash, amp, minus, wordDec, wordBy, Letter, letC, letQ, letS, FirstWrong}
+use Rattle.notation.specs.Grammar.{letter, blank, Spells, Sign, lpar, rpar, lbrace, rbrace, lsq, rsq, comma, bar}
+use Rattle.notation.specs.Grammar.{slash, amp, minus, wordDec, wordBy, Letter, letC, letQ, letS, FirstWrong}
 use Rattle.notation.specs.Laws.Backward.{nothing}
 use Rattle.notation.specs.Syntax.{Single, sequential, decomposed, hidden, Chart, single, composed}
 use Rattle.notation.specs.Reader.{Enclosure, whole, inSlave, inHiding, inBrackets, Context, firstIn, secondIn, Role}

@@ -5,7 +5,7 @@ use mathlib.Core.Option.{none, some}
 use mathlib.Core.List.{List, [], _∷_}
 use Prim.Native.Nat.{ℕ, _+_}
 use lib.Dec.{eqb}
-use Rattle.notation.specs.Spelling.{letter}
+use Rattle.notation.specs.Grammar.{letter}
 use Rattle.notation.specs.Syntax.{Single, sequential, decomposed, hidden}
 use Rattle.notation.specs.Reader.{whole, inSlave, inHiding, inBrackets, firstIn, secondIn, Role, alone, master, Slot}
 use Rattle.notation.specs.Reader.{feedback, action, extra, between, hideX, hideY, State, part, opened, ended, boxed}

@@ -10,7 +10,7 @@ use borrow.Fn.Kinds.{In}
 use borrow.Fn.PlainCycle.{Measures, is, falls, and}
 use lib.ListN.{length}
 use Rattle.meaning.specs.File.{fileAt}
-use Rattle.notation.specs.Spelling.{lpar, rpar, bar, comma, lbrace, rbrace, lsq, rsq, letQ, signBytes, letter}
+use Rattle.notation.specs.Grammar.{lpar, rpar, bar, comma, lbrace, rbrace, lsq, rsq, letQ, signBytes, letter}
 use Rattle.printing.specs.Prints.{Prints}
 use Rattle.printing.specs.Turns.{inTurn}
 use Rattle.printing.specs.Laws.Prints.{prints-append}

@@ -3,7 +3,7 @@ use mathlib.Core.Path.{_≡_, refl, sym, _∙_}
 use native.Mathlib.Omega.{arith}
 use borrow.Author.Needs.{needs}
 use Rattle.notation.specs.Syntax.{Chart}
-use Rattle.notation.specs.Spelling.{Spells}
+use Rattle.notation.specs.Grammar.{Spells}
 use Rattle.outline.specs.Outline.{OutlineFor}
 use Rattle.roster.specs.Roster.{GivesRoster}
 use Rattle.texts.specs.Laws.Steps.{says-deep, says-named, says-over, says-crowded, is-ready}

@@ -12,7 +12,7 @@ use Rattle.meaning.specs.Numbers.{badCounts, badChart}
 use Rattle.meaning.specs.Count.Laws.{or-left, or-right}
 use Rattle.meaning.specs.Check.{firstOf, counts?}
 use Rattle.notation.specs.Syntax.{Chart, depth}
-use Rattle.notation.specs.Spelling.{Spells}
+use Rattle.notation.specs.Grammar.{Spells}
 use Rattle.reading.specs.Numbers.{mostDepth, tooDeep, badName}
 use Rattle.reading.specs.Names.{any, names?}
 use Rattle.reading.specs.Meant.{chartsOf, trailerFor, fileFor}

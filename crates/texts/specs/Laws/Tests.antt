@@ -15,7 +15,7 @@ use Rattle.meaning.specs.Check.{Test, firstOf, fileTests, refusalOf, counts?}
 use Rattle.meaning.specs.Check.Laws.{firstOf-here, firstOf-next, firstOf-[], call-refused, call-passed}
 use Rattle.meaning.specs.Calls.{laidOver}
 use Rattle.notation.specs.Syntax.{Chart, depth}
-use Rattle.notation.specs.Spelling.{Spells}
+use Rattle.notation.specs.Grammar.{Spells}
 use Rattle.notation.specs.Reader.{Reading, spelt, wrongAt, reader}
 use Rattle.notation.specs.Laws.Theorems.{complete}
 use Rattle.reading.specs.Numbers.{mostDepth, notNotation, tooDeep, badName}

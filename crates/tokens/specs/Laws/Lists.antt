@@ -5,7 +5,7 @@ use mathlib.Core.List.{List, [], _∷_, _++_}
 use Prim.Native.Nat.{ℕ}
 use lib.ListN.{drop, getD}
 use Rattle.notation.specs.Syntax.{OneOrMore, one, _▸_}
-use Rattle.notation.specs.Spelling.{Sign, comma, Letter, sign, name, Tokens, letter, bytesOf, ofNames, Text}
+use Rattle.notation.specs.Grammar.{Sign, comma, Letter, sign, name, Tokens, letter, bytesOf, ofNames, Text}
 use Rattle.notation.specs.Reader.{firstByte}
 use Rattle.notation.specs.Laws.Signs.{sign-bytes}
 use Rattle.tokens.specs.Tokens.{blanks}

@@ -8,8 +8,8 @@ use borrow.Author.Tests.{ltb-true, ltb-false, lt-ltb, le-ltb}
 use lib.Dec.{ltb}
 use lib.ListN.{length, drop}
 use lib.Seq.{drop-at}
-use Rattle.notation.specs.Spelling.{Sign, Letter, Token, sign, name, Tokens, signBytes, bytesOf, Text, end, blankThen}
-use Rattle.notation.specs.Spelling.{tokenThen}
+use Rattle.notation.specs.Grammar.{Sign, Letter, Token, sign, name, Tokens, signBytes, bytesOf, Text, end, blankThen}
+use Rattle.notation.specs.Grammar.{tokenThen}
 use Rattle.line.specs.Line.{decimal}
 use Rattle.notation.specs.Reader.{isDigit}
 use Rattle.notation.specs.Laws.Decimal.{decimal-one, decimal-more, digit-is, blank-digit}

@@ -9,7 +9,7 @@ use borrow.Author.Needs.{needs}
 use borrow.Fn.Kinds.{In}
 use borrow.Fn.PlainCycle.{Measures, is, falls, and}
 use lib.ListN.{length}
-use Rattle.notation.specs.Spelling.{Tokens}
+use Rattle.notation.specs.Grammar.{Tokens}
 use Rattle.reading.specs.Numbers.{namedStates}
 use Rattle.tokens.specs.Laws.Steps.{peek-some}
 use Rattle.forms.specs.Laws.Slaves.{Pair}

@@ -14,12 +14,12 @@ use lib.ListN.{length, drop, getD, drop-of-length-le}
 use Rattle.notation.specs.Syntax.{OneOrMore, one, _▸_, Signals, Literal, needed, barred, Transition, Heading}
 use Rattle.notation.specs.Syntax.{Sequential, Single, sequential, decomposed, hidden, Chart, single, composed}
 use Rattle.notation.specs.Syntax.{Slaves, firstSlave, moreSlaves}
-use Rattle.notation.specs.Spelling.{Sign, lpar, rpar, lbrace, rbrace, lsq, rsq, comma, bar, slash, amp, minus, wordDec}
-use Rattle.notation.specs.Spelling.{wordBy, Letter, letC, letQ, letS, sign, name, Tokens, sign₁, name₁, ofNames}
-use Rattle.notation.specs.Spelling.{ofSet, ofOptional, ofLiteral, ofLiterals, ofGuard, ofTransition, ofTransitionList}
-use Rattle.notation.specs.Spelling.{ofTransitions, ofHeading, ofExtra, ofSequential, ofSingle, ofChart, ofPart}
-use Rattle.notation.specs.Spelling.{ofSlaves}
-use Rattle.notation.specs.Spelling.{signBytes, letter, bytesOf, blank, Text, tokenThen}
+use Rattle.notation.specs.Grammar.{Sign, lpar, rpar, lbrace, rbrace, lsq, rsq, comma, bar, slash, amp, minus, wordDec}
+use Rattle.notation.specs.Grammar.{wordBy, Letter, letC, letQ, letS, sign, name, Tokens, sign₁, name₁, ofNames}
+use Rattle.notation.specs.Grammar.{ofSet, ofOptional, ofLiteral, ofLiterals, ofGuard, ofTransition, ofTransitionList}
+use Rattle.notation.specs.Grammar.{ofTransitions, ofHeading, ofExtra, ofSequential, ofSingle, ofChart, ofPart}
+use Rattle.notation.specs.Grammar.{ofSlaves}
+use Rattle.notation.specs.Grammar.{signBytes, letter, bytesOf, blank, Text, tokenThen}
 use Rattle.notation.specs.Reader.{isDigit}
 use Rattle.notation.specs.Laws.Decimal.{digit-range}
 use Rattle.tokens.specs.Tokens.{blanks, digits}

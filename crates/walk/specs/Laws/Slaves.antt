@@ -11,8 +11,8 @@ use lib.ListN.{length, drop, getD}
 use Rattle.layout.specs.declared.record.Slave.{Slave}
 use Rattle.notation.specs.Syntax.{Sequential, decomposed, Chart}
 use Rattle.notation.specs.Syntax.{Slaves, firstSlave, moreSlaves, depth, depthSlaves}
-use Rattle.notation.specs.Spelling.{lpar, rpar, lbrace, rbrace, comma, wordDec, wordBy, letQ, sign, name, signBytes}
-use Rattle.notation.specs.Spelling.{Tokens, ofChart, ofSlaves, Text}
+use Rattle.notation.specs.Grammar.{lpar, rpar, lbrace, rbrace, comma, wordDec, wordBy, letQ, sign, name, signBytes}
+use Rattle.notation.specs.Grammar.{Tokens, ofChart, ofSlaves, Text}
 use Rattle.notation.specs.Reader.{firstByte}
 use Rattle.reading.specs.Numbers.{namedCharts, namedStates}
 use Rattle.reading.specs.Names.{nameOf}

@@ -14,7 +14,7 @@ use Rattle.meaning.specs.Check.{notBelow}
 use Rattle.meaning.specs.Count.Laws.{or-left, or-right}
 use Rattle.notation.specs.Syntax.{Sequential, Single, sequential, decomposed, hidden, Chart, single, composed, Slaves}
 use Rattle.notation.specs.Syntax.{firstSlave, moreSlaves}
-use Rattle.notation.specs.Spelling.{ofChart, Text}
+use Rattle.notation.specs.Grammar.{ofChart, Text}
 use Rattle.reading.specs.Numbers.{mostDepth, namedCharts}
 use Rattle.reading.specs.Names.{membersOf, any, twice?, leftOut?, notAll?, set?, optional?, sequential?, sequentialsIn}
 use Rattle.reading.specs.Names.{sequentialsOf, sequentialsOfSlaves, singleParts?, parts?, slaveParts?, nameOf, names?}

@@ -15,8 +15,8 @@ use Rattle.layout.specs.Put.{Room}
 use Rattle.layout.specs.Put.Laws.{put-none}
 use Rattle.notation.specs.Syntax.{Signals, Sequential, Single, sequential, decomposed, hidden, Chart, single, composed}
 use Rattle.notation.specs.Syntax.{depth, depthSingle}
-use Rattle.notation.specs.Spelling.{lpar, rpar, lsq, rsq, bar, sign, signBytes}
-use Rattle.notation.specs.Spelling.{Tokens, ofSet, ofOptional, ofChart, ofPart, Text}
+use Rattle.notation.specs.Grammar.{lpar, rpar, lsq, rsq, bar, sign, signBytes}
+use Rattle.notation.specs.Grammar.{Tokens, ofSet, ofOptional, ofChart, ofPart, Text}
 use Rattle.notation.specs.Reader.{firstByte}
 use Rattle.reading.specs.Numbers.{namedCharts}
 use Rattle.reading.specs.Names.{membersOr, signals?, set?, optional?, nameOf}

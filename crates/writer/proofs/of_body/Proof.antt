@@ -11,7 +11,7 @@ use Rattle.layout.specs.Put.Laws.{put-over}
 use Rattle.meaning.specs.File.{File, fileAt}
 use Rattle.notation.specs.Syntax.{depth}
 use Rattle.reading.specs.Numbers.{mostDepth}
-use Rattle.writing.specs.Write.{chartIn, textIn}
+use Rattle.spelling.specs.Write.{chartIn, textIn}
 use Rattle.writer.specs.Laws.Tests.{body-deep, body-short, body-written}
 use Rattle.writer.proofs.of_body.Statement.{statement}
 use Rattle.writer.proofs.of_body.Tie as tie

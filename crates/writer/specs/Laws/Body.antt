@@ -8,8 +8,8 @@ use Rattle.meaning.specs.Check.{refusalOf}
 use Rattle.meaning.specs.Check.Laws.{passed}
 use Rattle.meaning.specs.Laws.Alike.{accepted-treed}
 use Rattle.checks.specs.Known.{Sized, Summed}
-use Rattle.writing.specs.Write.{textOf}
-use Rattle.writing.specs.Laws.Bound.{text-most}
+use Rattle.spelling.specs.Write.{textOf}
+use Rattle.spelling.specs.Laws.Bound.{text-most}
 use Rattle.writer.specs.Contracts.{Readable}
 
 module _ (f : List ℕ) (n : Shape) (b : List ℕ) (en : n ≡ shapeOf (trailer f)) (eb : b ≡ bodyOf f) where

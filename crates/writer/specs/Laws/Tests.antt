@@ -20,7 +20,7 @@ use Rattle.meaning.specs.Calls.{laidOver}
 use Rattle.meaning.specs.Rewriting.{stayTest}
 use Rattle.notation.specs.Syntax.{depth}
 use Rattle.reading.specs.Numbers.{mostDepth, tooDeep}
-use Rattle.writing.specs.Write.{chartIn, textIn, textOf, deepTest, writeRefusal, writeLength, writeOut}
+use Rattle.spelling.specs.Write.{chartIn, textIn, textOf, deepTest, writeRefusal, writeLength, writeOut}
 use Rattle.writer.specs.declared.Written.{Written}
 use Rattle.writer.specs.Contracts.{WriteSays, writeAfter, WritesBody}
 

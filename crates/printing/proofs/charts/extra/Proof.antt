@@ -1,7 +1,7 @@
 -- `extra` meets its contract.
 use mathlib.Core.Path.{refl}
 use borrow.Author.Needs.{needs}
-use Rattle.notation.specs.Spelling.{comma, signBytes}
+use Rattle.notation.specs.Grammar.{comma, signBytes}
 use Rattle.printing.specs.Laws.Prints.{prints-none, prints-append}
 use Rattle.printing.specs.Laws.Forms.{extra-none, extra-some}
 use Rattle.printing.proofs.charts.extra.Statement.{statement}

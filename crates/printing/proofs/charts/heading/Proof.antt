@@ -1,7 +1,7 @@
 -- `heading` meets its contract: its parts are typed one after another.
 use mathlib.Core.Path.{refl, _∙_}
 use borrow.Author.Needs.{needs}
-use Rattle.notation.specs.Spelling.{lpar, comma, lbrace, rbrace, letC, letQ, signBytes, letter, ofHeading}
+use Rattle.notation.specs.Grammar.{lpar, comma, lbrace, rbrace, letC, letQ, signBytes, letter, ofHeading}
 use Rattle.printing.specs.Laws.Prints.{prints-append}
 use Rattle.printing.proofs.charts.heading.Statement.{statement}
 use Rattle.printing.proofs.charts.heading.Tie as tie

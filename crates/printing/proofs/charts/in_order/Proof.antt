@@ -6,7 +6,7 @@ use native.Mathlib.Omega.{arith}
 use borrow.Author.Needs.{needs}
 use lib.ListN.{length}
 use Rattle.layout.specs.Body.{transitionAt}
-use Rattle.notation.specs.Spelling.{comma, signBytes, ofTransition}
+use Rattle.notation.specs.Grammar.{comma, signBytes, ofTransition}
 use Rattle.checks.specs.Known.Laws.{in-all, own-are}
 use Rattle.printing.specs.Prints.{Prints}
 use Rattle.printing.specs.Turns.{inTurn}

@@ -1,7 +1,7 @@
 -- `sequential` meets its contract: its parts are typed one after another.
 use mathlib.Core.Path.{refl}
 use borrow.Author.Needs.{needs}
-use Rattle.notation.specs.Spelling.{comma, rpar, signBytes}
+use Rattle.notation.specs.Grammar.{comma, rpar, signBytes}
 use Rattle.printing.specs.Laws.Prints.{prints-append}
 use Rattle.printing.specs.Laws.Forms.{sequential-parts}
 use Rattle.printing.proofs.charts.sequential.Statement.{statement}

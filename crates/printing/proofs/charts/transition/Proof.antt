@@ -1,8 +1,8 @@
 -- `transition` meets its contract: its parts are typed one after another.
 use mathlib.Core.Path.{refl, _∙_}
 use borrow.Author.Needs.{needs}
-use Rattle.notation.specs.Spelling.{lpar, rpar, comma, slash, letQ, signBytes, letter, ofTransition}
-use Rattle.writing.specs.Typed.{transitionOf}
+use Rattle.notation.specs.Grammar.{lpar, rpar, comma, slash, letQ, signBytes, letter, ofTransition}
+use Rattle.spelling.specs.Typed.{transitionOf}
 use Rattle.printing.specs.Laws.Prints.{prints-append}
 use Rattle.printing.proofs.charts.transition.Statement.{statement}
 use Rattle.printing.proofs.charts.transition.Tie as tie

@@ -1,7 +1,7 @@
 -- `transitions` meets its contract.
 use mathlib.Core.Path.{refl}
 use borrow.Author.Needs.{needs}
-use Rattle.notation.specs.Spelling.{lbrace, rbrace, signBytes}
+use Rattle.notation.specs.Grammar.{lbrace, rbrace, signBytes}
 use Rattle.printing.specs.Laws.Prints.{prints-append}
 use Rattle.printing.specs.Laws.Forms.{transitions-turn}
 use Rattle.printing.proofs.charts.transitions.Statement.{statement}

@@ -5,8 +5,8 @@ use native.Mathlib.Numerals.{add-one}
 use native.Mathlib.Omega.{arith}
 use borrow.Author.Needs.{needs}
 use lib.ListN.{length}
-use Rattle.notation.specs.Spelling.{amp, ofLiteral}
-use Rattle.writing.specs.Typed.{fromAll, saidOf, literals}
+use Rattle.notation.specs.Grammar.{amp, ofLiteral}
+use Rattle.spelling.specs.Typed.{fromAll, saidOf, literals}
 use Rattle.printing.specs.Prints.{Prints}
 use Rattle.printing.specs.Turns.{inTurn}
 use Rattle.printing.specs.Laws.Turns.{inTurn-none, adds-both}

@@ -1,7 +1,7 @@
 -- `minus` meets its contract.
 use mathlib.Core.Path.{refl}
 use borrow.Author.Needs.{needs}
-use Rattle.notation.specs.Spelling.{minus, signBytes, ofLiteral}
+use Rattle.notation.specs.Grammar.{minus, signBytes, ofLiteral}
 use Rattle.printing.specs.Laws.Prints.{prints-append}
 use Rattle.printing.proofs.guards.minus.Statement.{statement}
 use Rattle.printing.proofs.guards.minus.Tie as tie

@@ -7,8 +7,8 @@ use native.Mathlib.Omega.{arith}
 use borrow.Author.Needs.{needs}
 use lib.ListN.{length}
 use Rattle.signals.specs.Mask.{bit}
-use Rattle.notation.specs.Spelling.{comma, letS, name₁}
-use Rattle.writing.specs.Typed.{ifSo, fromAll, members}
+use Rattle.notation.specs.Grammar.{comma, letS, name₁}
+use Rattle.spelling.specs.Typed.{ifSo, fromAll, members}
 use Rattle.printing.specs.Prints.{Prints}
 use Rattle.printing.specs.Turns.{inTurn}
 use Rattle.printing.specs.Laws.Turns.{inTurn-none}

@@ -1,6 +1,6 @@
 -- `by` meets its contract: its bytes are typed one after another.
 use borrow.Author.Needs.{needs}
-use Rattle.notation.specs.Spelling.{wordBy, signBytes}
+use Rattle.notation.specs.Grammar.{wordBy, signBytes}
 use Rattle.printing.specs.Laws.Prints.{writes-append, prints-sign}
 use Rattle.printing.proofs.signs.by.Statement.{statement}
 use Rattle.printing.proofs.signs.by.Tie as tie

@@ -1,6 +1,6 @@
 -- `dec` meets its contract: its bytes are typed one after another.
 use borrow.Author.Needs.{needs}
-use Rattle.notation.specs.Spelling.{wordDec, signBytes}
+use Rattle.notation.specs.Grammar.{wordDec, signBytes}
 use Rattle.printing.specs.Laws.Prints.{writes-append, prints-sign}
 use Rattle.printing.proofs.signs.dec.Statement.{statement}
 use Rattle.printing.proofs.signs.dec.Tie as tie

@@ -8,8 +8,8 @@ use borrow.Author.Needs.{needs}
 use lib.ListN.{length}
 use mathlib.Core.Bool.{cond}
 use Rattle.meaning.specs.Meaning.{same}
-use Rattle.notation.specs.Spelling.{comma, letQ, letter, name₁}
-use Rattle.writing.specs.Typed.{fromAll}
+use Rattle.notation.specs.Grammar.{comma, letQ, letter, name₁}
+use Rattle.spelling.specs.Typed.{fromAll}
 use Rattle.printing.specs.Turns.{Adds}
 use Rattle.printing.specs.Laws.Turns.{inTurn-one, adds-none, adds-both}
 use Rattle.printing.specs.Laws.Forms.{fromAll-none, fromAll-more, names-turn}

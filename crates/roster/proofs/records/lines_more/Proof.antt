@@ -8,7 +8,7 @@ use borrow.Author.Needs.{needs}
 use lib.ListN.{length, drop}
 use Rattle.layout.specs.Put.{Room}
 use Rattle.notation.specs.Syntax.{Transition}
-use Rattle.notation.specs.Spelling.{rbrace, sign, Tokens, Text}
+use Rattle.notation.specs.Grammar.{rbrace, sign, Tokens, Text}
 use Rattle.reading.specs.Meant.{all}
 use Rattle.tokens.specs.Tokens.{blanks}
 use Rattle.tokens.specs.Laws.Steps.{peek-some}

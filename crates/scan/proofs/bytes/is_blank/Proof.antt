@@ -1,6 +1,6 @@
 -- `bytes::is_blank` meets its contract.
 use borrow.Author.Tests.{eq-eqb, ne-eqb}
-use Rattle.notation.specs.Spelling.{blank}
+use Rattle.notation.specs.Grammar.{blank}
 use Rattle.scan.proofs.bytes.is_blank.Statement.{statement}
 use Rattle.scan.proofs.bytes.is_blank.Tie as tie
 

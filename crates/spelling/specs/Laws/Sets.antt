@@ -19,8 +19,8 @@ use Rattle.reading.specs.Numbers.{namedSignals}
 use Rattle.reading.specs.Names.{any, signals?, set?, optional?, signalOf}
 use Rattle.reading.specs.Meant.{maskOf, setOf, optionalOf, neededIn, barredIn}
 use Rattle.reading.specs.Laws.Lists.{bit-mask}
-use Rattle.writing.specs.Typed.{ifSo, members, signalsOf, orLeftOut, saidOf, literals}
-use Rattle.writing.specs.Laws.Lists.{listed-members, from-any, from-cong, from-each, chosen-has}
+use Rattle.spelling.specs.Typed.{ifSo, members, signalsOf, orLeftOut, saidOf, literals}
+use Rattle.spelling.specs.Laws.Lists.{listed-members, from-any, from-cong, from-each, chosen-has}
 
 -- ── sets ──
 

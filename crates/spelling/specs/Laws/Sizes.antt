@@ -17,15 +17,15 @@ use Rattle.meaning.specs.Laws.Bools.{same-comm}
 use Rattle.line.specs.Line.{digit, digits, widthTo, width, decimal}
 use Rattle.line.specs.Line.Laws.{width-le, length-decimal}
 use Rattle.notation.specs.Syntax.{OneOrMore, one, _▸_, Literal, needed, barred, Transition}
-use Rattle.notation.specs.Spelling.{rpar, rbrace, comma, slash, amp}
-use Rattle.notation.specs.Spelling.{Letter, letC, letQ, letS, name, Tokens, sign₁, name₁}
-use Rattle.notation.specs.Spelling.{ofNames, ofSet, ofLiteral, ofLiterals, ofGuard, ofTransition, ofTransitionList}
-use Rattle.notation.specs.Spelling.{ofTransitions}
-use Rattle.notation.specs.Spelling.{ofHeading, ofExtra, ofSequential, signBytes, bytesOf, bytesOfAll}
+use Rattle.notation.specs.Grammar.{rpar, rbrace, comma, slash, amp}
+use Rattle.notation.specs.Grammar.{Letter, letC, letQ, letS, name, Tokens, sign₁, name₁}
+use Rattle.notation.specs.Grammar.{ofNames, ofSet, ofLiteral, ofLiterals, ofGuard, ofTransition, ofTransitionList}
+use Rattle.notation.specs.Grammar.{ofTransitions}
+use Rattle.notation.specs.Grammar.{ofHeading, ofExtra, ofSequential, signBytes, bytesOf, bytesOfAll}
 use Rattle.whole.specs.Laws.Double.{pick}
-use Rattle.writing.specs.Typed.{fromAll, ifSo, followed, listed, members, signalsOf, orLeftOut, saidOf, literals}
-use Rattle.writing.specs.Typed.{transitionOf}
-use Rattle.writing.specs.Typed.{others, statesOf, sequentialOf}
+use Rattle.spelling.specs.Typed.{fromAll, ifSo, followed, listed, members, signalsOf, orLeftOut, saidOf, literals}
+use Rattle.spelling.specs.Typed.{transitionOf}
+use Rattle.spelling.specs.Typed.{others, statesOf, sequentialOf}
 
 -- ── tokens ──
 

@@ -20,13 +20,13 @@ use Rattle.reading.specs.Numbers.{namedStates}
 use Rattle.reading.specs.Names.{membersOf, first, any, has, twice?, notAll?, signals?}
 use Rattle.reading.specs.Names.{signalOf, transition?, sequential?, nameOf}
 use Rattle.reading.specs.Meant.{maskOf, setOf, optionalOf, neededIn, barredIn, transitionFor, transitionsIn, headFor}
-use Rattle.writing.specs.Typed.{fromAll, ifSo, signalsOf, orLeftOut, literals, transitionOf, others, statesOf}
-use Rattle.writing.specs.Typed.{sequentialOf}
-use Rattle.writing.specs.Fits.{FitsIn, Fits}
-use Rattle.writing.specs.Laws.Lists.{followed-members, listed-members, followed-first, from-cong, chosen}
-use Rattle.writing.specs.Laws.Lists.{chosen-has, chosen-once, numbers-named}
-use Rattle.writing.specs.Laws.Sets.{set-written, set-named, optional-written, optional-named, needed-written}
-use Rattle.writing.specs.Laws.Sets.{barred-written, literals-named}
+use Rattle.spelling.specs.Typed.{fromAll, ifSo, signalsOf, orLeftOut, literals, transitionOf, others, statesOf}
+use Rattle.spelling.specs.Typed.{sequentialOf}
+use Rattle.spelling.specs.Fits.{FitsIn, Fits}
+use Rattle.spelling.specs.Laws.Lists.{followed-members, listed-members, followed-first, from-cong, chosen}
+use Rattle.spelling.specs.Laws.Lists.{chosen-has, chosen-once, numbers-named}
+use Rattle.spelling.specs.Laws.Sets.{set-written, set-named, optional-written, optional-named, needed-written}
+use Rattle.spelling.specs.Laws.Sets.{barred-written, literals-named}
 
 -- ── states ──
 

@@ -13,7 +13,7 @@ use Rattle.notation.specs.Syntax.{OneOrMore, one, _▸_}
 use Rattle.meaning.specs.Check.{notBelow}
 use Rattle.reading.specs.Names.{membersOf, membersOr, first, any, has, twice?, lacksBefore, leftOut?, notAll?}
 use Rattle.reading.specs.Laws.Lists.{any-append, any-of, twice-snoc}
-use Rattle.writing.specs.Typed.{fromAll, ifSo, followed, listed}
+use Rattle.spelling.specs.Typed.{fromAll, ifSo, followed, listed}
 
 -- ── one or more ──
 

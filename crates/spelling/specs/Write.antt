@@ -12,9 +12,9 @@ use Rattle.meaning.specs.Check.{Test, firstOf, fileTests}
 use Rattle.meaning.specs.Calls.{laidOver}
 use Rattle.meaning.specs.Rewriting.{stayTest}
 use Rattle.notation.specs.Syntax.{Chart, depth}
-use Rattle.notation.specs.Spelling.{write}
+use Rattle.notation.specs.Grammar.{write}
 use Rattle.reading.specs.Numbers.{mostDepth, tooDeep}
-use Rattle.writing.specs.Typed.{typedOf}
+use Rattle.spelling.specs.Typed.{typedOf}
 
 -- the chart that a file holds, as typed
 abbrev pub chartIn : File → Chart

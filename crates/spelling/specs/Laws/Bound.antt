@@ -20,17 +20,17 @@ use Rattle.meaning.specs.Check.{notBelow, inOrder, ends?, transitions?, slave?,
 use Rattle.meaning.specs.Check.Laws.{below, passed, counted, charted, summed}
 use Rattle.meaning.specs.Laws.Alike.{accepted-node, accepted-sound}
 use Rattle.notation.specs.Syntax.{Chart, single, composed}
-use Rattle.notation.specs.Spelling.{lpar, rpar, lbrace, rbrace, lsq, rsq, comma, bar, wordBy, letQ, sign₁, name₁}
-use Rattle.notation.specs.Spelling.{ofSet, ofOptional, ofTransition, ofSequential, ofSingle, ofChart, ofPart, ofSlaves}
-use Rattle.notation.specs.Spelling.{signBytes, bytesOf, write}
+use Rattle.notation.specs.Grammar.{lpar, rpar, lbrace, rbrace, lsq, rsq, comma, bar, wordBy, letQ, sign₁, name₁}
+use Rattle.notation.specs.Grammar.{ofSet, ofOptional, ofTransition, ofSequential, ofSingle, ofChart, ofPart, ofSlaves}
+use Rattle.notation.specs.Grammar.{signBytes, bytesOf, write}
 use Rattle.whole.specs.Weigh.{Weights, weight, weights}
 use Rattle.whole.specs.Laws.Double.{ofKind}
 use Rattle.whole.specs.Laws.Whole.{partWeight, whole-weight}
-use Rattle.writing.specs.Numbers.{mostText}
-use Rattle.writing.specs.Typed.{signalsOf, transitionOf, sequentialOf, typedOf, masterOf, slavesOf}
-use Rattle.writing.specs.Write.{chartIn, textIn, textOf}
-use Rattle.writing.specs.Laws.Sizes.{size, size-is, size-++, sumOf, withNext, nameSize, name-most, set-most}
-use Rattle.writing.specs.Laws.Sizes.{transition-most, sequential-most}
+use Rattle.spelling.specs.Numbers.{mostText}
+use Rattle.spelling.specs.Typed.{signalsOf, transitionOf, sequentialOf, typedOf, masterOf, slavesOf}
+use Rattle.spelling.specs.Write.{chartIn, textIn, textOf}
+use Rattle.spelling.specs.Laws.Sizes.{size, size-is, size-++, sumOf, withNext, nameSize, name-most, set-most}
+use Rattle.spelling.specs.Laws.Sizes.{transition-most, sequential-most}
 
 -- ── the text of a tree ──
 
