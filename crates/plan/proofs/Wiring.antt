@@ -1,17 +1,16 @@
--- One node more is wired, by its kind. In order: new tables; tests, sets of numbers, masks that are put; what a chart
+-- One node more is wired, by its kind. In order: new tables; tests, masks that are put; what a chart
 -- has once node j is wired (latest-by); a hiding; feedback over a part whose rows are there (Ready); a composition; a
 -- chart and its slaves; the sets of charts; the whole.
 use mathlib.Core.Path.{_≡_, refl, sym, ap, ap₂, subst, _∙_}
 use mathlib.Core.Bool.{Bool, true, false, _&&_, _||_, cond, or-comm}
 use mathlib.Core.List.{List, [], _∷_}
-use Prim.Native.Nat.{ℕ, zero, suc, _+_, _-_, _/_, _%_, _^_, _≤_, _<_, zero-le, suc-le-suc}
-use native.Mathlib.Nat.{mod-lt, div-add-mod'}
+use Prim.Native.Nat.{ℕ, zero, suc, _+_, _-_, _^_, _≤_, _<_}
 use native.Mathlib.Omega.{arith}
 use borrow.Author.Count.{below-more}
 use lib.ListN.{length, getD, set, length-set, replicate, length-replicate, getD-replicate}
 use lib.Seq.{getD-set-same, getD-set-other}
 use Rattle.signals.specs.Mask.{_∪_, _∩_, _∖_, bit}
-use Rattle.signals.specs.Mask.Laws.{bit-union, bit-none, bit-suc, ext}
+use Rattle.signals.specs.Mask.Laws.{bit-union, below-bits}
 use Rattle.signals.specs.Decide.{sets, A, B, C, D, ∅ₑ, _∪ₑ_, _∩ₑ_, _≐_}
 use Rattle.meaning.specs.Numbers.{mostCharts}
 use Rattle.meaning.specs.Count.{anyUpTo}
@@ -44,18 +43,11 @@ wired-none F l few b =
       long = length-replicate {A = ℕ} mostCharts 0;
     }
 
--- ── tests, sets of numbers, masks that are put ──
+-- ── tests, masks that are put ──
 
 by-bit : (b : Bool) (u v w : Set) → (b ≡ true → u ≡ w) → (b ≡ false → v ≡ w) → cond b u v ≡ w
 by-bit true u v w f g = f refl
 by-bit false u v w f g = g refl
-
--- a set of the numbers below k
-below-bits : (k z : ℕ) → ((n : ℕ) → k ≤ n → bit z n ≡ false) → z < 2 ^ k
-below-bits zero z h = let e : z ≡ 0 = ext z 0 (λ n. h n (omega arith) ∙ sym (bit-none n)) in omega arith
-below-bits (suc k) z h =
-    let r = below-bits k (z / 2) (λ n l. sym (bit-suc z n) ∙ h (suc n) (omega arith)) in
-    let d = div-add-mod' z 2 in let m : z % 2 < 2 = mod-lt z (suc-le-suc zero-le) in omega (arith, d, m, r)
 
 pub or-false : (a : Bool) → (a || false) ≡ a
 or-false true = refl

@@ -130,6 +130,12 @@ pub bit-high : (k s n : ℕ) → s < 2 ^ k → k ≤ n → bit s n ≡ false
 unfolding bit
 bit-high k s n h l = ap (λ (x : ℕ). eqb (x % 2) 1) (div-eq-of-lt (lt-of-lt-of-le h (pow-mono l)))
 
+pub below-bits : (k z : ℕ) → ((n : ℕ) → k ≤ n → bit z n ≡ false) → z < 2 ^ k
+below-bits zero z h = let e : z ≡ 0 = ext z 0 (λ n. h n (omega arith) ∙ sym (bit-none n)) in omega arith
+below-bits (suc k) z h =
+    let r = below-bits k (z / 2) (λ n l. sym (bit-suc z n) ∙ h (suc n) (omega arith)) in
+    let d = div-add-mod' z 2 in let m : z % 2 < 2 = mod-lt z (suc-le-suc zero-le) in omega (arith, d, m, r)
+
 pub ext-below : (k a b : ℕ) → a < 2 ^ k → b < 2 ^ k → ((n : ℕ) → n < k → bit a n ≡ bit b n) → a ≡ b
 ext-below k a b ha hb h = ext a b (λ n. go n (decLt n k))
   where
