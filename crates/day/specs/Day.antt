@@ -10,7 +10,7 @@ use Rattle.meaning.specs.Check.{refusalOf}
 use Rattle.meaning.specs.Laws.Runs.{Leads}
 use Rattle.meaning.specs.Calls.{laidOver}
 use Rattle.line.specs.Line.{frontOf, dayRefusal, dayFrom}
-use Rattle.opening.specs.Open.{Stands}
+use Rattle.opening.specs.Opening.{Stands}
 use Rattle.opening.specs.declared.Opening.{Opening}
 use Rattle.stepping.specs.Step.{Checked}
 pub mod Laws

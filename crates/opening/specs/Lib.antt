@@ -1,2 +1,2 @@
 -- What the check tells the calls that read a file.
-pub mod Open
+pub mod Opening

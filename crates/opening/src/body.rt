@@ -7,7 +7,7 @@ ghost use lib.ListN.{length};
 ghost use Rattle.meaning.specs.File.{fileAt};
 ghost use Rattle.meaning.specs.Check.{firstOf, bodyTests, slaves?};
 ghost use Rattle.checks.specs.Known.{Sized};
-ghost use Rattle.opening.specs.Open.{zeroTest, nodeTests};
+ghost use Rattle.opening.specs.Opening.{zeroTest, nodeTests};
 use checks::charts;
 use checks::limits;
 use checks::zeros;

@@ -1,6 +1,6 @@
 // The opening of a file: the whole check, 1 to 11, and where the body stands.
 ghost use mathlib.Core.Path.{_≡_};
-ghost use Rattle.opening.specs.Open.{Opens};
+ghost use Rattle.opening.specs.Opening.{Opens};
 
 mod body;
 

@@ -5,7 +5,7 @@ use Prim.Native.Nat.{ℕ, _/_, _≤_}
 use native.Mathlib.Omega.{arith}
 use borrow.Author.Needs.{needs}
 use lib.ListN.{length}
-use Rattle.opening.specs.Open.{Stands}
+use Rattle.opening.specs.Opening.{Stands}
 use Rattle.stepping.specs.Step.Laws.{checked}
 use Rattle.day.specs.Day.{Accepted}
 use Rattle.day.specs.Day.Laws.{printed, rows-fit, day-refused, day-given}

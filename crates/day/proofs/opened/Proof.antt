@@ -5,7 +5,7 @@ use Prim.Native.Nat.{ℕ, _-_, _/_, _%_}
 use native.Mathlib.Omega.{arith}
 use borrow.Author.Needs.{needs}
 use Rattle.meaning.specs.Check.{refusalOf}
-use Rattle.opening.specs.Open.{Stands}
+use Rattle.opening.specs.Opening.{Stands}
 use Rattle.opening.specs.declared.Opening.{Opening}
 use Rattle.line.specs.Line.{dayRefusal}
 use Rattle.day.specs.Day.{Opened}

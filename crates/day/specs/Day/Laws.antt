@@ -25,7 +25,7 @@ use Rattle.meaning.specs.Check.Laws.{charted}
 use Rattle.meaning.specs.Calls.{made, laidOver, initials, rowsOf, runBytes}
 use Rattle.meaning.specs.Calls.Laws.{length-made, getD-made}
 use Rattle.meaning.specs.Laws.Runs.{Leads, Valid, rows-all}
-use Rattle.opening.specs.Open.{Stands}
+use Rattle.opening.specs.Opening.{Stands}
 use Rattle.opening.specs.declared.Opening.{Opening}
 use Rattle.queries.specs.Contracts.Laws.{both}
 use Rattle.stepping.specs.Step.{configTestsIn}

@@ -6,7 +6,7 @@ use borrow.Author.Needs.{needs}
 use Rattle.meaning.specs.File.{endOf, trailer}
 use Rattle.meaning.specs.Check.{firstOf}
 use Rattle.checks.specs.Trailer.{trailerTests}
-use Rattle.opening.specs.Open.Laws.{refused-short, refused-trailer, within, sized-part, opens}
+use Rattle.opening.specs.Opening.Laws.{refused-short, refused-trailer, within, sized-part, opens}
 use Rattle.opening.proofs.opened.Statement.{statement}
 use Rattle.opening.proofs.opened.Tie as tie
 

@@ -9,7 +9,7 @@ use Rattle.layout.specs.declared.body.Shape.{Shape}
 use Rattle.meaning.specs.Numbers.{stayEdition}
 use Rattle.meaning.specs.File.{trailer, shapeOf, bodyOf, fileAt, fileOf}
 use Rattle.meaning.specs.Check.{refusalOf}
-use Rattle.opening.specs.Open.{Stands}
+use Rattle.opening.specs.Opening.{Stands}
 use Rattle.writer.specs.declared.Written.{Written}
 use Rattle.writer.specs.Contracts.{WriteSays, WritesBody}
 use Rattle.writer.specs.Laws.Tests.{says-refused, says-stay, says-body}

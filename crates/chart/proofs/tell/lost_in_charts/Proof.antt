@@ -2,7 +2,7 @@
 use mathlib.Core.Path.{_≡_}
 use native.Mathlib.Omega.{arith}
 use borrow.Author.Needs.{needs}
-use Rattle.opening.specs.Open.{Stands}
+use Rattle.opening.specs.Opening.{Stands}
 use Rattle.chart.proofs.tell.lost_in_charts.Statement.{statement}
 use Rattle.chart.proofs.tell.lost_in_charts.Tie as tie
 

@@ -5,7 +5,7 @@ use borrow.Author.Needs.{needs}
 use lib.ListN.{length-take}
 use lib.Seq.{length-take-le}
 use Rattle.meaning.specs.Check.{refusalOf}
-use Rattle.opening.specs.Open.{Stands}
+use Rattle.opening.specs.Opening.{Stands}
 use Rattle.stepping.specs.Step.Laws.{checked}
 use Rattle.chart.proofs.tell.run.Statement.{statement}
 use Rattle.chart.proofs.tell.run.Tie as tie

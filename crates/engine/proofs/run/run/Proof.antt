@@ -8,7 +8,7 @@ use lib.ListN.{length}
 use Rattle.layout.specs.declared.body.Shape.{Shape}
 use Rattle.meaning.specs.File.{trailer, shapeOf, bodyOf, fileAt}
 use Rattle.meaning.specs.Check.{refusalOf}
-use Rattle.opening.specs.Open.{Stands}
+use Rattle.opening.specs.Opening.{Stands}
 use Rattle.stepping.specs.Step.Laws.{checked, file-is}
 use Rattle.running.specs.declared.Ran.{Ran}
 use Rattle.engine.specs.Contracts.{RunSays}

@@ -12,7 +12,7 @@ use Rattle.meaning.specs.File.{trailer, shapeOf, bodyOf, fileAt}
 use Rattle.meaning.specs.Check.{refusalOf}
 use Rattle.meaning.specs.Calls.{stepOf, openOf}
 use Rattle.meaning.specs.Calls.Laws.{of-refused}
-use Rattle.opening.specs.Open.{Stands}
+use Rattle.opening.specs.Opening.{Stands}
 use Rattle.engine.specs.Contracts.{StepSays}
 use Rattle.stepping.specs.Step.{BodySteps}
 use Rattle.stepping.specs.Step.Laws.{step-refused, step-passed, places-passed, open-passed, file-under, checked}

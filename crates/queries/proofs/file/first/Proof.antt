@@ -14,7 +14,7 @@ use Rattle.meaning.specs.File.{trailer, shapeOf, bodyOf, chartOf, fileAt, fileO
 use Rattle.meaning.specs.Check.{refusalOf}
 use Rattle.meaning.specs.Check.Laws.{firstOf-here, firstOf-next, firstOf-[], call-refused, call-passed}
 use Rattle.meaning.specs.Calls.{made, laidOver, firstRefusal, initials, firstBytes}
-use Rattle.opening.specs.Open.{Stands}
+use Rattle.opening.specs.Opening.{Stands}
 use Rattle.queries.proofs.file.first.Statement.{statement}
 use Rattle.queries.proofs.file.first.Tie as tie
 

@@ -14,7 +14,7 @@ use Rattle.meaning.specs.File.{trailer, shapeOf, bodyOf, chartOf, fileAt, fileO
 use Rattle.meaning.specs.Check.{refusalOf}
 use Rattle.meaning.specs.Check.Laws.{passed, counted}
 use Rattle.meaning.specs.Calls.{made, laidOver}
-use Rattle.opening.specs.Open.{Stands}
+use Rattle.opening.specs.Opening.{Stands}
 use Rattle.queries.specs.declared.file.StateCounts.{StateCounts}
 use Rattle.queries.specs.States.{noStates, chartStates, statesOf}
 use Rattle.queries.proofs.file.states.Statement.{statement}

@@ -12,7 +12,7 @@ use Rattle.meaning.specs.Check.{refusalOf}
 use Rattle.meaning.specs.Check.Laws.{passed}
 use Rattle.meaning.specs.Check.Nodes.{Treed, treed}
 use Rattle.meaning.specs.Calls.{inputOf, outputOf}
-use Rattle.opening.specs.Open.{Stands}
+use Rattle.opening.specs.Opening.{Stands}
 use Rattle.queries.specs.declared.interface.Faces.{Faces}
 use Rattle.queries.proofs.interface.interface.Statement.{statement}
 use Rattle.queries.proofs.interface.interface.Tie as tie

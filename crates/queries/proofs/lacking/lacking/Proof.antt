@@ -8,7 +8,7 @@ use Rattle.layout.specs.declared.body.Shape.{Shape}
 use Rattle.meaning.specs.Meaning.{Set}
 use Rattle.meaning.specs.File.{trailer, shapeOf, bodyOf, fileAt, fileOf}
 use Rattle.meaning.specs.Check.{refusalOf}
-use Rattle.opening.specs.Open.{Stands}
+use Rattle.opening.specs.Opening.{Stands}
 use Rattle.lacks.specs.Lacking.{lackingOf, lackingIn}
 use Rattle.lacks.specs.Lacking.Laws.{refused-file, in-file}
 use Rattle.lacks.specs.declared.Lacking.the-variants.{Refused}

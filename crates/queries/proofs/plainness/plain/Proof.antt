@@ -13,7 +13,7 @@ use Rattle.meaning.specs.Meaning.{same}
 use Rattle.meaning.specs.File.{trailer, shapeOf, bodyOf, fileAt, fileOf}
 use Rattle.meaning.specs.Check.{refusalOf}
 use Rattle.meaning.specs.Plain.{plainIn, plainOf}
-use Rattle.opening.specs.Open.{Stands}
+use Rattle.opening.specs.Opening.{Stands}
 use Rattle.queries.specs.declared.plainness.Plainness.{Plainness}
 use Rattle.queries.proofs.plainness.plain.Statement.{statement}
 use Rattle.queries.proofs.plainness.plain.Tie as tie

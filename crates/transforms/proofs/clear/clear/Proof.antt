@@ -9,7 +9,7 @@ use Rattle.layout.specs.declared.body.Shape.{Shape}
 use Rattle.meaning.specs.Numbers.{stayEdition}
 use Rattle.meaning.specs.File.{trailer, shapeOf, bodyOf, fileAt, fileOf}
 use Rattle.meaning.specs.Check.{refusalOf}
-use Rattle.opening.specs.Open.{Stands}
+use Rattle.opening.specs.Opening.{Stands}
 use Rattle.transforms.specs.declared.clear.Cleared.{Cleared}
 use Rattle.transforms.specs.Contracts.{ClearSays}
 use Rattle.transforms.specs.Clearing.{ClearsBody}

@@ -21,7 +21,7 @@ use Rattle.meaning.specs.Check.Nodes.{sound}
 use Rattle.meaning.specs.Rewriting.{rewriteLength, rewriteOut}
 use Rattle.agreement.specs.Passed.{ready}
 use Rattle.agreement.specs.Step.{nearest-is}
-use Rattle.opening.specs.Open.{Stands}
+use Rattle.opening.specs.Opening.{Stands}
 use Rattle.checks.specs.Known.{Sized, Summed}
 use Rattle.allocation.specs.Known.{Checked, Upward}
 use Rattle.transforms.specs.Contracts.{RewritingSays}

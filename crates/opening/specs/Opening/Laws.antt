@@ -18,7 +18,7 @@ use Rattle.meaning.specs.Check.Laws.{alike, firstOf-here, firstOf-next, Passes,
 use Rattle.meaning.specs.Check.Laws.{firstOf-before, passed, counted, summed}
 use Rattle.checks.specs.Known.{Sized}
 use Rattle.checks.specs.Trailer.{trailerTests}
-use Rattle.opening.specs.Open.{zeroTest, Opens}
+use Rattle.opening.specs.Opening.{zeroTest, Opens}
 
 -- ── refusalOf ──
 
