@@ -5,7 +5,7 @@ ghost use mathlib.Core.List.{_∷_, _++_};
 ghost use Prim.Native.Nat.{_+_, _*_, _≤_, _<_};
 ghost use lib.ListN.{length, take, drop};
 ghost use Rattle.layout.specs.Le.{bytes};
-ghost use Rattle.meaning.specs.Count.{one};
+ghost use Rattle.meaning.specs.Sums.{one};
 ghost use Rattle.meaning.specs.Meaning.{same};
 ghost use Rattle.meaning.specs.Calls.{laidOver};
 ghost use Rattle.desk.specs.Posting.{mostCases, lastRow, width};

@@ -21,8 +21,8 @@ use Rattle.layout.specs.declared.record.Slave.{Slave}
 use Rattle.layout.specs.declared.record.Node.{Node}
 use Rattle.meaning.specs.Numbers.{firstEdition, mostCharts, mostSlaves, mostNodes, mostTransitions, mostStates}
 use Rattle.meaning.specs.Numbers.{mostInChart, mostFromState}
-use Rattle.meaning.specs.Count.{anyUpTo, tally, one}
-use Rattle.meaning.specs.Count.Laws.{any-all, any-never, tally-cong, tally-front}
+use Rattle.meaning.specs.Sums.{anyUpTo, tally, one}
+use Rattle.meaning.specs.Sums.Laws.{any-all, any-never, tally-cong, tally-front}
 use Rattle.meaning.specs.Meaning.{same}
 use Rattle.meaning.specs.File.{File, endOf, trailer, bodyOf, shapeOf, fileAt, fileOf}
 use Rattle.meaning.specs.Check.{edition?, differ, notBelow, counts?, distance?, nonzero, zeros?, chart?, charts?, ends?}

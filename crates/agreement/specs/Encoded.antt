@@ -24,8 +24,8 @@ use Rattle.layout.specs.declared.record.Slave.{Slave}
 use Rattle.layout.specs.declared.record.Node.{Node}
 use Rattle.agreement.specs.Every.{Every, every-at}
 use Rattle.meaning.specs.Numbers.{firstEdition, stayEdition}
-use Rattle.meaning.specs.Count.{tally}
-use Rattle.meaning.specs.Count.Laws.{below-suc}
+use Rattle.meaning.specs.Sums.{tally}
+use Rattle.meaning.specs.Sums.Laws.{below-suc}
 use Rattle.meaning.specs.Meaning.{∅, same}
 use Rattle.meaning.specs.Laws.Bools.{same-≢}
 use Rattle.meaning.specs.File.{File, endOf, trailer, bodyOf, shapeOf, chartOf, fileAt, fileOf}

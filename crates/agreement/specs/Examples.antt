@@ -8,7 +8,7 @@ use Rattle.layout.specs.Le.{le, bytes}
 use Rattle.layout.specs.Record.{trailerOf, trailerBytes, headOf, headBytes, transitionOf, transitionBytes, slaveOf}
 use Rattle.layout.specs.Record.{slaveBytes, nodeOf, nodeBytes}
 use Rattle.layout.specs.Body.{headAt, transitionAt, slaveAt, nodeAt, startOf, from, transitionsOf}
-use Rattle.meaning.specs.Count.{tally, anyUpTo}
+use Rattle.meaning.specs.Sums.{tally, anyUpTo}
 use Rattle.meaning.specs.Meaning.{same, guards, actions}
 use Rattle.meaning.specs.File.{trailer, bodyOf, shapeOf, chartOf, fileAt, fileOf, gather, build, treeOf, Has}
 use Rattle.meaning.specs.Check.{firstOf, edition?, counts?, distance?, nonzero, zeros?, chart?, charts?, ends?, leaving}

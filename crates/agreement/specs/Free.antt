@@ -16,7 +16,7 @@ use Rattle.signals.specs.Decide.{Claim, sets, A, B, C, D, E as Eₑ, _∪ₑ_, 
 use Rattle.layout.specs.declared.record.Transition.{Transition}
 use Rattle.meaning.specs.Meaning.{Set, ∅, guards, actions}
 use Rattle.meaning.specs.File.{File}
-use Rattle.meaning.specs.Count.Laws.{below-suc}
+use Rattle.meaning.specs.Sums.Laws.{below-suc}
 use Rattle.meaning.specs.Rewriting.{unionUpTo, lacking, used, free, call, LowestLeft}
 use Rattle.meaning.specs.Rewriting.Laws.{union-in}
 use Rattle.agreement.specs.Same.{Old}

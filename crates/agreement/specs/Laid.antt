@@ -17,7 +17,7 @@ use Rattle.meaning.specs.Rewriting.{callsOf, count, before, start, newName, com
 use Rattle.meaning.specs.Rewriting.{rewrite}
 use Rattle.meaning.specs.File.{File}
 use Rattle.meaning.specs.Laws.Trees.{Ordered}
-use Rattle.meaning.specs.Count.{one, tally}
+use Rattle.meaning.specs.Sums.{one, tally}
 use Rattle.agreement.specs.Renamed.{count-less, NodesR}
 
 -- what stands past the last node

@@ -15,8 +15,8 @@ use Rattle.signals.specs.Mask.{_∪_}
 use Rattle.meaning.specs.Laws.Bools.{same-refl, same→≡, same-comm, same→≢, same-≢, bool-eq}
 use Rattle.meaning.specs.File.{File}
 use Rattle.meaning.specs.Laws.Trees.{Ordered}
-use Rattle.meaning.specs.Count.{one, tally}
-use Rattle.meaning.specs.Count.Laws.{tally-cong, tally-zero, tally-add, tally-swap, tally-front, tally-only, tally-ge}
+use Rattle.meaning.specs.Sums.{one, tally}
+use Rattle.meaning.specs.Sums.Laws.{tally-cong, tally-zero, tally-add, tally-swap, tally-front, tally-only, tally-ge}
 use Rattle.meaning.specs.Laws.Names.{Rule10}
 use Rattle.meaning.specs.Check.{names, named, held}
 use Rattle.meaning.specs.Rewriting.{callsOf, count, before, start, newName, composed, madeBy, madeFor, laid, newNode}

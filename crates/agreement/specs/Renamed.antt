@@ -16,8 +16,8 @@ use Rattle.agreement.specs.Fit.{slavesOf}
 use Rattle.meaning.specs.Rewriting.{unionUpTo, call, callsBy, callsOf, isOf, touches, count, start, newName}
 use Rattle.meaning.specs.File.{File, whole, gather, treeOf}
 use Rattle.meaning.specs.Laws.Trees.{Ordered, tree₀, tree₁, tree₂}
-use Rattle.meaning.specs.Count.{one, tally}
-use Rattle.meaning.specs.Count.Laws.{tally-plus}
+use Rattle.meaning.specs.Sums.{one, tally}
+use Rattle.meaning.specs.Sums.Laws.{tally-plus}
 
 -- of the slaves of a chart, fewer come before one of them than before a later record
 pub count-less : (F : File) (c i k : ℕ) → i < k → same (F .master i) c ≡ true → count F c i < count F c k

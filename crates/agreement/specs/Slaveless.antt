@@ -12,8 +12,8 @@ use Rattle.layout.specs.Body.{sizeOf}
 use Rattle.layout.specs.Record.{trailerBytes, headBytes, slaveBytes, nodeBytes}
 use Rattle.layout.specs.declared.record.Transition.{Transition}
 use Rattle.meaning.specs.Numbers.{firstEdition}
-use Rattle.meaning.specs.Count.{tally}
-use Rattle.meaning.specs.Count.Laws.{or-left, or-right, any-never, tally-cong}
+use Rattle.meaning.specs.Sums.{tally}
+use Rattle.meaning.specs.Sums.Laws.{or-left, or-right, any-never, tally-cong}
 use Rattle.meaning.specs.Meaning.{Set, ∅}
 use Rattle.meaning.specs.File.{File}
 use Rattle.meaning.specs.Check.{nodeOfKind?, nodes?, notBelow, differ}

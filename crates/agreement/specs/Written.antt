@@ -20,8 +20,8 @@ use Rattle.layout.specs.Body.Laws.{length-from, getD-from, startOf-mono}
 use Rattle.layout.specs.declared.body.Shape.{Shape}
 use Rattle.layout.specs.declared.record.Transition.{Transition}
 use Rattle.meaning.specs.Numbers.{firstEdition}
-use Rattle.meaning.specs.Count.{anyUpTo, tally}
-use Rattle.meaning.specs.Count.Laws.{or-left, or-right, any-never}
+use Rattle.meaning.specs.Sums.{anyUpTo, tally}
+use Rattle.meaning.specs.Sums.Laws.{or-left, or-right, any-never}
 use Rattle.meaning.specs.File.{File, endOf, trailer, bodyOf, shapeOf, chartOf, fileAt, fileOf}
 use Rattle.meaning.specs.Check.{differ, nonzero, zeros?, distance?}
 use Rattle.meaning.specs.Rewriting.{inTurn, headFor, transitionsBytes, transitionsIn, shapeIn, bodyBytes, encode}

@@ -10,7 +10,7 @@ use Rattle.layout.specs.Body.{from as fromOn}
 use Rattle.layout.specs.declared.body.Shape.{Shape}
 use Rattle.layout.specs.declared.record.Transition.{Transition}
 use Rattle.meaning.specs.Numbers.{mostCharts, mostFromState, stayEdition}
-use Rattle.meaning.specs.Count.{tally, one}
+use Rattle.meaning.specs.Sums.{tally, one}
 use Rattle.meaning.specs.Meaning.{Set, same, Chart}
 use Rattle.meaning.specs.File.{chartOf}
 use Rattle.meaning.specs.Check.{leaving}

@@ -8,7 +8,7 @@ ghost use Prim.Native.Nat.{ℕ, _+_, _*_, _≤_, _<_};
 ghost use lib.ListN.{length, getD};
 ghost use Rattle.layout.specs.Body.{Holds, transitionAt, startOf};
 ghost use Rattle.layout.specs.Body.{from as fromOn};
-ghost use Rattle.meaning.specs.Count.{tally, one};
+ghost use Rattle.meaning.specs.Sums.{tally, one};
 ghost use Rattle.meaning.specs.Meaning.{same};
 ghost use Rattle.signals.specs.Mask.{_∪_, _∩_, bit};
 ghost use Rattle.cells.specs.Triggers.{triggers, staysSize};

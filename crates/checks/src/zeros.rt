@@ -3,7 +3,7 @@ ghost use mathlib.Core.Path.{_≡_};
 ghost use Prim.Native.Nat.{_+_, _*_, _≤_};
 ghost use lib.ListN.{length};
 ghost use Rattle.layout.specs.Body.{Holds};
-ghost use Rattle.meaning.specs.Count.{anyUpTo};
+ghost use Rattle.meaning.specs.Sums.{anyUpTo};
 ghost use Rattle.meaning.specs.Check.{nonzero, zeros?};
 use crate::limits::HEAD_BYTES;
 use crate::limits::NODE_BYTES;

@@ -10,7 +10,7 @@ use lib.ListN.{length}
 use Rattle.signals.specs.Mask.{_∪_, _∖_}
 use Rattle.signals.specs.Decide.{sets, A, B, C, ∅ₑ, _∪ₑ_, _⊑_}
 use Rattle.layout.specs.declared.record.Transition.{Transition}
-use Rattle.meaning.specs.Count.{tally}
+use Rattle.meaning.specs.Sums.{tally}
 use Rattle.meaning.specs.Meaning.{Set, ∅, Move, takes, nth, guards, actions, upto}
 use Rattle.clearing.specs.Clearing.{dead, alive, lives}
 

@@ -11,7 +11,7 @@ use Rattle.signals.specs.Mask.{_∪_, _∖_}
 use Rattle.signals.specs.Decide.{sets, A, B, _∪ₑ_, _∖ₑ_, _≐_}
 use Rattle.layout.specs.declared.record.Transition.{Transition}
 use Rattle.meaning.specs.Numbers.{noPlace, manyOpen}
-use Rattle.meaning.specs.Count.Laws.{any-cong}
+use Rattle.meaning.specs.Sums.Laws.{any-cong}
 use Rattle.meaning.specs.Meaning.{Set, ∅, Chart, Tree, comp, hide, guards, inFace, outFace, outcomes, refused, answer}
 use Rattle.meaning.specs.Meaning.{firstPlaces}
 use Rattle.meaning.specs.File.{File, byKind, whole, gather, build, treeOf, wholeOf, Has}

@@ -13,7 +13,7 @@ use Rattle.layout.specs.Record.{slaveBytes, nodeOf, nodeBytes}
 use Rattle.layout.specs.Body.{headAt, transitionAt, slaveAt, nodeAt, startOf, from, transitionsOf}
 use Rattle.layout.specs.declared.record.Transition.{Transition}
 use Rattle.meaning.specs.Numbers.{mostFromState, mostInChart, noFreeSignal, manyFromState, manyInChart}
-use Rattle.meaning.specs.Count.{anyUpTo, tally}
+use Rattle.meaning.specs.Sums.{anyUpTo, tally}
 use Rattle.signals.specs.Guard.{guard}
 use Rattle.meaning.specs.Meaning.{Set, ∅, same, Chart, actions, stay, untriggered, nth, pick, lastPlace, actionOf}
 use Rattle.meaning.specs.Meaning.{after, met?, guards, inFaceChart, inFace, out, okChart, meets, ok, permitted, upd}

@@ -11,7 +11,7 @@ use Rattle.signals.specs.Decide.{sets, A, B, _∪ₑ_, _∖ₑ_, _≐_}
 use Rattle.layout.specs.Le.{AllBytes}
 use Rattle.layout.specs.declared.record.Transition.{Transition}
 use Rattle.meaning.specs.Numbers.{firstEdition}
-use Rattle.meaning.specs.Count.Laws.{or-left, or-right, any-never, any-all}
+use Rattle.meaning.specs.Sums.Laws.{or-left, or-right, any-never, any-all}
 use Rattle.meaning.specs.Meaning.{Set, same, Chart, guards}
 use Rattle.meaning.specs.File.{File, endOf, trailer, fileOf}
 use Rattle.meaning.specs.Check.{refusalOf}

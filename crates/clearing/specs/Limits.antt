@@ -16,8 +16,8 @@ use Rattle.signals.specs.Mask.Laws.{within-at}
 use Rattle.signals.specs.Decide.{sets, A, B, C, D, E, F as F₆, ∅ₑ, _∪ₑ_, _∖ₑ_, _⊑_}
 use Rattle.layout.specs.declared.record.Transition.{Transition}
 use Rattle.meaning.specs.Numbers.{mostSignals, mostFromState, mostInChart, mostNodes, manyNodes}
-use Rattle.meaning.specs.Count.{tally, one}
-use Rattle.meaning.specs.Count.Laws.{any-never, any-all, tally-cong, tally-le}
+use Rattle.meaning.specs.Sums.{tally, one}
+use Rattle.meaning.specs.Sums.Laws.{any-never, any-all, tally-cong, tally-le}
 use Rattle.meaning.specs.Meaning.{Set, same, Chart, guards, actions}
 use Rattle.meaning.specs.File.{File, treeOf}
 use Rattle.meaning.specs.Check.{Test, firstOf}

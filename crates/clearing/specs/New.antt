@@ -17,8 +17,8 @@ use Rattle.layout.specs.Body.Laws.{length-from, getD-from}
 use Rattle.layout.specs.declared.body.Shape.{Shape}
 use Rattle.layout.specs.declared.record.Transition.{Transition}
 use Rattle.meaning.specs.Numbers.{firstEdition, mostSlaves, mostNodes, mostTransitions, mostInChart, mostFromState}
-use Rattle.meaning.specs.Count.{anyUpTo, tally, one}
-use Rattle.meaning.specs.Count.Laws.{or-left, or-right, any-never, tally-cong}
+use Rattle.meaning.specs.Sums.{anyUpTo, tally, one}
+use Rattle.meaning.specs.Sums.Laws.{or-left, or-right, any-never, tally-cong}
 use Rattle.meaning.specs.Meaning.{Set, same, guards}
 use Rattle.meaning.specs.File.{File, endOf, trailer, bodyOf, shapeOf, chartOf, fileAt, fileOf}
 use Rattle.meaning.specs.Check.{differ, distance?, ends?, leaving, transitions?}

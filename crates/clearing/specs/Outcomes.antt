@@ -15,7 +15,7 @@ use Rattle.meaning.specs.Meaning.{takes, stay, behind, pick, lastPlace, actionO
 use Rattle.meaning.specs.Meaning.{inFaces, outFace, outFaces, out, outs, okChart, meets, ok, oks, permitted}
 use Rattle.meaning.specs.Meaning.{untriggered, upd, moves, placeOf, placesFrom, Outcome, outcomeOf, upto, outcome}
 use Rattle.meaning.specs.Meaning.{search, outcomes, eqList, agree, answer, given, firstPlaces}
-use Rattle.meaning.specs.Count.{one as ones}
+use Rattle.meaning.specs.Sums.{one as ones}
 use Rattle.meaning.specs.File.{Has}
 use Rattle.meaning.specs.Open.{openChart, openTree, openSlaves, isOpen, choices, howMany, openChoices}
 use Rattle.meaning.specs.Laws.Open.{howMany-next, howMany-last}

@@ -13,7 +13,7 @@ use Rattle.layout.specs.Body.{headAt, transitionAt, startOf}
 use Rattle.layout.specs.declared.body.Shape.{Shape}
 use Rattle.layout.specs.declared.record.Transition.{Transition}
 use Rattle.meaning.specs.Numbers.{mostCharts, mostSignals, stayEdition}
-use Rattle.meaning.specs.Count.{anyUpTo, tally, one}
+use Rattle.meaning.specs.Sums.{anyUpTo, tally, one}
 use Rattle.meaning.specs.Meaning.{same}
 use Rattle.meaning.specs.File.{File, chartOf, fileAt}
 use Rattle.meaning.specs.Check.{transitions?}

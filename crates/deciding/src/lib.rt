@@ -5,7 +5,7 @@ ghost use mathlib.Core.Bool.{cond, _||_};
 ghost use Prim.Native.Nat.{_≤_};
 ghost use lib.ListN.{getD};
 ghost use Rattle.meaning.specs.Numbers.{mostCharts};
-ghost use Rattle.meaning.specs.Count.{anyUpTo};
+ghost use Rattle.meaning.specs.Sums.{anyUpTo};
 ghost use Rattle.meaning.specs.Meaning.{same};
 ghost use Rattle.meaning.specs.Check.{notBelow};
 ghost use Rattle.desk.specs.Turns.{joinedAt, takenOf, noDay, badOf, seenOf, verdictOf, planOf};

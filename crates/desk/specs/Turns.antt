@@ -8,7 +8,7 @@ use lib.ListN.{length, getD, set, replicate}
 use Rattle.signals.specs.Mask.{_∪_}
 use Rattle.layout.specs.Le.{bytes}
 use Rattle.meaning.specs.Numbers.{mostCharts, wrongLength, badState}
-use Rattle.meaning.specs.Count.{one, anyUpTo}
+use Rattle.meaning.specs.Sums.{one, anyUpTo}
 use Rattle.meaning.specs.Meaning.{Set, ∅, same}
 use Rattle.meaning.specs.Check.{differ, notBelow}
 use Rattle.meaning.specs.Calls.{made, stepOf, refusalIn, outputIn, markIn, nextIn}

@@ -2,7 +2,7 @@
 // pointer and a length. Each function returns 0 or the refusal. A single number behind a pointer is an answer, and is 0
 // where the call is refused, but for the number of open choices in 24; places are answers too, and are 255 then.
 ghost use mathlib.Core.Path.{_≡_};
-ghost use Rattle.meaning.specs.Count.{one};
+ghost use Rattle.meaning.specs.Sums.{one};
 ghost use Rattle.exports.specs.Contracts.{CheckReturns, FirstReturns, InterfaceReturns, PlainReturns};
 ghost use Rattle.exports.specs.Contracts.{StepReturns};
 ghost use Rattle.exports.specs.Contracts.{RunReturns, RewriteReturns, ClearReturns, LackingReturns, ReadReturns};

@@ -4,7 +4,7 @@ ghost use Prim.Native.Nat.{_+_, _≤_, _<_};
 ghost use lib.Dec.{ltb};
 ghost use Rattle.layout.specs.Body.{Holds, from, transitionAt};
 ghost use Rattle.meaning.specs.Numbers.{mostSlaves};
-ghost use Rattle.meaning.specs.Count.{anyUpTo};
+ghost use Rattle.meaning.specs.Sums.{anyUpTo};
 ghost use Rattle.meaning.specs.File.{fileAt};
 ghost use Rattle.meaning.specs.Rewriting.{count, beforeLast, start, rewrite, leavingIn, transitionsIn, shapeIn};
 ghost use lib.ListN.{length};

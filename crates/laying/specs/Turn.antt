@@ -9,7 +9,7 @@ use native.Mathlib.Omega.{arith}
 use lib.ListN.{length, length-append}
 use lib.Seq.{sets}
 use Rattle.layout.specs.Put.Laws.{put-none, put-append, put-length, room-first, room-next}
-use Rattle.meaning.specs.Count.Laws.{below-suc}
+use Rattle.meaning.specs.Sums.Laws.{below-suc}
 use Rattle.meaning.specs.Rewriting.{inTurn}
 use Rattle.layout.specs.Put.{Room, Put}
 

@@ -11,7 +11,7 @@ use Rattle.signals.specs.Mask.{_∪_}
 use Rattle.layout.specs.Le.{bytes}
 use Rattle.meaning.specs.Numbers.{mostCharts, mostOpen, noPlace, wrongLength, badState, shortBuffer, manyOpen}
 use Rattle.meaning.specs.Numbers.{shortRows}
-use Rattle.meaning.specs.Count.{anyUpTo, one}
+use Rattle.meaning.specs.Sums.{anyUpTo, one}
 use Rattle.meaning.specs.Meaning.{Set, ∅, same, Outcome, Answer, refused, given, inFace, outFace, outcomes}
 use Rattle.meaning.specs.Meaning.{answer, firstPlaces}
 use Rattle.meaning.specs.File.{File, wholeOf, fileOf}

@@ -12,7 +12,7 @@ use Rattle.meaning.specs.Numbers.{firstEdition, stayEdition, mostCharts,
 use Rattle.meaning.specs.Numbers.{mostStates, mostInChart, mostFromState, tooShort, otherEdition, badCounts}
 use Rattle.meaning.specs.Numbers.{badDistance, notZero, badChart, badTransition, badSlave, badNode, badNaming}
 use Rattle.meaning.specs.Numbers.{badInside}
-use Rattle.meaning.specs.Count.{anyUpTo, tally, one}
+use Rattle.meaning.specs.Sums.{anyUpTo, tally, one}
 use Rattle.meaning.specs.Meaning.{same}
 use Rattle.meaning.specs.File.{File, treeOf, Has, endOf, trailer, bodyOf, shapeOf, fileAt}
 pub mod Laws

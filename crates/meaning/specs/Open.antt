@@ -5,7 +5,7 @@ use mathlib.Core.Bool.{Bool, true, false, _&&_}
 use mathlib.Core.List.{List, [], _∷_}
 use Prim.Native.Nat.{ℕ, zero, suc, _+_}
 use lib.ListN.{getD}
-use Rattle.meaning.specs.Count.{one}
+use Rattle.meaning.specs.Sums.{one}
 use Rattle.meaning.specs.Meaning.{same, Chart, Tree, Slaves, leaf, comp, hide, dec, nil, snoc, Move, noMove}
 use Rattle.meaning.specs.Meaning.{takes, stay, lastPlace, meets, upd, moves, upto}
 use Rattle.meaning.specs.File.{File, wholeOf}

@@ -5,7 +5,7 @@ use Prim.Native.Nat.{ℕ}
 use Rattle.signals.specs.Mask.{_∪_, _∩_, _∖_}
 use Rattle.layout.specs.declared.record.Transition.{Transition}
 use Rattle.meaning.specs.Numbers.{firstEdition}
-use Rattle.meaning.specs.Count.{anyUpTo}
+use Rattle.meaning.specs.Sums.{anyUpTo}
 use Rattle.meaning.specs.Meaning.{Set, ∅, same}
 use Rattle.meaning.specs.File.{File, trailer, fileOf}
 use Rattle.meaning.specs.Check.{refusalOf, differ}

@@ -19,7 +19,7 @@ use Rattle.layout.specs.declared.record.Transition.{Transition}
 use Rattle.layout.specs.declared.record.Node.{Node}
 use Rattle.meaning.specs.Numbers.{firstEdition, stayEdition, mostSignals, mostFromState, mostInChart, mostNodes}
 use Rattle.meaning.specs.Numbers.{noFreeSignal, manyFromState, manyInChart, manyNodes, shortOut, mayStay}
-use Rattle.meaning.specs.Count.{anyUpTo, tally, one}
+use Rattle.meaning.specs.Sums.{anyUpTo, tally, one}
 use Rattle.meaning.specs.Meaning.{Set, ∅, same, Chart, Tree, Slaves, leaf, comp, hide, dec, nil, snoc, guards}
 use Rattle.meaning.specs.Meaning.{actions}
 use Rattle.meaning.specs.File.{File, trailer, wholeOf, Has, fileOf}

@@ -5,7 +5,7 @@ use mathlib.Core.List.{List}
 use Prim.Native.Nat.{ℕ, zero, suc, _+_}
 use lib.ListN.{getD}
 use Rattle.meaning.specs.Numbers.{mostCharts, mostNodes}
-use Rattle.meaning.specs.Count.{anyUpTo, tally, one}
+use Rattle.meaning.specs.Sums.{anyUpTo, tally, one}
 use Rattle.meaning.specs.Meaning.{same}
 use Rattle.meaning.specs.File.{File}
 use Rattle.meaning.specs.Check.{notBelow, differ, names, holds}

@@ -11,7 +11,7 @@ use borrow.Author.Tests.{eqb-true}
 use Rattle.signals.specs.Mask.{_∪_, _∩_, _∖_, within, apart, Within}
 use Rattle.signals.specs.Decide.{sets, A, B, C, D, E, F, G, ∅ₑ, _∪ₑ_, _∩ₑ_, _∖ₑ_, _≐_, _⊑_, _⊥ₑ_}
 use Rattle.layout.specs.declared.record.Transition.{Transition}
-use Rattle.meaning.specs.Count.Laws.{or-left, or-right}
+use Rattle.meaning.specs.Sums.Laws.{or-left, or-right}
 use Rattle.meaning.specs.Meaning.{Set, ∅, same, Chart, Move, noMove, takes, stay, nth, pick}
 use Rattle.meaning.specs.Laws.Bools.{and-l, and-r, and-i, same→≡, agrees}
 use Rattle.meaning.specs.Laws.Editions.{okOne, pick-one}

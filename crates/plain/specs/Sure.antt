@@ -15,8 +15,8 @@ use Rattle.signals.specs.Decide.{sets, A, B, C, _∪ₑ_, _⊑_}
 use Rattle.layout.specs.Le.{bytes}
 use Rattle.layout.specs.Le.Laws.{length-bytes}
 use Rattle.meaning.specs.Numbers.{firstEdition, noStep, manyOpen}
-use Rattle.meaning.specs.Count.{one}
-use Rattle.meaning.specs.Count.Laws.{any-never}
+use Rattle.meaning.specs.Sums.{one}
+use Rattle.meaning.specs.Sums.Laws.{any-never}
 use Rattle.meaning.specs.Meaning.{Set, ∅, same, Tree, Slaves, nil, snoc, Outcome, Answer, refused, given, agree, answer}
 use Rattle.meaning.specs.File.{File, whole, gather, treeOf, wholeOf, trailer, shapeOf, fileAt, fileOf}
 use Rattle.meaning.specs.Check.{refusalOf}

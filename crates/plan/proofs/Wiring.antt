@@ -13,8 +13,8 @@ use Rattle.signals.specs.Mask.{_∪_, _∩_, _∖_, bit}
 use Rattle.signals.specs.Mask.Laws.{bit-union, below-bits}
 use Rattle.signals.specs.Decide.{sets, A, B, C, D, ∅ₑ, _∪ₑ_, _∩ₑ_, _≐_}
 use Rattle.meaning.specs.Numbers.{mostCharts}
-use Rattle.meaning.specs.Count.{anyUpTo}
-use Rattle.meaning.specs.Count.Laws.{or-left}
+use Rattle.meaning.specs.Sums.{anyUpTo}
+use Rattle.meaning.specs.Sums.Laws.{or-left}
 use Rattle.meaning.specs.Meaning.{Set, Tree, Slaves, nil, snoc, same}
 use Rattle.meaning.specs.File.{File, Has, HasS, whole, gather, treeOf, wholeOf}
 use Rattle.meaning.specs.Check.Nodes.{Treed, Sound, has-below}

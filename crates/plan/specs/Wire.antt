@@ -8,7 +8,7 @@ use Prim.Native.Nat.{ℕ, _<_}
 use lib.ListN.{length, getD, set}
 use Rattle.signals.specs.Mask.{_∪_, _∩_, _∖_, bit}
 use Rattle.meaning.specs.Numbers.{mostCharts}
-use Rattle.meaning.specs.Count.{anyUpTo}
+use Rattle.meaning.specs.Sums.{anyUpTo}
 use Rattle.meaning.specs.Meaning.{Set, Tree, same}
 use Rattle.meaning.specs.File.{File, Has, treeOf}
 use Rattle.cells.specs.Table.{backAt, upAt, upCell}

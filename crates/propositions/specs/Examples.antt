@@ -12,7 +12,7 @@ use Rattle.layout.specs.Le.{le, bytes}
 use Rattle.layout.specs.Record.{trailerOf, trailerBytes, headOf, headBytes, transitionOf, transitionBytes, slaveOf}
 use Rattle.layout.specs.Record.{slaveBytes, nodeOf, nodeBytes}
 use Rattle.layout.specs.Body.{headAt, transitionAt, slaveAt, nodeAt, startOf, from, transitionsOf}
-use Rattle.meaning.specs.Count.{anyUpTo, tally}
+use Rattle.meaning.specs.Sums.{anyUpTo, tally}
 use Rattle.meaning.specs.Meaning.{Answer, given, same, nth, pick, lastPlace, actionOf, after, met?, untriggered, guards}
 use Rattle.meaning.specs.Meaning.{actions, inFaceChart, inFace, inFaces, out, outs, okChart, meets, ok, oks, permitted}
 use Rattle.meaning.specs.Meaning.{upd, moves, nexts, placeOf, placesFrom, upto, outcomeOf, outcome, search, outcomes}

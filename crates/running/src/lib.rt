@@ -5,7 +5,7 @@ ghost use Prim.Native.Nat.{ℕ, _+_, _*_, _≤_, _<_};
 ghost use lib.ListN.{length, take};
 ghost use Rattle.layout.specs.Le.{bytes};
 ghost use Rattle.meaning.specs.Numbers.{mostCharts};
-ghost use Rattle.meaning.specs.Count.{one};
+ghost use Rattle.meaning.specs.Sums.{one};
 ghost use Rattle.meaning.specs.File.{fileAt};
 ghost use Rattle.meaning.specs.Calls.{laidOver, afterStep, carriedAfter, rowOf, rowsOf, carriedOf};
 ghost use Rattle.meaning.specs.Laws.Runs.{Valid};

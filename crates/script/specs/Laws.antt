@@ -13,8 +13,8 @@ use Rattle.layout.specs.Put.{Put}
 use Rattle.layout.specs.declared.body.Shape.{Shape}
 use Rattle.layout.specs.declared.record.Node.{Node}
 use Rattle.layout.specs.declared.record.Slave.{Slave}
-use Rattle.meaning.specs.Count.{anyUpTo}
-use Rattle.meaning.specs.Count.Laws.{or-left, or-right}
+use Rattle.meaning.specs.Sums.{anyUpTo}
+use Rattle.meaning.specs.Sums.Laws.{or-left, or-right}
 use Rattle.meaning.specs.Meaning.{Tree, leaf, comp, hide, dec, nil, snoc, same}
 use Rattle.meaning.specs.Meaning.{Slaves as Held}
 use Rattle.meaning.specs.File.{File, fileAt, build, treeOf, gather, whole, byKind}

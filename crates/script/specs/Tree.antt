@@ -4,7 +4,7 @@ use mathlib.Core.List.{List, [], _∷_, _++_}
 use Prim.Native.Nat.{ℕ}
 use Rattle.layout.specs.declared.body.Shape.{Shape}
 use Rattle.layout.specs.declared.record.Node.{Node}
-use Rattle.meaning.specs.Count.{anyUpTo}
+use Rattle.meaning.specs.Sums.{anyUpTo}
 use Rattle.meaning.specs.Meaning.{Tree, leaf, comp, hide, dec, Slaves, nil, snoc, same}
 use Rattle.meaning.specs.File.{File, build, gather, whole}
 use Rattle.notation.specs.Grammar.{Tokens, lpar, rpar, comma, letQ, sign₁, name₁, ofChart, ofPart}

@@ -11,7 +11,7 @@ use Rattle.signals.specs.Mask.{_∪_}
 use Rattle.signals.specs.Guard.{guard, isMet}
 use Rattle.meaning.specs.Numbers.{mostCharts, noPlace, stayPlace}
 use Rattle.meaning.specs.Meaning.{Set, same, Outcome}
-use Rattle.meaning.specs.Count.{anyUpTo}
+use Rattle.meaning.specs.Sums.{anyUpTo}
 use Rattle.meaning.specs.Laws.Bools.{every}
 use Rattle.cells.specs.Table.{aheadAt, countAt}
 use Rattle.cells.specs.Triggers.{triggerNeeded, triggerBarred, toldAt}

@@ -12,7 +12,7 @@ use Rattle.layout.specs.Body.{from as fromOn}
 use Rattle.layout.specs.declared.body.Shape.{Shape}
 use Rattle.layout.specs.declared.record.Transition.{Transition}
 use Rattle.meaning.specs.Numbers.{mostCharts, mostFromState}
-use Rattle.meaning.specs.Count.{tally, one}
+use Rattle.meaning.specs.Sums.{tally, one}
 use Rattle.meaning.specs.Meaning.{Set, same, untriggered}
 use Rattle.cells.specs.Triggers.{triggersFor, putTrigger, staysSize, someStay, Guards}
 use Rattle.tables.specs.Filled.{Stayers}

@@ -6,7 +6,7 @@ ghost use lib.ListN.{length, getD};
 ghost use Rattle.signals.specs.Mask.{_∪_};
 ghost use Rattle.layout.specs.Body.{Holds, transitionAt, startOf};
 ghost use Rattle.layout.specs.Body.{from as fromOn};
-ghost use Rattle.meaning.specs.Count.{tally, one};
+ghost use Rattle.meaning.specs.Sums.{tally, one};
 ghost use Rattle.meaning.specs.Meaning.{same};
 ghost use Rattle.meaning.specs.Numbers.{mostCharts, mostFromState, stayEdition};
 ghost use Rattle.cells.specs.Triggers.{triggers, triggersFor};

@@ -9,7 +9,7 @@ use lib.Dec.{ltb}
 use lib.ListN.{length, getD}
 use Rattle.layout.specs.declared.body.Shape.{Shape}
 use Rattle.meaning.specs.Numbers.{mostOpen, wrongLength, badState, shortBuffer, noStep, manyOpen}
-use Rattle.meaning.specs.Count.{anyUpTo}
+use Rattle.meaning.specs.Sums.{anyUpTo}
 use Rattle.meaning.specs.Meaning.{Set, same, Answer, refused}
 use Rattle.meaning.specs.File.{File, fileAt, wholeOf}
 use Rattle.meaning.specs.Check.{Test, firstOf, differ, notBelow, charts?, transitions?}

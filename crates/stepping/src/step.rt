@@ -6,7 +6,7 @@ ghost use lib.ListN.{length, take, getD, replicate};
 ghost use Rattle.signals.specs.Mask.{_∩_};
 ghost use Rattle.layout.specs.Body.{Holds, headAt};
 ghost use Rattle.meaning.specs.Numbers.{mostCharts};
-ghost use Rattle.meaning.specs.Count.{anyUpTo};
+ghost use Rattle.meaning.specs.Sums.{anyUpTo};
 ghost use Rattle.meaning.specs.File.{fileAt};
 ghost use Rattle.meaning.specs.Check.{notBelow, firstOf};
 ghost use Rattle.meaning.specs.Open.{openIn};

@@ -11,7 +11,7 @@ use Rattle.signals.specs.Mask.{_∪_, _∩_, bit}
 use Rattle.layout.specs.Row.{RowAt}
 use Rattle.layout.specs.declared.record.Transition.{Transition}
 use Rattle.meaning.specs.Numbers.{mostCharts, mostFromState}
-use Rattle.meaning.specs.Count.{anyUpTo}
+use Rattle.meaning.specs.Sums.{anyUpTo}
 use Rattle.meaning.specs.Meaning.{Set, same, Chart, Move, noMove, takes, stay, met?, pick, actionOf}
 use Rattle.meaning.specs.Rewriting.{unionUpTo}
 use Rattle.wiring.specs.Dropped.{ahead, test}

@@ -12,7 +12,7 @@ use native.Mathlib.Omega.{arith}
 use lib.ListN.{length, getD}
 use Rattle.layout.specs.declared.record.Transition.{Transition}
 use Rattle.meaning.specs.Numbers.{mostFromState}
-use Rattle.meaning.specs.Count.{anyUpTo}
+use Rattle.meaning.specs.Sums.{anyUpTo}
 use Rattle.meaning.specs.Meaning.{Set, same, Chart, Move, noMove, takes, stay, nth, lastPlace, met?, untriggered}
 use Rattle.signals.specs.Guard.{guard, isMet}
 use Rattle.meaning.specs.Laws.Bools.{same-refl, same-≢}

@@ -3,7 +3,7 @@
 use mathlib.Core.Path.{_≡_}
 use Prim.Native.Nat.{ℕ, _+_}
 use Rattle.signals.specs.Mask.{_∪_}
-use Rattle.meaning.specs.Count.{one}
+use Rattle.meaning.specs.Sums.{one}
 use Rattle.meaning.specs.Meaning.{Set, ∅, same, Tree, Slaves, leaf, comp, hide, dec, nil, snoc}
 
 -- ── sums ──

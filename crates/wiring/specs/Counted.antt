@@ -15,8 +15,8 @@ use native.Mathlib.Omega.{arith}
 use borrow.Author.Tests.{ltb-true, ltb-false, lt-ltb, le-ltb}
 use lib.Dec.{ltb}
 use Rattle.meaning.specs.Meaning.{same, upd}
-use Rattle.meaning.specs.Count.{tally, one}
-use Rattle.meaning.specs.Count.Laws.{below-suc, tally-cong, tally-scale, tally-le, tally-ge}
+use Rattle.meaning.specs.Sums.{tally, one}
+use Rattle.meaning.specs.Sums.Laws.{below-suc, tally-cong, tally-scale, tally-le, tally-ge}
 use Rattle.meaning.specs.Laws.Bools.{and-l, and-r, and-i, or-l, or-r, same-refl, same→≡, same-≢}
 use Rattle.meaning.specs.Laws.Choices.{upd-at, upd-off, Below}
 use Rattle.wiring.specs.Product.{times, over, times-cong, times-pos, times-at}

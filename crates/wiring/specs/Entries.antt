@@ -16,8 +16,8 @@ use borrow.Author.Tests.{lt-ltb, le-ltb}
 use lib.Dec.{ltb}
 use lib.ListN.{length, getD, set}
 use lib.Seq.{getD-set-same, getD-set-other}
-use Rattle.meaning.specs.Count.{tally, one}
-use Rattle.meaning.specs.Count.Laws.{tally-cong, tally-mono}
+use Rattle.meaning.specs.Sums.{tally, one}
+use Rattle.meaning.specs.Sums.Laws.{tally-cong, tally-mono}
 use Rattle.meaning.specs.Meaning.{same, Chart, Move, noMove, stay, nth, behind, pick, lastPlace, after, meets}
 use Rattle.meaning.specs.Open.{openChart}
 use Rattle.meaning.specs.Laws.Bools.{same→≡, same-≢}

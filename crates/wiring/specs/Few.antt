@@ -18,8 +18,8 @@ use Rattle.layout.specs.Body.{headAt, transitionAt, startOf, from, transitionsO
 use Rattle.layout.specs.Body.Laws.{length-from}
 use Rattle.layout.specs.declared.body.Shape.{Shape}
 use Rattle.meaning.specs.Numbers.{mostFromState, mostOpen, firstEdition, manyOpen}
-use Rattle.meaning.specs.Count.{anyUpTo, tally, one}
-use Rattle.meaning.specs.Count.Laws.{or-right, any-never, tally-cong}
+use Rattle.meaning.specs.Sums.{anyUpTo, tally, one}
+use Rattle.meaning.specs.Sums.Laws.{or-right, any-never, tally-cong}
 use Rattle.meaning.specs.Meaning.{Set, Chart, noMove, nth, lastPlace, refused}
 use Rattle.meaning.specs.File.{File, trailer, bodyOf, shapeOf, chartOf, fileAt, fileOf, wholeOf}
 use Rattle.meaning.specs.Check.{ends?, leaving, transitions?, refusalOf}

@@ -11,8 +11,8 @@ use native.Mathlib.Omega.{arith}
 use borrow.Author.Tests.{ltb-true, lt-ltb}
 use lib.Dec.{ltb}
 use Rattle.meaning.specs.Meaning.{same, upd}
-use Rattle.meaning.specs.Count.{tally, one}
-use Rattle.meaning.specs.Count.Laws.{tally-cong, tally-scale, tally-le, tally-mono, tally-zero, tally-front, tally-ones}
+use Rattle.meaning.specs.Sums.{tally, one}
+use Rattle.meaning.specs.Sums.Laws.{tally-cong, tally-scale, tally-le, tally-mono, tally-zero, tally-front, tally-ones}
 use Rattle.meaning.specs.Laws.Bools.{and-l, and-r, and-i, same-refl, same→≡, same-≢}
 use Rattle.meaning.specs.Laws.Choices.{upd-at}
 use Rattle.wiring.specs.Product.{times, times-cong, times-pos, times-le, times-part, times-factor, grow}

@@ -12,8 +12,8 @@ use native.Mathlib.Decide.{decLt}
 use native.Mathlib.Omega.{arith}
 use lib.ListN.{length}
 use Rattle.layout.specs.declared.record.Transition.{Transition}
-use Rattle.meaning.specs.Count.{tally, one}
-use Rattle.meaning.specs.Count.Laws.{tally-cong, tally-zero, tally-front, tally-scale}
+use Rattle.meaning.specs.Sums.{tally, one}
+use Rattle.meaning.specs.Sums.Laws.{tally-cong, tally-zero, tally-front, tally-scale}
 use Rattle.meaning.specs.Meaning.{Chart, Tree, Slaves, leaf, comp, hide, dec, nil, snoc, Move, noMove, takes}
 use Rattle.meaning.specs.Meaning.{stay, nth, behind, pick, lastPlace, meets, upd, moves}
 use Rattle.meaning.specs.Open.{openChart, openTree, openSlaves, isOpen, choices, howMany, openChoices}

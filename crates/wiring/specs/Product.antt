@@ -1,4 +1,4 @@
--- Products over charts, as `tally` (Count) has sums: over the first n (`times`), and over n from k on (`over`). In this
+-- Products over charts, as `tally` (Sums) has sums: over the first n (`times`), and over n from k on (`over`). In this
 -- order: the forms that a loop which counts up uses; equal factors, factors that are 1, factors that are not 0;
 -- products with larger factors and products as far as they are made; products from k on.
 use mathlib.Core.Path.{_≡_, refl, sym, _∙_, ap, ap₂, subst}
@@ -8,7 +8,7 @@ use native.Mathlib.Nat.{mul-one, one-mul, zero-mul, mul-zero, mul-assoc, mul-com
 use native.Mathlib.Nat.{mul-pos, mul-le-mul, le-refl, eq-or-lt-of-le}
 use native.Mathlib.Numerals.{add-one}
 use native.Mathlib.Omega.{arith}
-use Rattle.meaning.specs.Count.Laws.{below-suc}
+use Rattle.meaning.specs.Sums.Laws.{below-suc}
 
 -- f 0 * f 1 * .. * f (n - 1)
 unfoldable pub times : ℕ → (ℕ → ℕ) → ℕ

@@ -9,8 +9,8 @@ use mathlib.Core.Option.{Option}
 use Prim.Native.Nat.{ℕ, zero, suc, _+_, _*_, _≤_, _<_}
 use native.Mathlib.Nat.{one-mul, suc-mul}
 use native.Mathlib.Omega.{arith}
-use Rattle.meaning.specs.Count.{tally, one}
-use Rattle.meaning.specs.Count.Laws.{below-suc, tally-scale, tally-le}
+use Rattle.meaning.specs.Sums.{tally, one}
+use Rattle.meaning.specs.Sums.Laws.{below-suc, tally-scale, tally-le}
 use Rattle.meaning.specs.Meaning.{Set, Chart, Tree, pick, actionOf, permitted, upd, moves, search}
 use Rattle.meaning.specs.Open.{openChoices}
 use Rattle.meaning.specs.Laws.Bools.{every-elim, every-intro, and-l, and-r, and-i}

@@ -13,8 +13,8 @@ use Rattle.meaning.specs.Laws.Above.{Above, AboveS}
 use Rattle.meaning.specs.Laws.Trees.{Ordered, Placed, Rule11, tree₀, tree₁, tree₂, all-there, above-node}
 use Rattle.meaning.specs.Laws.Names.{Rule10, bySlave, byNode, enc, kap, find, at-most, by-slave, by-node, names-a₁}
 use Rattle.meaning.specs.Laws.Names.{names-b₁, names-a₂, hold-one, placed, joined, enc-last}
-use Rattle.meaning.specs.Count.{one}
-use Rattle.meaning.specs.Count.Laws.{tally-ge}
+use Rattle.meaning.specs.Sums.{one}
+use Rattle.meaning.specs.Sums.Laws.{tally-ge}
 use Rattle.meaning.specs.Check.{names, named}
 use Rattle.wiring.specs.Wire.{Held, Helds, Enc, Encs}
 use Rattle.wiring.specs.Wired.{Stands}

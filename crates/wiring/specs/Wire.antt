@@ -12,7 +12,7 @@ use Rattle.signals.specs.Decide.{sets, A, B, C, D, E as Eₑ, F as Fₑ, G as G
 use Rattle.meaning.specs.Rewriting.{unionUpTo}
 use Rattle.meaning.specs.Meaning.{Set, ∅, same, Chart, Tree, Slaves, leaf, comp, hide, dec, nil, snoc, Move, noMove}
 use Rattle.meaning.specs.Meaning.{takes, stay, actionOf, met?, untriggered, out, outs, okChart, meets}
-use Rattle.meaning.specs.Count.Laws.{or-left, or-right}
+use Rattle.meaning.specs.Sums.Laws.{or-left, or-right}
 use Rattle.meaning.specs.Laws.Bools.{and-second, or-l, or-r, same-refl, same→≡, same→≢, same-≢}
 use Rattle.meaning.specs.File.{Has, HasS}
 use Rattle.wiring.specs.Uncut.{okU, oksU}

@@ -15,8 +15,8 @@ use Rattle.layout.specs.Body.Laws.{length-from, getD-from}
 use Rattle.layout.specs.declared.body.Shape.{Shape}
 use Rattle.layout.specs.declared.record.Transition.{Transition as Record}
 use Rattle.meaning.specs.Numbers.{firstEdition, mostFromState}
-use Rattle.meaning.specs.Count.{anyUpTo, tally, one}
-use Rattle.meaning.specs.Count.Laws.{any-cong, tally-cong}
+use Rattle.meaning.specs.Sums.{anyUpTo, tally, one}
+use Rattle.meaning.specs.Sums.Laws.{any-cong, tally-cong}
 use Rattle.meaning.specs.Meaning.{Set, same}
 use Rattle.meaning.specs.Meaning.{Chart as Part}
 use Rattle.meaning.specs.File.{File, wholeOf, trailer, bodyOf, shapeOf, chartOf, fileAt, fileOf}

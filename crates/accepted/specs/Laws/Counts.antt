@@ -13,7 +13,7 @@ use Rattle.layout.specs.Body.{transitionAt, headAt, startOf, transitionsOf as r
 use Rattle.layout.specs.Body.Laws.{length-from}
 use Rattle.layout.specs.declared.body.Shape.{Shape}
 use Rattle.meaning.specs.Numbers.{mostCharts, mostSlaves, mostNodes, mostTransitions, mostInChart}
-use Rattle.meaning.specs.Count.{tally}
+use Rattle.meaning.specs.Sums.{tally}
 use Rattle.meaning.specs.Meaning.{same, Tree, leaf, comp, hide, dec, nil, snoc}
 use Rattle.meaning.specs.Meaning.{Slaves as Held}
 use Rattle.meaning.specs.File.{File, wholeOf, trailer, bodyOf, shapeOf, chartOf, fileAt, fileOf}
@@ -21,7 +21,7 @@ use Rattle.meaning.specs.Laws.Alike.{accepted-node, accepted-sound}
 use Rattle.meaning.specs.Check.{counts?, refusalOf}
 use Rattle.meaning.specs.Check.Laws.{passed, counted, charted, summed}
 use Rattle.meaning.specs.Check.Nodes.{Sound}
-use Rattle.meaning.specs.Count.Laws.{tally-ones}
+use Rattle.meaning.specs.Sums.Laws.{tally-ones}
 use Rattle.whole.specs.Weigh.{weight, weights, ofSlaves}
 use Rattle.whole.specs.Weigh.{everyNode, nodesIn as nodesOfTree, slavesIn as slavesOfTree}
 use Rattle.whole.specs.Laws.Whole.{whole-nodes, whole-charts, whole-slaves}

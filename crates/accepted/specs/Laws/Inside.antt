@@ -5,8 +5,8 @@ use mathlib.Core.Bool.{Bool, true, false, _&&_, cond}
 use Prim.Native.Nat.{ℕ, zero, suc, _+_, _-_, _<_}
 use native.Mathlib.Decide.{decLt}
 use native.Mathlib.Omega.{arith}
-use Rattle.meaning.specs.Count.{anyUpTo, one}
-use Rattle.meaning.specs.Count.Laws.{any-cong}
+use Rattle.meaning.specs.Sums.{anyUpTo, one}
+use Rattle.meaning.specs.Sums.Laws.{any-cong}
 use Rattle.meaning.specs.Meaning.{same, Tree, leaf, comp, hide, dec, nil, snoc}
 use Rattle.meaning.specs.Meaning.{Slaves as Held}
 use Rattle.meaning.specs.Laws.Bools.{same→≡}

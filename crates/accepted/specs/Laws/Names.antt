@@ -9,7 +9,7 @@ use native.Mathlib.Decide.{decLt}
 use native.Mathlib.Omega.{arith}
 use borrow.Author.Tests.{lt-ltb, le-ltb, ltb-true}
 use lib.Dec.{ltb, eqb}
-use Rattle.meaning.specs.Count.{one}
+use Rattle.meaning.specs.Sums.{one}
 use Rattle.meaning.specs.Meaning.{same, Tree, leaf, comp, hide, dec, nil, snoc}
 use Rattle.meaning.specs.Meaning.{Slaves as Held}
 use Rattle.meaning.specs.Laws.Bools.{same-refl}

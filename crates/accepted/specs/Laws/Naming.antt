@@ -13,8 +13,8 @@ use lib.ListN.{length}
 use Rattle.layout.specs.Body.{slaveAt, nodeAt}
 use Rattle.layout.specs.declared.record.Slave.{Slave}
 use Rattle.layout.specs.declared.record.Node.{Node}
-use Rattle.meaning.specs.Count.{tally, one}
-use Rattle.meaning.specs.Count.Laws.{tally-front, tally-two}
+use Rattle.meaning.specs.Sums.{tally, one}
+use Rattle.meaning.specs.Sums.Laws.{tally-front, tally-two}
 use Rattle.meaning.specs.Meaning.{same}
 use Rattle.meaning.specs.Laws.Bools.{same-refl}
 use Rattle.meaning.specs.Laws.Names.{Rule10}

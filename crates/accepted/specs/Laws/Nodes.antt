@@ -10,7 +10,7 @@ use lib.Dec.{lit<}
 use lib.ListN.{length, length-append}
 use Rattle.layout.specs.Body.{nodeAt}
 use Rattle.layout.specs.declared.record.Node.{Node}
-use Rattle.meaning.specs.Count.Laws.{any-all, or-left, or-right}
+use Rattle.meaning.specs.Sums.Laws.{any-all, or-left, or-right}
 use Rattle.meaning.specs.File.{File, shapeOf, fileAt}
 use Rattle.meaning.specs.Check.{notBelow, nodeOfKind?, nodes?}
 use Rattle.meaning.specs.Check.Laws.{neither, is-below}

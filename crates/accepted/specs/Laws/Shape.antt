@@ -12,7 +12,7 @@ use Rattle.layout.specs.Record.{trailerBytes, headBytes, transitionBytes, slave
 use Rattle.layout.specs.Record.Laws.{length-trailer, length-head, length-transition, length-slave, length-node}
 use Rattle.layout.specs.Body.{sizeOf, transitionsFrom, slavesFrom, nodesFrom}
 use Rattle.meaning.specs.Numbers.{firstEdition}
-use Rattle.meaning.specs.Count.Laws.{any-all}
+use Rattle.meaning.specs.Sums.Laws.{any-all}
 use Rattle.meaning.specs.File.{endOf, trailer, shapeOf}
 use Rattle.meaning.specs.Check.{edition?, counts?, distance?, nonzero, zeros?}
 use Rattle.meaning.specs.Check.Laws.{counted, neither}

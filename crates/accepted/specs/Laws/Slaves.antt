@@ -14,8 +14,8 @@ use Rattle.layout.specs.Le.{AllBytes}
 use Rattle.layout.specs.Body.{slaveAt}
 use Rattle.layout.specs.declared.record.Slave.{Slave}
 use Rattle.meaning.specs.Numbers.{firstEdition}
-use Rattle.meaning.specs.Count.{tally, one}
-use Rattle.meaning.specs.Count.Laws.{any-all, tally-zero, tally-find}
+use Rattle.meaning.specs.Sums.{tally, one}
+use Rattle.meaning.specs.Sums.Laws.{any-all, tally-zero, tally-find}
 use Rattle.meaning.specs.Meaning.{same, Tree, leaf, comp, hide, dec, nil, snoc}
 use Rattle.meaning.specs.Meaning.{Slaves as Held}
 use Rattle.meaning.specs.Laws.Bools.{same-refl, same-≢, same→≡, or-r, and-l, and-r, and-i}

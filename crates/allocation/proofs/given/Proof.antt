@@ -18,7 +18,7 @@ use Rattle.signals.specs.All.{bit-all}
 use Rattle.signals.specs.Lowest.{IsLowestFree}
 use Rattle.signals.specs.declared.Found.the-variants.{At, Nothing}
 use Rattle.meaning.specs.Numbers.{mostCharts, mostSignals}
-use Rattle.meaning.specs.Count.Laws.{below-suc}
+use Rattle.meaning.specs.Sums.Laws.{below-suc}
 use Rattle.meaning.specs.Laws.Bools.{or-r}
 use Rattle.meaning.specs.Rewriting.{lacking}
 use Rattle.allocation.specs.Known.{Calling}

@@ -14,7 +14,7 @@ use Rattle.layout.specs.Body.{slaveAt}
 use Rattle.layout.specs.declared.body.Shape.{Shape}
 use Rattle.layout.specs.declared.record.Slave.{Slave}
 use Rattle.layout.specs.declared.record.Node.{Node}
-use Rattle.meaning.specs.Count.Laws.{tally-none}
+use Rattle.meaning.specs.Sums.Laws.{tally-none}
 use Rattle.meaning.specs.File.{File, fileAt}
 use Rattle.meaning.specs.Rewriting.{count, newName, inTurn}
 use Rattle.layout.specs.Put.{Put}

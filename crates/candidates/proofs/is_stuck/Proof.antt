@@ -7,8 +7,8 @@ use native.Mathlib.Omega.{arith}
 use borrow.Author.Needs.{needs}
 use lib.Dec.{ltb}
 use Rattle.meaning.specs.Numbers.{mostCharts}
-use Rattle.meaning.specs.Count.{anyUpTo}
-use Rattle.meaning.specs.Count.Laws.{any-none, any-more, any-at}
+use Rattle.meaning.specs.Sums.{anyUpTo}
+use Rattle.meaning.specs.Sums.Laws.{any-none, any-more, any-at}
 use Rattle.meaning.specs.Meaning.{same}
 use Rattle.cells.specs.Table.{countAt, masterAt}
 use Rattle.cells.specs.Triggers.{toldAt}

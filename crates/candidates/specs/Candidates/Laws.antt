@@ -25,8 +25,8 @@ use Rattle.layout.specs.Body.{from as fromOn}
 use Rattle.layout.specs.declared.body.Shape.{Shape}
 use Rattle.layout.specs.declared.record.Transition.{Transition}
 use Rattle.layout.specs.declared.record.Head.{Head}
-use Rattle.meaning.specs.Count.{tally, one}
-use Rattle.meaning.specs.Count.Laws.{tally-more, tally-most}
+use Rattle.meaning.specs.Sums.{tally, one}
+use Rattle.meaning.specs.Sums.Laws.{tally-more, tally-most}
 use Rattle.meaning.specs.Check.{leaving}
 use Rattle.meaning.specs.Numbers.{mostCharts, mostFromState, stayEdition}
 use Rattle.meaning.specs.Meaning.{Set, same, Move, noMove, stay, nth, pick, actionOf, moves}

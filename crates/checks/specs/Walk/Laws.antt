@@ -14,8 +14,8 @@ use lib.Seq.{getD-set-same, getD-set-other}
 use Rattle.layout.specs.Body.{headAt}
 use Rattle.layout.specs.declared.body.Shape.{Shape}
 use Rattle.meaning.specs.Numbers.{mostStates, mostFromState}
-use Rattle.meaning.specs.Count.{one}
-use Rattle.meaning.specs.Count.Laws.{or-left}
+use Rattle.meaning.specs.Sums.{one}
+use Rattle.meaning.specs.Sums.Laws.{or-left}
 use Rattle.meaning.specs.Meaning.{same}
 use Rattle.meaning.specs.Check.{notBelow, inChart, ends?, leaving}
 use Rattle.meaning.specs.Check.Laws.{below, decided, eq-or-not, badAt, leaving-none, leaving-more, leaving-own}

@@ -7,8 +7,8 @@ use borrow.Author.Needs.{needs}
 use lib.ListN.{length}
 use Rattle.layout.specs.Body.{transitionAt, startOf}
 use Rattle.layout.specs.Body.Laws.{startOf-none}
-use Rattle.meaning.specs.Count.{tally}
-use Rattle.meaning.specs.Count.Laws.{tally-none, tally-more, tally-done}
+use Rattle.meaning.specs.Sums.{tally}
+use Rattle.meaning.specs.Sums.Laws.{tally-none, tally-more, tally-done}
 use Rattle.meaning.specs.File.{fileAt}
 use Rattle.meaning.specs.Rewriting.{transitionsIn}
 use Rattle.checks.specs.Known.Laws.{in-all, start-next}

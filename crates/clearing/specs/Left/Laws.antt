@@ -16,7 +16,7 @@ use Rattle.layout.specs.Body.Laws.{length-from, from-more}
 use Rattle.layout.specs.declared.body.Shape.{Shape}
 use Rattle.layout.specs.declared.record.Head.{Head}
 use Rattle.layout.specs.declared.record.Transition.{Transition}
-use Rattle.meaning.specs.Count.{tally}
+use Rattle.meaning.specs.Sums.{tally}
 use Rattle.meaning.specs.Meaning.{Set, guards}
 use Rattle.meaning.specs.File.{fileAt, chartOf}
 use Rattle.meaning.specs.Rewriting.{headFor, inTurn, transitionsBytes, transitionsIn, shapeIn}

@@ -28,8 +28,8 @@ use Rattle.layout.specs.Body.Laws.{length-from, startOf-next, startOf-mono}
 use Rattle.layout.specs.declared.body.Shape.{Shape}
 use Rattle.layout.specs.declared.record.Transition.{Transition}
 use Rattle.meaning.specs.Numbers.{mostCharts, mostSignals, stayEdition}
-use Rattle.meaning.specs.Count.{anyUpTo, tally, one}
-use Rattle.meaning.specs.Count.Laws.{any-all, any-never, tally-more, tally-most, tally-cong}
+use Rattle.meaning.specs.Sums.{anyUpTo, tally, one}
+use Rattle.meaning.specs.Sums.Laws.{any-all, any-never, tally-more, tally-most, tally-cong}
 use Rattle.meaning.specs.Meaning.{same, noMove, takes, nth, behind, pick, lastPlace, after}
 use Rattle.meaning.specs.File.{chartOf, fileAt}
 use Rattle.meaning.specs.Open.{openChart, openIn}

@@ -19,7 +19,7 @@ use Rattle.meaning.specs.Numbers.{mostCharts, mostInput, tooLong, oddFront}
 use Rattle.meaning.specs.Meaning.{∅, same}
 use Rattle.meaning.specs.File.{trailer, shapeOf, bodyOf, chartOf, fileAt, fileOf}
 use Rattle.meaning.specs.Check.{Test, firstOf, fileTests, refusalOf, differ, distance?}
-use Rattle.meaning.specs.Count.Laws.{or-left, any-all}
+use Rattle.meaning.specs.Sums.Laws.{or-left, any-all}
 use Rattle.meaning.specs.Check.Laws.{alike, firstOf-here, firstOf-next, firstOf-[], call-refused, call-passed, passed}
 use Rattle.meaning.specs.Check.Laws.{charted}
 use Rattle.meaning.specs.Calls.{made, laidOver, initials, rowsOf, runBytes}

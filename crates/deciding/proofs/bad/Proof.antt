@@ -7,7 +7,7 @@ use borrow.Author.Needs.{needs}
 use borrow.Author.Tests.{lt-ltb, le-ltb, eq-eqb, ne-eqb}
 use lib.ListN.{getD}
 use Rattle.meaning.specs.Numbers.{mostCharts, wrongLength, badState}
-use Rattle.meaning.specs.Count.{anyUpTo}
+use Rattle.meaning.specs.Sums.{anyUpTo}
 use Rattle.meaning.specs.Meaning.{same}
 use Rattle.meaning.specs.Check.{notBelow}
 use Rattle.desk.specs.declared.Case.{Case}

@@ -15,8 +15,8 @@ use lib.Seq.{getD-set-same, getD-set-other, take-at, take-suc}
 use Rattle.signals.specs.Mask.{_∪_}
 use Rattle.signals.specs.Decide.{sets, A, B, C, _∪ₑ_, ∅ₑ, _≐_}
 use Rattle.meaning.specs.Numbers.{mostCharts, wrongLength, manyOpen}
-use Rattle.meaning.specs.Count.{anyUpTo}
-use Rattle.meaning.specs.Count.Laws.{any-cong}
+use Rattle.meaning.specs.Sums.{anyUpTo}
+use Rattle.meaning.specs.Sums.Laws.{any-cong}
 use Rattle.meaning.specs.Meaning.{Set, ∅, same, Outcome, Answer, refused, given, answer}
 use Rattle.meaning.specs.File.{File, trailer, shapeOf, fileAt, fileOf}
 use Rattle.meaning.specs.Check.{Test, firstOf, fileTests, refusalOf, notBelow}

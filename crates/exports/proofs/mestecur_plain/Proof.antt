@@ -1,7 +1,7 @@
 -- `exports::mestecur_plain` hands on what `plain` answers, yes as a number.
 use mathlib.Core.Path.{ap, _∙_}
 use borrow.Author.Needs.{needs}
-use Rattle.meaning.specs.Count.{one}
+use Rattle.meaning.specs.Sums.{one}
 use Rattle.queries.specs.declared.plainness.Plainness.{Plainness}
 use Rattle.exports.proofs.mestecur_plain.Statement.{statement}
 use Rattle.exports.proofs.mestecur_plain.Tie as tie

@@ -1,7 +1,7 @@
 -- `exports::mestecur_step` hands on what `step` answers, the mark as a number.
 use mathlib.Core.Path.{ap, _∙_}
 use borrow.Author.Needs.{needs}
-use Rattle.meaning.specs.Count.{one}
+use Rattle.meaning.specs.Sums.{one}
 use Rattle.stepping.specs.declared.step.Stepped.{Stepped}
 use Rattle.exports.proofs.mestecur_step.Statement.{statement}
 use Rattle.exports.proofs.mestecur_step.Tie as tie

@@ -14,7 +14,7 @@ use Rattle.meaning.specs.Meaning.{same}
 use Rattle.meaning.specs.File.{shapeOf, chartOf, fileAt, fileOf}
 use Rattle.meaning.specs.Check.{counts?}
 use Rattle.meaning.specs.Check.Laws.{counted}
-use Rattle.meaning.specs.Count.Laws.{or-left, or-right}
+use Rattle.meaning.specs.Sums.Laws.{or-left, or-right}
 use Rattle.notation.specs.Syntax.{Transition, Sequential, Chart}
 use Rattle.reading.specs.Numbers.{namedCharts}
 use Rattle.reading.specs.Names.{membersOf, any, notAll?, transition?, sequential?, sequentialsOf, parts?, nameOf}

@@ -9,7 +9,7 @@ use borrow.Author.Tests.{ltb-true, eqb-true, not-false}
 use lib.Dec.{ltb, eqb}
 use lib.ListN.{length, length-append}
 use Rattle.layout.specs.declared.record.Slave.{Slave}
-use Rattle.meaning.specs.Count.Laws.{or-four, any-never}
+use Rattle.meaning.specs.Sums.Laws.{or-four, any-never}
 use Rattle.meaning.specs.Meaning.{same}
 use Rattle.meaning.specs.Laws.Bools.{and-l, and-r, or-elim, same→≡}
 use Rattle.meaning.specs.File.{File}

@@ -11,7 +11,7 @@ use Rattle.signals.specs.Mask.Laws.{union-lt}
 use Rattle.signals.specs.All.{single-lt}
 use Rattle.meaning.specs.Check.{notBelow, differ}
 use Rattle.meaning.specs.Check.Laws.{below}
-use Rattle.meaning.specs.Count.Laws.{or-left, or-right}
+use Rattle.meaning.specs.Sums.Laws.{or-left, or-right}
 use Rattle.notation.specs.Syntax.{Signals, Literal, needed, barred, Transition, Sequential}
 use Rattle.reading.specs.Numbers.{namedSignals, namedStates}
 use Rattle.reading.specs.Names.{membersOf, membersOr, first, any, has, notAll?, signals?, set?, optional?, signalOf}

@@ -11,7 +11,7 @@ use Rattle.meaning.specs.Check.{notBelow, counts?, slaves?, refusalOf}
 use Rattle.meaning.specs.Check.Laws.{counted, passed, front, in-front}
 use Rattle.meaning.specs.Check.Nodes.{Treed, treed}
 use Rattle.meaning.specs.File.{File, treeOf, wholeOf, shapeOf, fileAt, fileOf}
-use Rattle.meaning.specs.Count.Laws.{or-left, or-right}
+use Rattle.meaning.specs.Sums.Laws.{or-left, or-right}
 use Rattle.notation.specs.Syntax.{Chart}
 use Rattle.notation.specs.Grammar.{Spells}
 use Rattle.notation.specs.Reader.{Reading, spelt, wrongAt, reader}

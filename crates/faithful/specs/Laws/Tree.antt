@@ -11,13 +11,13 @@ use lib.Dec.{eqb, lit<}
 use lib.ListN.{length, length-append}
 use Rattle.layout.specs.declared.record.Slave.{Slave}
 use Rattle.layout.specs.declared.record.Node.{Node}
-use Rattle.meaning.specs.Count.{one}
+use Rattle.meaning.specs.Sums.{one}
 use Rattle.meaning.specs.Meaning.{∅, same, leaf, comp, hide, dec, snoc}
 use Rattle.meaning.specs.Meaning.{Slaves as Held}
 use Rattle.meaning.specs.File.{File, whole, gather, treeOf}
 use Rattle.meaning.specs.Check.{slaves?}
 use Rattle.meaning.specs.Laws.Trees.{Ordered, tree₀, tree₁, tree₂}
-use Rattle.meaning.specs.Count.Laws.{or-left, or-right}
+use Rattle.meaning.specs.Sums.Laws.{or-left, or-right}
 use Rattle.agreement.specs.Encoded.{slaveIn, nodeIn}
 use Rattle.notation.specs.Syntax.{Signals, Sequential, Single, sequential, decomposed, hidden, Chart, single}
 use Rattle.notation.specs.Syntax.{composed, Slaves, firstSlave, moreSlaves}

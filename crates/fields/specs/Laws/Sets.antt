@@ -13,7 +13,7 @@ use lib.ListN.{drop, getD}
 use Rattle.signals.specs.Mask.{_∪_, single}
 use Rattle.signals.specs.Decide.{sets, A, B, C, _∪ₑ_, ∅ₑ, _≐_}
 use Rattle.meaning.specs.Check.{notBelow}
-use Rattle.meaning.specs.Count.Laws.{or-left, or-right}
+use Rattle.meaning.specs.Sums.Laws.{or-left, or-right}
 use Rattle.notation.specs.Syntax.{OneOrMore, one, _▸_, Signals}
 use Rattle.notation.specs.Grammar.{comma, rbrace, lbrace, letS, letter, sign, signBytes, Tokens, ofNames, ofSet, Text}
 use Rattle.notation.specs.Reader.{firstByte}

@@ -5,7 +5,7 @@ use mathlib.Core.List.{List, [], _∷_, _++_, map, append-assoc}
 use Prim.Native.Nat.{ℕ, _≤_}
 use native.Mathlib.Omega.{arith}
 use lib.ListN.{drop}
-use Rattle.meaning.specs.Count.Laws.{or-left, or-right}
+use Rattle.meaning.specs.Sums.Laws.{or-left, or-right}
 use Rattle.notation.specs.Syntax.{Transition}
 use Rattle.notation.specs.Grammar.{lpar, rpar, comma, slash, letQ, sign, signBytes, name, Tokens, ofSet, ofGuard}
 use Rattle.notation.specs.Grammar.{ofTransition, Text}

@@ -4,8 +4,8 @@ use Prim.Native.Nat.{_*_, _-_, _≤_}
 use native.Mathlib.Omega.{arith}
 use borrow.Author.Needs.{needs}
 use lib.ListN.{length}
-use Rattle.meaning.specs.Count.{tally}
-use Rattle.meaning.specs.Count.Laws.{tally-none, tally-more, tally-done}
+use Rattle.meaning.specs.Sums.{tally}
+use Rattle.meaning.specs.Sums.Laws.{tally-none, tally-more, tally-done}
 use Rattle.meaning.specs.File.{fileAt}
 use Rattle.meaning.specs.Rewriting.{rewrittenChart, transitionsIn}
 use Rattle.growth.specs.Counts.Laws.{length-rewritten}

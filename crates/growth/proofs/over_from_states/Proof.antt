@@ -7,8 +7,8 @@ use borrow.Author.Needs.{needs}
 use borrow.Author.Tests.{lt-ltb, le-ltb}
 use lib.Dec.{ltb}
 use Rattle.layout.specs.Body.{from, transitionAt}
-use Rattle.meaning.specs.Count.{anyUpTo}
-use Rattle.meaning.specs.Count.Laws.{any-none, any-more, any-at, any-done}
+use Rattle.meaning.specs.Sums.{anyUpTo}
+use Rattle.meaning.specs.Sums.Laws.{any-none, any-more, any-at, any-done}
 use Rattle.meaning.specs.Rewriting.{leavingIn}
 use Rattle.growth.proofs.over_from_states.Statement.{statement}
 use Rattle.growth.proofs.over_from_states.Tie as tie

@@ -7,8 +7,8 @@ use borrow.Author.Needs.{needs}
 use borrow.Author.Tests.{lt-ltb, le-ltb}
 use lib.Dec.{ltb}
 use lib.ListN.{length}
-use Rattle.meaning.specs.Count.{anyUpTo}
-use Rattle.meaning.specs.Count.Laws.{any-none, any-more, any-at, any-done}
+use Rattle.meaning.specs.Sums.{anyUpTo}
+use Rattle.meaning.specs.Sums.Laws.{any-none, any-more, any-at, any-done}
 use Rattle.meaning.specs.File.{fileAt}
 use Rattle.meaning.specs.Rewriting.{rewrittenChart}
 use Rattle.growth.specs.Counts.Laws.{length-rewritten}

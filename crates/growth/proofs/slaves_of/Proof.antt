@@ -4,7 +4,7 @@ use mathlib.Core.Logic.{⊎-elim}
 use Prim.Native.Nat.{ℕ, _+_, _-_, _≤_}
 use native.Mathlib.Omega.{arith}
 use borrow.Author.Needs.{needs}
-use Rattle.meaning.specs.Count.Laws.{tally-none}
+use Rattle.meaning.specs.Sums.Laws.{tally-none}
 use Rattle.meaning.specs.File.{fileAt}
 use Rattle.meaning.specs.Rewriting.{count}
 use Rattle.growth.specs.Counts.Laws.{count-own, count-other}

@@ -19,8 +19,8 @@ use Rattle.layout.specs.declared.body.Shape.{Shape}
 use Rattle.layout.specs.declared.record.Head.{Head}
 use Rattle.layout.specs.declared.record.Slave.{Slave}
 use Rattle.layout.specs.declared.record.Transition.{Transition}
-use Rattle.meaning.specs.Count.{one}
-use Rattle.meaning.specs.Count.Laws.{tally-more}
+use Rattle.meaning.specs.Sums.{one}
+use Rattle.meaning.specs.Sums.Laws.{tally-more}
 use Rattle.meaning.specs.Meaning.{Set, same, Chart}
 use Rattle.meaning.specs.File.{File, fileAt, chartOf}
 use Rattle.meaning.specs.Check.Laws.{eq-or-not}

@@ -6,7 +6,7 @@ use lib.ListN.{length, take, drop, replicate}
 use Rattle.layout.specs.Le.{le, bytes}
 use Rattle.layout.specs.Record.{trailerOf, headOf, transitionOf, slaveOf, nodeOf}
 use Rattle.layout.specs.Body.{headAt, transitionAt, slaveAt, nodeAt, startOf, from, transitionsOf}
-use Rattle.meaning.specs.Count.{anyUpTo, tally}
+use Rattle.meaning.specs.Sums.{anyUpTo, tally}
 use Rattle.signals.specs.Guard.{guard}
 use Rattle.meaning.specs.Meaning.{same, nth, pick, lastPlace, met?, actionOf, after, guards, inFaceChart, inFace}
 use Rattle.meaning.specs.Meaning.{inFaces, out, outs, okChart, meets, ok, oks, permitted, upd, moves, nexts, placeOf}

@@ -10,7 +10,7 @@ use lib.Dec.{ltb, eqb}
 use lib.ListN.{length, drop}
 use Rattle.meaning.specs.Meaning.{same}
 use Rattle.meaning.specs.Check.{notBelow, differ}
-use Rattle.meaning.specs.Count.Laws.{or-left, or-right}
+use Rattle.meaning.specs.Sums.Laws.{or-left, or-right}
 use Rattle.notation.specs.Syntax.{OneOrMore, Heading}
 use Rattle.notation.specs.Grammar.{lpar, comma, lbrace, rbrace, letC, letQ, sign, signBytes, name, Tokens, ofNames}
 use Rattle.notation.specs.Grammar.{ofSet, ofHeading, Text}

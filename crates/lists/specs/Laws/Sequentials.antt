@@ -11,7 +11,7 @@ use lib.Dec.{eqb}
 use lib.ListN.{length, drop, getD}
 use Rattle.meaning.specs.Meaning.{same}
 use Rattle.meaning.specs.Check.{notBelow, differ}
-use Rattle.meaning.specs.Count.Laws.{or-left, or-right}
+use Rattle.meaning.specs.Sums.Laws.{or-left, or-right}
 use Rattle.notation.specs.Syntax.{Signals, Heading, Sequential}
 use Rattle.notation.specs.Grammar.{comma, rpar, sign, signBytes, Tokens, ofSet, ofHeading, ofTransitions, ofExtra}
 use Rattle.notation.specs.Grammar.{ofSequential, Text}

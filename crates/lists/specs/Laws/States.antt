@@ -12,7 +12,7 @@ use lib.ListN.{length, drop, getD}
 use Rattle.signals.specs.Mask.{_∪_, bit, single, within}
 use Rattle.signals.specs.Mask.Laws.{bit-suc, within-at, within-of}
 use Rattle.meaning.specs.Check.{notBelow}
-use Rattle.meaning.specs.Count.Laws.{or-left, or-right}
+use Rattle.meaning.specs.Sums.Laws.{or-left, or-right}
 use Rattle.notation.specs.Syntax.{OneOrMore, one, _▸_}
 use Rattle.notation.specs.Grammar.{comma, rbrace, lbrace, letQ, sign, signBytes, Tokens, ofNames, Text}
 use Rattle.notation.specs.Reader.{firstByte}

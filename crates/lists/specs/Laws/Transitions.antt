@@ -9,7 +9,7 @@ use native.Mathlib.Omega.{arith}
 use lib.ListN.{length, drop, getD}
 use Rattle.signals.specs.Mask.{bit}
 use Rattle.meaning.specs.Check.{notBelow}
-use Rattle.meaning.specs.Count.Laws.{or-left}
+use Rattle.meaning.specs.Sums.Laws.{or-left}
 use Rattle.notation.specs.Syntax.{OneOrMore, one, _▸_, Transition}
 use Rattle.notation.specs.Grammar.{lpar, comma, lbrace, rbrace, sign, signBytes, Tokens, ofTransition}
 use Rattle.notation.specs.Grammar.{ofTransitionList, ofTransitions, Text}

@@ -16,7 +16,7 @@ use lib.Dec.{ltb, lit<}
 use lib.ListN.{length, getD, drop, replicate, set, length-append, List·getD-append}
 use lib.Seq.{drop-cons, set-at, getD-at}
 use Rattle.meaning.specs.Numbers.{mostCharts, noPlace, shortBuffer, manyOpen, shortRows}
-use Rattle.meaning.specs.Count.Laws.{any-never, any-all}
+use Rattle.meaning.specs.Sums.Laws.{any-never, any-all}
 use Rattle.meaning.specs.Meaning.{Set, same, Outcome, refused, given, answer, firstPlaces}
 use Rattle.meaning.specs.File.{File, fileOf}
 use Rattle.meaning.specs.Check.{Test, firstOf, fileTests, refusalOf}

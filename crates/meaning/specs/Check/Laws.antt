@@ -17,9 +17,9 @@ use Rattle.layout.specs.declared.record.Trailer.{Trailer}
 use Rattle.layout.specs.declared.record.Transition.{Transition}
 use Rattle.meaning.specs.Numbers.{mostCharts, mostSlaves, mostNodes, mostTransitions, mostStates, mostInChart}
 use Rattle.meaning.specs.Numbers.{mostFromState}
-use Rattle.meaning.specs.Count.{anyUpTo, tally, one}
-use Rattle.meaning.specs.Count.Laws.{or-left, or-right, or-three, or-four, any-never, any-all, any-cong}
-use Rattle.meaning.specs.Count.Laws.{tally-mono}
+use Rattle.meaning.specs.Sums.{anyUpTo, tally, one}
+use Rattle.meaning.specs.Sums.Laws.{or-left, or-right, or-three, or-four, any-never, any-all, any-cong}
+use Rattle.meaning.specs.Sums.Laws.{tally-mono}
 use Rattle.meaning.specs.Meaning.{same}
 use Rattle.meaning.specs.Laws.Bools.{same→≡}
 use Rattle.meaning.specs.File.{endOf, trailer, bodyOf, shapeOf, fileOf}

@@ -5,8 +5,8 @@ use mathlib.Core.Path.{_≡_, refl, sym, _∙_, ap}
 use mathlib.Core.Bool.{Bool, true, false, _&&_, not, cond, true≢false, false≢true}
 use Prim.Native.Nat.{ℕ, zero, suc, _≤_, _<_}
 use native.Mathlib.Omega.{arith}
-use Rattle.meaning.specs.Count.{anyUpTo}
-use Rattle.meaning.specs.Count.Laws.{or-left, or-three, or-four, any-never}
+use Rattle.meaning.specs.Sums.{anyUpTo}
+use Rattle.meaning.specs.Sums.Laws.{or-left, or-three, or-four, any-never}
 use Rattle.meaning.specs.Meaning.{same, Slaves, nil, snoc}
 use Rattle.meaning.specs.File.{File, treeOf, gather, whole, Has, HasS}
 use Rattle.meaning.specs.Check.{notBelow, differ, inOrder, slave?, slaves?, nodeOfKind?, nodes?, holds, named}

@@ -12,8 +12,8 @@ use lib.Dec.{ltb}
 use lib.ListN.{length, getD}
 use Rattle.signals.specs.Mask.{_∪_}
 use Rattle.meaning.specs.Numbers.{wrongLength, badState, shortBuffer, shortRows}
-use Rattle.meaning.specs.Count.{anyUpTo}
-use Rattle.meaning.specs.Count.Laws.{any-cong}
+use Rattle.meaning.specs.Sums.{anyUpTo}
+use Rattle.meaning.specs.Sums.Laws.{any-cong}
 use Rattle.meaning.specs.Meaning.{Set, ∅, same, refused}
 use Rattle.meaning.specs.File.{File, trailer, shapeOf, fileAt, fileOf}
 use Rattle.meaning.specs.Check.{Test, firstOf, differ, notBelow, fileTests, refusalOf}

@@ -16,7 +16,7 @@ use Rattle.signals.specs.Decide.{sets, A, B, C, D, E, _∪ₑ_, _∩ₑ_, _≐_
 use Rattle.layout.specs.Le.{bytes}
 use Rattle.layout.specs.Le.Laws.{length-bytes}
 use Rattle.meaning.specs.Numbers.{manyOpen}
-use Rattle.meaning.specs.Count.{one}
+use Rattle.meaning.specs.Sums.{one}
 use Rattle.meaning.specs.Meaning.{Set, ∅, same, Answer, refused, given, inFace, answer, firstPlaces}
 use Rattle.meaning.specs.File.{File, wholeOf, fileOf}
 use Rattle.meaning.specs.Check.{refusalOf}

@@ -13,8 +13,8 @@ use lib.ListN.{getD}
 use Rattle.signals.specs.Mask.{_∩_, _∖_, within, apart}
 use Rattle.signals.specs.Decide.{sets, A, ∅ₑ, _∩ₑ_, _≐_, _⊑_}
 use Rattle.layout.specs.declared.record.Transition.{Transition}
-use Rattle.meaning.specs.Count.{tally, one}
-use Rattle.meaning.specs.Count.Laws.{tally-find}
+use Rattle.meaning.specs.Sums.{tally, one}
+use Rattle.meaning.specs.Sums.Laws.{tally-find}
 use Rattle.meaning.specs.Meaning.{Set, ∅, same, Chart, Tree, Slaves, leaf, comp, hide, dec, nil, snoc, Move}
 use Rattle.meaning.specs.Meaning.{noMove, takes, stay, nth, pick, lastPlace, after, met?, untriggered, okChart}
 use Rattle.meaning.specs.Meaning.{meets, ok}

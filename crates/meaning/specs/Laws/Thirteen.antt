@@ -16,7 +16,7 @@ use Rattle.layout.specs.declared.record.Node.{Node}
 use Rattle.layout.specs.declared.record.Slave.{Slave}
 use Rattle.layout.specs.declared.record.Transition.{Transition}
 use Rattle.meaning.specs.Numbers.{mostCharts, noPlace, stayPlace}
-use Rattle.meaning.specs.Count.{anyUpTo, tally}
+use Rattle.meaning.specs.Sums.{anyUpTo, tally}
 use Rattle.meaning.specs.Meaning.{Set, same, Answer, refused, given, nth, pick, lastPlace, actionOf, after, met?}
 use Rattle.meaning.specs.Meaning.{untriggered, guards, inFaceChart, inFace, inFaces, out, outs, okChart, meets}
 use Rattle.meaning.specs.Meaning.{ok, oks, permitted, upd, moves, nexts, placeOf, placesFrom, upto, outcomeOf}

@@ -17,7 +17,7 @@ use Rattle.signals.specs.Mask.{_∪_, _∖_}
 use Rattle.signals.specs.Decide.{sets, A, B, C, ∅ₑ, _∪ₑ_, _≐_, _⊑_}
 use Rattle.meaning.specs.Numbers.{mostCharts, mostInChart, mostTransitions, mostNodes, noFreeSignal}
 use Rattle.meaning.specs.Numbers.{manyFromState, manyInChart, manyNodes, shortOut}
-use Rattle.meaning.specs.Count.Laws.{below-suc, any-never, tally-most}
+use Rattle.meaning.specs.Sums.Laws.{below-suc, any-never, tally-most}
 use Rattle.meaning.specs.Meaning.{Set, ∅}
 use Rattle.meaning.specs.File.{File, trailer, shapeOf, fileAt, fileOf}
 use Rattle.meaning.specs.Check.{Test, firstOf, fileTests, refusalOf}

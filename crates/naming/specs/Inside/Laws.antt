@@ -8,8 +8,8 @@ use native.Mathlib.Nat.{le-refl}
 use native.Mathlib.Omega.{arith}
 use borrow.Author.Tests.{lt-ltb, ltb-true, ltb-false}
 use lib.Dec.{ltb}
-use Rattle.meaning.specs.Count.{anyUpTo}
-use Rattle.meaning.specs.Count.Laws.{any-at, any-never, any-all}
+use Rattle.meaning.specs.Sums.{anyUpTo}
+use Rattle.meaning.specs.Sums.Laws.{any-at, any-never, any-all}
 use Rattle.meaning.specs.Meaning.{same, Tree, Slaves, leaf, comp, hide, dec, nil, snoc}
 use Rattle.meaning.specs.File.{File, treeOf, gather, whole, Has, HasS}
 use Rattle.meaning.specs.Check.{notBelow, inside?}

@@ -10,8 +10,8 @@ use native.Mathlib.Numerals.{add-one}
 use native.Mathlib.Omega.{arith}
 use lib.ListN.{getD, set, replicate}
 use Rattle.meaning.specs.Numbers.{mostCharts, mostNodes}
-use Rattle.meaning.specs.Count.{anyUpTo, tally, one}
-use Rattle.meaning.specs.Count.Laws.{any-cong, any-never, tally-most}
+use Rattle.meaning.specs.Sums.{anyUpTo, tally, one}
+use Rattle.meaning.specs.Sums.Laws.{any-cong, any-never, tally-most}
 use Rattle.meaning.specs.Meaning.{same}
 use Rattle.meaning.specs.File.{File}
 use Rattle.meaning.specs.Check.{notBelow, differ, names, named, holds, held, slaves?, naming?}

@@ -11,7 +11,7 @@ use Rattle.layout.specs.Body.{sizeOf}
 use Rattle.layout.specs.declared.body.Shape.{Shape}
 use Rattle.layout.specs.declared.record.Trailer.{Trailer}
 use Rattle.meaning.specs.Numbers.{tooShort}
-use Rattle.meaning.specs.Count.Laws.{or-left, or-right}
+use Rattle.meaning.specs.Sums.Laws.{or-left, or-right}
 use Rattle.meaning.specs.File.{endOf, trailer, bodyOf, shapeOf}
 use Rattle.meaning.specs.Check.{firstOf, differ, distance?, bodyTests, fileTests, refusalOf}
 use Rattle.meaning.specs.Check.Laws.{alike, firstOf-here, firstOf-next, Passes, firstOf-passes, firstOf-++}

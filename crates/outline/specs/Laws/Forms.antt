@@ -10,7 +10,7 @@ use native.Mathlib.Omega.{arith}
 use borrow.Author.Tests.{lt-ltb, le-ltb, ltb-true}
 use lib.Dec.{ltb}
 use lib.ListN.{length, drop, getD}
-use Rattle.meaning.specs.Count.Laws.{or-left}
+use Rattle.meaning.specs.Sums.Laws.{or-left}
 use Rattle.notation.specs.Syntax.{Signals, Sequential as Tree, sequential, decomposed, hidden, Chart, single, composed}
 use Rattle.notation.specs.Syntax.{Slaves, firstSlave, larger, depth, depthSlaves}
 use Rattle.notation.specs.Grammar.{lpar, rpar, lbrace, lsq, rsq, comma, bar, wordDec, wordBy, letQ, sign}

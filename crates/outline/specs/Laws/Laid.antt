@@ -10,7 +10,7 @@ use lib.Dec.{ltb}
 use lib.ListN.{length, length-append}
 use Rattle.layout.specs.declared.record.Node.{Node}
 use Rattle.meaning.specs.Check.{notBelow}
-use Rattle.meaning.specs.Count.Laws.{or-left, or-right}
+use Rattle.meaning.specs.Sums.Laws.{or-left, or-right}
 use Rattle.notation.specs.Syntax.{Sequential, Single, sequential, decomposed, hidden, Chart, single, composed, Slaves}
 use Rattle.notation.specs.Syntax.{firstSlave, moreSlaves}
 use Rattle.reading.specs.Numbers.{namedStates}

@@ -8,8 +8,8 @@ use native.Mathlib.Omega.{arith}
 use Rattle.layout.specs.Body.{startOf}
 use Rattle.layout.specs.Body.Laws.{startOf-none}
 use Rattle.layout.specs.declared.body.Shape.{Shape}
-use Rattle.meaning.specs.Count.{anyUpTo}
-use Rattle.meaning.specs.Count.Laws.{any-none, any-more, any-at, any-done}
+use Rattle.meaning.specs.Sums.{anyUpTo}
+use Rattle.meaning.specs.Sums.Laws.{any-none, any-more, any-at, any-done}
 use Rattle.meaning.specs.File.{fileAt}
 use Rattle.meaning.specs.Plain.{fedBack, anyDoubtful, plainIn}
 use Rattle.checks.specs.Known.Laws.{in-all, start-next, own-are}

@@ -12,8 +12,8 @@ use lib.Dec.{ltb}
 use lib.ListN.{getD}
 use Rattle.signals.specs.Mask.{_∪_}
 use Rattle.meaning.specs.Numbers.{firstEdition, mostOpen, manyOpen}
-use Rattle.meaning.specs.Count.{anyUpTo}
-use Rattle.meaning.specs.Count.Laws.{any-cong}
+use Rattle.meaning.specs.Sums.{anyUpTo}
+use Rattle.meaning.specs.Sums.Laws.{any-cong}
 use Rattle.meaning.specs.Meaning.{Set, ∅, same, inFace, outFace, outcomes, Answer, refused, given, answer, firstPlaces}
 use Rattle.meaning.specs.File.{File, trailer, wholeOf, fileOf}
 use Rattle.meaning.specs.Check.{refusalOf}

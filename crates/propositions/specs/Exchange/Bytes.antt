@@ -16,8 +16,8 @@ use Rattle.layout.specs.Body.{startOf, from, transitionsOf}
 use Rattle.layout.specs.Body.Laws.{startOf-mono}
 use Rattle.layout.specs.declared.body.Shape.{Shape}
 use Rattle.meaning.specs.Numbers.{stayEdition, mostStates, mostInChart, mostFromState}
-use Rattle.meaning.specs.Count.{anyUpTo, one}
-use Rattle.meaning.specs.Count.Laws.{or-left, or-right, any-cong, tally-cong}
+use Rattle.meaning.specs.Sums.{anyUpTo, one}
+use Rattle.meaning.specs.Sums.Laws.{or-left, or-right, any-cong, tally-cong}
 use Rattle.meaning.specs.Meaning.{same}
 use Rattle.meaning.specs.File.{File, endOf, trailer, bodyOf, shapeOf, chartOf, fileAt, fileOf}
 use Rattle.meaning.specs.Check.{Test, firstOf, notBelow, differ, edition?, counts?, distance?, nonzero, zeros?, chart?}

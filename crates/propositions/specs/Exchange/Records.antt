@@ -6,8 +6,8 @@ use Prim.Native.Nat.{ℕ, zero, suc, _+_, _-_, _<_, _≤_}
 use native.Mathlib.Omega.{arith}
 use lib.Dec.{ltb}
 use Rattle.layout.specs.declared.record.Node.{Node}
-use Rattle.meaning.specs.Count.{anyUpTo, tally, one}
-use Rattle.meaning.specs.Count.Laws.{any-cong, tally-cong}
+use Rattle.meaning.specs.Sums.{anyUpTo, tally, one}
+use Rattle.meaning.specs.Sums.Laws.{any-cong, tally-cong}
 use Rattle.meaning.specs.Meaning.{∅, same, Tree, Slaves, comp, hide, snoc}
 use Rattle.meaning.specs.File.{File, byKind, whole, gather, build, treeOf, wholeOf, Has, HasS}
 use Rattle.meaning.specs.Check.{notBelow, differ, rising, inOrder, slave?, slaves?, nodeOfKind?, nodes?, holds, held}

@@ -12,7 +12,7 @@ use Rattle.layout.specs.declared.record.Head.{Head}
 use Rattle.meaning.specs.Meaning.{same}
 use Rattle.meaning.specs.Numbers.{mostInChart}
 use Rattle.meaning.specs.Check.{notBelow, differ}
-use Rattle.meaning.specs.Count.Laws.{or-left, or-right}
+use Rattle.meaning.specs.Sums.Laws.{or-left, or-right}
 use Rattle.notation.specs.Syntax.{Transition, Sequential}
 use Rattle.notation.specs.Grammar.{Tokens}
 use Rattle.reading.specs.Numbers.{namedStates}

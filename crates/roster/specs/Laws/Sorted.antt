@@ -14,7 +14,7 @@ use lib.Dec.{ltb, eqb}
 use lib.ListN.{length, length-append}
 use Rattle.meaning.specs.Check.{notBelow}
 use Rattle.meaning.specs.Laws.Bools.{or-swap}
-use Rattle.meaning.specs.Count.Laws.{or-left, or-right}
+use Rattle.meaning.specs.Sums.Laws.{or-left, or-right}
 use Rattle.reading.specs.Names.{any, has, twice?, lacksBefore, leftOut?, notAll?}
 use Rattle.reading.specs.Meant.{withKey, sortedBy, gathered}
 use Rattle.lists.specs.Laws.States.{any-at, length-snoc}

@@ -15,7 +15,7 @@ use lib.Seq.{getD-set-same, getD-set-other}
 use Rattle.signals.specs.Mask.{bit}
 use Rattle.meaning.specs.Check.{notBelow}
 use Rattle.meaning.specs.Numbers.{mostInChart}
-use Rattle.meaning.specs.Count.Laws.{or-left, or-right}
+use Rattle.meaning.specs.Sums.Laws.{or-left, or-right}
 use Rattle.notation.specs.Syntax.{Sequential, Chart}
 use Rattle.notation.specs.Grammar.{Token, Tokens, ofHeading, ofSequential, ofChart, Text}
 use Rattle.reading.specs.Numbers.{namedCharts}

@@ -9,7 +9,7 @@ use native.Mathlib.Omega.{arith}
 use lib.Dec.{ltb}
 use Rattle.layout.specs.Le.{AllBytes}
 use Rattle.meaning.specs.Numbers.{firstEdition}
-use Rattle.meaning.specs.Count.{one}
+use Rattle.meaning.specs.Sums.{one}
 use Rattle.meaning.specs.File.{File, trailer, wholeOf, shapeOf, fileAt, fileOf}
 use Rattle.meaning.specs.Check.{slaves?, refusalOf}
 use Rattle.meaning.specs.Check.Laws.{passed, counted}

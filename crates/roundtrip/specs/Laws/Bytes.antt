@@ -11,7 +11,7 @@ use Rattle.layout.specs.Record.{nodeOf, headBytes, transitionBytes, slaveBytes,
 use Rattle.layout.specs.Body.{nodeAt}
 use Rattle.layout.specs.declared.record.Slave.{Slave}
 use Rattle.layout.specs.declared.record.Node.{Node}
-use Rattle.meaning.specs.Count.Laws.{or-three, or-four, or-left, or-right}
+use Rattle.meaning.specs.Sums.Laws.{or-three, or-four, or-left, or-right}
 use Rattle.meaning.specs.Check.{notBelow, differ, counts?, charts?, nodeOfKind?, nodes?, refusalOf}
 use Rattle.meaning.specs.Check.Laws.{Counted, alike, below, passed, counted, charted}
 use Rattle.meaning.specs.Check.Nodes.{node-passes}

@@ -12,8 +12,8 @@ use native.Mathlib.Decide.{decLt}
 use native.Mathlib.Omega.{arith}
 use borrow.Author.Tests.{lt-ltb, le-ltb, ne-eqb, eqb-true}
 use lib.Dec.{eqb, ltb}
-use Rattle.meaning.specs.Count.{tally, one}
-use Rattle.meaning.specs.Count.Laws.{tally-most}
+use Rattle.meaning.specs.Sums.{tally, one}
+use Rattle.meaning.specs.Sums.Laws.{tally-most}
 use Rattle.meaning.specs.Meaning.{same}
 use Rattle.reading.specs.Meant.{sortedBy}
 use Rattle.outline.specs.Laws.Sorted.{Each, none, more, each-append, total}

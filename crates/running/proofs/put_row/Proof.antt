@@ -5,7 +5,7 @@ use Prim.Native.Nat.{ℕ}
 use borrow.Author.Needs.{needs}
 use lib.ListN.{take}
 use Rattle.layout.specs.Le.{bytes}
-use Rattle.meaning.specs.Count.{one}
+use Rattle.meaning.specs.Sums.{one}
 use Rattle.meaning.specs.Calls.{rowOf}
 use Rattle.stepping.specs.Step.{triedAnswer, triedRefusal}
 use Rattle.stepping.specs.Step.Laws.{tried-given, tried-refused}

@@ -8,8 +8,8 @@ use borrow.Author.Needs.{needs}
 use Rattle.signals.specs.Guard.{guard, isMet}
 use Rattle.signals.specs.Guard.Laws.{guard-is}
 use Rattle.signals.specs.Mask.{within, apart}
-use Rattle.meaning.specs.Count.{anyUpTo}
-use Rattle.meaning.specs.Count.Laws.{any-none, any-more, any-at, any-done}
+use Rattle.meaning.specs.Sums.{anyUpTo}
+use Rattle.meaning.specs.Sums.Laws.{any-none, any-more, any-at, any-done}
 use Rattle.cells.specs.Triggers.{triggerNeeded, triggerBarred}
 use Rattle.settling.specs.Stays.{trips}
 use Rattle.settling.proofs.trips.Statement.{statement}

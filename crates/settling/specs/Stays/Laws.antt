@@ -11,7 +11,7 @@ use lib.ListN.{getD}
 use Rattle.signals.specs.Mask.{_∪_}
 use Rattle.meaning.specs.Numbers.{mostCharts, stayPlace}
 use Rattle.meaning.specs.Meaning.{same}
-use Rattle.meaning.specs.Count.{anyUpTo}
+use Rattle.meaning.specs.Sums.{anyUpTo}
 use Rattle.meaning.specs.Calls.Laws.{getD-made}
 use Rattle.meaning.specs.Laws.Bools.{every, every-intro, and-i, same-refl, same-≢}
 use Rattle.cells.specs.Table.{aheadAt}

@@ -10,9 +10,9 @@ use lib.ListN.{length}
 use Rattle.layout.specs.Body.{headAt, transitionAt, startOf, from, transitionsOf}
 use Rattle.layout.specs.declared.body.Shape.{Shape}
 use Rattle.meaning.specs.Numbers.{mostCharts, mostStates, mostTransitions}
-use Rattle.meaning.specs.Count.{tally}
-use Rattle.meaning.specs.Count.Laws.{or-left, or-right, or-four, any-never, tally-add, tally-scale, tally-most}
-use Rattle.meaning.specs.Count.Laws.{tally-le}
+use Rattle.meaning.specs.Sums.{tally}
+use Rattle.meaning.specs.Sums.Laws.{or-left, or-right, or-four, any-never, tally-add, tally-scale, tally-most}
+use Rattle.meaning.specs.Sums.Laws.{tally-le}
 use Rattle.meaning.specs.Meaning.{Set, Tree, leaf, comp, hide, dec, nil, snoc}
 use Rattle.meaning.specs.Meaning.{Slaves as Held}
 use Rattle.meaning.specs.File.{File, trailer, bodyOf, shapeOf, chartOf, fileAt, fileOf, wholeOf}

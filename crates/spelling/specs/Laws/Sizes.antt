@@ -10,8 +10,8 @@ use lib.ListN.{length, length-append}
 use Rattle.signals.specs.Mask.{bit}
 use Rattle.layout.specs.declared.record.Transition.{Transition as Record}
 use Rattle.meaning.specs.Numbers.{mostSignals, mostStates}
-use Rattle.meaning.specs.Count.{tally, one as once}
-use Rattle.meaning.specs.Count.Laws.{tally-cong, tally-add, tally-le, tally-mono}
+use Rattle.meaning.specs.Sums.{tally, one as once}
+use Rattle.meaning.specs.Sums.Laws.{tally-cong, tally-add, tally-le, tally-mono}
 use Rattle.meaning.specs.Meaning.{Set, ∅, same, Chart}
 use Rattle.meaning.specs.Laws.Bools.{same-comm}
 use Rattle.line.specs.Line.{digit, digits, widthTo, width, decimal}

@@ -19,8 +19,8 @@ use Rattle.layout.specs.declared.body.Shape.{Shape}
 use Rattle.layout.specs.declared.record.Transition.{Transition}
 use Rattle.layout.specs.declared.record.Head.{Head}
 use Rattle.meaning.specs.Numbers.{mostCharts, mostFromState, stayEdition}
-use Rattle.meaning.specs.Count.{tally, one}
-use Rattle.meaning.specs.Count.Laws.{tally-none, tally-more, tally-plus, tally-mono}
+use Rattle.meaning.specs.Sums.{tally, one}
+use Rattle.meaning.specs.Sums.Laws.{tally-none, tally-more, tally-plus, tally-mono}
 use Rattle.meaning.specs.Meaning.{Set, same, Chart, noMove, lastPlace, untriggered}
 use Rattle.meaning.specs.File.{chartOf}
 use Rattle.meaning.specs.Laws.Bools.{same-refl, same→≡, same-≢}

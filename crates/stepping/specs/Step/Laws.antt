@@ -15,8 +15,8 @@ use Rattle.layout.specs.Le.{AllBytes}
 use Rattle.layout.specs.Body.{headAt, startOf, transitionAt, transitionsOf}
 use Rattle.layout.specs.declared.body.Shape.{Shape}
 use Rattle.meaning.specs.Numbers.{mostCharts, mostOpen, mostFromState, stayPlace, shortBuffer, noStep, manyOpen}
-use Rattle.meaning.specs.Count.{anyUpTo}
-use Rattle.meaning.specs.Count.Laws.{or-right, any-never}
+use Rattle.meaning.specs.Sums.{anyUpTo}
+use Rattle.meaning.specs.Sums.Laws.{or-right, any-never}
 use Rattle.meaning.specs.Meaning.{Set, same, Move, noMove, takes, stay, pick, after, Answer, refused, given, answer}
 use Rattle.meaning.specs.Meaning.{firstPlaces}
 use Rattle.meaning.specs.File.{File, trailer, shapeOf, bodyOf, chartOf, fileAt, fileOf, wholeOf}

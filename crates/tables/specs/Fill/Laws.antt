@@ -19,8 +19,8 @@ use Rattle.signals.specs.Decide.{sets, A, B, C, D, E as Eₑ, F as Fₑ, ∅ₑ
 use Rattle.layout.specs.Row.Laws.{row-rest}
 use Rattle.layout.specs.declared.record.Transition.{Transition}
 use Rattle.meaning.specs.Numbers.{mostCharts, mostFromState}
-use Rattle.meaning.specs.Count.{anyUpTo, tally, one}
-use Rattle.meaning.specs.Count.Laws.{tally-plus, tally-mono}
+use Rattle.meaning.specs.Sums.{anyUpTo, tally, one}
+use Rattle.meaning.specs.Sums.Laws.{tally-plus, tally-mono}
 use Rattle.meaning.specs.Meaning.{Set, same, Chart, Tree, noMove, takes, nth, behind, pick, lastPlace, actionOf}
 use Rattle.meaning.specs.Meaning.{untriggered, Outcome}
 use Rattle.meaning.specs.Laws.Bools.{same-refl, same→≡, same-≢, and-l, and-r}

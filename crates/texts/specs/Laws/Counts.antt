@@ -11,7 +11,7 @@ use lib.Dec.{ltb}
 use lib.ListN.{length}
 use Rattle.layout.specs.declared.body.Shape.{Shape}
 use Rattle.meaning.specs.Numbers.{firstEdition, mostCharts, mostSlaves, mostNodes, mostTransitions}
-use Rattle.meaning.specs.Count.Laws.{or-right, or-four}
+use Rattle.meaning.specs.Sums.Laws.{or-right, or-four}
 use Rattle.meaning.specs.Meaning.{same}
 use Rattle.meaning.specs.Laws.Bools.{same-≢, same-refl}
 use Rattle.meaning.specs.File.{shapeOf}

@@ -17,7 +17,7 @@ use Rattle.layout.specs.Put.Laws.{put-append, put-over, put-length, room-first,
 use Rattle.meaning.specs.Numbers.{firstEdition, mostCharts, mostSlaves, mostNodes, mostTransitions}
 use Rattle.meaning.specs.Meaning.{same}
 use Rattle.meaning.specs.File.{shapeOf}
-use Rattle.meaning.specs.Count.Laws.{or-left, or-right, or-four}
+use Rattle.meaning.specs.Sums.Laws.{or-left, or-right, or-four}
 use Rattle.meaning.specs.Check.{counts?}
 use Rattle.laying.specs.Trailer.{Small, trailerWith}
 use Rattle.laying.specs.Turn.{put-one, put-is}

@@ -9,7 +9,7 @@ use lib.Dec.{ltb}
 use lib.ListN.{length}
 use Rattle.layout.specs.declared.body.Shape.{Shape}
 use Rattle.meaning.specs.Numbers.{badCounts, badChart}
-use Rattle.meaning.specs.Count.Laws.{or-left, or-right}
+use Rattle.meaning.specs.Sums.Laws.{or-left, or-right}
 use Rattle.meaning.specs.Check.{firstOf, counts?}
 use Rattle.notation.specs.Syntax.{Chart, depth}
 use Rattle.notation.specs.Grammar.{Spells}

@@ -14,8 +14,8 @@ use lib.ListN.{length, length-append}
 use Rattle.layout.specs.Le.{AllBytes}
 use Rattle.signals.specs.Mask.{_∪_, bit, single}
 use Rattle.signals.specs.Mask.Laws.{bit-union, bit-single, bit-none, bit-high, ext}
-use Rattle.meaning.specs.Count.{anyUpTo}
-use Rattle.meaning.specs.Count.Laws.{any-never, below-suc}
+use Rattle.meaning.specs.Sums.{anyUpTo}
+use Rattle.meaning.specs.Sums.Laws.{any-never, below-suc}
 use Rattle.meaning.specs.Laws.Bools.{and-l, and-r}
 use Rattle.meaning.specs.Meaning.{Set, ∅, same, eqList}
 use Rattle.line.specs.Ascii.{ascii}

@@ -11,7 +11,7 @@ use Rattle.layout.specs.Record.{slaveBytes}
 use Rattle.layout.specs.Put.{Room, Put}
 use Rattle.layout.specs.Put.Laws.{put-over}
 use Rattle.meaning.specs.Check.{notBelow}
-use Rattle.meaning.specs.Count.Laws.{or-left, or-right}
+use Rattle.meaning.specs.Sums.Laws.{or-left, or-right}
 use Rattle.notation.specs.Syntax.{Sequential, Single, sequential, decomposed, hidden, Chart, single, composed, Slaves}
 use Rattle.notation.specs.Syntax.{firstSlave, moreSlaves}
 use Rattle.notation.specs.Grammar.{ofChart, Text}

@@ -7,8 +7,8 @@ use mathlib.Core.Bool.{Bool, true, false, _&&_, cond}
 use Prim.Native.Nat.{ℕ, zero, suc, _+_, _*_, _<_}
 use native.Mathlib.Nat.{mul-add}
 use native.Mathlib.Omega.{arith}
-use Rattle.meaning.specs.Count.{tally, one}
-use Rattle.meaning.specs.Count.Laws.{tally-cong, tally-zero, tally-add, tally-swap, tally-only, tally-scale}
+use Rattle.meaning.specs.Sums.{tally, one}
+use Rattle.meaning.specs.Sums.Laws.{tally-cong, tally-zero, tally-add, tally-swap, tally-only, tally-scale}
 use Rattle.meaning.specs.Meaning.{same, Tree, Slaves, nil, snoc}
 use Rattle.meaning.specs.File.{File, gather, whole, treeOf}
 use Rattle.meaning.specs.Check.{names, named, holds, held}

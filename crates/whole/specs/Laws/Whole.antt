@@ -9,8 +9,8 @@ use Prim.Native.Nat.{ℕ, zero, suc, _+_, _-_, _*_, _≤_, _<_}
 use native.Mathlib.Omega.{arith}
 use Rattle.signals.specs.Mask.{bit}
 use Rattle.signals.specs.Mask.Laws.{bit-union, bit-none, ext}
-use Rattle.meaning.specs.Count.{tally, one}
-use Rattle.meaning.specs.Count.Laws.{tally-cong, tally-zero, tally-add, tally-swap, tally-only, tally-scale, tally-ones}
+use Rattle.meaning.specs.Sums.{tally, one}
+use Rattle.meaning.specs.Sums.Laws.{tally-cong, tally-zero, tally-add, tally-swap, tally-only, tally-scale, tally-ones}
 use Rattle.meaning.specs.Meaning.{Set, ∅, same, Tree, Slaves, leaf, comp, hide, dec, nil, snoc}
 use Rattle.meaning.specs.File.{File, byKind, gather, whole, build, treeOf, wholeOf}
 use Rattle.meaning.specs.Check.{holds, held}

@@ -11,8 +11,8 @@ use Rattle.layout.specs.Body.{startOf}
 use Rattle.layout.specs.declared.body.Shape.{Shape}
 use Rattle.layout.specs.declared.record.Head.{Head}
 use Rattle.meaning.specs.Meaning.{same}
-use Rattle.meaning.specs.Count.{anyUpTo}
-use Rattle.meaning.specs.Count.Laws.{any-none, any-more, any-at}
+use Rattle.meaning.specs.Sums.{anyUpTo}
+use Rattle.meaning.specs.Sums.Laws.{any-none, any-more, any-at}
 use Rattle.meaning.specs.Check.{chart?, charts?}
 use Rattle.layout.specs.Body.Laws.{startOf-none, startOf-next}
 use Rattle.checks.proofs.charts.bad_charts.Statement.{statement}

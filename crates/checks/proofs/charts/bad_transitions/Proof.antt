@@ -7,8 +7,8 @@ use native.Mathlib.Omega.{arith}
 use Rattle.layout.specs.Body.{headAt, transitionAt, startOf}
 use Rattle.layout.specs.declared.record.Head.{Head}
 use Rattle.meaning.specs.Numbers.{mostStates}
-use Rattle.meaning.specs.Count.{anyUpTo}
-use Rattle.meaning.specs.Count.Laws.{any-none, any-more, any-at}
+use Rattle.meaning.specs.Sums.{anyUpTo}
+use Rattle.meaning.specs.Sums.Laws.{any-none, any-more, any-at}
 use Rattle.meaning.specs.Check.{inChart}
 use Rattle.layout.specs.Body.Laws.{startOf-none, startOf-next, startOf-mono}
 use Rattle.meaning.specs.Check.Laws.{charted, summed, badAt, transitions-walked}

@@ -6,8 +6,8 @@ use Prim.Native.Nat.{_+_, _*_, _-_, _≤_}
 use native.Mathlib.Nat.{mul-zero}
 use native.Mathlib.Omega.{arith}
 use lib.ListN.{length}
-use Rattle.meaning.specs.Count.{anyUpTo}
-use Rattle.meaning.specs.Count.Laws.{any-none, any-more, any-at}
+use Rattle.meaning.specs.Sums.{anyUpTo}
+use Rattle.meaning.specs.Sums.Laws.{any-none, any-more, any-at}
 use Rattle.meaning.specs.Check.{nonzero}
 use Rattle.checks.proofs.Laws.{next-at, next-in}
 use Rattle.checks.proofs.zeros.any_nonzero.Statement.{statement}

@@ -5,8 +5,8 @@ use native.Mathlib.Numerals.{add-one}
 use native.Mathlib.Omega.{arith}
 use lib.ListN.{getD}
 use Rattle.meaning.specs.Meaning.{same}
-use Rattle.meaning.specs.Count.{anyUpTo}
-use Rattle.meaning.specs.Count.Laws.{any-none}
+use Rattle.meaning.specs.Sums.{anyUpTo}
+use Rattle.meaning.specs.Sums.Laws.{any-none}
 use Rattle.meaning.specs.Check.{nonzero, differ}
 use Rattle.checks.proofs.zeros.nonzero.Statement.{statement}
 use Rattle.checks.proofs.zeros.nonzero.Tie as tie

@@ -10,8 +10,8 @@ use lib.ListN.{getD}
 use Rattle.layout.specs.Body.{slaveAt}
 use Rattle.layout.specs.declared.body.Shape.{Shape}
 use Rattle.layout.specs.declared.record.Slave.{Slave}
-use Rattle.meaning.specs.Count.{anyUpTo}
-use Rattle.meaning.specs.Count.Laws.{any-none, any-more, any-at, any-done}
+use Rattle.meaning.specs.Sums.{anyUpTo}
+use Rattle.meaning.specs.Sums.Laws.{any-none, any-more, any-at, any-done}
 use Rattle.meaning.specs.File.{fileAt}
 use Rattle.meaning.specs.Check.{notBelow}
 use Rattle.meaning.specs.Check.Nodes.{slaves-there}

@@ -12,8 +12,8 @@ use Rattle.signals.specs.Mask.{_∪_, bit}
 use Rattle.signals.specs.Mask.Laws.{bit-union, bit-none}
 use Rattle.layout.specs.declared.record.Slave.{Slave}
 use Rattle.meaning.specs.Numbers.{mostNodes}
-use Rattle.meaning.specs.Count.{anyUpTo}
-use Rattle.meaning.specs.Count.Laws.{any-none}
+use Rattle.meaning.specs.Sums.{anyUpTo}
+use Rattle.meaning.specs.Sums.Laws.{any-none}
 use Rattle.meaning.specs.Meaning.{Set, same}
 use Rattle.meaning.specs.Laws.Bools.{same-refl, same-≢}
 use Rattle.meaning.specs.File.{File, fileAt}

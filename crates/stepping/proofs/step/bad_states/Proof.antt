@@ -8,8 +8,8 @@ use borrow.Author.Tests.{lt-ltb, le-ltb}
 use lib.ListN.{getD}
 use Rattle.layout.specs.Body.{headAt}
 use Rattle.layout.specs.declared.record.Head.{Head}
-use Rattle.meaning.specs.Count.{anyUpTo}
-use Rattle.meaning.specs.Count.Laws.{any-none, any-more, any-at, any-done}
+use Rattle.meaning.specs.Sums.{anyUpTo}
+use Rattle.meaning.specs.Sums.Laws.{any-none, any-more, any-at, any-done}
 use Rattle.meaning.specs.Check.{notBelow}
 use Rattle.stepping.proofs.step.bad_states.Statement.{statement}
 use Rattle.stepping.proofs.step.bad_states.Tie as tie

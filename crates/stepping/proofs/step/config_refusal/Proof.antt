@@ -8,7 +8,7 @@ use lib.ListN.{length, getD}
 use Rattle.layout.specs.Body.{headAt}
 use Rattle.layout.specs.declared.body.Shape.{Shape}
 use Rattle.meaning.specs.Numbers.{wrongLength, badState}
-use Rattle.meaning.specs.Count.{anyUpTo}
+use Rattle.meaning.specs.Sums.{anyUpTo}
 use Rattle.meaning.specs.Laws.Bools.{same-refl, same-≢}
 use Rattle.meaning.specs.Meaning.{same}
 use Rattle.meaning.specs.File.{chartOf, fileAt}

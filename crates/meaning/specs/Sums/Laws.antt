@@ -9,7 +9,7 @@ use Prim.Native.Nat.{ℕ, zero, suc, _+_, _*_, _≤_, _<_}
 use native.Mathlib.Nat.{le-refl, eq-or-lt-of-le, mul-suc, mul-add}
 use native.Mathlib.Numerals.{add-one}
 use native.Mathlib.Omega.{arith}
-use Rattle.meaning.specs.Count.{anyUpTo, tally}
+use Rattle.meaning.specs.Sums.{anyUpTo, tally}
 use Rattle.meaning.specs.Laws.Bools.{or-r}
 
 pub below-suc : (k n : ℕ) → k < suc n → (k ≡ n) ⊎ (k < n)

@@ -1,4 +1,4 @@
--- Tests and sums over the numbers below a limit, as a scan of records takes them. Laws are in Count/Laws.antt.
+-- Tests and sums over the numbers below a limit, as a scan of records takes them. Laws are in Sums/Laws.antt.
 use mathlib.Core.Bool.{Bool, true, false, _||_}
 use Prim.Native.Nat.{ℕ, zero, suc, _+_}
 pub mod Laws
