@@ -41,7 +41,7 @@ use Rattle.agreement.specs.Step.{Rewritten}
 use Rattle.agreement.specs.Encoded.{noTransition, Fits, nodeIn, head-there, some-transition-there, node-there}
 use Rattle.agreement.specs.Encoded.{head-is, start-is, transition-is, node-is, chart-back, trailerFor}
 use Rattle.agreement.specs.Encoded.{length-encode, end-is, trailer-there, trailer-is, body-is, shape-is, file-is}
-use Rattle.agreement.specs.Reads.{reads-back, tree-same}
+use Rattle.agreement.specs.Recovered.{reads-back, tree-same}
 use Rattle.meaning.specs.Check.Laws.{Passed, neither, is-below}
 use Rattle.agreement.specs.Passed.{passes}
 use Rattle.agreement.specs.New.{Regular, Formed, new-smalls, new-states, formed}

@@ -37,7 +37,7 @@ use Rattle.agreement.specs.Passed.{ended, smalls, body-bytes, ready}
 use Rattle.agreement.specs.New.{Regular}
 use Rattle.agreement.specs.Free.{call-is}
 use Rattle.agreement.specs.Slaveless.{slaveless-same}
-use Rattle.agreement.specs.Written.{encode-again}
+use Rattle.agreement.specs.Reproduced.{encode-again}
 use Rattle.agreement.specs.Again.{Given, fits, new-passes, new-reads, new-slaves}
 use Rattle.agreement.specs.Bytes.{new-bytes as bytes-new}
 use Rattle.agreement.specs.Encoded.{length-encode, end-is, trailer-is}

@@ -3,9 +3,9 @@
 -- activity (Active), lists of outcomes (Upto), lists of transitions (Every), a rewritten chart (Charts), how charts
 -- stand (Fit), places (Places), the same outcomes in the same order (Outcomes); over records, the call signals (Free),
 -- nodes renumbered (Renamed), laid down (Laid) and checked again (Recheck), the step (Step) and its places (Taken), the
--- interfaces (Faces); over bytes, a file written and read back (Encoded, Reads), what passing 1 to 11 gives (Passed),
--- the new records (New), the new file passes (Again) and is made of bytes (Bytes); a file without slaves (Slaveless)
--- and bytes read and written again (Written); two files computed (Examples).
+-- interfaces (Faces); over bytes, a file written and read back (Encoded, Recovered), what passing 1 to 11 gives
+-- (Passed), the new records (New), the new file passes (Again) and is made of bytes (Bytes); a file without slaves
+-- (Slaveless) and bytes read and written again (Reproduced); two files computed (Examples).
 pub mod Tree
 pub mod Same
 pub mod Active
@@ -23,12 +23,12 @@ pub mod Step
 pub mod Taken
 pub mod Faces
 pub mod Encoded
-pub mod Reads
+pub mod Recovered
 pub mod Passed
 pub mod New
 pub mod Again
 pub mod Bytes
 pub mod Slaveless
-pub mod Written
+pub mod Reproduced
 pub mod Calls
 pub mod Examples

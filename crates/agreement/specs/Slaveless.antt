@@ -25,7 +25,7 @@ use Rattle.agreement.specs.Encoded.{slaveIn, nodeIn}
 use Rattle.agreement.specs.Laid.{comp-node, hide-node, base-node}
 use Rattle.agreement.specs.New.{kap-below}
 use Rattle.meaning.specs.Check.Laws.{alike}
-use Rattle.agreement.specs.Reads.{Reads}
+use Rattle.agreement.specs.Recovered.{Reads}
 use Rattle.agreement.specs.Step.{Ready, nearest-is}
 
 module _ (F : File) (rd : Ready F) (none-there : F .slaves ≡ 0) where

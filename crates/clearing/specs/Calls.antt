@@ -35,7 +35,7 @@ use Rattle.meaning.specs.Laws.Bools.{same-refl, same-≢}
 use Rattle.meaning.specs.Laws.Editions.{edition-left}
 use Rattle.meaning.specs.Check.Laws.{in-front}
 use Rattle.agreement.specs.Encoded.{length-encode, trailer-is}
-use Rattle.agreement.specs.Reads.{Reads}
+use Rattle.agreement.specs.Recovered.{Reads}
 use Rattle.agreement.specs.Slaveless.{encode-same}
 use Rattle.meaning.specs.Laws.Alike.{ConfigsAlike, answer-alike, step-refusal-alike, first-alike, run-refusal-alike}
 use Rattle.meaning.specs.Laws.Many.{Decided, found-or-many, few-is, is-few, step-few, refused-many}
@@ -44,9 +44,9 @@ use Rattle.meaning.specs.Laws.Until.{same-carried-where}
 use Rattle.propositions.specs.Exchange.Answers.{TreesAlike, in-alike, out-alike, open-alike, found-alike}
 use Rattle.propositions.specs.Exchange.Answers.{steps-in-alike, places-found-alike, configs-alike}
 use Rattle.propositions.specs.Exchange.Records.{turned-alike}
-use Rattle.clearing.specs.Cleared.{Clearable, found-is, places-are, open-is, step-is, configs-cleared, in-is}
-use Rattle.clearing.specs.Cleared.{out-in, clear-twice}
-use Rattle.clearing.specs.Encodes.{InOrder, reads, reads-so, encoded-passes, encoded-bytes}
+use Rattle.clearing.specs.Result.{Clearable, found-is, places-are, open-is, step-is, configs-cleared, in-is}
+use Rattle.clearing.specs.Result.{out-in, clear-twice}
+use Rattle.clearing.specs.InOrder.{InOrder, reads, reads-so, encoded-passes, encoded-bytes}
 use Rattle.clearing.specs.New.{in-order, clearable, not-longer as size-most}
 
 -- ── what a call that is not refused has ──

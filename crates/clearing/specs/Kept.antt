@@ -19,7 +19,7 @@ use Rattle.meaning.specs.Check.Laws.{passed}
 use Rattle.meaning.specs.Plain.{fedBack, doubtful, doubtfulWith, anyDoubtful, plainIn, plainOf}
 use Rattle.meaning.specs.Laws.Bools.{same-refl, and-r}
 use Rattle.agreement.specs.Slaveless.{encode-same}
-use Rattle.agreement.specs.Written.{encode-again}
+use Rattle.agreement.specs.Reproduced.{encode-again}
 use Rattle.propositions.specs.Exchange.Answers.{plain-alike}
 use Rattle.clearing.specs.Clearing.{dead, alive, lost, clearedChart, clear, clearBytes, clearRefusal}
 use Rattle.clearing.specs.Calls.{allowed, same-check, new-edition, alike}

@@ -30,10 +30,10 @@ use Rattle.meaning.specs.Rewriting.{noFree?, fromState?, inChart?, rewriteTests
 use Rattle.meaning.specs.Rewriting.{encode}
 use Rattle.agreement.specs.Charts.{places, places-none}
 use Rattle.agreement.specs.Encoded.{length-encode}
-use Rattle.agreement.specs.Reads.{Reads, tree-same}
+use Rattle.agreement.specs.Recovered.{Reads, tree-same}
 use Rattle.clearing.specs.Clearing.{alive, lost, clearedChart, clear}
 use Rattle.clearing.specs.Alive.{alive-most, guards-alive, actions-alive}
-use Rattle.clearing.specs.Cleared.{tree-cleared}
+use Rattle.clearing.specs.Result.{tree-cleared}
 use Rattle.clearing.specs.New.{leaving-alive}
 
 -- ── the signals that a file uses ──

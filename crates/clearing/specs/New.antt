@@ -34,8 +34,8 @@ use Rattle.agreement.specs.Step.{has}
 use Rattle.agreement.specs.Calls.{regular}
 use Rattle.agreement.specs.Again.{leaving-list}
 use Rattle.clearing.specs.Alive.{alive-most}
-use Rattle.clearing.specs.Cleared.{Clearable, slaves-cleared, nodes-cleared, naming-cleared, inside-cleared}
-use Rattle.clearing.specs.Encodes.{InOrder}
+use Rattle.clearing.specs.Result.{Clearable, slaves-cleared, nodes-cleared, naming-cleared, inside-cleared}
+use Rattle.clearing.specs.InOrder.{InOrder}
 use Rattle.clearing.specs.Left.Laws.{no-more}
 
 -- ── lists ──

@@ -22,9 +22,9 @@ use Rattle.meaning.specs.Laws.Bools.{same-≢}
 use Rattle.meaning.specs.Laws.Trees.{Ordered}
 use Rattle.meaning.specs.Rewriting.{free, rewrite, leavingIn, rewriteTests, rewriteBytes, stayTest, rewriteRefusal}
 use Rattle.agreement.specs.Calls.{allowed}
-use Rattle.agreement.specs.Reads.{Reads}
+use Rattle.agreement.specs.Recovered.{Reads}
 use Rattle.clearing.specs.Clearing.{clear, clearBytes}
-use Rattle.clearing.specs.Encodes.{InOrder, reads}
+use Rattle.clearing.specs.InOrder.{InOrder, reads}
 use Rattle.clearing.specs.New.{in-order}
 use Rattle.clearing.specs.Limits.{free-more, leaving-fewer, list-shorter, nodes-same, written-shorter}
 use Rattle.clearing.specs.Limits.{later}

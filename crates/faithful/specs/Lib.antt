@@ -1,3 +1,3 @@
--- When a file holds a chart as typed (Typed), and that the file which is read from a text does (Laws).
-pub mod Typed
+-- When a file holds a chart as typed (Faithful), and that the file which is read from a text does (Laws).
+pub mod Faithful
 pub mod Laws

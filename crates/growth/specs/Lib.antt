@@ -1,2 +1,2 @@
--- What the contracts of growth cite beyond the crates below: how many idle transitions there are (Counts).
-pub mod Counts
+-- What the contracts of growth cite beyond the crates below: how many idle transitions there are (Growth).
+pub mod Growth

@@ -9,7 +9,7 @@ ghost use Rattle.meaning.specs.File.{fileAt};
 ghost use Rattle.meaning.specs.Rewriting.{count, beforeLast, start, rewrite, leavingIn, transitionsIn, shapeIn};
 ghost use lib.ListN.{length};
 ghost use Rattle.allocation.specs.Known.{Checked, InnerIn};
-ghost use Rattle.growth.specs.Counts.{idleCount};
+ghost use Rattle.growth.specs.Growth.{idleCount};
 use layout::body::Shape;
 use layout::limits::CHARTS;
 use layout::record;

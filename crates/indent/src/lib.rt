@@ -1,9 +1,9 @@
 // A written text laid out for a person (docs/NOTATION.md 7): where a line ends, and how far the next is indented. A
 // break stands only behind a sign, never within a name or a word, so the text laid out is read as the same chart.
 ghost use mathlib.Core.Path.{_≡_};
-ghost use Rattle.indent.specs.Layout.{raised, lowered, start as begin, quiet, broken, opened, ended, counted};
-ghost use Rattle.indent.specs.Layout.{roundOpened, roundClosed, roundEnded, braceOpened, parted};
-ghost use Rattle.indent.specs.Layout.{atBar, ofByte, closes, behind};
+ghost use Rattle.indent.specs.Breaks.{raised, lowered, start as begin, quiet, broken, opened, ended, counted};
+ghost use Rattle.indent.specs.Breaks.{roundOpened, roundClosed, roundEnded, braceOpened, parted};
+ghost use Rattle.indent.specs.Breaks.{atBar, ofByte, closes, behind};
 
 // What is known behind a byte: how many brackets are open that count, how many are open within a chart, whether the
 // next bar is the second of its pair, and whether a line ends here.

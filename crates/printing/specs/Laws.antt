@@ -1,5 +1,5 @@
--- Laws for the proofs: of tokens typed one after another (Prints), of lists that grow by a member (Turns), and of the
--- forms of the notation (Forms).
+-- Laws for the proofs: of tokens typed one after another (Prints), of lists that grow by a member (Separated), and of
+-- the forms of the notation (Forms).
 pub mod Prints
-pub mod Turns
+pub mod Separated
 pub mod Forms

@@ -7,7 +7,7 @@ ghost use Rattle.notation.specs.Grammar.{comma, ofTransition, ofTransitions, of
 ghost use Rattle.spelling.specs.Typed.{listed, transitionOf, orLeftOut, sequentialOf};
 ghost use Rattle.checks.specs.Known.{Sized, Summed};
 ghost use Rattle.printing.specs.Prints.{Prints};
-ghost use Rattle.printing.specs.Turns.{inTurn};
+ghost use Rattle.printing.specs.Separated.{inTurn};
 ghost use Rattle.printing.specs.Forms.{headingOf};
 use crate::guards;
 use crate::sets;

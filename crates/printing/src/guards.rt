@@ -5,7 +5,7 @@ ghost use Rattle.signals.specs.Mask.{bit};
 ghost use Rattle.notation.specs.Grammar.{amp, letS, name₁, ofLiteral, ofGuard};
 ghost use Rattle.spelling.specs.Typed.{ifSo, literals, listed};
 ghost use Rattle.printing.specs.Prints.{Prints};
-ghost use Rattle.printing.specs.Turns.{Adds};
+ghost use Rattle.printing.specs.Separated.{Adds};
 ghost use Rattle.printing.specs.Forms.{literalOf};
 use crate::sets;
 use crate::signs;

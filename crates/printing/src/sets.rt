@@ -4,7 +4,7 @@ ghost use Rattle.signals.specs.Mask.{bit};
 ghost use Rattle.notation.specs.Grammar.{comma, letS, name₁, ofSet};
 ghost use Rattle.spelling.specs.Typed.{ifSo, members as membersOf, signalsOf};
 ghost use Rattle.printing.specs.Prints.{Prints};
-ghost use Rattle.printing.specs.Turns.{inTurn, PrintsApart, Adds};
+ghost use Rattle.printing.specs.Separated.{inTurn, PrintsApart, Adds};
 use crate::signs;
 
 // Signals are s0 to s63.

@@ -4,7 +4,7 @@ ghost use mathlib.Core.List.{[], _∷_};
 ghost use Rattle.meaning.specs.Meaning.{same};
 ghost use Rattle.notation.specs.Grammar.{comma, letQ, name₁, ofNames};
 ghost use Rattle.printing.specs.Prints.{Prints};
-ghost use Rattle.printing.specs.Turns.{Adds};
+ghost use Rattle.printing.specs.Separated.{Adds};
 ghost use Rattle.printing.specs.Forms.{initialFirst};
 use crate::sets;
 use crate::signs;

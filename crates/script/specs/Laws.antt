@@ -27,9 +27,9 @@ use Rattle.spelling.specs.Typed.{signalsOf, sequentialOf, typedOf, masterOf, sl
 use Rattle.spelling.specs.Numbers.{mostText}
 use Rattle.spelling.specs.Write.{textIn}
 use Rattle.printing.specs.Prints.{Prints}
-use Rattle.printing.specs.Turns.{inTurn, Adds}
+use Rattle.printing.specs.Separated.{inTurn, Adds}
 use Rattle.printing.specs.Laws.Prints.{prints-put}
-use Rattle.printing.specs.Laws.Turns.{Solid, behindEach-snoc, inTurn-one}
+use Rattle.printing.specs.Laws.Separated.{Solid, behindEach-snoc, inTurn-one}
 use Rattle.script.specs.Tree.{composes, textBy, partBy, composedBy, hiddenBy, heldBy, masterBy, decomposes}
 use Rattle.script.specs.Tree.{slaveText, slaveIf, slavesIn, Legible}
 

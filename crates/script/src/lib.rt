@@ -9,7 +9,7 @@ ghost use Rattle.notation.specs.Grammar.{comma};
 ghost use Rattle.spelling.specs.Numbers.{mostText};
 ghost use Rattle.spelling.specs.Write.{textIn};
 ghost use Rattle.printing.specs.Prints.{Prints};
-ghost use Rattle.printing.specs.Turns.{inTurn, Adds};
+ghost use Rattle.printing.specs.Separated.{inTurn, Adds};
 ghost use Rattle.script.specs.Tree.{Legible, composes as composesTree, decomposes as hasSlaves, textBy, partBy};
 ghost use Rattle.script.specs.Tree.{composedBy, hiddenBy, heldBy, masterBy, slaveText, slaveIf, slavesIn};
 use layout::body::Shape;

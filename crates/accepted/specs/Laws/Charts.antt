@@ -29,7 +29,7 @@ use Rattle.reading.specs.Names.{nameOf}
 use Rattle.reading.specs.Meant.{bodyFor, trailerFor}
 use Rattle.spelling.specs.Write.{chartIn}
 use Rattle.spelling.specs.Laws.Charts.{name-written}
-use Rattle.faithful.specs.Typed.{ChartIs, ChartsTyped}
+use Rattle.faithful.specs.Faithful.{ChartIs, ChartsTyped}
 use Rattle.faithful.specs.Laws.Back.{shapeFor, file-back}
 use Rattle.faithful.specs.Laws.Charts.{charts-typed as read-charts}
 use Rattle.accepted.specs.Tree.{chartsIn}

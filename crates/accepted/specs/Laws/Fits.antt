@@ -20,7 +20,7 @@ use Rattle.spelling.specs.Typed.{sequentialOf}
 use Rattle.spelling.specs.Fits.{FitsIn, Fits}
 use Rattle.spelling.specs.Laws.Sets.{set-written, optional-written}
 use Rattle.spelling.specs.Laws.Charts.{states-length, transitions-written}
-use Rattle.faithful.specs.Typed.{ChartIs}
+use Rattle.faithful.specs.Faithful.{ChartIs}
 
 -- between the first m states, with sets of 64 signals
 lines-fit : (m : ℕ) (ts : List Record) → Every (λ t. (t .from < m) × (t .to < m)) ts → Every Small ts

@@ -27,7 +27,7 @@ use Rattle.forms.specs.Laws.Slaves.{Pair}
 use Rattle.outline.specs.Tree.{lacking, refusedSingle?, refused?, refusedSlaves?}
 use Rattle.outline.specs.Laws.Sorted.{Each, none, more, each-of, each-append, each-sorted, total, total-append}
 use Rattle.outline.specs.Laws.Laid.{has-below}
-use Rattle.faithful.specs.Typed.{pairsOf}
+use Rattle.faithful.specs.Faithful.{pairsOf}
 use Rattle.faithful.specs.Laws.Parts.{placedOf, byState, by-state, states-below, timesOf, timesAll}
 use Rattle.faithful.specs.Laws.Parts.{state-times, slaveFor, behind}
 use Rattle.accepted.specs.Parts.{namesBy, holdsBy, namedIn, heldIn, under, Mastered, Whole}

@@ -37,13 +37,13 @@ use Rattle.outline.specs.Laws.Filed.{all-fit}
 use Rattle.spelling.specs.Typed.{sequentialOf, typedOf, masterOf}
 use Rattle.spelling.specs.Typed.{slavesOf as slavesTyped}
 use Rattle.spelling.specs.Write.{chartIn}
-use Rattle.faithful.specs.Typed.{Rising}
+use Rattle.faithful.specs.Faithful.{Rising}
 use Rattle.faithful.specs.Laws.Back.{At, shapeFor, slave-is}
 use Rattle.faithful.specs.Laws.Charts.{at-more, at-head, at-place}
 use Rattle.faithful.specs.Laws.Order.{each-imp, each-both, keys-with, keys-sorted, NotFalling, append-level}
 use Rattle.faithful.specs.Laws.Order.{sorted-level}
 use Rattle.accepted.specs.Tree.{Within, WithinBy, keyFor, keyOf, Climbs}
-use Rattle.accepted.specs.Laws.Naming.{tally-total, each-at}
+use Rattle.accepted.specs.Laws.Test10.{tally-total, each-at}
 use Rattle.accepted.specs.Laws.Records.{climbs-all, slave-passes, state-below, climbing}
 use Rattle.accepted.specs.Laws.Names.{drawn, whole-within}
 use Rattle.accepted.specs.Laws.Counts.{names-typed, charts-typed, slaves-typed}

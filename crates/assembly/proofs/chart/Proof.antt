@@ -14,10 +14,10 @@ use Rattle.meaning.specs.File.{fileAt, chartOf}
 use Rattle.meaning.specs.Rewriting.{callsBy, rewrittenChart, inTurn, transitionsBytes}
 use Rattle.layout.specs.Put.{Room}
 use Rattle.layout.specs.Put.Laws.{put-append, put-length, room-first, room-next}
-use Rattle.laying.specs.Turn.{put-is}
+use Rattle.laying.specs.Sequence.{put-is}
 use Rattle.allocation.specs.Known.{Takes}
-use Rattle.growth.specs.Counts.{idleCount}
-use Rattle.growth.specs.Counts.Laws.{count-most}
+use Rattle.growth.specs.Growth.{idleCount}
+use Rattle.growth.specs.Growth.Laws.{count-most}
 use Rattle.assembly.specs.Known.{Stands}
 use Rattle.assembly.specs.Records.{calledWith, idleWith}
 use Rattle.assembly.specs.Records.Laws.{chart-bytes}

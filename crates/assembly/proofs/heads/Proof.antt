@@ -14,8 +14,8 @@ use Rattle.meaning.specs.File.{fileAt, chartOf}
 use Rattle.meaning.specs.Rewriting.{chartWith, rewrittenChart, headFor, inTurn}
 use Rattle.layout.specs.Put.{Put}
 use Rattle.layout.specs.Put.Laws.{put-length}
-use Rattle.laying.specs.Turn.{put-is, put-start, put-next, put-done, room-record}
-use Rattle.growth.specs.Counts.Laws.{length-rewritten}
+use Rattle.laying.specs.Sequence.{put-is, put-start, put-next, put-done, room-record}
+use Rattle.growth.specs.Growth.Laws.{length-rewritten}
 use Rattle.assembly.proofs.heads.Statement.{statement}
 use Rattle.assembly.proofs.heads.Tie as tie
 

@@ -9,7 +9,7 @@ use Rattle.meaning.specs.File.{File, fileAt}
 use Rattle.meaning.specs.Rewriting.{count}
 use Rattle.layout.specs.Put.{Room}
 use Rattle.layout.specs.Put.Laws.{put-length}
-use Rattle.laying.specs.Turn.{put-is, room-all}
+use Rattle.laying.specs.Sequence.{put-is, room-all}
 use Rattle.assembly.specs.Records.{holding, masterBytes, heldBytes}
 use Rattle.assembly.specs.Records.Laws.{held-none, held-some}
 use Rattle.assembly.proofs.holder.Statement.{statement}

@@ -9,7 +9,7 @@ use Rattle.layout.specs.Record.Laws.{length-transition}
 use Rattle.meaning.specs.Rewriting.{inTurn}
 use Rattle.layout.specs.Put.{Put}
 use Rattle.layout.specs.Put.Laws.{put-length}
-use Rattle.laying.specs.Turn.{put-start, put-next, put-done, room-record}
+use Rattle.laying.specs.Sequence.{put-start, put-next, put-done, room-record}
 use Rattle.assembly.specs.Records.{idleWith}
 use Rattle.assembly.proofs.idles.Statement.{statement}
 use Rattle.assembly.proofs.idles.Tie as tie

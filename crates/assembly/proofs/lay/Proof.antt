@@ -17,7 +17,7 @@ use Rattle.meaning.specs.Rewriting.{encode}
 use Rattle.laying.specs.Trailer.{Small, trailerWith}
 use Rattle.layout.specs.Put.{Room, Put}
 use Rattle.layout.specs.Put.Laws.{put-append, put-over, put-length, room-first, room-next}
-use Rattle.laying.specs.Turn.{put-one, put-is, room-last}
+use Rattle.laying.specs.Sequence.{put-one, put-is, room-last}
 use Rattle.allocation.specs.Known.{Checked}
 use Rattle.assembly.specs.Known.{Fits}
 use Rattle.assembly.specs.Records.{nodesBytes}

@@ -14,7 +14,7 @@ use Rattle.meaning.specs.File.{File, fileAt, chartOf}
 use Rattle.meaning.specs.Rewriting.{callsOf, inTurn}
 use Rattle.layout.specs.Put.{Room}
 use Rattle.layout.specs.Put.Laws.{put-append, put-length, room-first, room-next}
-use Rattle.laying.specs.Turn.{put-is, room-one, room-last}
+use Rattle.laying.specs.Sequence.{put-is, room-one, room-last}
 use Rattle.assembly.specs.Records.{holding, hiding, partBytes, masterBytes}
 use Rattle.assembly.proofs.master.Statement.{statement}
 use Rattle.assembly.proofs.master.Tie as tie

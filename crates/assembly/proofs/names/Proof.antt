@@ -10,7 +10,7 @@ use lib.Seq.{getD-set-same, getD-set-other}
 use Rattle.meaning.specs.File.{File, fileAt}
 use Rattle.meaning.specs.Rewriting.{beforeLast, start, newName}
 use Rattle.agreement.specs.Laid.{ren-inside}
-use Rattle.growth.specs.Counts.Laws.{nodes-none, nodes-more}
+use Rattle.growth.specs.Growth.Laws.{nodes-none, nodes-more}
 use Rattle.assembly.proofs.names.Statement.{statement}
 use Rattle.assembly.proofs.names.Tie as tie
 

@@ -15,7 +15,7 @@ use Rattle.meaning.specs.Rewriting.{count, before, newName, madeFor}
 use Rattle.agreement.specs.Laid.{ren-inside}
 use Rattle.layout.specs.Put.{Room}
 use Rattle.layout.specs.Put.Laws.{put-length}
-use Rattle.laying.specs.Turn.{put-is, room-all}
+use Rattle.laying.specs.Sequence.{put-is, room-all}
 use Rattle.allocation.specs.Known.{Checked}
 use Rattle.assembly.specs.Known.{NamesIn, Holder, Begins}
 use Rattle.assembly.specs.Records.{composing, hiding, heldBytes, nodesBytes}

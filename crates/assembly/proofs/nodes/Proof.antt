@@ -11,8 +11,8 @@ use Rattle.meaning.specs.Rewriting.{beforeLast, start, newName, madeFor, inTurn
 use Rattle.agreement.specs.Laid.{ren-inside}
 use Rattle.layout.specs.Put.{Put}
 use Rattle.layout.specs.Put.Laws.{put-length}
-use Rattle.laying.specs.Turn.{put-start, put-next, put-done, room-turn}
-use Rattle.growth.specs.Counts.Laws.{nodes-none, nodes-more}
+use Rattle.laying.specs.Sequence.{put-start, put-next, put-done, room-turn}
+use Rattle.growth.specs.Growth.Laws.{nodes-none, nodes-more}
 use Rattle.assembly.specs.Records.{nodesBytes}
 use Rattle.assembly.proofs.nodes.Statement.{statement}
 use Rattle.assembly.proofs.nodes.Tie as tie

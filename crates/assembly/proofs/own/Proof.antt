@@ -15,7 +15,7 @@ use Rattle.meaning.specs.File.{fileAt}
 use Rattle.meaning.specs.Rewriting.{callsBy, inTurn}
 use Rattle.layout.specs.Put.{Put}
 use Rattle.layout.specs.Put.Laws.{put-length}
-use Rattle.laying.specs.Turn.{put-is, put-start, put-next, put-done, room-record}
+use Rattle.laying.specs.Sequence.{put-is, put-start, put-next, put-done, room-record}
 use Rattle.assembly.specs.Records.{calledWith}
 use Rattle.assembly.proofs.own.Statement.{statement}
 use Rattle.assembly.proofs.own.Tie as tie

@@ -19,10 +19,10 @@ use Rattle.meaning.specs.File.{File, fileAt}
 use Rattle.meaning.specs.Rewriting.{count, newName, inTurn}
 use Rattle.layout.specs.Put.{Put}
 use Rattle.layout.specs.Put.Laws.{put-none, put-length}
-use Rattle.laying.specs.Turn.{put-is, put-start, put-next, put-done, room-record}
+use Rattle.laying.specs.Sequence.{put-is, put-start, put-next, put-done, room-record}
 use Rattle.allocation.specs.Known.{Checked}
 use Rattle.allocation.specs.Known.Laws.{is-of, is-not}
-use Rattle.growth.specs.Counts.Laws.{count-own, count-other}
+use Rattle.growth.specs.Growth.Laws.{count-own, count-other}
 use Rattle.assembly.specs.Known.{NamesIn}
 use Rattle.assembly.specs.Records.{composing, partBytes}
 use Rattle.assembly.proofs.parts.Statement.{statement}

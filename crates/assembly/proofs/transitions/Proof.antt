@@ -12,7 +12,7 @@ use Rattle.meaning.specs.File.{fileAt}
 use Rattle.meaning.specs.Rewriting.{rewrittenChart, inTurn, transitionsBytes}
 use Rattle.layout.specs.Put.{Put}
 use Rattle.layout.specs.Put.Laws.{put-length}
-use Rattle.laying.specs.Turn.{put-start, put-next, put-done, room-turn}
+use Rattle.laying.specs.Sequence.{put-start, put-next, put-done, room-turn}
 use Rattle.checks.specs.Known.Laws.{in-all, start-next}
 use Rattle.assembly.proofs.transitions.Statement.{statement}
 use Rattle.assembly.proofs.transitions.Tie as tie

@@ -23,9 +23,9 @@ use Rattle.meaning.specs.Rewriting.{rewrite, inTurn, headFor, transitionsBytes,
 use Rattle.meaning.specs.Rewriting.Laws.{sum-most}
 use Rattle.agreement.specs.Laid.{noNode, laid-length}
 use Rattle.laying.specs.Trailer.{Small, trailerWith}
-use Rattle.laying.specs.Turn.{turn-front, turn-cong}
-use Rattle.growth.specs.Counts.{idleCount}
-use Rattle.growth.specs.Counts.Laws.{count-none, count-some}
+use Rattle.laying.specs.Sequence.{turn-front, turn-cong}
+use Rattle.growth.specs.Growth.{idleCount}
+use Rattle.growth.specs.Growth.Laws.{count-none, count-some}
 use Rattle.assembly.specs.Known.{Fits}
 use Rattle.assembly.specs.Records.{calledWith, idleWith, holding, composing, hiding, nodesBytes, partBytes}
 use Rattle.assembly.specs.Records.{masterBytes, heldBytes}

@@ -12,7 +12,7 @@ use Rattle.layout.specs.Put.{Room, Put}
 use Rattle.layout.specs.Put.Laws.{put-length}
 use Rattle.meaning.specs.Meaning.{Set}
 use Rattle.meaning.specs.Rewriting.{inTurn}
-use Rattle.laying.specs.Turn.{put-is, put-start, put-next, put-done, room-turn}
+use Rattle.laying.specs.Sequence.{put-is, put-start, put-next, put-done, room-turn}
 use Rattle.clearing.specs.Left.{keptBytes}
 use Rattle.clearing.proofs.chart.Statement.{statement}
 use Rattle.clearing.proofs.chart.Tie as tie

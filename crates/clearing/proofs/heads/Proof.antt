@@ -16,7 +16,7 @@ use Rattle.layout.specs.Put.Laws.{put-length}
 use Rattle.meaning.specs.File.{fileAt}
 use Rattle.meaning.specs.Rewriting.{headFor, inTurn}
 use Rattle.checks.specs.Known.Laws.{in-all, start-next}
-use Rattle.laying.specs.Turn.{put-is, put-start, put-next, put-done, room-record}
+use Rattle.laying.specs.Sequence.{put-is, put-start, put-next, put-done, room-record}
 use Rattle.clearing.specs.Clearing.{clearedChart}
 use Rattle.clearing.specs.Left.{leftOf}
 use Rattle.clearing.specs.Left.Laws.{left-most, head-cleared}

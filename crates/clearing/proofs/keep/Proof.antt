@@ -5,7 +5,7 @@ use Prim.Native.Nat.{ℕ}
 use native.Mathlib.Omega.{arith}
 use borrow.Author.Needs.{needs}
 use Rattle.layout.specs.Put.Laws.{put-none, put-length}
-use Rattle.laying.specs.Turn.{put-is}
+use Rattle.laying.specs.Sequence.{put-is}
 use Rattle.clearing.specs.Left.Laws.{bytes-dead, bytes-left, room-left}
 use Rattle.clearing.proofs.keep.Statement.{statement}
 use Rattle.clearing.proofs.keep.Tie as tie

@@ -17,7 +17,7 @@ use Rattle.meaning.specs.Calls.{laidOver}
 use Rattle.meaning.specs.File.{File, fileAt}
 use Rattle.meaning.specs.Rewriting.{headFor, inTurn, transitionsBytes, shapeIn, bodyBytes, encode}
 use Rattle.laying.specs.Trailer.{trailerWith}
-use Rattle.laying.specs.Turn.{put-one, put-is, room-last}
+use Rattle.laying.specs.Sequence.{put-one, put-is, room-last}
 use Rattle.clearing.specs.Clearing.{clearedChart, clear}
 use Rattle.clearing.specs.Left.Laws.{shape-small}
 use Rattle.clearing.proofs.lay.Statement.{statement}

@@ -12,7 +12,7 @@ use Rattle.layout.specs.declared.body.Shape.{Shape}
 use Rattle.layout.specs.Put.{Put}
 use Rattle.layout.specs.Put.Laws.{put-length}
 use Rattle.meaning.specs.Rewriting.{inTurn}
-use Rattle.laying.specs.Turn.{put-is, put-start, put-next, put-done, room-record}
+use Rattle.laying.specs.Sequence.{put-is, put-start, put-next, put-done, room-record}
 use Rattle.clearing.proofs.nodes.Statement.{statement}
 use Rattle.clearing.proofs.nodes.Tie as tie
 

@@ -14,7 +14,7 @@ use Rattle.layout.specs.Put.Laws.{put-length}
 use Rattle.meaning.specs.File.{fileAt}
 use Rattle.meaning.specs.Rewriting.{inTurn, transitionsBytes}
 use Rattle.checks.specs.Known.Laws.{in-all, start-next}
-use Rattle.laying.specs.Turn.{put-is, put-start, put-next, put-done, room-turn}
+use Rattle.laying.specs.Sequence.{put-is, put-start, put-next, put-done, room-turn}
 use Rattle.clearing.specs.Clearing.{clearedChart}
 use Rattle.clearing.specs.Left.{keptBytes}
 use Rattle.clearing.specs.Left.Laws.{kept-turn, list-cleared}

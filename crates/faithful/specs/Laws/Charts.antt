@@ -24,7 +24,7 @@ use Rattle.reading.specs.Meant.{trailerFor, fileFor}
 use Rattle.lists.specs.Laws.States.{length-snoc}
 use Rattle.reading.specs.Laws.Lists.{any-append}
 use Rattle.roster.specs.Laws.Sorted.{InOrder, sorted-same, sorted-order, any-perm, length-perm, gathered-snoc}
-use Rattle.faithful.specs.Typed.{ChartIs, ChartsTyped}
+use Rattle.faithful.specs.Faithful.{ChartIs, ChartsTyped}
 use Rattle.faithful.specs.Laws.Small.{transition-small, transitions-fine}
 use Rattle.faithful.specs.Laws.Back.{At, at-below, shapeFor, file-back, head-is, transition-is}
 

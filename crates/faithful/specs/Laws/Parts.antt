@@ -22,7 +22,7 @@ use Rattle.outline.specs.Tree.{refused?, refusedSlaves?}
 use Rattle.outline.specs.Laws.Sorted.{Each, none, more, each-append, each-sorted, total, total-append, total-sorted}
 use Rattle.walk.specs.Laws.Order.{key-append}
 use Rattle.roster.specs.Laws.Sorted.{sorted-perm}
-use Rattle.faithful.specs.Typed.{pairsOf, Rising}
+use Rattle.faithful.specs.Faithful.{pairsOf, Rising}
 use Rattle.faithful.specs.Laws.Order.{with-here, with-not, NotFalling, map-sorted, each-every, each-head}
 use Rattle.faithful.specs.Laws.Order.{each-tail}
 

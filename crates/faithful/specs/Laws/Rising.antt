@@ -18,7 +18,7 @@ use Rattle.agreement.specs.Encoded.{slaveIn}
 use Rattle.reading.specs.Meant.{withKey}
 use Rattle.lists.specs.Laws.States.{length-snoc}
 use Rattle.outline.specs.Laws.Sorted.{Each, none, more, each-with}
-use Rattle.faithful.specs.Typed.{Rising}
+use Rattle.faithful.specs.Faithful.{Rising}
 use Rattle.faithful.specs.Laws.Back.{At}
 use Rattle.faithful.specs.Laws.Order.{each-imp, each-both, keys-with}
 use Rattle.faithful.specs.Laws.Parts.{chartOf, stateOf}

@@ -23,7 +23,7 @@ use Rattle.reading.specs.Read.{chartTests, refusalIn, readRefusal, readFile}
 use Rattle.reading.specs.Laws.Read.{read-spells}
 use Rattle.outline.specs.Laws.Filed.{not-refused}
 use Rattle.roster.specs.Laws.Sorted.{few-names, length-perm}
-use Rattle.faithful.specs.Typed.{Means, Faithful}
+use Rattle.faithful.specs.Faithful.{Means, Faithful}
 use Rattle.faithful.specs.Laws.Back.{shapeFor, file-back, slave-is, node-is}
 use Rattle.faithful.specs.Laws.Charts.{named, same-charts, charts-typed}
 use Rattle.faithful.specs.Laws.Parts.{once-typed}

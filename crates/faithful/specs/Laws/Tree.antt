@@ -31,9 +31,8 @@ use Rattle.outline.specs.Tree.{lacking, refusedSingle?, refused?, refusedSlaves
 use Rattle.outline.specs.Laws.Sorted.{Each, none, more, each-append, each-sorted, total, total-append, length-sorted}
 use Rattle.outline.specs.Laws.Laid.{has-below}
 use Rattle.walk.specs.Laws.Order.{key-append}
-use Rattle.faithful.specs.Typed.{pairsOf, Rising, ByState, Means, a-chart, a-master, a-hiding, a-pair, MeansAll}
-use Rattle.faithful.specs.Typed.{no-slave}
-use Rattle.faithful.specs.Typed.{one-more}
+use Rattle.faithful.specs.Faithful.{pairsOf, Rising, ByState, Means, a-chart, a-master, a-hiding, a-pair}
+use Rattle.faithful.specs.Faithful.{MeansAll, no-slave, one-more}
 use Rattle.faithful.specs.Laws.Small.{set-small, optional-small}
 use Rattle.faithful.specs.Laws.Back.{At, at-below}
 use Rattle.faithful.specs.Laws.Order.{with-not, with-own, with-sorted, NotFalling, sorted-level}

@@ -1,7 +1,7 @@
 -- `idle_count` meets its contract.
 use borrow.Author.Tests.{eq-eqb, ne-eqb}
 use Rattle.meaning.specs.Meaning.{same}
-use Rattle.growth.specs.Counts.{idleCount}
+use Rattle.growth.specs.Growth.{idleCount}
 use Rattle.growth.proofs.idle_count.Statement.{statement}
 use Rattle.growth.proofs.idle_count.Tie as tie
 

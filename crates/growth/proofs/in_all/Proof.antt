@@ -8,7 +8,7 @@ use Rattle.meaning.specs.Sums.{tally}
 use Rattle.meaning.specs.Sums.Laws.{tally-none, tally-more, tally-done}
 use Rattle.meaning.specs.File.{fileAt}
 use Rattle.meaning.specs.Rewriting.{rewrittenChart, transitionsIn}
-use Rattle.growth.specs.Counts.Laws.{length-rewritten}
+use Rattle.growth.specs.Growth.Laws.{length-rewritten}
 use Rattle.growth.proofs.in_all.Statement.{statement}
 use Rattle.growth.proofs.in_all.Tie as tie
 

@@ -3,7 +3,7 @@ use mathlib.Core.Path.{ap}
 use Prim.Native.Nat.{ℕ, _+_, _<_}
 use native.Mathlib.Omega.{arith}
 use borrow.Author.Needs.{needs}
-use Rattle.growth.specs.Counts.Laws.{count-most}
+use Rattle.growth.specs.Growth.Laws.{count-most}
 use Rattle.growth.proofs.in_chart.Statement.{statement}
 use Rattle.growth.proofs.in_chart.Tie as tie
 

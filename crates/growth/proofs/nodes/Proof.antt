@@ -5,7 +5,7 @@ use native.Mathlib.Omega.{arith}
 use Rattle.meaning.specs.Numbers.{mostSlaves}
 use Rattle.meaning.specs.File.{fileAt}
 use Rattle.meaning.specs.Rewriting.{start}
-use Rattle.growth.specs.Counts.Laws.{nodes-none, nodes-more}
+use Rattle.growth.specs.Growth.Laws.{nodes-none, nodes-more}
 use Rattle.growth.proofs.nodes.Statement.{statement}
 use Rattle.growth.proofs.nodes.Tie as tie
 

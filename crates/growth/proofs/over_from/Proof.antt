@@ -16,8 +16,8 @@ use Rattle.meaning.specs.Sums.{anyUpTo}
 use Rattle.meaning.specs.Sums.Laws.{any-none, any-more, any-at, any-done, any-cong}
 use Rattle.meaning.specs.File.{fileAt, chartOf}
 use Rattle.meaning.specs.Rewriting.{call, callIn, nearestSlave, chartWith, rewrittenChart, leavingIn}
-use Rattle.growth.specs.Counts.{idleCount}
-use Rattle.growth.specs.Counts.Laws.{leaving-is, count-most}
+use Rattle.growth.specs.Growth.{idleCount}
+use Rattle.growth.specs.Growth.Laws.{leaving-is, count-most}
 use Rattle.checks.specs.Known.Laws.{in-all, start-next, own-are}
 use Rattle.growth.proofs.over_from.Statement.{statement}
 use Rattle.growth.proofs.over_from.Tie as tie

@@ -11,7 +11,7 @@ use Rattle.meaning.specs.Sums.{anyUpTo}
 use Rattle.meaning.specs.Sums.Laws.{any-none, any-more, any-at, any-done}
 use Rattle.meaning.specs.File.{fileAt}
 use Rattle.meaning.specs.Rewriting.{rewrittenChart}
-use Rattle.growth.specs.Counts.Laws.{length-rewritten}
+use Rattle.growth.specs.Growth.Laws.{length-rewritten}
 use Rattle.growth.proofs.over_in_chart.Statement.{statement}
 use Rattle.growth.proofs.over_in_chart.Tie as tie
 

@@ -7,7 +7,7 @@ use borrow.Author.Needs.{needs}
 use Rattle.meaning.specs.Sums.Laws.{tally-none}
 use Rattle.meaning.specs.File.{fileAt}
 use Rattle.meaning.specs.Rewriting.{count}
-use Rattle.growth.specs.Counts.Laws.{count-own, count-other}
+use Rattle.growth.specs.Growth.Laws.{count-own, count-other}
 use Rattle.growth.proofs.slaves_of.Statement.{statement}
 use Rattle.growth.proofs.slaves_of.Tie as tie
 

@@ -1,7 +1,7 @@
 -- `at_comma` meets its contract.
 use borrow.Author.Needs.{needs}
 use borrow.Author.Tests.{eq-eqb, ne-eqb}
-use Rattle.indent.specs.Layout.{parted}
+use Rattle.indent.specs.Breaks.{parted}
 use Rattle.indent.proofs.at_comma.Statement.{statement}
 use Rattle.indent.proofs.at_comma.Tie as tie
 

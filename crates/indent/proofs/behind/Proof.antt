@@ -2,7 +2,7 @@
 use mathlib.Core.Path.{sym, _∙_}
 use borrow.Author.Needs.{needs}
 use borrow.Author.Tests.{eq-eqb, ne-eqb}
-use Rattle.indent.specs.Layout.{behind}
+use Rattle.indent.specs.Breaks.{behind}
 use Rattle.indent.proofs.behind.Statement.{statement}
 use Rattle.indent.proofs.behind.Tie as tie
 

@@ -1,7 +1,7 @@
 -- `close_round` meets its contract.
 use borrow.Author.Needs.{needs}
 use borrow.Author.Tests.{eq-eqb, ne-eqb}
-use Rattle.indent.specs.Layout.{roundClosed}
+use Rattle.indent.specs.Breaks.{roundClosed}
 use Rattle.indent.proofs.close_round.Statement.{statement}
 use Rattle.indent.proofs.close_round.Tie as tie
 

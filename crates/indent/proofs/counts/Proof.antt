@@ -1,6 +1,6 @@
 -- `counts` meets its contract.
 use borrow.Author.Tests.{eq-eqb, ne-eqb}
-use Rattle.indent.specs.Layout.{counted}
+use Rattle.indent.specs.Breaks.{counted}
 use Rattle.indent.proofs.counts.Statement.{statement}
 use Rattle.indent.proofs.counts.Tie as tie
 

@@ -1,7 +1,7 @@
 -- `end_round` meets its contract.
 use borrow.Author.Needs.{needs}
 use borrow.Author.Tests.{eq-eqb, ne-eqb}
-use Rattle.indent.specs.Layout.{roundEnded}
+use Rattle.indent.specs.Breaks.{roundEnded}
 use Rattle.indent.proofs.end_round.Statement.{statement}
 use Rattle.indent.proofs.end_round.Tie as tie
 

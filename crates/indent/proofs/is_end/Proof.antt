@@ -1,6 +1,6 @@
 -- `is_end` meets its contract.
 use borrow.Author.Tests.{eq-eqb, ne-eqb}
-use Rattle.indent.specs.Layout.{closes}
+use Rattle.indent.specs.Breaks.{closes}
 use Rattle.indent.proofs.is_end.Statement.{statement}
 use Rattle.indent.proofs.is_end.Tie as tie
 

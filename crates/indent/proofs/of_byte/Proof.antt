@@ -1,7 +1,7 @@
 -- `of_byte` meets its contract.
 use borrow.Author.Needs.{needs}
 use borrow.Author.Tests.{eq-eqb, ne-eqb}
-use Rattle.indent.specs.Layout.{ofByte}
+use Rattle.indent.specs.Breaks.{ofByte}
 use Rattle.indent.proofs.of_byte.Statement.{statement}
 use Rattle.indent.proofs.of_byte.Tie as tie
 

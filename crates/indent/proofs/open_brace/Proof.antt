@@ -1,7 +1,7 @@
 -- `open_brace` meets its contract.
 use borrow.Author.Needs.{needs}
 use borrow.Author.Tests.{eq-eqb, ne-eqb}
-use Rattle.indent.specs.Layout.{braceOpened}
+use Rattle.indent.specs.Breaks.{braceOpened}
 use Rattle.indent.proofs.open_brace.Statement.{statement}
 use Rattle.indent.proofs.open_brace.Tie as tie
 

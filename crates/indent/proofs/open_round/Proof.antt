@@ -1,7 +1,7 @@
 -- `open_round` meets its contract.
 use mathlib.Core.Path.{sym, _∙_}
 use borrow.Author.Needs.{needs}
-use Rattle.indent.specs.Layout.{roundOpened}
+use Rattle.indent.specs.Breaks.{roundOpened}
 use Rattle.indent.proofs.open_round.Statement.{statement}
 use Rattle.indent.proofs.open_round.Tie as tie
 

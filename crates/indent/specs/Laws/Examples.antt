@@ -4,8 +4,8 @@ use mathlib.Core.Path.{_≡_, refl}
 use mathlib.Core.List.{List, _++_}
 use Prim.Native.Nat.{ℕ}
 use Rattle.line.specs.Ascii.{ascii}
-use Rattle.indent.specs.Layout.{counted, roundOpened, roundClosed, roundEnded, braceOpened, parted, ofByte}
-use Rattle.indent.specs.Layout.{closes, behind, breakAt, shownFrom, shown}
+use Rattle.indent.specs.Breaks.{counted, roundOpened, roundClosed, roundEnded, braceOpened, parted, ofByte}
+use Rattle.indent.specs.Breaks.{closes, behind, breakAt, shownFrom, shown}
 
 abbrev slave : List ℕ
 slave =

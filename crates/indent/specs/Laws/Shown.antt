@@ -14,7 +14,7 @@ use Rattle.notation.specs.Grammar.{Sign, lpar, rpar, lbrace, rbrace, lsq, rsq, 
 use Rattle.notation.specs.Grammar.{wordBy, Letter, letC, letQ, letS, Token, sign, name, Tokens, signBytes, letter}
 use Rattle.notation.specs.Grammar.{bytesOf, blank, Text, end, blankThen, tokenThen, Spells}
 use Rattle.indent.specs.declared.Place.{Place}
-use Rattle.indent.specs.Layout.{quiet, behind, ofByte, closes, breakAt, nextOf, shownFrom, shown, start}
+use Rattle.indent.specs.Breaks.{quiet, behind, ofByte, closes, breakAt, nextOf, shownFrom, shown, start}
 
 -- ── bytes that are passed without a break ──
 

@@ -3,7 +3,7 @@ use native.Mathlib.Omega.{arith}
 use borrow.Author.Needs.{needs}
 use Rattle.layout.specs.Record.Laws.{length-slave}
 use Rattle.layout.specs.Put.Laws.{put-length}
-use Rattle.laying.specs.Turn.{put-one}
+use Rattle.laying.specs.Sequence.{put-one}
 use Rattle.laying.proofs.put_slave.Statement.{statement}
 use Rattle.laying.proofs.put_slave.Tie as tie
 

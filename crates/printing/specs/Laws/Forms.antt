@@ -17,9 +17,9 @@ use Rattle.notation.specs.Grammar.{Tokens, Sign, Letter, letS, comma, amp, lbra
 use Rattle.notation.specs.Grammar.{ofSet, ofLiteral, ofLiterals, ofGuard, ofTransition, ofTransitionList}
 use Rattle.notation.specs.Grammar.{rpar, ofTransitions, ofHeading, ofExtra, ofSequential}
 use Rattle.spelling.specs.Typed.{followed, listed, fromAll, signalsOf, orLeftOut, transitionOf, others, sequentialOf}
-use Rattle.printing.specs.Turns.{behindEach, inTurn}
+use Rattle.printing.specs.Separated.{behindEach, inTurn}
 use Rattle.printing.specs.Forms.{headingOf}
-use Rattle.printing.specs.Laws.Turns.{Solid}
+use Rattle.printing.specs.Laws.Separated.{Solid}
 
 -- ── a list as typed ──
 

@@ -24,7 +24,7 @@ use Rattle.spelling.specs.Write.{chartIn, textIn, textOf}
 use Rattle.faithful.specs.Laws.Back.{shapeFor, trailer-back-is, body-back}
 use Rattle.accepted.specs.Laws.Shape.{shape-passes}
 use Rattle.accepted.specs.Laws.Nodes.{nodes-pass}
-use Rattle.accepted.specs.Laws.Naming.{naming-passes}
+use Rattle.accepted.specs.Laws.Test10.{naming-passes}
 use Rattle.accepted.specs.Laws.Counts.{names-typed, counts-right, few-lines}
 use Rattle.accepted.specs.Laws.Charts.{charts-pass, transitions-pass}
 use Rattle.accepted.specs.Laws.Inside.{inside-same}

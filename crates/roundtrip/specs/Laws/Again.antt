@@ -26,7 +26,7 @@ use Rattle.reading.specs.Laws.Body.{headsFor, linesFor, slavesFor, nodesFor, bo
 use Rattle.reading.specs.Laws.Lists.{all-append}
 use Rattle.roster.specs.Laws.Sorted.{InOrder, length-perm}
 use Rattle.spelling.specs.Write.{chartIn}
-use Rattle.faithful.specs.Typed.{ChartIs}
+use Rattle.faithful.specs.Faithful.{ChartIs}
 use Rattle.faithful.specs.Laws.Back.{trailer-back-is}
 use Rattle.faithful.specs.Laws.Charts.{mem-perm, same-charts, in-order, charts-typed}
 use Rattle.faithful.specs.Laws.Tree.{filed}

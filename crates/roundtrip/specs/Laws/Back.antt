@@ -23,7 +23,7 @@ use Rattle.spelling.specs.Write.{chartIn}
 use Rattle.faithful.specs.Laws.Back.{shapeFor, file-back}
 use Rattle.faithful.specs.Laws.Theorems.{body-means}
 use Rattle.accepted.specs.Laws.Nodes.{nodes-pass}
-use Rattle.accepted.specs.Laws.Naming.{rule-10, naming-passes}
+use Rattle.accepted.specs.Laws.Test10.{rule-10, naming-passes}
 use Rattle.accepted.specs.Tree.{keyFor, keyOf}
 use Rattle.accepted.specs.Laws.Records.{climbs-all}
 use Rattle.accepted.specs.Laws.Counts.{names-typed, charts-typed, nodes-typed, counts-right}

@@ -15,8 +15,8 @@ use Rattle.reading.specs.Meant.{setOf, optionalOf}
 use Rattle.forms.specs.Laws.Slaves.{Pair}
 use Rattle.spelling.specs.Typed.{sequentialOf, typedOf, slavesOf}
 use Rattle.spelling.specs.Laws.Sets.{set-written}
-use Rattle.faithful.specs.Typed.{pairsOf, Rising, ByState, Means, a-chart, a-master, a-hiding, a-pair, MeansAll}
-use Rattle.faithful.specs.Typed.{no-slave, one-more}
+use Rattle.faithful.specs.Faithful.{pairsOf, Rising, ByState, Means, a-chart, a-master, a-hiding, a-pair, MeansAll}
+use Rattle.faithful.specs.Faithful.{no-slave, one-more}
 use Rattle.faithful.specs.Laws.Charts.{mem-perm}
 use Rattle.accepted.specs.Tree.{keyOf}
 use Rattle.roundtrip.specs.Laws.Rising.{rising-snoc, rising-unique}

@@ -18,8 +18,8 @@ use Rattle.forms.specs.Laws.Slaves.{Pair}
 use Rattle.outline.specs.Laws.Sorted.{Each, none, more, each-append}
 use Rattle.spelling.specs.Typed.{sequentialOf, typedOf, masterOf, slavesOf}
 use Rattle.spelling.specs.Laws.Sets.{set-written}
-use Rattle.faithful.specs.Typed.{pairsOf, ByState, Means, a-chart, a-master, a-hiding, a-pair, MeansAll}
-use Rattle.faithful.specs.Typed.{no-slave, one-more}
+use Rattle.faithful.specs.Faithful.{pairsOf, ByState, Means, a-chart, a-master, a-hiding, a-pair, MeansAll}
+use Rattle.faithful.specs.Faithful.{no-slave, one-more}
 use Rattle.faithful.specs.Laws.Parts.{placedOf, byState, by-state}
 use Rattle.roundtrip.specs.Laws.Rising.{sorted-rising}
 use Rattle.roundtrip.specs.Laws.Proper.{heldPairs, Proper, ProperAll, NotNone, InRange}

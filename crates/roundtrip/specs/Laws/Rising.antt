@@ -18,7 +18,7 @@ use Rattle.meaning.specs.Meaning.{same}
 use Rattle.reading.specs.Meant.{sortedBy}
 use Rattle.outline.specs.Laws.Sorted.{Each, none, more, each-append, total}
 use Rattle.roster.specs.Laws.Sorted.{sorted-perm}
-use Rattle.faithful.specs.Typed.{Rising}
+use Rattle.faithful.specs.Faithful.{Rising}
 use Rattle.faithful.specs.Laws.Charts.{mem-perm}
 use Rattle.faithful.specs.Laws.Order.{each-every, sorted-level}
 use Rattle.accepted.specs.Tree.{Climbs}

@@ -12,9 +12,9 @@ use lib.ListN.{length}
 use Rattle.meaning.specs.File.{fileAt}
 use Rattle.notation.specs.Grammar.{lpar, rpar, bar, comma, lbrace, rbrace, lsq, rsq, letQ, signBytes, letter}
 use Rattle.printing.specs.Prints.{Prints}
-use Rattle.printing.specs.Turns.{inTurn}
+use Rattle.printing.specs.Separated.{inTurn}
 use Rattle.printing.specs.Laws.Prints.{prints-append}
-use Rattle.printing.specs.Laws.Turns.{inTurn-none, adds-none, adds-one}
+use Rattle.printing.specs.Laws.Separated.{inTurn-none, adds-none, adds-one}
 use Rattle.script.specs.Tree.{textBy, heldBy, slaveText, slavesIn}
 use Rattle.script.specs.Laws.{prints-by, adds-by, part-composed, part-single, composed-text, hidden-text}
 use Rattle.script.specs.Laws.{slaves-solid, slaves-none, slaves-more, master-some, master-none, chart-none}

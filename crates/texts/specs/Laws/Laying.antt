@@ -20,7 +20,7 @@ use Rattle.meaning.specs.File.{shapeOf}
 use Rattle.meaning.specs.Sums.Laws.{or-left, or-right, or-four}
 use Rattle.meaning.specs.Check.{counts?}
 use Rattle.laying.specs.Trailer.{Small, trailerWith}
-use Rattle.laying.specs.Turn.{put-one, put-is}
+use Rattle.laying.specs.Sequence.{put-one, put-is}
 use Rattle.notation.specs.Syntax.{Chart, depth}
 use Rattle.reading.specs.Numbers.{mostDepth, namedCharts}
 use Rattle.reading.specs.Names.{any, notAll?, sequential?, sequentialsOf, parts?, names?, nameOf}

@@ -12,7 +12,7 @@ use Rattle.layout.specs.Put.{Room}
 use Rattle.layout.specs.Put.Laws.{put-none, put-append, room-first, room-next}
 use Rattle.reading.specs.Meant.{all, Laid, lastOf, Placed, laySlaves, withNode, beside}
 use Rattle.reading.specs.Laws.Lists.{all-append}
-use Rattle.laying.specs.Turn.{put-is}
+use Rattle.laying.specs.Sequence.{put-is}
 use Rattle.walk.specs.Walk.{Sheet, Fits, Adds, oneNode, oneSlave}
 
 -- ── parts beside each other ──

@@ -22,7 +22,7 @@ use Rattle.reading.specs.Numbers.{namedCharts}
 use Rattle.reading.specs.Names.{membersOr, signals?, set?, optional?, nameOf}
 use Rattle.reading.specs.Meant.{all, setOf, optionalOf, Laid, lastOf}
 use Rattle.reading.specs.Meant.{beside, chartNode, layHidden, layBoth, laySingle, layChart}
-use Rattle.laying.specs.Turn.{put-is}
+use Rattle.laying.specs.Sequence.{put-is}
 use Rattle.tokens.specs.Tokens.{cap, afterBlanks, BehindSign}
 use Rattle.tokens.specs.Laws.Text.{behind-right}
 use Rattle.tokens.specs.Laws.Lists.{peek-sign}

@@ -9,8 +9,8 @@ use Rattle.layout.specs.Body.{transitionAt}
 use Rattle.notation.specs.Grammar.{comma, signBytes, ofTransition}
 use Rattle.checks.specs.Known.Laws.{in-all, own-are}
 use Rattle.printing.specs.Prints.{Prints}
-use Rattle.printing.specs.Turns.{inTurn}
-use Rattle.printing.specs.Laws.Turns.{inTurn-none, adds-one}
+use Rattle.printing.specs.Separated.{inTurn}
+use Rattle.printing.specs.Laws.Separated.{inTurn-none, adds-one}
 use Rattle.printing.specs.Laws.Forms.{typedFrom, typedFrom-none, typedFrom-more, transitions-solid}
 use Rattle.printing.proofs.charts.in_order.Statement.{statement}
 use Rattle.printing.proofs.charts.in_order.Tie as tie

@@ -8,8 +8,8 @@ use lib.ListN.{length}
 use Rattle.notation.specs.Grammar.{amp, ofLiteral}
 use Rattle.spelling.specs.Typed.{fromAll, saidOf, literals}
 use Rattle.printing.specs.Prints.{Prints}
-use Rattle.printing.specs.Turns.{inTurn}
-use Rattle.printing.specs.Laws.Turns.{inTurn-none, adds-both}
+use Rattle.printing.specs.Separated.{inTurn}
+use Rattle.printing.specs.Laws.Separated.{inTurn-none, adds-both}
 use Rattle.printing.specs.Laws.Forms.{fromAll-none, fromAll-more, guard-turn}
 use Rattle.printing.proofs.guards.guard.Statement.{statement}
 use Rattle.printing.proofs.guards.guard.Tie as tie

@@ -1,6 +1,6 @@
 -- `apart` meets its contract: the place tells whether something stands before it.
 use borrow.Author.Needs.{needs}
-use Rattle.printing.specs.Laws.Turns.{apart-none, apart-sign}
+use Rattle.printing.specs.Laws.Separated.{apart-none, apart-sign}
 use Rattle.printing.proofs.sets.apart.Statement.{statement}
 use Rattle.printing.proofs.sets.apart.Tie as tie
 

@@ -3,7 +3,7 @@ use mathlib.Core.Path.{refl, sym, _∙_}
 use borrow.Author.Needs.{needs}
 use borrow.Author.Tests.{not-true, not-false}
 use Rattle.notation.specs.Grammar.{letS, letter, signBytes}
-use Rattle.printing.specs.Laws.Turns.{adds-none, adds-one}
+use Rattle.printing.specs.Laws.Separated.{adds-none, adds-one}
 use Rattle.printing.specs.Laws.Forms.{names-solid}
 use Rattle.printing.proofs.sets.member.Statement.{statement}
 use Rattle.printing.proofs.sets.member.Tie as tie

@@ -10,8 +10,8 @@ use Rattle.signals.specs.Mask.{bit}
 use Rattle.notation.specs.Grammar.{comma, letS, name₁}
 use Rattle.spelling.specs.Typed.{ifSo, fromAll, members}
 use Rattle.printing.specs.Prints.{Prints}
-use Rattle.printing.specs.Turns.{inTurn}
-use Rattle.printing.specs.Laws.Turns.{inTurn-none}
+use Rattle.printing.specs.Separated.{inTurn}
+use Rattle.printing.specs.Laws.Separated.{inTurn-none}
 use Rattle.printing.specs.Laws.Forms.{fromAll-none, fromAll-more}
 use Rattle.printing.proofs.sets.members.Statement.{statement}
 use Rattle.printing.proofs.sets.members.Tie as tie

@@ -4,7 +4,7 @@ use borrow.Author.Needs.{needs}
 use borrow.Author.Tests.{eq-eqb, ne-eqb}
 use Rattle.meaning.specs.Meaning.{same}
 use Rattle.notation.specs.Grammar.{letQ, letter, signBytes}
-use Rattle.printing.specs.Laws.Turns.{adds-none, adds-one}
+use Rattle.printing.specs.Laws.Separated.{adds-none, adds-one}
 use Rattle.printing.specs.Laws.Forms.{names-solid}
 use Rattle.printing.proofs.states.other.Statement.{statement}
 use Rattle.printing.proofs.states.other.Tie as tie

@@ -10,8 +10,8 @@ use mathlib.Core.Bool.{cond}
 use Rattle.meaning.specs.Meaning.{same}
 use Rattle.notation.specs.Grammar.{comma, letQ, letter, name₁}
 use Rattle.spelling.specs.Typed.{fromAll}
-use Rattle.printing.specs.Turns.{Adds}
-use Rattle.printing.specs.Laws.Turns.{inTurn-one, adds-none, adds-both}
+use Rattle.printing.specs.Separated.{Adds}
+use Rattle.printing.specs.Laws.Separated.{inTurn-one, adds-none, adds-both}
 use Rattle.printing.specs.Laws.Forms.{fromAll-none, fromAll-more, names-turn}
 use Rattle.printing.proofs.states.states.Statement.{statement}
 use Rattle.printing.proofs.states.states.Tie as tie

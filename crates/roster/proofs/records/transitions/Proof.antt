@@ -10,7 +10,7 @@ use Rattle.layout.specs.Put.{Room}
 use Rattle.notation.specs.Syntax.{Sequential}
 use Rattle.reading.specs.Names.{sequential?}
 use Rattle.reading.specs.Meant.{all}
-use Rattle.laying.specs.Turn.{put-is}
+use Rattle.laying.specs.Sequence.{put-is}
 use Rattle.roster.specs.Roster.{Charted}
 use Rattle.roster.specs.Walk.{Every}
 use Rattle.roster.specs.Records.{linesOf}

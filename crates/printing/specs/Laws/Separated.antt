@@ -7,7 +7,7 @@ use native.Mathlib.Omega.{arith}
 use lib.ListN.{length}
 use Rattle.notation.specs.Grammar.{Tokens, Sign, sign₁, signBytes, bytesOfAll}
 use Rattle.printing.specs.Prints.{Prints}
-use Rattle.printing.specs.Turns.{behindEach, inTurn, apart, PrintsApart, Adds}
+use Rattle.printing.specs.Separated.{behindEach, inTurn, apart, PrintsApart, Adds}
 use Rattle.printing.specs.Laws.Prints.{length-bytes, bytes-some, prints-none, prints-append}
 
 -- no member is without tokens

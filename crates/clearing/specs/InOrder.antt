@@ -32,7 +32,7 @@ use Rattle.agreement.specs.Every.{Every, every-at, every-imp}
 use Rattle.agreement.specs.Encoded.{noTransition, Fits, slaveIn, nodeIn, head-there, some-transition-there, slave-there}
 use Rattle.agreement.specs.Encoded.{node-there, head-is, start-is, transition-is, trailerFor, length-encode, end-is}
 use Rattle.agreement.specs.Encoded.{trailer-there, trailer-is, body-is, shape-is, file-is}
-use Rattle.agreement.specs.Reads.{Reads, reads-back}
+use Rattle.agreement.specs.Recovered.{Reads, reads-back}
 use Rattle.agreement.specs.Passed.{passes}
 use Rattle.agreement.specs.Again.{equal, there, head-zero, transition-zero, slave-zero, node-zero}
 use Rattle.agreement.specs.Again.{trailer-zero, zeros-at, leaving-list}

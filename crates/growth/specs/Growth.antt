@@ -1,4 +1,4 @@
--- How many idle transitions a chart gets. Laws of all that is counted are in Counts/Laws.antt.
+-- How many idle transitions a chart gets. Laws of all that is counted are in Growth/Laws.antt.
 use mathlib.Core.Bool.{cond}
 use Prim.Native.Nat.{ℕ}
 use Rattle.meaning.specs.Meaning.{Set, same}

@@ -30,7 +30,7 @@ use Rattle.meaning.specs.Rewriting.{isOf, count, beforeLast, start, leavingIn}
 use Rattle.agreement.specs.Charts.{places, places-none}
 use Rattle.agreement.specs.Laid.{start-suc}
 use Rattle.allocation.specs.Known.Laws.{is-of, is-not}
-use Rattle.growth.specs.Counts.{idleCount}
+use Rattle.growth.specs.Growth.{idleCount}
 
 -- ── idle transitions ──
 
