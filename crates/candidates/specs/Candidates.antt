@@ -16,7 +16,7 @@ use Rattle.meaning.specs.File.{chartOf}
 use Rattle.meaning.specs.Check.{leaving}
 use Rattle.meaning.specs.Rewriting.{unionUpTo}
 use Rattle.wiring.specs.Sure.{sureOf, sureIn}
-use Rattle.wiring.specs.Hunt.{mayOf}
+use Rattle.wiring.specs.Pruning.{mayOf}
 use Rattle.cells.specs.Table.{SameWiring, masksFor, backAt, masterFrom, stateFrom, smallSize, stateAt}
 use Rattle.tables.specs.Read.{narrow, narrowAll, narrowed}
 use Rattle.tables.specs.Fill.{Filling, considered, listing, sureAt, Raised, Until, Chosen}

@@ -14,7 +14,7 @@ ghost use Rattle.signals.specs.Mask.{_∪_, _∩_, bit};
 ghost use Rattle.cells.specs.Triggers.{triggers, staysSize};
 ghost use Rattle.wiring.specs.Sure.{sureOf, sureIn};
 ghost use Rattle.meaning.specs.Numbers.{mostCharts, mostFromState, stayEdition};
-ghost use Rattle.wiring.specs.Hunt.{mayOf};
+ghost use Rattle.wiring.specs.Pruning.{mayOf};
 ghost use Rattle.cells.specs.Table.{masksFor, backAt, putMasks, Row, smallSize, countAt, putSmall};
 ghost use Rattle.tables.specs.Filled.{mayAt};
 ghost use Rattle.tables.specs.Read.{narrow};

@@ -21,8 +21,8 @@ use Rattle.meaning.specs.Check.Nodes.{Sound}
 use Rattle.meaning.specs.Calls.{Valid}
 use Rattle.meaning.specs.Laws.Names.{kap}
 use Rattle.wiring.specs.Product.{times}
-use Rattle.wiring.specs.Counted.{countBy, spared}
-use Rattle.wiring.specs.Opened.{lastOf, ruleOf, hitsOf}
+use Rattle.wiring.specs.Completions.{countBy, spared}
+use Rattle.wiring.specs.Total.{lastOf, ruleOf, hitsOf}
 use Rattle.wiring.specs.Entries.{factorAt, branchAt, sumAt, totalAt}
 use Rattle.checks.specs.Known.{Sized, Summed}
 use Rattle.nesting.specs.Nearest.{masterBy, stateBy}

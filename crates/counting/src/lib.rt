@@ -1,5 +1,5 @@
 // How many choices of a step are open, in both editions: counted from the highest chart down, and not one by one. What
-// is open is said in the crate meaning (Open); that this is its number, in the crate wiring (Counted to Few).
+// is open is said in the crate meaning (Open); that this is its number, in the crate wiring (Completions to Few).
 ghost use mathlib.Core.Path.{_≡_};
 ghost use Prim.Native.Nat.{_+_, _≤_, _<_};
 ghost use lib.ListN.{length, replicate};

@@ -21,8 +21,8 @@ use Rattle.meaning.specs.Check.Nodes.{Treed, Sound, has-below}
 use Rattle.meaning.specs.Laws.Bools.{not-true, same→≡, same→≢}
 use Rattle.meaning.specs.Laws.Trees.{tree₀, tree₁, tree₂}
 use Rattle.cells.specs.Table.{backCell, upCell, backAt, upAt, masksFor}
-use Rattle.wiring.specs.Wire.{full, down, up, back, up-off}
-use Rattle.wiring.specs.Rows.{some-of}
+use Rattle.wiring.specs.Reach.{full, down, up, back, up-off}
+use Rattle.wiring.specs.ByKind.{some-of}
 use Rattle.wiring.specs.Stand.{Parted, parted, stands}
 use Rattle.wiring.specs.Latest.{latest, downTo, upTo, backTo, latest-in, latest-out}
 use Rattle.wiring.specs.Latest.{down₀-made, up₀-made, back₀-made, down₁-made, up₁-made, back₁-made, down₂-made}

@@ -12,7 +12,7 @@ use Rattle.meaning.specs.Sums.{anyUpTo}
 use Rattle.meaning.specs.Meaning.{Set, Tree, same}
 use Rattle.meaning.specs.File.{File, Has, treeOf}
 use Rattle.cells.specs.Table.{backAt, upAt, upCell}
-use Rattle.wiring.specs.Wire.{full}
+use Rattle.wiring.specs.Reach.{full}
 use Rattle.wiring.specs.Latest.{downTo, upTo, backTo}
 pub mod Laws
 

@@ -5,7 +5,7 @@ use mathlib.Core.List.{List}
 use Prim.Native.Nat.{ℕ, _<_}
 use lib.ListN.{getD}
 use Rattle.meaning.specs.File.{File, wholeOf}
-use Rattle.wiring.specs.Wire.{down, up, back}
+use Rattle.wiring.specs.Reach.{down, up, back}
 use Rattle.cells.specs.Table.{backAt, upAt}
 use Rattle.plan.specs.Noted.{NearestIn}
 

@@ -24,7 +24,7 @@ use cells::triggers;
 use settling::Found;
 
 // Where what was found has the places of the first permitted choice, behind its next states, and 1 if there is one, and
-// 1 if all others agree with it (specs/Hunt.antt).
+// 1 if all others agree with it (crate settling, Hunt).
 const PLACES: usize = CHARTS;
 
 const HAS: usize = 2 * CHARTS;

@@ -16,7 +16,7 @@ use Rattle.meaning.specs.Meaning.{Set, same, Chart, Move, noMove, takes, stay, 
 use Rattle.meaning.specs.Rewriting.{unionUpTo}
 use Rattle.wiring.specs.Dropped.{ahead, test}
 use Rattle.wiring.specs.Sure.{sureOf, sureIn}
-use Rattle.wiring.specs.Hunt.{mayOf}
+use Rattle.wiring.specs.Pruning.{mayOf}
 use Rattle.cells.specs.Table.{SameWiring, SameLists, block, neededAt, barredAt, actionAt, backAt, aheadAt, putMasks}
 use Rattle.cells.specs.Table.{placeFrom, countCell, smallSize, toAt, countAt, masterAt, stateAt, putSmall}
 use Rattle.settling.specs.Stays.{staysAt}

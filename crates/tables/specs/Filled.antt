@@ -12,7 +12,7 @@ use Rattle.layout.specs.declared.record.Transition.{Transition}
 use Rattle.meaning.specs.Numbers.{mostCharts}
 use Rattle.meaning.specs.Meaning.{Set, Chart, Tree, noMove, takes, nth, lastPlace, untriggered, Answer, refused, given}
 use Rattle.meaning.specs.Rewriting.{unionUpTo}
-use Rattle.wiring.specs.Wire.{down, up, back}
+use Rattle.wiring.specs.Reach.{down, up, back}
 use Rattle.wiring.specs.Sure.{surely}
 use Rattle.wiring.specs.Dropped.{ahead}
 use Rattle.cells.specs.Table.{neededAt, barredAt, actionAt, backAt, aheadAt, upAt, toAt, countAt, masterAt}

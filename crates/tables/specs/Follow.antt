@@ -22,10 +22,10 @@ use Rattle.meaning.specs.Laws.Guards.{met-is}
 use Rattle.meaning.specs.Laws.Editions.{stay-last, stay-place}
 use Rattle.meaning.specs.Laws.Choices.{place-own, upd-at, upd-off, length-nexts, getD-nexts, places-upd}
 use Rattle.meaning.specs.Rewriting.{unionUpTo}
-use Rattle.wiring.specs.Wire.{down, up, back, offered, awakeBy, Small, out-wired}
-use Rattle.wiring.specs.Wired.{awake, awake-by, Stands, offer}
+use Rattle.wiring.specs.Reach.{down, up, back, offered, awakeBy, Small, out-wired}
+use Rattle.wiring.specs.Permitted.{awake, awake-by, Stands, offer}
 use Rattle.wiring.specs.Dropped.{ahead, test, sures, low, high, passes, join-cong}
-use Rattle.wiring.specs.Hunt.{awake-below, every-cong}
+use Rattle.wiring.specs.Pruning.{awake-below, every-cong}
 use Rattle.cells.specs.Table.{neededAt, barredAt, actionAt, backAt, aheadAt, toAt, masterAt, slaveStateAt, stateAt}
 use Rattle.cells.specs.Table.{placeAt}
 use Rattle.settling.specs.Trail.{Trail}

@@ -8,7 +8,7 @@ use Rattle.signals.specs.Mask.{_∪_, _∩_, Within}
 use Rattle.layout.specs.declared.record.Transition.{Transition}
 use Rattle.meaning.specs.Meaning.{Set, ∅, same, Chart, Tree}
 use Rattle.meaning.specs.Rewriting.{unionUpTo}
-use Rattle.wiring.specs.Wire.{full, up, back}
+use Rattle.wiring.specs.Reach.{full, up, back}
 use Rattle.cells.specs.Table.{backAt, upAt}
 pub mod Laws
 

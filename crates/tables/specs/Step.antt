@@ -14,8 +14,8 @@ use Rattle.meaning.specs.File.{File, wholeOf}
 use Rattle.meaning.specs.Calls.{allPlaces, foundIn, placesFound}
 use Rattle.meaning.specs.Laws.Trees.{Ordered, Rule11}
 use Rattle.meaning.specs.Laws.Names.{Rule10, kap}
-use Rattle.wiring.specs.Wire.{down, Small}
-use Rattle.wiring.specs.Wired.{Stands}
+use Rattle.wiring.specs.Reach.{down, Small}
+use Rattle.wiring.specs.Permitted.{Stands}
 use Rattle.wiring.specs.Stand.{stands}
 use Rattle.settling.specs.Trail.{beginning}
 use Rattle.settling.specs.Hunt.{over, nothing}

@@ -22,12 +22,12 @@ use Rattle.meaning.specs.File.{File, wholeOf}
 use Rattle.meaning.specs.Laws.Names.{kap}
 use Rattle.meaning.specs.Laws.Choices.{upto-first, length-nexts, length-places}
 use Rattle.meaning.specs.Rewriting.{unionUpTo}
-use Rattle.wiring.specs.Wire.{down, back, offered, Small}
-use Rattle.wiring.specs.Wired.{awake, Stands, offer}
+use Rattle.wiring.specs.Reach.{down, back, offered, Small}
+use Rattle.wiring.specs.Permitted.{awake, Stands, offer}
 use Rattle.wiring.specs.Sure.{surely, open?}
-use Rattle.wiring.specs.Opened.{nth-near, nth-behind}
+use Rattle.wiring.specs.Total.{nth-near, nth-behind}
 use Rattle.wiring.specs.Dropped.{test, may-bounds, permitted-open, Bounds, sures, low, passes}
-use Rattle.wiring.specs.Hunt.{opens, fine, hunt, hunted-all, mayOf, may-of, behind-empty}
+use Rattle.wiring.specs.Pruning.{opens, fine, hunt, hunted-all, mayOf, may-of, behind-empty}
 use Rattle.wiring.specs.Filter.{lasts, kept}
 use Rattle.cells.specs.Table.{actionAt, countAt, placeAt}
 use Rattle.settling.specs.Trail.{Trail, beginning}

@@ -15,8 +15,8 @@ use Rattle.meaning.specs.Laws.Guards.{met-wider, quiet-wider}
 use Rattle.meaning.specs.Laws.Choices.{Below, search-empty}
 use Rattle.wiring.specs.Uncut.{own-moves}
 use Rattle.meaning.specs.Rewriting.{unionUpTo}
-use Rattle.wiring.specs.Wire.{down, back, offered, fits, Small}
-use Rattle.wiring.specs.Wired.{awake, Stands, offer, ruled, permitted-wired}
+use Rattle.wiring.specs.Reach.{down, back, offered, fits, Small}
+use Rattle.wiring.specs.Permitted.{awake, Stands, offer, ruled, permitted-wired}
 use Rattle.wiring.specs.Sure.{surely, open?, sure-open}
 
 -- f k ∪ .. ∪ f (k + n - 1)

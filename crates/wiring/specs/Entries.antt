@@ -23,10 +23,11 @@ use Rattle.meaning.specs.Open.{openChart}
 use Rattle.meaning.specs.Laws.Bools.{same→≡, same-≢}
 use Rattle.meaning.specs.Laws.Editions.{stay-last}
 use Rattle.wiring.specs.Product.{times, times-cong}
-use Rattle.wiring.specs.Counted.{nested, outsideOnly, totalOf, branch, countBy, Counts, nested-above, count-above}
-use Rattle.wiring.specs.Counted.{theCount, the-counts, spared}
-use Rattle.wiring.specs.Fits.{count-fits, branch-fits, total-fits}
-use Rattle.wiring.specs.Opened.{nth-near, ruleIn, idle-pick, lastOf, ruleOf, hitsOf, count-transitions}
+use Rattle.wiring.specs.Completions.{nested, outsideOnly, totalOf, branch, countBy, Counts, nested-above}
+use Rattle.wiring.specs.Completions.{count-above}
+use Rattle.wiring.specs.Completions.{theCount, the-counts, spared}
+use Rattle.wiring.specs.Largest.{count-fits, branch-fits, total-fits}
+use Rattle.wiring.specs.Total.{nth-near, ruleIn, idle-pick, lastOf, ruleOf, hitsOf, count-transitions}
 
 -- master d: the master of chart d's nearest slave, `limit` or more if d is in none; inState d: that slave's state;
 -- count: the table. Chart c goes from state q to state u: chart d's count, if that activates d

@@ -31,13 +31,13 @@ use Rattle.meaning.specs.Words.{Allowed}
 use Rattle.meaning.specs.Laws.Many.{few-found, refused-many}
 use Rattle.meaning.specs.Laws.Names.{kap}
 use Rattle.meaning.specs.Laws.Editions.{one-stays}
-use Rattle.wiring.specs.Wired.{Stands}
+use Rattle.wiring.specs.Permitted.{Stands}
 use Rattle.meaning.specs.Laws.Choices.{nth-from}
 use Rattle.meaning.specs.Laws.Alike.{accepted-sound, accepted-node}
 use Rattle.wiring.specs.Stand.{stands}
-use Rattle.wiring.specs.Counted.{Counts, totalOf}
-use Rattle.wiring.specs.Fits.{count-fits}
-use Rattle.wiring.specs.Opened.{ruleIn, places-sum, lastOf, ruleOf, hitsOf, open-total, open-most}
+use Rattle.wiring.specs.Completions.{Counts, totalOf}
+use Rattle.wiring.specs.Largest.{count-fits}
+use Rattle.wiring.specs.Total.{ruleIn, places-sum, lastOf, ruleOf, hitsOf, open-total, open-most}
 
 -- ── what an active chart may do ──
 

@@ -15,12 +15,12 @@ use Rattle.meaning.specs.Meaning.{Set, ∅, same, Chart, Tree, Move, nth, behin
 use Rattle.meaning.specs.Laws.Bools.{same-refl, same→≡}
 use Rattle.layout.specs.declared.record.Transition.{Transition}
 use Rattle.wiring.specs.Uncut.{own-moves}
-use Rattle.wiring.specs.Wire.{Small, down, back, offered}
-use Rattle.wiring.specs.Wired.{Stands}
+use Rattle.wiring.specs.Reach.{Small, down, back, offered}
+use Rattle.wiring.specs.Permitted.{Stands}
 use Rattle.wiring.specs.Sure.{surely, sure-open}
 use Rattle.wiring.specs.Dropped.{test, Bounds, permitted-open}
-use Rattle.wiring.specs.Bounded.{bounded}
-use Rattle.wiring.specs.Hunt.{behind-empty}
+use Rattle.wiring.specs.Between.{bounded}
+use Rattle.wiring.specs.Pruning.{behind-empty}
 
 module _ (E : ℕ → Chart) (state : ℕ → ℕ) (cfg : ℕ → ℕ) (N : ℕ) (enc : ℕ → Option ℕ) (t : Tree) (inp : Set)
     (may : ℕ → Set) where

@@ -13,10 +13,10 @@ use Rattle.meaning.specs.Meaning.{Set, ∅, same, Tree, Slaves, comp, nil, snoc
 use Rattle.meaning.specs.File.{File, Has, HasS, whole, gather, treeOf}
 use Rattle.meaning.specs.Laws.Bools.{and-second, or-elim, same→≡, same→≢}
 use Rattle.meaning.specs.Laws.Trees.{Ordered, tree₀, tree₁, tree₂}
-use Rattle.wiring.specs.Wire.{own, full, own-on, own-off, down, downs, up, ups, back, backs, Held, Helds}
-use Rattle.wiring.specs.Wire.{down-off, downs-off, up-off, ups-off, back-off, backs-off}
+use Rattle.wiring.specs.Reach.{own, full, own-on, own-off, down, downs, up, ups, back, backs, Held, Helds}
+use Rattle.wiring.specs.Reach.{down-off, downs-off, up-off, ups-off, back-off, backs-off}
 use Rattle.wiring.specs.Stand.{Alone, Parted}
-use Rattle.wiring.specs.Rows.{some-of, down₀, down₁, down₂, up₀, up₁, up₂, back₀, back₁, back₂}
+use Rattle.wiring.specs.ByKind.{some-of, down₀, down₁, down₂, up₀, up₁, up₂, back₀, back₁, back₂}
 
 module _ (F : File) where
   -- f of the latest of the first j nodes' trees that has chart c; nothing where none has it

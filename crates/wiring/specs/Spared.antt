@@ -16,13 +16,13 @@ use Rattle.meaning.specs.Open.{openChoices}
 use Rattle.meaning.specs.Laws.Bools.{every-elim, every-intro, and-l, and-r, and-i}
 use Rattle.meaning.specs.Laws.Choices.{upd-off, Below}
 use Rattle.meaning.specs.Laws.Open.{permitted-open, howMany-find}
-use Rattle.wiring.specs.Wire.{Small}
-use Rattle.wiring.specs.Wired.{Stands}
+use Rattle.wiring.specs.Reach.{Small}
+use Rattle.wiring.specs.Permitted.{Stands}
 use Rattle.wiring.specs.Dropped.{Bounds}
-use Rattle.wiring.specs.Hunt.{opens, fine, hunt, hunted-all}
-use Rattle.wiring.specs.Counted.{Counts, spared, local, completions, open-spared, completes}
-use Rattle.wiring.specs.Opened.{open?-is, ruleIn, lastOf, ruleOf, hitsOf, actOf, openAt, keepsIn, goesOn, ac, ru}
-use Rattle.wiring.specs.Opened.{open-every, keeps-below, open-completions, open-all, open-total}
+use Rattle.wiring.specs.Pruning.{opens, fine, hunt, hunted-all}
+use Rattle.wiring.specs.Completions.{Counts, spared, local, completions, open-spared, completes}
+use Rattle.wiring.specs.Total.{open?-is, ruleIn, lastOf, ruleOf, hitsOf, actOf, openAt, keepsIn, goesOn, ac, ru}
+use Rattle.wiring.specs.Total.{open-every, keeps-below, open-completions, open-all, open-total}
 
 module _ (E : ℕ → Chart) (state : ℕ → ℕ) (cfg : ℕ → ℕ) (N : ℕ) (enc : ℕ → Option ℕ) (sc : ℕ → ℕ) (t : Tree)
     (s : Stands N enc sc t) (count : ℕ → ℕ)

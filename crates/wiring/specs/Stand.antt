@@ -16,8 +16,8 @@ use Rattle.meaning.specs.Laws.Names.{names-b₁, names-a₂, hold-one, placed, 
 use Rattle.meaning.specs.Sums.{one}
 use Rattle.meaning.specs.Sums.Laws.{tally-ge}
 use Rattle.meaning.specs.Check.{names, named}
-use Rattle.wiring.specs.Wire.{Held, Helds, Enc, Encs}
-use Rattle.wiring.specs.Wired.{Stands}
+use Rattle.wiring.specs.Reach.{Held, Helds, Enc, Encs}
+use Rattle.wiring.specs.Permitted.{Stands}
 
 -- ── the way up from a node ──
 module _ (par : ℕ → ℕ) where

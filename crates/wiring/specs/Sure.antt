@@ -9,8 +9,8 @@ use Rattle.signals.specs.Mask.{_∩_, Within}
 use Rattle.signals.specs.Decide.{sets, A, B, C, ∅ₑ, _∩ₑ_, _≐_, _⊑_}
 use Rattle.layout.specs.declared.record.Transition.{Transition}
 use Rattle.meaning.specs.Meaning.{Set, ∅, same, Chart, Tree, Move, noMove, takes, stay, nth, pick, actionOf, moves}
-use Rattle.wiring.specs.Wire.{full, Small, awakeBy}
-use Rattle.wiring.specs.Wired.{awake, awake-by, Stands}
+use Rattle.wiring.specs.Reach.{full, Small, awakeBy}
+use Rattle.wiring.specs.Permitted.{awake, awake-by, Stands}
 
 -- what all transitions from state q put out
 unfoldable pub sureOf : List Transition → ℕ → Set

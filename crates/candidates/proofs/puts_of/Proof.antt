@@ -2,7 +2,7 @@
 use Prim.Native.Nat.{_-_, _≤_}
 use native.Mathlib.Omega.{arith}
 use borrow.Author.Needs.{needs}
-use Rattle.wiring.specs.Wire.{full}
+use Rattle.wiring.specs.Reach.{full}
 use Rattle.candidates.specs.Candidates.{readAs}
 use Rattle.candidates.specs.Candidates.Laws.{PutsLeft, puts-none, puts-more, puts-few, puts-done}
 use Rattle.candidates.proofs.puts_of.Statement.{statement}

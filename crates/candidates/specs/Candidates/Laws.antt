@@ -34,10 +34,10 @@ use Rattle.meaning.specs.File.{chartOf, fileAt}
 use Rattle.meaning.specs.Laws.Bools.{same-refl, same→≡, same-≢}
 use Rattle.meaning.specs.Laws.Choices.{nth-from}
 use Rattle.meaning.specs.Rewriting.{unionUpTo}
-use Rattle.wiring.specs.Wire.{Small, full}
+use Rattle.wiring.specs.Reach.{Small, full}
 use Rattle.wiring.specs.Dropped.{join-cong}
 use Rattle.wiring.specs.Sure.{sureOf, sureIn, sure-small}
-use Rattle.wiring.specs.Hunt.{mayOf, behind-empty}
+use Rattle.wiring.specs.Pruning.{mayOf, behind-empty}
 use Rattle.cells.specs.Table.{backAt, putMasks, Row, countCell, stateCell, putSmall}
 use Rattle.tables.specs.Read.{narrowAll}
 use Rattle.tables.specs.Read.Laws.{length-narrowed, narrow-from}

@@ -36,8 +36,8 @@ use Rattle.meaning.specs.Open.{openChart, openIn}
 use Rattle.meaning.specs.Laws.Bools.{or-r, same-refl, same→≡, same-≢, same→≢, same-comm}
 use Rattle.meaning.specs.Laws.Names.{kap}
 use Rattle.wiring.specs.Product.{times, times-none, times-more, times-one, times-at}
-use Rattle.wiring.specs.Counted.{spared}
-use Rattle.wiring.specs.Opened.{ruleIn}
+use Rattle.wiring.specs.Completions.{spared}
+use Rattle.wiring.specs.Total.{ruleIn}
 use Rattle.wiring.specs.Entries.{branchAt, addsAt, sumAt, totalAt, Rowed, part-fits, sum-part-fits, counts-store}
 use Rattle.wiring.specs.Entries.{total-part-fits, total-at, branch-at}
 use Rattle.meaning.specs.Laws.Choices.{nth-from}

@@ -16,7 +16,7 @@ use Rattle.meaning.specs.Calls.{made}
 use Rattle.meaning.specs.Laws.Bools.{and-l, and-r, and-i, bool-eq, every}
 use Rattle.meaning.specs.Rewriting.{unionUpTo}
 use Rattle.wiring.specs.Dropped.{join-cong}
-use Rattle.wiring.specs.Hunt.{every-cong}
+use Rattle.wiring.specs.Pruning.{every-cong}
 use Rattle.meaning.specs.Numbers.{mostCharts}
 use Rattle.cells.specs.Table.{neededAt, barredAt, actionAt, backAt, aheadAt}
 use Rattle.cells.specs.Trail.{lowCell, needsCell, barsCell, lowIn, neededIn, barredIn}

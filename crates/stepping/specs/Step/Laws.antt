@@ -31,7 +31,7 @@ use Rattle.meaning.specs.Open.{openChart, openIn}
 use Rattle.meaning.specs.Laws.Names.{kap}
 use Rattle.meaning.specs.Laws.Open.{none-open-in}
 use Rattle.meaning.specs.Laws.Many.{first-under, many-is, few-is, step-many, step-few}
-use Rattle.wiring.specs.Wire.{Small, full, down}
+use Rattle.wiring.specs.Reach.{Small, full, down}
 use Rattle.wiring.specs.Spared.{permitted-spared}
 use Rattle.wiring.specs.Few.{file-stands}
 use Rattle.cells.specs.Table.{Row, InRow, masterCell, slaveStateCell, masterAt, slaveStateAt}

@@ -26,10 +26,10 @@ use Rattle.meaning.specs.Meaning.{untriggered, Outcome}
 use Rattle.meaning.specs.Laws.Bools.{same-refl, same→≡, same-≢, and-l, and-r}
 use Rattle.meaning.specs.Laws.Editions.{stay-last}
 use Rattle.meaning.specs.Rewriting.{unionUpTo}
-use Rattle.wiring.specs.Wire.{down, back, offered}
-use Rattle.wiring.specs.Wired.{Stands}
+use Rattle.wiring.specs.Reach.{down, back, offered}
+use Rattle.wiring.specs.Permitted.{Stands}
 use Rattle.wiring.specs.Dropped.{ahead, test, join-cong}
-use Rattle.wiring.specs.Hunt.{mayOf}
+use Rattle.wiring.specs.Pruning.{mayOf}
 use Rattle.wiring.specs.Filter.{lasts}
 use Rattle.wiring.specs.Sure.{sureOf, sureIn, surely, outside}
 use Rattle.cells.specs.Table.{SameWiring, SameLists, block, upCell, backCell, aheadCell, neededCell, barredCell}

@@ -23,10 +23,10 @@ use Rattle.meaning.specs.Laws.Guards.{met-cut}
 use Rattle.meaning.specs.Laws.Choices.{upto-cong}
 use Rattle.wiring.specs.Uncut.{own-moves}
 use Rattle.meaning.specs.Rewriting.{unionUpTo}
-use Rattle.wiring.specs.Wire.{full, down, up, back, backs, offered, fits, awakeBy, Small, out-wired}
-use Rattle.wiring.specs.Wired.{awakeIn, awake, Stands, offer, ruled, permitted-wired}
+use Rattle.wiring.specs.Reach.{full, down, up, back, backs, offered, fits, awakeBy, Small, out-wired}
+use Rattle.wiring.specs.Permitted.{awakeIn, awake, Stands, offer, ruled, permitted-wired}
 use Rattle.wiring.specs.Dropped.{join-cong}
-use Rattle.wiring.specs.Hunt.{every-cong}
+use Rattle.wiring.specs.Pruning.{every-cong}
 use Rattle.cells.specs.Table.{backAt, upAt}
 use Rattle.tables.specs.Read.{asked, readOf, Reads, readAt, narrow, narrowAll, narrowChart, narrowed}
 

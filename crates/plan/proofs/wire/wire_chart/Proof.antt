@@ -19,7 +19,7 @@ use Rattle.meaning.specs.Meaning.{Set, same}
 use Rattle.meaning.specs.File.{File, chartOf, fileAt}
 use Rattle.meaning.specs.Laws.Bools.{same→≡, same→≢, same-comm}
 use Rattle.cells.specs.Table.{backCell, upCell, backAt, upAt, masksFor}
-use Rattle.wiring.specs.Wire.{full}
+use Rattle.wiring.specs.Reach.{full}
 use Rattle.plan.specs.Wire.{Feeds, inside, Inside}
 use Rattle.plan.proofs.Wiring.{or-false}
 use Rattle.plan.proofs.wire.wire_chart.Statement.{statement}

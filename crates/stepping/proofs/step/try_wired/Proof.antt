@@ -2,7 +2,7 @@
 -- found is nothing; else it is what the search finds.
 use mathlib.Core.Path.{_∙_}
 use borrow.Author.Needs.{needs}
-use Rattle.wiring.specs.Wire.{full}
+use Rattle.wiring.specs.Reach.{full}
 use Rattle.stepping.specs.Step.Laws.{ready-valid, read-all, tries-none, tries-many, tries-found}
 use Rattle.stepping.proofs.step.try_wired.Statement.{statement}
 use Rattle.stepping.proofs.step.try_wired.Tie as tie

@@ -16,8 +16,8 @@ use Rattle.meaning.specs.Sums.Laws.{tally-cong, tally-scale, tally-le, tally-mo
 use Rattle.meaning.specs.Laws.Bools.{and-l, and-r, and-i, same-refl, same→≡, same-≢}
 use Rattle.meaning.specs.Laws.Choices.{upd-at}
 use Rattle.wiring.specs.Product.{times, times-cong, times-pos, times-le, times-part, times-factor, grow}
-use Rattle.wiring.specs.Counted.{Acts, Rules, nested, outsideOnly, totalOf, branch, countBy, Counts, theCount}
-use Rattle.wiring.specs.Counted.{the-counts, local, completions, completions-total}
+use Rattle.wiring.specs.Completions.{Acts, Rules, nested, outsideOnly, totalOf, branch, countBy, Counts, theCount}
+use Rattle.wiring.specs.Completions.{the-counts, local, completions, completions-total}
 
 -- ── the largest table ──
 

@@ -1,6 +1,6 @@
--- Open choices of a file's tree, by the count (Counted), in both editions. In this order: a choice is open exactly if
--- each chart keeps activity and state (`open-every`); what a chart may do, as the count takes it (`acts`, `rules`); a
--- sum over a chart's places is one over its transitions, and staying (`places-sum`, `count-transitions`); how many
+-- Open choices of a file's tree, by the count (Completions), in both editions. In this order: a choice is open exactly
+-- if each chart keeps activity and state (`open-every`); what a chart may do, as the count takes it (`acts`, `rules`);
+-- a sum over a chart's places is one over its transitions, and staying (`places-sum`, `count-transitions`); how many
 -- choices are open is the count's total (`open-total`); a bound (`open-most`).
 use mathlib.Core.Path.{_≡_, refl, sym, _∙_, ap, ap₂}
 use mathlib.Core.Bool.{Bool, true, false, _&&_, cond, false≢true}
@@ -22,12 +22,12 @@ use Rattle.meaning.specs.Laws.Choices.{upd-off}
 use Rattle.meaning.specs.Laws.Editions.{places-one, places-two, stay-last}
 use Rattle.meaning.specs.Laws.Open.{howMany-next, howMany-last}
 pub use Rattle.meaning.specs.Active.Laws.{nth-near, nth-behind}
-use Rattle.wiring.specs.Wire.{each, eachs, Held, Helds, Enc, Encs, awakeBy}
-use Rattle.wiring.specs.Wired.{awake, awake-by, each-every, Stands}
+use Rattle.wiring.specs.Reach.{each, eachs, Held, Helds, Enc, Encs, awakeBy}
+use Rattle.wiring.specs.Permitted.{awake, awake-by, each-every, Stands}
 use Rattle.wiring.specs.Sure.{open?}
-use Rattle.wiring.specs.Hunt.{every-cong, awake-below}
-use Rattle.wiring.specs.Counted.{one-and, Acts, Alike, Rules, branch, countBy, Counts, totalOf, local}
-use Rattle.wiring.specs.Counted.{completions, local-below, completions-total, completions-most}
+use Rattle.wiring.specs.Pruning.{every-cong, awake-below}
+use Rattle.wiring.specs.Completions.{one-and, Acts, Alike, Rules, branch, countBy, Counts, totalOf, local}
+use Rattle.wiring.specs.Completions.{completions, local-below, completions-total, completions-most}
 
 -- the test that the search makes (Sure) is the rule of an open choice
 pub open?-is : (C : Chart) (a : Bool) (s : ℕ) (m : Move) → open? (C .stays) a s m ≡ openChart C a s m

@@ -9,7 +9,7 @@ use Rattle.meaning.specs.Meaning.{inFaceChart, meets, permitted}
 use Rattle.meaning.specs.Laws.Bools.{or-elim, same→≡, every, every-intro, every-elim, and-l, and-r, and-i, bool-eq}
 use Rattle.meaning.specs.File.{Has, HasS}
 use Rattle.wiring.specs.Uncut.{Within, permitted-uncut}
-use Rattle.wiring.specs.Wire.{down, back, offered, fits, each, eachs, Held, Helds, Enc, awakeBy, wired, Small}
+use Rattle.wiring.specs.Reach.{down, back, offered, fits, each, eachs, Held, Helds, Enc, awakeBy, wired, Small}
 
 mutual
   unfolding each Has

@@ -14,8 +14,8 @@ use Rattle.meaning.specs.Laws.Bools.{same-refl, same→≡, every, every-intro,
 use Rattle.meaning.specs.Laws.Choices.{upto-cong, upd-at, upd-off, Below, search-empty}
 use Rattle.layout.specs.declared.record.Transition.{Transition}
 use Rattle.wiring.specs.Uncut.{own-moves}
-use Rattle.wiring.specs.Wire.{Small, awakeBy}
-use Rattle.wiring.specs.Wired.{awakeIn, awake, Stands, ruled, permitted-wired}
+use Rattle.wiring.specs.Reach.{Small, awakeBy}
+use Rattle.wiring.specs.Permitted.{awakeIn, awake, Stands, ruled, permitted-wired}
 use Rattle.wiring.specs.Sure.{open?}
 use Rattle.wiring.specs.Dropped.{permitted-open, May, Bounds, passes, passes-last, skip-dropped}
 

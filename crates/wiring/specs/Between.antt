@@ -10,8 +10,8 @@ use Rattle.meaning.specs.Meaning.{Set, Chart, Tree, Move, actionOf, inFaceChart
 use Rattle.meaning.specs.Laws.Bools.{every-elim}
 use Rattle.wiring.specs.Uncut.{Within}
 use Rattle.meaning.specs.Rewriting.{unionUpTo}
-use Rattle.wiring.specs.Wire.{down, back, offered, Small}
-use Rattle.wiring.specs.Wired.{awake, Stands, offer, ruled, permitted-wired}
+use Rattle.wiring.specs.Reach.{down, back, offered, Small}
+use Rattle.wiring.specs.Permitted.{awake, Stands, offer, ruled, permitted-wired}
 use Rattle.wiring.specs.Dropped.{test, join-in, fits-test}
 
 offered-in : (N : ℕ) (f g : ℕ → Set) (z a : Set) (b : ℕ → Set) → ((e : ℕ) → e < N → Inside (f e) (g e))

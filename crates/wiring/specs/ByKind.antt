@@ -9,7 +9,7 @@ use Rattle.meaning.specs.Meaning.{same, Chart, Slaves, nil, snoc}
 use Rattle.meaning.specs.File.{File, whole, gather, treeOf}
 use Rattle.meaning.specs.Laws.Bools.{same-refl, same-≢}
 use Rattle.meaning.specs.Laws.Trees.{Ordered, tree₀, tree₁, tree₂}
-use Rattle.wiring.specs.Wire.{own, down, downs, up, ups, back, backs}
+use Rattle.wiring.specs.Reach.{own, down, downs, up, ups, back, backs}
 
 down-whole : (d : ℕ) (ss : Slaves) (c : ℕ) → down (whole d ss) c ≡ own d c ∪ downs ss c
 unfolding down
