@@ -187,7 +187,7 @@ pub fn of_body(
     let start = states_of(config);
     let mut masks = [0u64; masks::SIZE];
     let mut small = [0u8; small::SIZE];
-    let down = plan::wire::wired(n, body, &mut masks, &mut small);
+    let down = plan::wired(n, body, &mut masks, &mut small);
     let left = put_rows(
         n,
         body,

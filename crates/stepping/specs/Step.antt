@@ -24,7 +24,7 @@ use Rattle.tables.specs.Filled.{answerOf}
 use Rattle.tables.specs.Read.{Reads}
 use Rattle.tables.specs.Whole.{Opens}
 use Rattle.checks.specs.Known.{Sized, Summed}
-use Rattle.plan.specs.Wired.{Wired}
+use Rattle.plan.specs.Plan.{Wired}
 use Rattle.candidates.specs.Candidates.{Tabled, Mays, Sures}
 use Rattle.staying.specs.Staying.{Stays}
 use Rattle.stepping.specs.Answer.{steppedOf}

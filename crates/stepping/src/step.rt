@@ -15,7 +15,7 @@ ghost use Rattle.cells.specs.Table.{masksFor, smallSize, Row, Tables};
 ghost use Rattle.cells.specs.Triggers.{triggers, Guards};
 ghost use Rattle.settling.specs.Hunt.{nothing};
 ghost use Rattle.plan.specs.Noted.{NearestIn};
-ghost use Rattle.plan.specs.Wire.{Blank};
+ghost use Rattle.plan.specs.ByNode.{Blank};
 ghost use Rattle.candidates.specs.Candidates.{Ready};
 ghost use Rattle.stepping.specs.Answer.{refusedOf};
 ghost use Rattle.counting.specs.Counting.{LeavesTo};
@@ -331,7 +331,7 @@ fn try_in(n: Shape, body: &[u8], config: &[u8], input: u64, masks: &mut [u64]) -
     ensures { λ r. ⌜ Tries n (now (body .entry)) (now (config .entry)) input r ⌝ }
 {
     let mut small = [0u8; small::SIZE];
-    let down = plan::wire::wired(n, body, masks, &mut small);
+    let down = plan::wired(n, body, masks, &mut small);
     try_wired(n, body, config, input, down, masks, &mut small)
 }
 

@@ -12,7 +12,7 @@ use Rattle.meaning.specs.Check.{firstOf}
 use Rattle.meaning.specs.Calls.{laidOver, rowsOf, carriedOf}
 use Rattle.meaning.specs.Laws.Runs.{Valid}
 use Rattle.cells.specs.Table.{masksFor}
-use Rattle.plan.specs.Wire.Laws.{blank-new}
+use Rattle.plan.specs.ByNode.Laws.{blank-new}
 use Rattle.stepping.specs.Step.{configTestsIn}
 use Rattle.stepping.specs.Step.Laws.{config-is}
 use Rattle.running.specs.Run.{BodyRuns}

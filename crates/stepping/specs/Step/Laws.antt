@@ -47,7 +47,7 @@ use Rattle.nesting.specs.Nearest.{masterBy, stateBy}
 use Rattle.counting.specs.Counting.{Countable, CountsOn, begins, Shuts}
 use Rattle.counting.specs.Counting.Laws.{begins-open}
 use Rattle.plan.specs.Noted.{NearestIn}
-use Rattle.plan.specs.Wired.{Wired}
+use Rattle.plan.specs.Plan.{Wired}
 use Rattle.candidates.specs.Candidates.{Ready, Mays, Chooses}
 use Rattle.candidates.specs.Candidates.Laws.{length-from, actions-small}
 use Rattle.relevance.specs.Rows.{ReadRow}

@@ -3,7 +3,7 @@ use native.Mathlib.Omega.{arith}
 use borrow.Author.Needs.{needs}
 use Rattle.meaning.specs.Numbers.{mostCharts}
 use Rattle.cells.specs.Table.{masksFor}
-use Rattle.plan.specs.Wire.Laws.{blank-new}
+use Rattle.plan.specs.ByNode.Laws.{blank-new}
 use Rattle.stepping.proofs.step.try_new.Statement.{statement}
 use Rattle.stepping.proofs.step.try_new.Tie as tie
 

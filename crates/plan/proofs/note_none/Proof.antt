@@ -1,4 +1,4 @@
--- `wire::note_none` meets its contract: the charts below c are noted. Assumes nothing.
+-- `plan::note_none` meets its contract: the charts below c are noted. Assumes nothing.
 use mathlib.Core.Path.{_≡_, refl, ap, _∙_}
 use Prim.Native.Nat.{_-_, _≤_}
 use native.Mathlib.Omega.{arith}
@@ -6,8 +6,8 @@ use lib.ListN.{length, length-set}
 use Rattle.meaning.specs.Numbers.{mostCharts}
 use Rattle.plan.specs.Noted.{NotedNone}
 use Rattle.plan.proofs.Noted.{noted-none-more}
-use Rattle.plan.proofs.wire.note_none.Statement.{statement}
-use Rattle.plan.proofs.wire.note_none.Tie as tie
+use Rattle.plan.proofs.note_none.Statement.{statement}
+use Rattle.plan.proofs.note_none.Tie as tie
 
 abbrev Inv-loop : tie.InvT-loop
 Inv-loop small₀ c₀ small c = (c ≤ mostCharts) × (length small ≡ length small₀) × NotedNone c small

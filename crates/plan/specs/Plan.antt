@@ -1,4 +1,4 @@
--- A wired file: what a search reads of it in its masks m and small numbers s, and what of the input gets down to each
+-- The plan of a file that is wired: what a search reads in its masks m and small numbers s, and what of the input gets down to each
 -- chart, a.
 use mathlib.Core.Path.{_≡_}
 use mathlib.Core.List.{List}

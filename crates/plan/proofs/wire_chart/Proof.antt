@@ -1,4 +1,4 @@
--- `wire::wire_chart` meets its contract: the set is the chart with what is inside it. Without slaves, feedback of the
+-- `plan::wire_chart` meets its contract: the set is the chart with what is inside it. Without slaves, feedback of the
 -- chart alone is all there is to feed.
 use mathlib.Core.Path.{_≡_, refl, sym, ap, ap₂, subst, subst₂, _∙_}
 use mathlib.Core.Bool.{Bool, true, false, _||_, cond, or-comm}
@@ -20,10 +20,10 @@ use Rattle.meaning.specs.File.{File, chartOf, fileAt}
 use Rattle.meaning.specs.Laws.Bools.{same→≡, same→≢, same-comm}
 use Rattle.cells.specs.Table.{backCell, upCell, backAt, upAt, masksFor}
 use Rattle.wiring.specs.Reach.{full}
-use Rattle.plan.specs.Wire.{Feeds, inside, Inside}
-use Rattle.plan.proofs.Wiring.{or-false}
-use Rattle.plan.proofs.wire.wire_chart.Statement.{statement}
-use Rattle.plan.proofs.wire.wire_chart.Tie as tie
+use Rattle.plan.specs.ByNode.{Feeds, inside, Inside}
+use Rattle.plan.proofs.NextNode.{or-false}
+use Rattle.plan.proofs.wire_chart.Statement.{statement}
+use Rattle.plan.proofs.wire_chart.Tie as tie
 
 with-is : (x d c : ℕ) → bit (x ∪ single d) c ≡ (same c d || bit x c)
 unfolding same

@@ -1,4 +1,4 @@
--- `wire::inside` meets its contract: the sets of the slaves below i are joined.
+-- `plan::inside` meets its contract: the sets of the slaves below i are joined.
 use mathlib.Core.Path.{_≡_, refl, sym, ap, ap₂, _∙_, subst}
 use mathlib.Core.Bool.{Bool, true, false, _&&_, _||_}
 use mathlib.Core.List.{List}
@@ -18,9 +18,9 @@ use Rattle.meaning.specs.Meaning.{Set, same}
 use Rattle.meaning.specs.Laws.Bools.{same-refl, same-≢}
 use Rattle.meaning.specs.File.{File, fileAt}
 use Rattle.nesting.proofs.Records.{IsSlave, is-slave}
-use Rattle.plan.specs.Wire.{inside, Inside}
-use Rattle.plan.proofs.wire.inside.Statement.{statement}
-use Rattle.plan.proofs.wire.inside.Tie as tie
+use Rattle.plan.specs.ByNode.{inside, Inside}
+use Rattle.plan.proofs.inside.Statement.{statement}
+use Rattle.plan.proofs.inside.Tie as tie
 
 abbrev Inv-loop : tie.InvT-loop
 Inv-loop n body d sets set₀ i₀ set i = (i ≤ n .slaves) × Inside (fileAt n body) d sets i set

@@ -1,4 +1,4 @@
--- `wire::wire_node` meets its contract: by kind, the laws of Wiring.
+-- `plan::wire_node` meets its contract: by kind, the laws of NextNode.
 use mathlib.Core.Path.{_≡_, sym, ap, _∙_}
 use Prim.Native.Nat.{ℕ, _<_}
 use native.Mathlib.Numerals.{add-one}
@@ -9,11 +9,11 @@ use Rattle.signals.specs.Mask.{_∪_}
 use Rattle.meaning.specs.Numbers.{mostNodes}
 use Rattle.meaning.specs.File.{fileAt}
 use Rattle.nesting.proofs.Records.{is-node}
-use Rattle.plan.specs.Wire.{Feeds}
+use Rattle.plan.specs.ByNode.{Feeds}
 use Rattle.plan.proofs.Nodes.{lower-hide, lower-comp, kind-hide, below-charts}
-use Rattle.plan.proofs.Wiring.{wired-hide, wired-comp, wired-chart, charts-comp, charts-hide}
-use Rattle.plan.proofs.wire.wire_node.Statement.{statement}
-use Rattle.plan.proofs.wire.wire_node.Tie as tie
+use Rattle.plan.proofs.NextNode.{wired-hide, wired-comp, wired-chart, charts-comp, charts-hide}
+use Rattle.plan.proofs.wire_node.Statement.{statement}
+use Rattle.plan.proofs.wire_node.Tie as tie
 
 -- ── a chart ──
 

@@ -4,7 +4,7 @@ use mathlib.Core.Path.{_≡_}
 use native.Mathlib.Decide.{decLt}
 use native.Mathlib.Omega.{arith}
 use lib.ListN.{getD, replicate, length-replicate, getD-replicate, List·getD-eq-default}
-use Rattle.plan.specs.Wire.{Blank}
+use Rattle.plan.specs.ByNode.{Blank}
 
 pub blank-new : (n : ℕ) → Blank (replicate n 0)
 blank-new n k = go (decLt k n)

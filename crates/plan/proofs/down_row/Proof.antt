@@ -1,4 +1,4 @@
--- `wire::down_row` meets its contract: the entries below c are there.
+-- `plan::down_row` meets its contract: the entries below c are there.
 use mathlib.Core.Path.{_≡_}
 use Prim.Native.Nat.{_-_, _≤_}
 use native.Mathlib.Omega.{arith}
@@ -6,9 +6,9 @@ use borrow.Author.Needs.{needs}
 use lib.ListN.{length, length-set}
 use Rattle.layout.specs.Row.Laws.{fill-more}
 use Rattle.meaning.specs.Numbers.{mostCharts}
-use Rattle.plan.specs.Wire.{DownRow}
-use Rattle.plan.proofs.wire.down_row.Statement.{statement}
-use Rattle.plan.proofs.wire.down_row.Tie as tie
+use Rattle.plan.specs.ByNode.{DownRow}
+use Rattle.plan.proofs.down_row.Statement.{statement}
+use Rattle.plan.proofs.down_row.Tie as tie
 
 abbrev Inv-loop : tie.InvT-loop
 Inv-loop set down charts row₀ c₀ row c = (c ≤ charts) × (length row ≡ mostCharts) × DownRow set down c row

@@ -1,4 +1,4 @@
--- `wire::nearest` meets its contract. The loop's invariant: the charts of the nodes passed have their nearest slaves
+-- `plan::nearest` meets its contract. The loop's invariant: the charts of the nodes passed have their nearest slaves
 -- noted. Assumes nothing.
 use mathlib.Core.Path.{_≡_, refl, _∙_}
 use Prim.Native.Nat.{ℕ, _-_, _≤_, _<_}
@@ -8,8 +8,8 @@ use lib.ListN.{length}
 use Rattle.meaning.specs.File.{fileAt}
 use Rattle.plan.specs.Noted.{Noted}
 use Rattle.plan.proofs.Noted.{noted-more, noted-done, nearest-none}
-use Rattle.plan.proofs.wire.nearest.Statement.{statement}
-use Rattle.plan.proofs.wire.nearest.Tie as tie
+use Rattle.plan.proofs.nearest.Statement.{statement}
+use Rattle.plan.proofs.nearest.Tie as tie
 
 abbrev Inv-loop : tie.InvT-loop
 Inv-loop n body small₀ near nodes j₀ small j =

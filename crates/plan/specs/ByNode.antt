@@ -1,6 +1,6 @@
 -- What the wiring of a file leaves, node by node from node 0 up: in a search's masks (crate cells, Table), in the row
 -- of what gets down to each chart, and in the sets of charts, one for each node. What the masks mean is in the crate
--- wiring (Wire, Latest).
+-- wiring (Reach, Latest).
 use mathlib.Core.Path.{_≡_}
 use mathlib.Core.Bool.{Bool, _&&_, _||_, cond}
 use mathlib.Core.List.{List}

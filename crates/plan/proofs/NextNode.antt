@@ -28,8 +28,8 @@ use Rattle.wiring.specs.Latest.{latest, downTo, upTo, backTo, latest-in, latest
 use Rattle.wiring.specs.Latest.{down₀-made, up₀-made, back₀-made, down₁-made, up₁-made, back₁-made, down₂-made}
 use Rattle.wiring.specs.Latest.{up₂-made, back₂-made}
 use Rattle.plan.specs.Noted.{NearestIn}
-use Rattle.plan.specs.Wired.{Wired}
-use Rattle.plan.specs.Wire.{Blank, fedAt, Feeds, Hides, inside, Charted, ChartsOf, Sets, WiredTo}
+use Rattle.plan.specs.Plan.{Wired}
+use Rattle.plan.specs.ByNode.{Blank, fedAt, Feeds, Hides, inside, Charted, ChartsOf, Sets, WiredTo}
 
 -- ── new tables ──
 

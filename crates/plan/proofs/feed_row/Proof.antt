@@ -1,4 +1,4 @@
--- `wire::feed_row` meets its contract: the masks below c are joined; an empty m feeds nothing.
+-- `plan::feed_row` meets its contract: the masks below c are joined; an empty m feeds nothing.
 use mathlib.Core.Path.{_≡_, ap, _∙_}
 use mathlib.Core.List.{[], _∷_}
 use Prim.Native.Nat.{ℕ, _+_, _-_, _≤_}
@@ -9,8 +9,8 @@ use Rattle.signals.specs.Decide.{sets, A, B, C, ∅ₑ, _∪ₑ_, _∩ₑ_, _�
 use Rattle.layout.specs.Row.{RowAt}
 use Rattle.layout.specs.Row.Laws.{row-none, row-more, row-same}
 use Rattle.cells.specs.Table.{backRow, backCell, masksFor, backAt}
-use Rattle.plan.proofs.wire.feed_row.Statement.{statement}
-use Rattle.plan.proofs.wire.feed_row.Tie as tie
+use Rattle.plan.proofs.feed_row.Statement.{statement}
+use Rattle.plan.proofs.feed_row.Tie as tie
 
 abbrev Inv-loop : tie.InvT-loop
 Inv-loop masks₀ charts d m offered c₀ masks c =

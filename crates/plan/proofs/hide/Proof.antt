@@ -1,4 +1,4 @@
--- `wire::hide` meets its contract: the charts below c that are in the set are done.
+-- `plan::hide` meets its contract: the charts below c that are in the set are done.
 use mathlib.Core.Path.{_≡_, refl, sym, ap, _∙_, subst₂}
 use mathlib.Core.Bool.{Bool, true, false, cond}
 use mathlib.Core.List.{List}
@@ -12,8 +12,8 @@ use Rattle.signals.specs.Mask.{_∖_, bit}
 use Rattle.meaning.specs.Numbers.{mostCharts}
 use Rattle.meaning.specs.Meaning.{Set}
 use Rattle.cells.specs.Table.{backCell, upCell, masksFor, backAt, upAt}
-use Rattle.plan.proofs.wire.hide.Statement.{statement}
-use Rattle.plan.proofs.wire.hide.Tie as tie
+use Rattle.plan.proofs.hide.Statement.{statement}
+use Rattle.plan.proofs.hide.Tie as tie
 
 -- what a chart is left of v, by whether it is in the set
 abbrev left : Bool → Set → Set → Set

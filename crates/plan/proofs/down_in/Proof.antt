@@ -1,10 +1,10 @@
--- `wire::down_in` meets its contract, by whether the chart is in the set.
+-- `plan::down_in` meets its contract, by whether the chart is in the set.
 use mathlib.Core.Path.{_≡_, sym, ap, _∙_}
 use mathlib.Core.Bool.{Bool, cond}
 use borrow.Author.Needs.{needs}
 use lib.ListN.{getD}
-use Rattle.plan.proofs.wire.down_in.Statement.{statement}
-use Rattle.plan.proofs.wire.down_in.Tie as tie
+use Rattle.plan.proofs.down_in.Statement.{statement}
+use Rattle.plan.proofs.down_in.Tie as tie
 
 returns : tie.Need-returns
 returns c =

@@ -1,4 +1,4 @@
--- `wire::note` meets its contract: by whether node j holds a chart, the laws of Noted. Assumes nothing.
+-- `plan::note` meets its contract: by whether node j holds a chart, the laws of Noted. Assumes nothing.
 use Prim.Native.Nat.{_<_}
 use native.Mathlib.Omega.{arith}
 use borrow.Author.Needs.{needs}
@@ -7,8 +7,8 @@ use Rattle.meaning.specs.File.{fileAt}
 use Rattle.nesting.proofs.Records.{is-node}
 use Rattle.plan.proofs.Nodes.{below-charts}
 use Rattle.plan.proofs.Noted.{notes-none, notes-chart}
-use Rattle.plan.proofs.wire.note.Statement.{statement}
-use Rattle.plan.proofs.wire.note.Tie as tie
+use Rattle.plan.proofs.note.Statement.{statement}
+use Rattle.plan.proofs.note.Tie as tie
 
 -- the node's chart is one that tables have room for
 in-room : (c : tie.After-struct-known2) → c .before .before .before .before .node-at .result .a < mostCharts

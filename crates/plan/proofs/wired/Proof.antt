@@ -1,4 +1,4 @@
--- `wire::wired` meets its contract: the nodes below j are wired, and the last one's part is the whole.
+-- `plan::wired` meets its contract: the nodes below j are wired, and the last one's part is the whole.
 use mathlib.Core.Path.{_≡_, refl, subst, _∙_}
 use Prim.Native.Nat.{ℕ, _-_, _≤_}
 use native.Mathlib.Omega.{arith}
@@ -6,10 +6,10 @@ use borrow.Author.Needs.{needs}
 use lib.ListN.{length, length-set}
 use Rattle.meaning.specs.Numbers.{mostNodes}
 use Rattle.meaning.specs.File.{fileAt}
-use Rattle.plan.specs.Wire.{Sets, WiredTo}
-use Rattle.plan.proofs.Wiring.{wired-none, wired-whole, sets-more, charts-few}
-use Rattle.plan.proofs.wire.wired.Statement.{statement}
-use Rattle.plan.proofs.wire.wired.Tie as tie
+use Rattle.plan.specs.ByNode.{Sets, WiredTo}
+use Rattle.plan.proofs.NextNode.{wired-none, wired-whole, sets-more, charts-few}
+use Rattle.plan.proofs.wired.Statement.{statement}
+use Rattle.plan.proofs.wired.Tie as tie
 
 abbrev Inv-loop : tie.InvT-loop
 Inv-loop n body masks₀ small down₀ sets₀ nodes j₀ masks down sets j =

@@ -1,4 +1,4 @@
--- `wire::feed` meets its contract: the rows below d are fed, if their chart is in the set; what gets up stays.
+-- `plan::feed` meets its contract: the rows below d are fed, if their chart is in the set; what gets up stays.
 use mathlib.Core.Path.{_≡_, refl, sym, ap, ap₂, _∙_, subst}
 use mathlib.Core.Bool.{Bool, true, false, cond}
 use mathlib.Core.List.{List, [], _∷_}
@@ -14,9 +14,9 @@ use Rattle.meaning.specs.Numbers.{mostCharts}
 use Rattle.meaning.specs.Meaning.{Set}
 use Rattle.cells.specs.Table.{backRow, backCell, upCell, backAt, upAt}
 use Rattle.layout.specs.Row.{RowAt}
-use Rattle.plan.specs.Wire.{DownRow, fedRow, fedAt}
-use Rattle.plan.proofs.wire.feed.Statement.{statement}
-use Rattle.plan.proofs.wire.feed.Tie as tie
+use Rattle.plan.specs.ByNode.{DownRow, fedRow, fedAt}
+use Rattle.plan.proofs.feed.Statement.{statement}
+use Rattle.plan.proofs.feed.Tie as tie
 
 -- what is fed by the row q of the part's charts, for one of them and for another
 fed-is : (b : Bool) (u m v : Set) → u ∪ (m ∩ cond b v 0) ≡ cond b (u ∪ (m ∩ v)) u
