@@ -18,8 +18,8 @@ use Rattle.meaning.specs.Rewriting.{unionUpTo}
 use Rattle.wiring.specs.Sure.{sureOf, sureIn}
 use Rattle.wiring.specs.Pruning.{mayOf}
 use Rattle.cells.specs.Table.{SameWiring, masksFor, backAt, masterFrom, stateFrom, smallSize, stateAt}
-use Rattle.tables.specs.Read.{narrow, narrowAll, narrowed}
-use Rattle.tables.specs.Fill.{Filling, considered, listing, sureAt, Raised, Until, Chosen}
+use Rattle.tables.specs.Narrowing.{narrow, narrowAll, narrowed}
+use Rattle.tables.specs.Insertion.{Filling, considered, listing, sureAt, Raised, Until, Chosen}
 use Rattle.checks.specs.Known.{Sized, Summed}
 use Rattle.candidates.specs.declared.Around.{Around}
 use Rattle.candidates.specs.declared.Puts.{Puts}

@@ -1,5 +1,5 @@
--- The plan of a file that is wired: what a search reads in its masks m and small numbers s, and what of the input gets down to each
--- chart, a.
+-- The plan of a file that is wired: what a search reads in its masks m and small numbers s, and what of the input gets
+-- down to each chart, a.
 use mathlib.Core.Path.{_≡_}
 use mathlib.Core.List.{List}
 use Prim.Native.Nat.{ℕ, _<_}

@@ -1,2 +1,2 @@
 -- What is read of the charts' actions, as code finds it.
-pub mod Rows
+pub mod Relevance

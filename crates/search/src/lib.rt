@@ -14,7 +14,7 @@ ghost use Rattle.settling.specs.Trail.{beginning};
 ghost use Rattle.settling.specs.Hunt.{wakes, taken, settleOf, outcomeIn, firstFound, over, nothing, foundSize, foundIn};
 ghost use Rattle.settling.specs.Hunt.{BytesPut, Held};
 ghost use Rattle.cells.specs.Triggers.{Guards};
-ghost use Rattle.settling.specs.Stays.{huntsBoth, Hunted};
+ghost use Rattle.settling.specs.Calm.{huntsBoth, Hunted};
 use cells::CHARTS;
 use cells::masks;
 use cells::moves;
@@ -342,7 +342,7 @@ fn hunted(
 }
 
 // The same with a trail of its own: a shorter one for fewer charts. `guards` has the triggers of charts that may stay,
-// and `stays` how many there are (specs/Stays.antt).
+// and `stays` how many there are (crate settling, Calm).
 pub fn search(
     masks: &[u64],
     small: &[u8],

@@ -14,7 +14,7 @@ ghost use Rattle.settling.specs.Trail.{trailIn, RowPut, Lowers};
 ghost use Rattle.settling.specs.Hunt.{wakes, fineAt, taken, Takes, Idles};
 ghost use Rattle.settling.specs.Asks.{asksOf};
 ghost use Rattle.cells.specs.Triggers.{triggersFor, Guards};
-ghost use Rattle.settling.specs.Stays.{trips, calmAt, calmAll};
+ghost use Rattle.settling.specs.Calm.{trips, calmAt, calmAll};
 use cells::CHARTS;
 use cells::masks;
 use cells::moves;

@@ -15,8 +15,8 @@ use Rattle.meaning.specs.Numbers.{mostCharts, mostFromState}
 use Rattle.meaning.specs.Sums.{tally, one}
 use Rattle.meaning.specs.Meaning.{Set, same, untriggered}
 use Rattle.cells.specs.Triggers.{triggersFor, putTrigger, staysSize, someStay, Guards}
-use Rattle.tables.specs.Filled.{Stayers}
-use Rattle.tables.specs.Fill.{othersAt, keepAt}
+use Rattle.tables.specs.Contents.{Stayers}
+use Rattle.tables.specs.Insertion.{othersAt, keepAt}
 use Rattle.tables.specs.Triggers.{Noted, SameTriggers, Told}
 use Rattle.candidates.specs.Candidates.{Mays, readCharts}
 pub mod Laws

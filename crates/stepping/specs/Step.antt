@@ -18,11 +18,11 @@ use Rattle.meaning.specs.Open.{openIn}
 use Rattle.meaning.specs.Calls.{foundIn, stepIn, allPlaces, placesFound, placesIn, openFor, nextIn}
 use Rattle.settling.specs.Trail.{beginning}
 use Rattle.settling.specs.Hunt.{over, nothing}
-use Rattle.settling.specs.Stays.{huntsBoth}
+use Rattle.settling.specs.Calm.{huntsBoth}
 use Rattle.settling.specs.declared.Found.{Found}
-use Rattle.tables.specs.Filled.{answerOf}
-use Rattle.tables.specs.Read.{Reads}
-use Rattle.tables.specs.Whole.{Opens}
+use Rattle.tables.specs.Contents.{answerOf}
+use Rattle.tables.specs.Narrowing.{Reads}
+use Rattle.tables.specs.Simulation.{Opens}
 use Rattle.checks.specs.Known.{Sized, Summed}
 use Rattle.plan.specs.Plan.{Wired}
 use Rattle.candidates.specs.Candidates.{Tabled, Mays, Sures}

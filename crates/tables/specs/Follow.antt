@@ -30,8 +30,8 @@ use Rattle.cells.specs.Table.{neededAt, barredAt, actionAt, backAt, aheadAt, to
 use Rattle.cells.specs.Table.{placeAt}
 use Rattle.settling.specs.Trail.{Trail}
 use Rattle.settling.specs.Hunt.{isAwake, wakes, taken, idled, rested, passesAt, fineAt}
-use Rattle.settling.specs.Stays.{staysAt, calm, stayed, calmAt, quietAt}
-use Rattle.tables.specs.Filled.{Is, mayAt, Rows, Candidates, Stayers}
+use Rattle.settling.specs.Calm.{staysAt, calm, stayed, calmAt, quietAt}
+use Rattle.tables.specs.Contents.{Is, mayAt, Rows, Candidates, Stayers}
 
 -- ── a choice, one chart more settled ──
 

@@ -16,7 +16,7 @@ use Rattle.meaning.specs.Laws.Choices.{eqList-refl}
 use Rattle.settling.specs.Hunt.Laws.{head, over-first, Alike, alike-refl, alike-one, alike-sym, alike-trans}
 use Rattle.settling.specs.Hunt.Laws.{alike-fewer, alike-append, alike-answer, Among, among-alike, alike-drop}
 use Rattle.settling.specs.Hunt.Laws.{answer-over}
-use Rattle.tables.specs.Filled.{answerOf, trimmed}
+use Rattle.tables.specs.Contents.{answerOf, trimmed}
 
 -- ── outcomes of 8 states ──
 

@@ -19,15 +19,15 @@ use Rattle.wiring.specs.Permitted.{Stands}
 use Rattle.wiring.specs.Stand.{stands}
 use Rattle.settling.specs.Trail.{beginning}
 use Rattle.settling.specs.Hunt.{over, nothing}
-use Rattle.settling.specs.Stays.{huntsBoth}
+use Rattle.settling.specs.Calm.{huntsBoth}
 use Rattle.settling.specs.declared.Found.{Found}
-use Rattle.tables.specs.Filled.{Rows, Candidates, Stayers, Lows, answerOf}
-use Rattle.tables.specs.Read.{Reads, narrowed}
-use Rattle.tables.specs.Read.Laws.{narrowMove, length-narrowed, pick-narrowed, back-narrowed, small-narrowed}
-use Rattle.tables.specs.Read.Laws.{permitted-narrowed, outcomes-narrowed}
-use Rattle.tables.specs.Fill.{opensBy, keepAt, Chosen, Raised}
-use Rattle.tables.specs.Fill.Laws.{candidates, stayers-last, lows-are}
-use Rattle.tables.specs.Whole.{keeps, Opens, found-is, places-is}
+use Rattle.tables.specs.Contents.{Rows, Candidates, Stayers, Lows, answerOf}
+use Rattle.tables.specs.Narrowing.{Reads, narrowed}
+use Rattle.tables.specs.Narrowing.Laws.{narrowMove, length-narrowed, pick-narrowed, back-narrowed, small-narrowed}
+use Rattle.tables.specs.Narrowing.Laws.{permitted-narrowed, outcomes-narrowed}
+use Rattle.tables.specs.Insertion.{opensBy, keepAt, Chosen, Raised}
+use Rattle.tables.specs.Insertion.Laws.{candidates, stayers-last, lows-are}
+use Rattle.tables.specs.Simulation.{keeps, Opens, found-is, places-is}
 
 -- a narrowed move goes where the move goes
 opens-narrowed : (shut r : Set) (q : ℕ) (M : Move) → opensBy shut q (narrowMove r M) ≡ opensBy shut q M

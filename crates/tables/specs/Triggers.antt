@@ -17,10 +17,10 @@ use Rattle.meaning.specs.Meaning.{Set, same, Chart, Move, noMove, takes, stay, 
 use Rattle.signals.specs.Guard.{guard, isMet}
 use Rattle.meaning.specs.Laws.Bools.{same-refl, same-≢}
 use Rattle.cells.specs.Triggers.{triggerNeeded, triggerBarred}
-use Rattle.settling.specs.Stays.{trips, staysAt, calm}
-use Rattle.tables.specs.Filled.{Stayers}
-use Rattle.tables.specs.Read.{narrow, narrowAll}
-use Rattle.tables.specs.Read.Laws.{narrowMove, length-narrowed, nth-narrowed}
+use Rattle.settling.specs.Calm.{trips, staysAt, calm}
+use Rattle.tables.specs.Contents.{Stayers}
+use Rattle.tables.specs.Narrowing.{narrow, narrowAll}
+use Rattle.tables.specs.Narrowing.Laws.{narrowMove, length-narrowed, nth-narrowed}
 
 -- of the first p of chart c's transitions ts those from state q are triggers: n of them
 module _ (g : List ℕ) (c : ℕ) (ts : List Transition) (q : ℕ) where

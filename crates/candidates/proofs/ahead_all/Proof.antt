@@ -4,8 +4,8 @@ use mathlib.Core.List.{List}
 use Prim.Native.Nat.{ℕ, suc, _-_, _≤_}
 use native.Mathlib.Omega.{arith}
 use lib.ListN.{length}
-use Rattle.tables.specs.Fill.{AheadFrom}
-use Rattle.tables.specs.Fill.Laws.{from-last, from-next}
+use Rattle.tables.specs.Insertion.{AheadFrom}
+use Rattle.tables.specs.Insertion.Laws.{from-last, from-next}
 use Rattle.candidates.proofs.ahead_all.Statement.{statement}
 use Rattle.candidates.proofs.ahead_all.Tie as tie
 

@@ -6,9 +6,9 @@ use borrow.Author.Needs.{needs}
 use lib.ListN.{length}
 use Rattle.signals.specs.Mask.{_∪_, _∩_}
 use Rattle.cells.specs.Table.{block, masksFor}
-use Rattle.tables.specs.Fill.{AheadRow, aheadBy}
+use Rattle.tables.specs.Insertion.{AheadRow, aheadBy}
 use Rattle.layout.specs.Row.Laws.{row-none, row-more}
-use Rattle.tables.specs.Fill.Laws.{row-value}
+use Rattle.tables.specs.Insertion.Laws.{row-value}
 use Rattle.candidates.proofs.ahead_row.Statement.{statement}
 use Rattle.candidates.proofs.ahead_row.Tie as tie
 

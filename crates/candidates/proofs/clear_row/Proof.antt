@@ -4,7 +4,7 @@ use Prim.Native.Nat.{_*_, _-_, _≤_}
 use native.Mathlib.Omega.{arith}
 use borrow.Author.Needs.{needs}
 use Rattle.cells.specs.Table.{block}
-use Rattle.tables.specs.Fill.{AheadRow}
+use Rattle.tables.specs.Insertion.{AheadRow}
 use Rattle.layout.specs.Row.Laws.{row-none, row-more}
 use Rattle.candidates.proofs.clear_row.Statement.{statement}
 use Rattle.candidates.proofs.clear_row.Tie as tie

@@ -5,7 +5,7 @@ use borrow.Author.Needs.{needs}
 use borrow.Author.Tests.{not-true, not-false}
 use denote.Ref.{now}
 use Rattle.layout.specs.Body.{transitionAt}
-use Rattle.tables.specs.Read.{narrow}
+use Rattle.tables.specs.Narrowing.{narrow}
 use Rattle.candidates.specs.Candidates.Laws.{left-other, left-fails, left-again, left-put}
 use Rattle.candidates.proofs.consider.Statement.{statement}
 use Rattle.candidates.proofs.consider.Tie as tie

@@ -6,7 +6,7 @@ use native.Mathlib.Omega.{arith}
 use borrow.Author.Needs.{needs}
 use Rattle.meaning.specs.Sums.{anyUpTo}
 use Rattle.meaning.specs.Sums.Laws.{any-none, any-more, any-at}
-use Rattle.tables.specs.Fill.{isAt, isAgain}
+use Rattle.tables.specs.Insertion.{isAt, isAgain}
 use Rattle.candidates.proofs.is_again.Statement.{statement}
 use Rattle.candidates.proofs.is_again.Tie as tie
 

@@ -7,7 +7,7 @@ use borrow.Author.Needs.{needs}
 use Rattle.layout.specs.declared.record.Transition.{Transition}
 use Rattle.meaning.specs.Meaning.{same}
 use Rattle.cells.specs.Table.{neededAt, barredAt, actionAt, toAt}
-use Rattle.tables.specs.Fill.{isAt}
+use Rattle.tables.specs.Insertion.{isAt}
 use Rattle.candidates.proofs.is_at.Statement.{statement}
 use Rattle.candidates.proofs.is_at.Tie as tie
 

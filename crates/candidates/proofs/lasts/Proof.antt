@@ -3,7 +3,7 @@ use mathlib.Core.Path.{ap, ap₂, sym, _∙_}
 use mathlib.Core.Bool.{_&&_, not}
 use borrow.Author.Needs.{needs}
 use Rattle.meaning.specs.Laws.Guards.{met-is}
-use Rattle.tables.specs.Fill.{lastsBy}
+use Rattle.tables.specs.Insertion.{lastsBy}
 use Rattle.candidates.proofs.lasts.Statement.{statement}
 use Rattle.candidates.proofs.lasts.Tie as tie
 

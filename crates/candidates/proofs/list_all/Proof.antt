@@ -4,7 +4,7 @@ use Prim.Native.Nat.{_-_, _≤_}
 use native.Mathlib.Omega.{arith}
 use borrow.Author.Needs.{needs}
 use Rattle.layout.specs.Body.{startOf}
-use Rattle.tables.specs.Fill.Laws.{until-none}
+use Rattle.tables.specs.Insertion.Laws.{until-none}
 use Rattle.candidates.specs.Candidates.{UntilChart}
 use Rattle.candidates.proofs.list_all.Statement.{statement}
 use Rattle.candidates.proofs.list_all.Tie as tie

@@ -10,7 +10,7 @@ use Rattle.signals.specs.Mask.{_∪_, _∩_}
 use Rattle.meaning.specs.Meaning.{same}
 use Rattle.meaning.specs.Rewriting.{unionUpTo}
 use Rattle.cells.specs.Table.{backAt}
-use Rattle.tables.specs.Fill.{othersAt}
+use Rattle.tables.specs.Insertion.{othersAt}
 use Rattle.candidates.specs.Candidates.Laws.{join-more}
 use Rattle.candidates.proofs.others.Statement.{statement}
 use Rattle.candidates.proofs.others.Tie as tie

@@ -6,7 +6,7 @@ use borrow.Author.Needs.{needs}
 use Rattle.signals.specs.Mask.{_∪_}
 use Rattle.meaning.specs.Rewriting.{unionUpTo}
 use Rattle.cells.specs.Table.{actionAt, countCell, countAt}
-use Rattle.tables.specs.Filled.{mayAt}
+use Rattle.tables.specs.Contents.{mayAt}
 use Rattle.candidates.specs.Candidates.Laws.{join-more}
 use Rattle.candidates.proofs.puts_out.Statement.{statement}
 use Rattle.candidates.proofs.puts_out.Tie as tie

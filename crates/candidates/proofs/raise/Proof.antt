@@ -11,7 +11,7 @@ use Rattle.signals.specs.Mask.{_∪_, _∩_}
 use Rattle.signals.specs.Decide.{sets, A, B, C, ∅ₑ, _∪ₑ_, _∩ₑ_, _≐_}
 use Rattle.meaning.specs.Numbers.{mostCharts}
 use Rattle.cells.specs.Table.{backAt, Row, masterAt}
-use Rattle.tables.specs.Fill.{sureAt}
+use Rattle.tables.specs.Insertion.{sureAt}
 use Rattle.candidates.proofs.raise.Statement.{statement}
 use Rattle.candidates.proofs.raise.Tie as tie
 

@@ -1,7 +1,7 @@
 -- `read_at` meets its contract: the transition, its action cut. Assumes nothing.
 use mathlib.Core.Path.{ap}
 use borrow.Author.Needs.{needs}
-use Rattle.tables.specs.Read.{narrow}
+use Rattle.tables.specs.Narrowing.{narrow}
 use Rattle.candidates.proofs.read_at.Statement.{statement}
 use Rattle.candidates.proofs.read_at.Tie as tie
 

@@ -8,7 +8,7 @@ use Rattle.layout.specs.Body.{transitionAt}
 use Rattle.layout.specs.declared.record.Transition.{Transition}
 use Rattle.meaning.specs.Meaning.{same}
 use Rattle.meaning.specs.Laws.Bools.{same-refl, same-≢}
-use Rattle.tables.specs.Read.{narrow}
+use Rattle.tables.specs.Narrowing.{narrow}
 use Rattle.candidates.specs.declared.Puts.{Puts}
 use Rattle.candidates.specs.Candidates.{withOne}
 use Rattle.candidates.proofs.with_one.Statement.{statement}

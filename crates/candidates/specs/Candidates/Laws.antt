@@ -39,12 +39,13 @@ use Rattle.wiring.specs.Dropped.{join-cong}
 use Rattle.wiring.specs.Sure.{sureOf, sureIn, sure-small}
 use Rattle.wiring.specs.Pruning.{mayOf, behind-empty}
 use Rattle.cells.specs.Table.{backAt, putMasks, Row, countCell, stateCell, putSmall}
-use Rattle.tables.specs.Read.{narrowAll}
-use Rattle.tables.specs.Read.Laws.{length-narrowed, narrow-from}
-use Rattle.tables.specs.Fill.{Filling, considered, listing, lastsBy, isAgain, put, pickFilling, othersAt, sureAt}
-use Rattle.tables.specs.Fill.{Raised, Until, AheadFrom}
-use Rattle.tables.specs.Fill.Laws.{wiring-trans, length-masks, length-small, leave-room, count-few, until-next, chosen}
-use Rattle.tables.specs.Fill.Laws.{raised-same}
+use Rattle.tables.specs.Narrowing.{narrowAll}
+use Rattle.tables.specs.Narrowing.Laws.{length-narrowed, narrow-from}
+use Rattle.tables.specs.Insertion.{Filling, considered, listing, lastsBy, isAgain, put, pickFilling, othersAt, sureAt}
+use Rattle.tables.specs.Insertion.{Raised, Until, AheadFrom}
+use Rattle.tables.specs.Insertion.Laws.{wiring-trans, length-masks, length-small, leave-room, count-few, until-next}
+use Rattle.tables.specs.Insertion.Laws.{chosen}
+use Rattle.tables.specs.Insertion.Laws.{raised-same}
 use Rattle.candidates.specs.declared.Around.{Around}
 use Rattle.candidates.specs.declared.Puts.{Puts}
 use Rattle.candidates.specs.Candidates.{Ready, Tabled, Left, filling, consideredBy, listingBy, readAs, fromStart}

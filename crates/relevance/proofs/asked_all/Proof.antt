@@ -8,8 +8,8 @@ use lib.ListN.{length, length-set}
 use Rattle.layout.specs.Body.{startOf}
 use Rattle.meaning.specs.Numbers.{mostCharts}
 use Rattle.checks.specs.Known.Laws.{in-all, start-next}
-use Rattle.relevance.specs.Rows.{Asks}
-use Rattle.relevance.specs.Rows.Laws.{asks-next}
+use Rattle.relevance.specs.Relevance.{Asks}
+use Rattle.relevance.specs.Relevance.Laws.{asks-next}
 use Rattle.relevance.proofs.asked_all.Statement.{statement}
 use Rattle.relevance.proofs.asked_all.Tie as tie
 

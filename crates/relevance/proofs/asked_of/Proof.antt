@@ -3,7 +3,7 @@ use Prim.Native.Nat.{_-_, _≤_}
 use native.Mathlib.Omega.{arith}
 use borrow.Author.Needs.{needs}
 use Rattle.layout.specs.Body.{transitionAt}
-use Rattle.relevance.specs.Rows.Laws.{AsksLeft, asks-none, asks-more, asks-done}
+use Rattle.relevance.specs.Relevance.Laws.{AsksLeft, asks-none, asks-more, asks-done}
 use Rattle.relevance.proofs.asked_of.Statement.{statement}
 use Rattle.relevance.proofs.asked_of.Tie as tie
 

@@ -7,7 +7,7 @@ use borrow.Author.Needs.{needs}
 use Rattle.signals.specs.Mask.{_∪_, _∩_}
 use Rattle.meaning.specs.Rewriting.{unionUpTo}
 use Rattle.cells.specs.Table.{backAt}
-use Rattle.tables.specs.Read.{readAt}
+use Rattle.tables.specs.Narrowing.{readAt}
 use Rattle.candidates.specs.Candidates.Laws.{join-more}
 use Rattle.relevance.proofs.read_of.Statement.{statement}
 use Rattle.relevance.proofs.read_of.Tie as tie

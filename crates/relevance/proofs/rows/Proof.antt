@@ -5,8 +5,8 @@ use native.Mathlib.Omega.{arith}
 use borrow.Author.Needs.{needs}
 use lib.ListN.{length, length-set}
 use Rattle.meaning.specs.Numbers.{mostCharts}
-use Rattle.relevance.specs.Rows.{ReadRow}
-use Rattle.relevance.specs.Rows.Laws.{read-next}
+use Rattle.relevance.specs.Relevance.{ReadRow}
+use Rattle.relevance.specs.Relevance.Laws.{read-next}
 use Rattle.relevance.proofs.rows.Statement.{statement}
 use Rattle.relevance.proofs.rows.Tie as tie
 

@@ -27,8 +27,8 @@ use Rattle.cells.specs.Trail.{Room}
 use Rattle.settling.specs.Trail.Laws.{keeps-refl, keeps-trans, keeps-fewer, keeps-room, room-fewer, trail-kept}
 use Rattle.meaning.specs.Rewriting.{inTurn}
 use Rattle.settling.specs.Hunt.{wakes, taken, rested, fineAt, outcomeIn, settleOf, over, foundIn, Held, Takes}
-use Rattle.settling.specs.Stays.{staysAt, stayed, calmAll, quietAt, huntsBoth, huntsCalm, Hunted}
-use Rattle.settling.specs.Stays.Laws.{fine-same}
+use Rattle.settling.specs.Calm.{staysAt, stayed, calmAll, quietAt, huntsBoth, huntsCalm, Hunted}
+use Rattle.settling.specs.Calm.Laws.{fine-same}
 use Rattle.settling.specs.Hunt.Laws.{Stopped, over-append, over-stopped, each-none, over-each, over-each-stopped}
 use Rattle.settling.specs.Asks.{asksOf}
 use Rattle.settling.specs.Asks.Laws.{ownAt, asked-never, asked-some, asks-kept, fine-taken, fine-rested}

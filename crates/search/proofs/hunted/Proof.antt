@@ -15,8 +15,8 @@ use Rattle.cells.specs.Trail.{movesSize, placeIn, columnIn}
 use Rattle.settling.specs.Trail.{beginning, trailIn}
 use Rattle.settling.specs.Trail.Laws.{filled-behind, begun}
 use Rattle.settling.specs.Hunt.{over, nothing, placesCell, hasCell, agreeCell, foundSize, foundIn, Held, BytesPut}
-use Rattle.settling.specs.Stays.{calmAt, huntsBoth, huntsCalm}
-use Rattle.settling.specs.Stays.Laws.{every-none}
+use Rattle.settling.specs.Calm.{calmAt, huntsBoth, huntsCalm}
+use Rattle.settling.specs.Calm.Laws.{every-none}
 use Rattle.search.proofs.hunted.Statement.{statement}
 use Rattle.search.proofs.hunted.Tie as tie
 

@@ -8,8 +8,8 @@ use borrow.Author.Needs.{needs}
 use borrow.Author.Tests.{not-true, not-false}
 use Rattle.meaning.specs.Laws.Bools.{every}
 use Rattle.settling.specs.Trail.{trailIn}
-use Rattle.settling.specs.Stays.{calmAt}
-use Rattle.settling.specs.Stays.Laws.{calm-all, every-none, every-next, every-off}
+use Rattle.settling.specs.Calm.{calmAt}
+use Rattle.settling.specs.Calm.Laws.{calm-all, every-none, every-next, every-off}
 use Rattle.settling.proofs.all_calm.Statement.{statement}
 use Rattle.settling.proofs.all_calm.Tie as tie
 

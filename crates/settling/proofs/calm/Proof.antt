@@ -6,8 +6,8 @@ use Prim.Native.Nat.{ℕ, _-_}
 use native.Mathlib.Omega.{arith}
 use borrow.Author.Needs.{needs}
 use Rattle.signals.specs.Mask.{_∪_}
-use Rattle.settling.specs.Stays.{trips}
-use Rattle.settling.specs.Stays.Laws.{calm-moves, calm-none, calm-stays}
+use Rattle.settling.specs.Calm.{trips}
+use Rattle.settling.specs.Calm.Laws.{calm-moves, calm-none, calm-stays}
 use Rattle.settling.proofs.calm.Statement.{statement}
 use Rattle.settling.proofs.calm.Tie as tie
 

@@ -11,7 +11,7 @@ use Rattle.signals.specs.Mask.{within, apart}
 use Rattle.meaning.specs.Sums.{anyUpTo}
 use Rattle.meaning.specs.Sums.Laws.{any-none, any-more, any-at, any-done}
 use Rattle.cells.specs.Triggers.{triggerNeeded, triggerBarred}
-use Rattle.settling.specs.Stays.{trips}
+use Rattle.settling.specs.Calm.{trips}
 use Rattle.settling.proofs.trips.Statement.{statement}
 use Rattle.settling.proofs.trips.Tie as tie
 

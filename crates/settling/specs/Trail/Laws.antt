@@ -20,7 +20,7 @@ use Rattle.cells.specs.Trail.{lowCell, needsCell, barsCell, nextCell, awakeCell
 use Rattle.cells.specs.Trail.{nextIn, awakeIn, placeIn, columnIn, putAsked, putMove, Room}
 use Rattle.settling.specs.Trail.{Trail, beginning, trailIn, Same, Keeps, Lowers}
 use Rattle.settling.specs.Hunt.{taken, idled}
-use Rattle.settling.specs.Stays.{stayed}
+use Rattle.settling.specs.Calm.{stayed}
 
 -- ── made ──
 

@@ -28,10 +28,10 @@ use Rattle.wiring.specs.Dropped.{join-cong}
 use Rattle.cells.specs.Table.{backAt}
 use Rattle.cells.specs.Triggers.{triggerNeededCell, triggerBarredCell, triggersFor, triggerNeeded, triggerBarred}
 use Rattle.cells.specs.Triggers.{putTrigger, staysSize}
-use Rattle.settling.specs.Stays.{trips}
-use Rattle.tables.specs.Read.Laws.{quiet-narrowed}
-use Rattle.tables.specs.Fill.{othersAt, keepAt}
-use Rattle.tables.specs.Fill.Laws.{keep-stay}
+use Rattle.settling.specs.Calm.{trips}
+use Rattle.tables.specs.Narrowing.Laws.{quiet-narrowed}
+use Rattle.tables.specs.Insertion.{othersAt, keepAt}
+use Rattle.tables.specs.Insertion.Laws.{keep-stay}
 use Rattle.tables.specs.Triggers.{Noted, begun, passed, noted, SameTriggers, noted-kept, noted-trips, Told, shut}
 use Rattle.tables.specs.Triggers.{listed, told-kept, told-narrowed, stayers}
 use Rattle.candidates.specs.Candidates.{Mays, readCharts}

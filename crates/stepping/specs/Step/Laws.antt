@@ -37,9 +37,9 @@ use Rattle.wiring.specs.Few.{file-stands}
 use Rattle.cells.specs.Table.{Row, InRow, masterCell, slaveStateCell, masterAt, slaveStateAt}
 use Rattle.settling.specs.Hunt.{nothing}
 use Rattle.settling.specs.declared.Found.{Found}
-use Rattle.tables.specs.Filled.{Rows, answerOf, trimmed}
-use Rattle.tables.specs.Read.Laws.{reads-all, reads-at}
-use Rattle.tables.specs.Fill.{opensBy}
+use Rattle.tables.specs.Contents.{Rows, answerOf, trimmed}
+use Rattle.tables.specs.Narrowing.Laws.{reads-all, reads-at}
+use Rattle.tables.specs.Insertion.{opensBy}
 use Rattle.tables.specs.Step.{step-found, step-places}
 use Rattle.checks.specs.Known.{Sized}
 use Rattle.nesting.specs.Known.{Wirable}
@@ -50,7 +50,7 @@ use Rattle.plan.specs.Noted.{NearestIn}
 use Rattle.plan.specs.Plan.{Wired}
 use Rattle.candidates.specs.Candidates.{Ready, Mays, Chooses}
 use Rattle.candidates.specs.Candidates.Laws.{length-from, actions-small}
-use Rattle.relevance.specs.Rows.{ReadRow}
+use Rattle.relevance.specs.Relevance.{ReadRow}
 use Rattle.staying.specs.Staying.{Stays}
 use Rattle.stepping.specs.declared.step.Stepped.{Stepped}
 use Rattle.stepping.specs.declared.step.Tried.{Tried}

@@ -4,7 +4,7 @@ use mathlib.Core.Path.{sym, ap, _∙_}
 use borrow.Author.Needs.{needs}
 use Rattle.settling.specs.Trail.{beginning}
 use Rattle.settling.specs.Hunt.{over, nothing}
-use Rattle.tables.specs.Fill.Laws.{hunts-stuck}
+use Rattle.tables.specs.Insertion.Laws.{hunts-stuck}
 use Rattle.stepping.proofs.step.searched.Statement.{statement}
 use Rattle.stepping.proofs.step.searched.Tie as tie
 

@@ -1,5 +1,5 @@
 -- What of a chart's action makes a difference to a step: what comes out of the whole, and what gets to a chart that
--- looks for it. Charts whose actions are narrowed to that have the same outcomes (Read/Laws.antt), and fewer
+-- looks for it. Charts whose actions are narrowed to that have the same outcomes (Narrowing/Laws.antt), and fewer
 -- candidates.
 use mathlib.Core.Bool.{cond}
 use mathlib.Core.List.{List, [], _∷_}

@@ -1,5 +1,5 @@
 -- How candidates get into the tables of a search: each transition from a chart's present state, unless it fails alone
--- or is there already; then what later charts may put out. Laws are in Fill/Laws.antt.
+-- or is there already; then what later charts may put out. Laws are in Insertion/Laws.antt.
 use mathlib.Core.Path.{_≡_}
 use mathlib.Core.Bool.{Bool, true, false, _&&_, not, cond}
 use mathlib.Core.List.{List}
@@ -19,8 +19,8 @@ use Rattle.wiring.specs.Sure.{sureOf, sureIn}
 use Rattle.wiring.specs.Pruning.{mayOf}
 use Rattle.cells.specs.Table.{SameWiring, SameLists, block, neededAt, barredAt, actionAt, backAt, aheadAt, putMasks}
 use Rattle.cells.specs.Table.{placeFrom, countCell, smallSize, toAt, countAt, masterAt, stateAt, putSmall}
-use Rattle.settling.specs.Stays.{staysAt}
-use Rattle.tables.specs.Filled.{Listed, mayAt}
+use Rattle.settling.specs.Calm.{staysAt}
+use Rattle.tables.specs.Contents.{Listed, mayAt}
 pub mod Laws
 
 -- ── a move tested alone ──

@@ -6,7 +6,7 @@ use Prim.Native.Nat.{ℕ, _<_}
 use lib.ListN.{getD}
 use Rattle.layout.specs.Body.{transitionsOf}
 use Rattle.layout.specs.declared.body.Shape.{Shape}
-use Rattle.tables.specs.Read.{asked, readAt}
+use Rattle.tables.specs.Narrowing.{asked, readAt}
 pub mod Laws
 
 -- asks has what each of the first k charts looks for

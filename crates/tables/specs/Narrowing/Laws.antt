@@ -28,7 +28,7 @@ use Rattle.wiring.specs.Permitted.{awakeIn, awake, Stands, offer, ruled, permit
 use Rattle.wiring.specs.Dropped.{join-cong}
 use Rattle.wiring.specs.Pruning.{every-cong}
 use Rattle.cells.specs.Table.{backAt, upAt}
-use Rattle.tables.specs.Read.{asked, readOf, Reads, readAt, narrow, narrowAll, narrowChart, narrowed}
+use Rattle.tables.specs.Narrowing.{asked, readOf, Reads, readAt, narrow, narrowAll, narrowChart, narrowed}
 
 -- ── a narrowed list ──
 

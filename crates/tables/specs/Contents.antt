@@ -18,7 +18,7 @@ use Rattle.wiring.specs.Dropped.{ahead}
 use Rattle.cells.specs.Table.{neededAt, barredAt, actionAt, backAt, aheadAt, upAt, toAt, countAt, masterAt}
 use Rattle.cells.specs.Table.{slaveStateAt, stateAt, placeAt}
 use Rattle.settling.specs.Hunt.{answerIn}
-use Rattle.settling.specs.Stays.{staysAt, calm}
+use Rattle.settling.specs.Calm.{staysAt, calm}
 use Rattle.settling.specs.declared.Found.{Found}
 
 module _ (m s : List ℕ) where

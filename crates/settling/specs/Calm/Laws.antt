@@ -19,7 +19,7 @@ use Rattle.cells.specs.Trail.{lowIn, placeIn}
 use Rattle.settling.specs.Trail.{Trail, trailIn}
 use Rattle.settling.specs.Hunt.{idled, rested, passesAt, fineAt}
 use Rattle.cells.specs.Triggers.{Guards, toldAt, someStay}
-use Rattle.settling.specs.Stays.{trips, calm, stayed, calmAt}
+use Rattle.settling.specs.Calm.{trips, calm, stayed, calmAt}
 
 module _ (m s g y w b : List ℕ) (k d o : ℕ) (few : k ≤ mostCharts) (l : d < k) where
   calm-by : calmAt m s g y (trailIn w b k o) k d

@@ -16,9 +16,9 @@ use Rattle.layout.specs.declared.record.Head.{Head}
 use Rattle.meaning.specs.Meaning.{Set, same}
 use Rattle.wiring.specs.Dropped.{join-cong}
 use Rattle.cells.specs.Table.{backAt, upAt}
-use Rattle.tables.specs.Read.{asked, readAt}
+use Rattle.tables.specs.Narrowing.{asked, readAt}
 use Rattle.layout.specs.Row.Laws.{fill-more}
-use Rattle.relevance.specs.Rows.{Asks, ReadRow}
+use Rattle.relevance.specs.Relevance.{Asks, ReadRow}
 
 -- ── what transitions ask ──
 

@@ -33,12 +33,12 @@ use Rattle.cells.specs.Table.{actionAt, countAt, placeAt}
 use Rattle.settling.specs.Trail.{Trail, beginning}
 use Rattle.meaning.specs.Rewriting.{inTurn}
 use Rattle.settling.specs.Hunt.{wakes, taken, rested, fineAt, over, nothing}
-use Rattle.settling.specs.Stays.{staysAt, stayed, quietAt, huntsBoth}
+use Rattle.settling.specs.Calm.{staysAt, stayed, quietAt, huntsBoth}
 use Rattle.settling.specs.Hunt.Laws.{among-each}
-use Rattle.tables.specs.Filled.{Is, Listed, start, other, fails, again, fresh, mayAt, Rows, Candidates, Stayers}
-use Rattle.tables.specs.Filled.{Lows, answerOf}
-use Rattle.tables.specs.Read.Laws.{join-at}
-use Rattle.tables.specs.Fill.{opensBy, opening}
+use Rattle.tables.specs.Contents.{Is, Listed, start, other, fails, again, fresh, mayAt, Rows, Candidates, Stayers}
+use Rattle.tables.specs.Contents.{Lows, answerOf}
+use Rattle.tables.specs.Narrowing.Laws.{join-at}
+use Rattle.tables.specs.Insertion.{opensBy, opening}
 use Rattle.tables.specs.Padded.{Padded, padded-fewer, padded-none, padded-one, padded-append, padded-nothing}
 use Rattle.tables.specs.Padded.{padded-again, Sizes, found, found-places}
 use Rattle.tables.specs.Follow.{Follows, Placed, taken-placed, rested-placed, stayed-placed, moves-on, wakes-is}

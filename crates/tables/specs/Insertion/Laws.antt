@@ -39,14 +39,16 @@ use Rattle.cells.specs.Table.{smallSize, toAt, countAt, masterAt, stateAt, plac
 use Rattle.settling.specs.Trail.{Trail}
 use Rattle.meaning.specs.Rewriting.{inTurn}
 use Rattle.settling.specs.Hunt.{wakes, taken, rested, fineAt}
-use Rattle.settling.specs.Stays.{staysAt, stayed, quietAt, huntsBoth}
+use Rattle.settling.specs.Calm.{staysAt, stayed, quietAt, huntsBoth}
 use Rattle.settling.specs.Hunt.Laws.{each-none}
-use Rattle.tables.specs.Filled.{Is, Listed, start, other, fails, again, fresh, mayAt, Rows, Candidates, Stayers}
-use Rattle.tables.specs.Filled.{Lows}
-use Rattle.tables.specs.Whole.{nth-takes}
-use Rattle.tables.specs.Fill.{opensBy, opening, keptBy, lastsBy, othersAt, sureAt, Raised, Filling, isAt, isAgain}
-use Rattle.tables.specs.Fill.{put, pickFilling, considered, listing, keepAt, Until, Chosen, AheadRow, aheadBy}
-use Rattle.tables.specs.Fill.{AheadFrom, stuck}
+use Rattle.tables.specs.Contents.{Is, Listed, start, other, fails, again, fresh, mayAt, Rows, Candidates, Stayers}
+use Rattle.tables.specs.Contents.{Lows}
+use Rattle.tables.specs.Simulation.{nth-takes}
+use Rattle.tables.specs.Insertion.{opensBy, opening, keptBy, lastsBy, othersAt, sureAt, Raised, Filling, isAt}
+use Rattle.tables.specs.Insertion.{isAgain}
+use Rattle.tables.specs.Insertion.{put, pickFilling, considered, listing, keepAt, Until, Chosen, AheadRow}
+use Rattle.tables.specs.Insertion.{aheadBy}
+use Rattle.tables.specs.Insertion.{AheadFrom, stuck}
 
 -- ── candidates that stay ──
 
