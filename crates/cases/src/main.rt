@@ -104,7 +104,7 @@ fn print_interface(file: &[u8]) {
 }
 
 fn print_plain(file: &[u8]) {
-    let p = engine::plainness::plain(file);
+    let p = engine::file::plain(file);
     print_refusal(b" plain ", p.refusal);
     if p.plain {
         io::write_all(STDOUT_FILENO, b" 1");

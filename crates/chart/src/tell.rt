@@ -109,7 +109,7 @@ pub fn interface(file: &[u8]) {
 }
 
 pub fn plain(file: &[u8]) {
-    let p = engine::plainness::plain(file);
+    let p = engine::file::plain(file);
     let r = p.refusal;
     if r != limits::ACCEPTED {
         words::refusal(r);

@@ -6,6 +6,5 @@ pub mod step;
 pub use queries::file;
 pub use queries::interface;
 pub use queries::lacking;
-pub use queries::plainness;
 pub use transforms::clear;
 pub use transforms::rewriting;

@@ -39,7 +39,7 @@ pub extern "C" fn mestecur_interface(file: &[u8], input: &mut u64, output: &mut 
 pub extern "C" fn mestecur_plain(file: &[u8], plain: &mut u8) -> u8
     ensures { λ r. ⌜ PlainReturns (now (file .entry)) r (now (plain .exit)) ⌝ }
 {
-    let p = engine::plainness::plain(file);
+    let p = engine::file::plain(file);
     *plain = number(p.plain);
     p.refusal
 }

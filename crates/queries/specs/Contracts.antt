@@ -14,7 +14,7 @@ use Rattle.lacks.specs.declared.Lacking.{Lacking}
 use Rattle.queries.specs.States.{statesOf}
 use Rattle.queries.specs.declared.file.StateCounts.{StateCounts}
 use Rattle.queries.specs.declared.interface.Faces.{Faces}
-use Rattle.queries.specs.declared.plainness.Plainness.{Plainness}
+use Rattle.queries.specs.declared.file.Plainness.{Plainness}
 pub mod Laws
 
 -- the check (RULES 3.2)

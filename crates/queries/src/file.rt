@@ -1,10 +1,12 @@
-// The calls that read a file alone: its check, the states of its charts, and the first configuration.
+// The calls that read a file alone: its check, the states of its charts, the first configuration, and whether it is
+// plain.
 ghost use mathlib.Core.Path.{_≡_};
+ghost use mathlib.Core.Bool.{false};
 ghost use Prim.Native.Nat.{_≤_};
 ghost use lib.ListN.{length};
 ghost use Rattle.layout.specs.Body.{Holds, headAt};
 ghost use Rattle.meaning.specs.Calls.{made, laidOver};
-ghost use Rattle.queries.specs.Contracts.{CheckSays, FirstSays, StatesSays};
+ghost use Rattle.queries.specs.Contracts.{CheckSays, FirstSays, StatesSays, PlainSays};
 ghost use Rattle.queries.specs.States.{noStates};
 use checks::limits;
 use layout::body::Shape;
@@ -103,4 +105,40 @@ pub fn first(file: &[u8], config: &mut [u8]) -> u8
     let end = o.end;
     put_initials(n, &file[start..end], config);
     limits::ACCEPTED
+}
+
+// Whether a file is plain, so that no step of it can be marked no (RULES 8): 0 or the file's refusal, and the answer.
+pub struct Plainness {
+    pub refusal: u8,
+    pub plain: bool,
+}
+
+fn not_plain(refusal: u8) -> Plainness
+    ensures { λ r. ⌜ r ≡ record { refusal = refusal; plain = false } ⌝ }
+{
+    Plainness {
+        refusal: refusal,
+        plain: false,
+    }
+}
+
+// A refused file is not plain, nor is one whose charts may stay.
+pub fn plain(file: &[u8]) -> Plainness
+    ensures { λ r. ⌜ PlainSays (now (file .entry)) r ⌝ }
+{
+    let o = opening::opened(file);
+    let r = o.refusal;
+    if r != limits::ACCEPTED {
+        return not_plain(r);
+    }
+    let n = o.shape;
+    if n.edition != limits::FIRST_EDITION as usize {
+        return not_plain(limits::ACCEPTED);
+    }
+    let start = o.start;
+    let end = o.end;
+    Plainness {
+        refusal: limits::ACCEPTED,
+        plain: plain::is_plain(n, &file[start..end]),
+    }
 }

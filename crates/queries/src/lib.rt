@@ -2,4 +2,3 @@
 pub mod file;
 pub mod interface;
 pub mod lacking;
-pub mod plainness;

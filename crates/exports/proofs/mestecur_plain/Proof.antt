@@ -2,7 +2,7 @@
 use mathlib.Core.Path.{ap, _∙_}
 use borrow.Author.Needs.{needs}
 use Rattle.meaning.specs.Sums.{one}
-use Rattle.queries.specs.declared.plainness.Plainness.{Plainness}
+use Rattle.queries.specs.declared.file.Plainness.{Plainness}
 use Rattle.exports.proofs.mestecur_plain.Statement.{statement}
 use Rattle.exports.proofs.mestecur_plain.Tie as tie
 

@@ -7,7 +7,7 @@ use Rattle.lacks.specs.declared.Lacking.{Lacking}
 use Rattle.queries.specs.Contracts.{CheckSays, FirstSays, StatesSays, InterfaceSays, PlainSays, LackingSays}
 use Rattle.queries.specs.declared.file.StateCounts.{StateCounts}
 use Rattle.queries.specs.declared.interface.Faces.{Faces}
-use Rattle.queries.specs.declared.plainness.Plainness.{Plainness}
+use Rattle.queries.specs.declared.file.Plainness.{Plainness}
 
 -- what is equal to the same is equal; so are both of a pair
 module _ {A : Type 0} where

@@ -1,4 +1,4 @@
--- `plainness::plain` meets its contract: the file's refusal with no, no for another edition than the first, or what its
+-- `file::plain` meets its contract: the file's refusal with no, no for another edition than the first, or what its
 -- body says.
 use mathlib.Core.Path.{_≡_, sym, ap, _∙_}
 use mathlib.Core.Bool.{Bool, false}
@@ -14,9 +14,9 @@ use Rattle.meaning.specs.File.{trailer, shapeOf, bodyOf, fileAt, fileOf}
 use Rattle.meaning.specs.Check.{refusalOf}
 use Rattle.meaning.specs.Plain.{plainIn, plainOf}
 use Rattle.opening.specs.Opening.{Stands}
-use Rattle.queries.specs.declared.plainness.Plainness.{Plainness}
-use Rattle.queries.proofs.plainness.plain.Statement.{statement}
-use Rattle.queries.proofs.plainness.plain.Tie as tie
+use Rattle.queries.specs.declared.file.Plainness.{Plainness}
+use Rattle.queries.proofs.file.plain.Statement.{statement}
+use Rattle.queries.proofs.file.plain.Tie as tie
 
 module _ (f : List ℕ) where
   abbrev answer : Plainness
