@@ -112,7 +112,7 @@ pub extern "C" fn mestecur_post(
     ensures { λ r. ⌜ PostSays (now (file .entry)) (now (cases .entry)) (now (entries .entry)) (now (rows .entry))
         r (now (cases .exit)) (now (rows .exit)) ⌝ }
 {
-    posting::post(file, cases, entries, rows)
+    ledger::post(file, cases, entries, rows)
 }
 
 #[no_mangle]

@@ -1,5 +1,5 @@
 -- `exports::mestecur_post` meets its contract: a walk of its MIR, by hand, since a slice of structs is not covered. All
--- four slices are handed on for good to `posting::post`, of which the proof knows only that it meets its contract,
+-- four slices are handed on for good to `ledger::post`, of which the proof knows only that it meets its contract,
 -- which is this one.
 use mathlib.Core.Path.{_≡_, refl, sym, _∙_, ap, subst}
 use Prim.Native.Nat.{ℕ, zero, suc, _+_, _*_, _-_, _<_, _≤_, _^_}
@@ -57,10 +57,10 @@ use Rattle.desk.specs.declared.Entry.{Entry}
 use Rattle.desk.specs.Posting.{PostSays}
 use Rattle.desk.proofs.Case as K
 use Rattle.desk.proofs.Entry as E
-use Rattle.posting.proofs.post as post
-use Rattle.posting.proofs.post.Symbol as post-def
-use Rattle.posting.proofs.post.Symbol.{name as #posting·post}
-use Rattle.posting.proofs.post.Met as post-thm
+use Rattle.ledger.proofs.post as post
+use Rattle.ledger.proofs.post.Symbol as post-def
+use Rattle.ledger.proofs.post.Symbol.{name as #ledger·post}
+use Rattle.ledger.proofs.post.Met as post-thm
 use Rattle.exports.proofs.mestecur_post.Key.{name as #exports·mestecur-post}
 use Rattle.exports.proofs.mestecur_post as f
 use Rattle.exports.proofs.mestecur_post.Statement as stated
@@ -191,7 +191,7 @@ module _ {M : Type 1} (𝓤 : URA M) (H : Heap 𝓤) (A : Atoms 𝓤) (W : Given
   abbrev Lasts₁ : Type 0
   Lasts₁ = Unit {0} × (List Case × (Unit {0} × (List ℕ × Unit {0})))
 
-  module _ (𝓣 : Tables 𝓤 H) (known : Triple 𝓤 (𝓣 .C #posting·post) (Posts 𝓤 H A mm run))
+  module _ (𝓣 : Tables 𝓤 H) (known : Triple 𝓤 (𝓣 .C #ledger·post) (Posts 𝓤 H A mm run))
       (l₀ l₁ l₂ l₃ l₄ l₅ l₆ l₇ l₈ : ℕ) where
     abbrev C : Calls 𝓤 H
     C = 𝓣 .C
@@ -266,7 +266,7 @@ module _ {M : Type 1} (𝓤 : URA M) (H : Heap 𝓤) (A : Atoms 𝓤) (W : Given
         move ! (10 ∷ 13 ∷ []) $ free1 ! $ move ! (10 ∷ 12 ∷ []) $ free1 ! $ move ! (10 ∷ 11 ∷ []) $ free1 ! $ free0 ! $
         keep ! (4 ∷ 3 ∷ 2 ∷ 0 ∷ 9 ∷ 7 ∷ 8 ∷ 5 ∷ []) $ by ! (exits r (ws .1 .0) (ws .1 .1 .1 .0) (is .1) kc kr e))))))))
 
-  walk : (𝓣 : Tables 𝓤 H) → Triple 𝓤 (𝓣 .C #posting·post) (Posts 𝓤 H A mm run)
+  walk : (𝓣 : Tables 𝓤 H) → Triple 𝓤 (𝓣 .C #ledger·post) (Posts 𝓤 H A mm run)
       → ent 𝓤 (onEntry 𝓤 H A f.signature (κ₀, (κ₁, (κ₂, (κ₃, tt)))) (q₀, (q₁, (q₂, (q₃, tt)))) x at)
       (WpFn 𝓤 H (𝓣 .C) (𝓣 .Λ) code.function (fileVal ∷ casesVal ∷ entriesVal ∷ rowsVal ∷ []) Post)
   walk 𝓣 known =
@@ -289,7 +289,7 @@ module _ {M : Type 1} (𝓤 : URA M) (H : Heap 𝓤) (A : Atoms 𝓤) (W : Given
       ∷ 9 ∷ 8 ∷ 7 ∷ 5 ∷ []) $ hands-on 𝓣 known l₀ l₁ l₂ l₃ l₄ l₅ l₆ l₇ l₈)))))))))
 
 module _ {M : Type 1} (𝓤 : URA M) (H : Heap 𝓤) (A : Atoms 𝓤) (W : Given 𝓤 H A) (mm : Memory → SProp 𝓤)
-    (run : Routine → Fun 𝓤) (𝓣 : Tables 𝓤 H) (known : Triple 𝓤 (𝓣 .C #posting·post) (Posts 𝓤 H A mm run)) where
+    (run : Routine → Fun 𝓤) (𝓣 : Tables 𝓤 H) (known : Triple 𝓤 (𝓣 .C #ledger·post) (Posts 𝓤 H A mm run)) where
   walks : Walks 𝓤 H A f.ended stayed (WpFn 𝓤 H (𝓣 .C) (𝓣 .Λ) code.function) (f.clauses 𝓤 H A mm run)
   walks = walked 𝓤 H A f.ended stayed (f.clauses 𝓤 H A mm run) (WpFn 𝓤 H (𝓣 .C) (𝓣 .Λ) code.function)
       (λ κs. (slice-vals, (slice-vals, (slice-vals, (slice-vals, tt)))))
@@ -326,5 +326,5 @@ mestecur-post-spec 𝓤 H 𝓜 𝓖 𝓡 =
     (tables 𝓤 H 𝓜 𝓡 code.env .C) (tables 𝓤 H 𝓜 𝓡 code.env .Λ) #exports·mestecur-post code.function
     (code.unfolded 𝓤 H 𝓜 𝓡)
     (meets 𝓤 H (𝓖 .A) (givenOf 𝓤 H 𝓜 𝓖) (𝓜 .mem) (𝓡 .run) (tablesOf 𝓤 H 𝓜 (tables 𝓤 H 𝓜 𝓡 code.env))
-    (cited 𝓤 H (Posts 𝓤 H (𝓖 .A) (𝓜 .mem) (𝓡 .run)) 𝓜 𝓡 code.env #posting·post post-def.routine code.calls-posting·post
+    (cited 𝓤 H (Posts 𝓤 H (𝓖 .A) (𝓜 .mem) (𝓡 .run)) 𝓜 𝓡 code.env #ledger·post post-def.routine code.calls-ledger·post
     (post-thm.met 𝓤 H 𝓜 𝓖 𝓡)))

@@ -1,4 +1,4 @@
--- `posting::look_through` meets its contract: a walk of its MIR, by hand, since a slice of structs is not covered. The
+-- `ledger::look_through` meets its contract: a walk of its MIR, by hand, since a slice of structs is not covered. The
 -- file is lent to `unseen` before the loop. In each turn the slice is looked into, a case is copied out, and `look_at`
 -- is called with it, of which the proof knows only its contract. The invariant: what is seen so far and the cases from
 -- i on come to what all cases come to.
@@ -62,7 +62,7 @@ use Rattle.desk.proofs.Case as K
 use Rattle.desk.proofs.Case.Laws as K′
 use Rattle.desk.proofs.Seen as Z
 use Rattle.desk.proofs.Seen.Laws as Z′
-use Rattle.posting.proofs.Loop.{loops, Turns, le-cases}
+use Rattle.ledger.proofs.Loop.{loops, Turns, le-cases}
 use Rattle.consult.proofs.unseen as unseen
 use Rattle.consult.proofs.unseen.Symbol as unseen-def
 use Rattle.consult.proofs.unseen.Symbol.{name as #consult·unseen}
@@ -71,11 +71,11 @@ use Rattle.deciding.proofs.look_at as look-at
 use Rattle.deciding.proofs.look_at.Symbol as look-at-def
 use Rattle.deciding.proofs.look_at.Symbol.{name as #deciding·look-at}
 use Rattle.deciding.proofs.look_at.Met as look-at-thm
-use Rattle.posting.proofs.look_through.Key.{name as #posting·look-through}
-use Rattle.posting.proofs.look_through as f
-use Rattle.posting.proofs.look_through.Statement as stated
-use Rattle.posting.proofs.look_through.Code as code
-use Rattle.posting.proofs.look_through.Code.Mir as mc
+use Rattle.ledger.proofs.look_through.Key.{name as #ledger·look-through}
+use Rattle.ledger.proofs.look_through as f
+use Rattle.ledger.proofs.look_through.Statement as stated
+use Rattle.ledger.proofs.look_through.Code as code
+use Rattle.ledger.proofs.look_through.Code.Mir as mc
 
 seen-next : (s : Seen) (cs : List Case) (i : ℕ) (c : Case) → i < length cs
     → allSeen s (drop i cs) ≡ allSeen (seenOf s (getD cs i c)) (drop (i + 1) cs)
@@ -392,7 +392,7 @@ pub look-through-spec : {M : Type 1} → stated.statement M
 unfolding code.routine tablesOf
 look-through-spec 𝓤 H 𝓜 𝓖 𝓡 =
     entered 𝓤 H (tripleOf 𝓤 H (𝓖 .A) f.signature (f.spec 𝓤 H (𝓖 .A) (𝓜 .mem) (𝓡 .run)))
-    (tables 𝓤 H 𝓜 𝓡 code.env .C) (tables 𝓤 H 𝓜 𝓡 code.env .Λ) #posting·look-through code.function
+    (tables 𝓤 H 𝓜 𝓡 code.env .C) (tables 𝓤 H 𝓜 𝓡 code.env .Λ) #ledger·look-through code.function
     (code.unfolded 𝓤 H 𝓜 𝓡)
     (meets 𝓤 H (𝓖 .A) (givenOf 𝓤 H 𝓜 𝓖) (𝓜 .mem) (𝓡 .run) (tablesOf 𝓤 H 𝓜 (tables 𝓤 H 𝓜 𝓡 code.env))
     (cited 𝓤 H (Unseen 𝓤 H (𝓖 .A) (𝓜 .mem) (𝓡 .run)) 𝓜 𝓡 code.env #consult·unseen unseen-def.routine

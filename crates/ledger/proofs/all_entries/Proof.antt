@@ -1,4 +1,4 @@
--- `posting::all_entries` meets its contract: a walk of its MIR, by hand, since a slice of structs is not covered. In
+-- `ledger::all_entries` meets its contract: a walk of its MIR, by hand, since a slice of structs is not covered. In
 -- each turn the slice is looked into, an entry is copied out, and `take_one` is called with it, of which the proof
 -- knows only that it meets its contract. The invariant: what is taken so far and the entries from i on come to what all
 -- entries come to.
@@ -63,7 +63,7 @@ use Rattle.desk.proofs.Entry as E
 use Rattle.desk.proofs.Entry.Laws as E′
 use Rattle.desk.proofs.Day as D
 use Rattle.desk.proofs.Day.Laws as D′
-use Rattle.posting.proofs.Loop.{loops, Turns, le-cases}
+use Rattle.ledger.proofs.Loop.{loops, Turns, le-cases}
 use Rattle.deciding.proofs.no_day as no-day
 use Rattle.deciding.proofs.no_day.Symbol as no-day-def
 use Rattle.deciding.proofs.no_day.Symbol.{name as #deciding·no-day}
@@ -72,11 +72,11 @@ use Rattle.deciding.proofs.take_one as take-one
 use Rattle.deciding.proofs.take_one.Symbol as take-one-def
 use Rattle.deciding.proofs.take_one.Symbol.{name as #deciding·take-one}
 use Rattle.deciding.proofs.take_one.Met as take-one-thm
-use Rattle.posting.proofs.all_entries.Key.{name as #posting·all-entries}
-use Rattle.posting.proofs.all_entries as f
-use Rattle.posting.proofs.all_entries.Statement as stated
-use Rattle.posting.proofs.all_entries.Code as code
-use Rattle.posting.proofs.all_entries.Code.Mir as mc
+use Rattle.ledger.proofs.all_entries.Key.{name as #ledger·all-entries}
+use Rattle.ledger.proofs.all_entries as f
+use Rattle.ledger.proofs.all_entries.Statement as stated
+use Rattle.ledger.proofs.all_entries.Code as code
+use Rattle.ledger.proofs.all_entries.Code.Mir as mc
 
 taken-next : (n : ℕ) (d : Day) (es : List Entry) (i : ℕ) (e : Entry) → i < length es
     → allTaken n d (drop i es) ≡ allTaken n (takenOf n d (getD es i e)) (drop (i + 1) es)
@@ -361,7 +361,7 @@ pub all-entries-spec : {M : Type 1} → stated.statement M
 unfolding code.routine tablesOf
 all-entries-spec 𝓤 H 𝓜 𝓖 𝓡 =
     entered 𝓤 H (tripleOf 𝓤 H (𝓖 .A) f.signature (f.spec 𝓤 H (𝓖 .A) (𝓜 .mem) (𝓡 .run)))
-    (tables 𝓤 H 𝓜 𝓡 code.env .C) (tables 𝓤 H 𝓜 𝓡 code.env .Λ) #posting·all-entries code.function (code.unfolded 𝓤 H 𝓜 𝓡)
+    (tables 𝓤 H 𝓜 𝓡 code.env .C) (tables 𝓤 H 𝓜 𝓡 code.env .Λ) #ledger·all-entries code.function (code.unfolded 𝓤 H 𝓜 𝓡)
     (meets 𝓤 H (𝓖 .A) (givenOf 𝓤 H 𝓜 𝓖) (𝓜 .mem) (𝓡 .run) (tablesOf 𝓤 H 𝓜 (tables 𝓤 H 𝓜 𝓡 code.env))
     (cited 𝓤 H (NoDay 𝓤 H (𝓖 .A) (𝓜 .mem) (𝓡 .run)) 𝓜 𝓡 code.env #deciding·no-day no-day-def.routine
     code.calls-deciding·no-day (no-day-thm.met 𝓤 H 𝓜 𝓖 𝓡))

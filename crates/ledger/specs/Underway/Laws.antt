@@ -11,7 +11,7 @@ use Rattle.meaning.specs.Calls.{laidOver}
 use Rattle.desk.specs.declared.Case.{Case}
 use Rattle.desk.specs.declared.Day.{Day}
 use Rattle.desk.specs.Turns.{turnCase, turnRow, turnCases, turnRows, Postable}
-use Rattle.posting.specs.Underway.{Underway}
+use Rattle.ledger.specs.Underway.{Underway}
 
 module _ (f : List ℕ) (d : Day) (charts n : ℕ) (cs : List Case) (rs : List ℕ) where
   abbrev w : ℕ

@@ -1,4 +1,4 @@
--- `posting::post_all` meets its contract: a walk of its MIR, by hand, since a slice of structs is not covered. The
+-- `ledger::post_all` meets its contract: a walk of its MIR, by hand, since a slice of structs is not covered. The
 -- borrow of the cases is opened once, before the loop, and closed once, after it. In each turn a record is copied out,
 -- the rows are lent again to `post_one`, of which the proof knows only that it meets its contract, and the record that
 -- it returns is stored. The invariant is `Turns.antt`'s `Underway`.
@@ -61,23 +61,23 @@ use Rattle.desk.specs.declared.Case.{Case}
 use Rattle.desk.specs.declared.Day.{Day}
 use Rattle.desk.specs.Posting.{mostCases, lastRow, width}
 use Rattle.desk.specs.Turns.{turnCase, turnRow, turnCases, turnRows, Postable}
-use Rattle.posting.specs.Underway.{Underway}
-use Rattle.posting.specs.Underway.Laws.{started, same-case, room-for, stepped, finished}
+use Rattle.ledger.specs.Underway.{Underway}
+use Rattle.ledger.specs.Underway.Laws.{started, same-case, room-for, stepped, finished}
 use Rattle.desk.proofs.Case as K
 use Rattle.desk.proofs.Case.Laws as K′
 use Rattle.desk.proofs.Day as D
 use Rattle.desk.proofs.Day.Laws as D′
-use Rattle.posting.proofs.Loop.{loops, Turns, le-cases}
-use Rattle.posting.proofs.Again.{LentAgain, lends-again, comes-back}
+use Rattle.ledger.proofs.Loop.{loops, Turns, le-cases}
+use Rattle.ledger.proofs.Again.{LentAgain, lends-again, comes-back}
 use Rattle.advancing.proofs.post_one as post-one
 use Rattle.advancing.proofs.post_one.Symbol as post-one-def
 use Rattle.advancing.proofs.post_one.Symbol.{name as #advancing·post-one}
 use Rattle.advancing.proofs.post_one.Met as post-one-thm
-use Rattle.posting.proofs.post_all.Key.{name as #posting·post-all}
-use Rattle.posting.proofs.post_all as f
-use Rattle.posting.proofs.post_all.Statement as stated
-use Rattle.posting.proofs.post_all.Code as code
-use Rattle.posting.proofs.post_all.Code.Mir as mc
+use Rattle.ledger.proofs.post_all.Key.{name as #ledger·post-all}
+use Rattle.ledger.proofs.post_all as f
+use Rattle.ledger.proofs.post_all.Statement as stated
+use Rattle.ledger.proofs.post_all.Code as code
+use Rattle.ledger.proofs.post_all.Code.Mir as mc
 
 abbrev word : Ty
 word = tyInt w64
@@ -531,7 +531,7 @@ pub post-all-spec : {M : Type 1} → stated.statement M
 unfolding code.routine tablesOf
 post-all-spec 𝓤 H 𝓜 𝓖 𝓡 =
     entered 𝓤 H (tripleOf 𝓤 H (𝓖 .A) f.signature (f.spec 𝓤 H (𝓖 .A) (𝓜 .mem) (𝓡 .run)))
-    (tables 𝓤 H 𝓜 𝓡 code.env .C) (tables 𝓤 H 𝓜 𝓡 code.env .Λ) #posting·post-all code.function (code.unfolded 𝓤 H 𝓜 𝓡)
+    (tables 𝓤 H 𝓜 𝓡 code.env .C) (tables 𝓤 H 𝓜 𝓡 code.env .Λ) #ledger·post-all code.function (code.unfolded 𝓤 H 𝓜 𝓡)
     (meets 𝓤 H (𝓖 .A) (givenOf 𝓤 H 𝓜 𝓖) (𝓜 .mem) (𝓡 .run) (tablesOf 𝓤 H 𝓜 (tables 𝓤 H 𝓜 𝓡 code.env))
     (cited 𝓤 H (PostOne 𝓤 H (𝓖 .A) (𝓜 .mem) (𝓡 .run)) 𝓜 𝓡 code.env #advancing·post-one post-one-def.routine
     code.calls-advancing·post-one (post-one-thm.met 𝓤 H 𝓜 𝓖 𝓡)))

@@ -1,4 +1,4 @@
--- `posting::post` meets its contract: a walk of its MIR, by hand, since a slice of structs is not covered. The cases
+-- `ledger::post` meets its contract: a walk of its MIR, by hand, since a slice of structs is not covered. The cases
 -- are lent as `&` to `look_through` and come back; they and the rows are given to `post_all` for good. Of each callee
 -- the proof knows only that it meets its contract; that together they say what the posting says is `Turns/Posted.antt`
 -- of desk.
@@ -72,27 +72,27 @@ use Rattle.desk.proofs.Seen as Z
 use Rattle.desk.proofs.Seen.Laws as Z′
 use Rattle.desk.proofs.Plan as P
 use Rattle.desk.proofs.Plan.Laws as P′
-use Rattle.posting.proofs.look_through as look
-use Rattle.posting.proofs.look_through.Symbol as look-def
-use Rattle.posting.proofs.look_through.Symbol.{name as #posting·look-through}
-use Rattle.posting.proofs.look_through.Met as look-thm
-use Rattle.posting.proofs.all_entries as all
-use Rattle.posting.proofs.all_entries.Symbol as all-def
-use Rattle.posting.proofs.all_entries.Symbol.{name as #posting·all-entries}
-use Rattle.posting.proofs.all_entries.Met as all-thm
+use Rattle.ledger.proofs.look_through as look
+use Rattle.ledger.proofs.look_through.Symbol as look-def
+use Rattle.ledger.proofs.look_through.Symbol.{name as #ledger·look-through}
+use Rattle.ledger.proofs.look_through.Met as look-thm
+use Rattle.ledger.proofs.all_entries as all
+use Rattle.ledger.proofs.all_entries.Symbol as all-def
+use Rattle.ledger.proofs.all_entries.Symbol.{name as #ledger·all-entries}
+use Rattle.ledger.proofs.all_entries.Met as all-thm
 use Rattle.deciding.proofs.decide as decide
 use Rattle.deciding.proofs.decide.Symbol as decide-def
 use Rattle.deciding.proofs.decide.Symbol.{name as #deciding·decide}
 use Rattle.deciding.proofs.decide.Met as decide-thm
-use Rattle.posting.proofs.post_all as book
-use Rattle.posting.proofs.post_all.Symbol as book-def
-use Rattle.posting.proofs.post_all.Symbol.{name as #posting·post-all}
-use Rattle.posting.proofs.post_all.Met as book-thm
-use Rattle.posting.proofs.post.Key.{name as #posting·post}
-use Rattle.posting.proofs.post as f
-use Rattle.posting.proofs.post.Statement as stated
-use Rattle.posting.proofs.post.Code as code
-use Rattle.posting.proofs.post.Code.Mir as mc
+use Rattle.ledger.proofs.post_all as book
+use Rattle.ledger.proofs.post_all.Symbol as book-def
+use Rattle.ledger.proofs.post_all.Symbol.{name as #ledger·post-all}
+use Rattle.ledger.proofs.post_all.Met as book-thm
+use Rattle.ledger.proofs.post.Key.{name as #ledger·post}
+use Rattle.ledger.proofs.post as f
+use Rattle.ledger.proofs.post.Statement as stated
+use Rattle.ledger.proofs.post.Code as code
+use Rattle.ledger.proofs.post.Code.Mir as mc
 
 abbrev word : Ty
 word = tyInt w64
@@ -155,8 +155,8 @@ module _ {M : Type 1} (𝓤 : URA M) (H : Heap 𝓤) (A : Atoms 𝓤) (mm : Memo
   Book = tripleOf 𝓤 H A book.signature (book.spec 𝓤 H A mm run)
 
   abbrev Known : Calls 𝓤 H → Type 1
-  Known C = Triple 𝓤 (C #posting·look-through) Look × (Triple 𝓤 (C #posting·all-entries) All
-      × (Triple 𝓤 (C #deciding·decide) Decide × Triple 𝓤 (C #posting·post-all) Book))
+  Known C = Triple 𝓤 (C #ledger·look-through) Look × (Triple 𝓤 (C #ledger·all-entries) All
+      × (Triple 𝓤 (C #deciding·decide) Decide × Triple 𝓤 (C #ledger·post-all) Book))
 
 module _ {M : Type 1} (𝓤 : URA M) (H : Heap 𝓤) (A : Atoms 𝓤) (W : Given 𝓤 H A) (mm : Memory → SProp 𝓤)
     (run : Routine → Fun 𝓤) (κ₀ κ₁ κ₂ κ₃ : Lft) (q₀ q₁ q₂ q₃ : Share) (fx : RefT (List ℕ)) (b o : ℕ) (γ : GName)
@@ -620,18 +620,18 @@ pub post-spec : {M : Type 1} → stated.statement M
 unfolding code.routine tablesOf
 post-spec 𝓤 H 𝓜 𝓖 𝓡 =
     entered 𝓤 H (tripleOf 𝓤 H (𝓖 .A) f.signature (f.spec 𝓤 H (𝓖 .A) (𝓜 .mem) (𝓡 .run)))
-    (tables 𝓤 H 𝓜 𝓡 code.env .C) (tables 𝓤 H 𝓜 𝓡 code.env .Λ) #posting·post code.function (code.unfolded 𝓤 H 𝓜 𝓡)
+    (tables 𝓤 H 𝓜 𝓡 code.env .C) (tables 𝓤 H 𝓜 𝓡 code.env .Λ) #ledger·post code.function (code.unfolded 𝓤 H 𝓜 𝓡)
     (meets 𝓤 H (𝓖 .A) (givenOf 𝓤 H 𝓜 𝓖) (𝓜 .mem) (𝓡 .run) (tablesOf 𝓤 H 𝓜 (tables 𝓤 H 𝓜 𝓡 code.env)) (
-      cited 𝓤 H (Look 𝓤 H (𝓖 .A) (𝓜 .mem) (𝓡 .run)) 𝓜 𝓡 code.env #posting·look-through look-def.routine
-          code.calls-posting·look-through (look-thm.met 𝓤 H 𝓜 𝓖 𝓡),
+      cited 𝓤 H (Look 𝓤 H (𝓖 .A) (𝓜 .mem) (𝓡 .run)) 𝓜 𝓡 code.env #ledger·look-through look-def.routine
+          code.calls-ledger·look-through (look-thm.met 𝓤 H 𝓜 𝓖 𝓡),
       (
-        cited 𝓤 H (All 𝓤 H (𝓖 .A) (𝓜 .mem) (𝓡 .run)) 𝓜 𝓡 code.env #posting·all-entries all-def.routine
-            code.calls-posting·all-entries (all-thm.met 𝓤 H 𝓜 𝓖 𝓡),
+        cited 𝓤 H (All 𝓤 H (𝓖 .A) (𝓜 .mem) (𝓡 .run)) 𝓜 𝓡 code.env #ledger·all-entries all-def.routine
+            code.calls-ledger·all-entries (all-thm.met 𝓤 H 𝓜 𝓖 𝓡),
         (
           cited 𝓤 H (Decide 𝓤 H (𝓖 .A) (𝓜 .mem) (𝓡 .run)) 𝓜 𝓡 code.env #deciding·decide decide-def.routine
               code.calls-deciding·decide (decide-thm.met 𝓤 H 𝓜 𝓖 𝓡),
-          cited 𝓤 H (Book 𝓤 H (𝓖 .A) (𝓜 .mem) (𝓡 .run)) 𝓜 𝓡 code.env #posting·post-all book-def.routine
-              code.calls-posting·post-all (book-thm.met 𝓤 H 𝓜 𝓖 𝓡),
+          cited 𝓤 H (Book 𝓤 H (𝓖 .A) (𝓜 .mem) (𝓡 .run)) 𝓜 𝓡 code.env #ledger·post-all book-def.routine
+              code.calls-ledger·post-all (book-thm.met 𝓤 H 𝓜 𝓖 𝓡),
         ),
       ),
     ))
