@@ -2,8 +2,8 @@
 // lines of the day program's form. Answers and refusals go to standard output; what is wrong with a command or a file's
 // name goes to standard error.
 mod ask;
+mod parse;
 mod tell;
-mod typing;
 mod why;
 mod words;
 
@@ -78,7 +78,7 @@ fn on_text() {
         words::complain(b"chart: the text is longer than 1,048,576 bytes.\n");
         return;
     }
-    typing::read(&text[..n]);
+    parse::read(&text[..n]);
 }
 
 fn main() {

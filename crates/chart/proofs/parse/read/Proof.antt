@@ -1,11 +1,11 @@
--- `typing::read` is safe: the file lies within the buffer.
+-- `parse::read` is safe: the file lies within the buffer.
 use mathlib.Core.Path.{_≡_, sym}
 use Prim.Native.Nat.{ℕ, _≤_}
 use borrow.Author.Needs.{needs}
 use lib.Seq.{length-take-le}
 use Rattle.texts.specs.Laws.Tests.{read-within}
-use Rattle.chart.proofs.typing.read.Statement.{statement}
-use Rattle.chart.proofs.typing.read.Tie as tie
+use Rattle.chart.proofs.parse.read.Statement.{statement}
+use Rattle.chart.proofs.parse.read.Tie as tie
 
 pub read-spec : {M : Type 1} → statement M
 read-spec =
