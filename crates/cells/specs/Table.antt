@@ -5,6 +5,7 @@ use mathlib.Core.List.{List}
 use Prim.Native.Nat.{ℕ, _+_, _*_, _≤_, _<_}
 use mathlib.Core.Path.{_≡_}
 use lib.ListN.{length, getD, set}
+use Rattle.signals.specs.Mask.{_∪_, _∖_}
 use Rattle.layout.specs.declared.record.Transition.{Transition}
 use Rattle.meaning.specs.Numbers.{mostCharts, mostFromState}
 pub mod Laws
@@ -186,3 +187,5 @@ pub record Tables (N : ℕ) (m s : List ℕ) : Type 0 where
   pub masks : masksFor N ≤ length m
   pub small : length s ≡ smallSize
   pub counts : (c : ℕ) → c < N → countAt s c ≤ mostFromState
+  -- what the charts from k on may put in for chart c comes from chart k or from one behind it
+  pub ahead : (k c : ℕ) → k < N → c < N → aheadAt m k c ∖ (aheadAt m (k + 1) c ∪ backAt m c k) ≡ 0

@@ -2,7 +2,7 @@
 ghost use mathlib.Core.Path.{_≡_};
 ghost use mathlib.Core.Bool.{_&&_, not};
 ghost use mathlib.Core.List.{List};
-ghost use Prim.Native.Nat.{ℕ, _+_, _*_, _≤_, _<_};
+ghost use Prim.Native.Nat.{ℕ, _+_, _-_, _*_, _≤_, _<_};
 ghost use lib.ListN.{length, getD};
 ghost use Rattle.signals.specs.Mask.{_∪_, _∩_, apart};
 ghost use Rattle.meaning.specs.Meaning.{eqList};
@@ -11,6 +11,7 @@ ghost use Rattle.meaning.specs.Calls.{made};
 ghost use Rattle.cells.specs.Table.{masksFor, Tables, actionAt, upAt};
 ghost use Rattle.cells.specs.Trail.{trailFor, steps, columnIn, Room};
 ghost use Rattle.settling.specs.Trail.{beginning};
+ghost use Rattle.settling.specs.Asks.{Passes};
 ghost use Rattle.settling.specs.Hunt.{wakes, taken, settleOf, outcomeIn, firstFound, over, nothing, foundSize, foundIn};
 ghost use Rattle.settling.specs.Hunt.{BytesPut, Held};
 ghost use Rattle.cells.specs.Triggers.{Guards};
@@ -168,7 +169,8 @@ fn disagree(best: &[u8; FOUND_BYTES]) -> bool
 
 // What the charts left to be settled give, from chart charts - left on, joined to what was found before, in `best` and
 // `shown`. The charts before it stand in `trail` and `moves`, and stay there; what it writes stands behind them. So
-// that nothing is copied, all four are lent. Nothing is found where a settled chart stays and is surely triggered.
+// that nothing is copied, all four are lent. Each settled chart can still be met; nothing is found where one stays and is
+// surely triggered.
 fn hunt(
     masks: &[u64],
     small: &[u8],
@@ -184,7 +186,7 @@ fn hunt(
 )
     requires { ⌜ Tables charts (now masks) (now small) × Room charts (now trail) (now moves)
         × Held (now best) (now shown) × (charts ≤ mostCharts) × (left ≤ charts)
-        × Guards (now guards) (now stays) ⌝ }
+        × Guards (now guards) (now stays) × Passes (now masks) (now trail) (charts - left) ⌝ }
     ensures { λ _. ⌜ Hunted (now (masks .entry)) (now (small .entry)) (now (guards .entry))
         (now (stays .entry)) charts left output (now (trail .entry)) (now (moves .entry))
         (now (best .entry)) (now (shown .entry)) (now (trail .exit)) (now (moves .exit)) (now (best .exit))

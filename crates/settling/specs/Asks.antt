@@ -1,38 +1,37 @@
--- What the settled charts ask of the next chart's action. Each of them can still be met exactly if the action has what
--- it lacks and nothing that it bars, so that all of them together are a guard on the action, made once for all
--- candidates.
+-- What the settled charts ask of the next chart's action. Where each of them could be met before, each still can exactly
+-- if the action has what it lacks and nothing that it bars. So all of them together are a guard on the action, made once
+-- for all candidates.
+use mathlib.Core.Path.{_≡_}
+use mathlib.Core.Bool.{Bool, true, _&&_}
 use mathlib.Core.List.{List}
-use Prim.Native.Nat.{ℕ, _+_}
-use Rattle.signals.specs.Mask.{_∪_, _∩_, _∖_}
+use Prim.Native.Nat.{ℕ, _+_, _<_}
+use Rattle.signals.specs.Mask.{_∪_, _∩_, _∖_, within, apart}
 use Rattle.meaning.specs.Rewriting.{unionUpTo}
 use Rattle.settling.specs.declared.Guard.{Guard}
 use Rattle.cells.specs.Table.{backAt, aheadAt}
 use Rattle.cells.specs.Trail.{lowIn, neededIn, barredIn}
 pub mod Laws
 
--- a chart that needs n and bars r, is surely offered l and may be offered h by charts after the next, and gets b of the
--- next one's action
-module _ (n r l h b : ℕ) where
-  -- what it needs and only the next chart can put in
-  abbrev pub lacks : ℕ
-  lacks = n ∖ (l ∪ h)
+-- a guard that needs n and bars r can still be met, between l and l ∪ h
+abbrev pub may : ℕ → ℕ → ℕ → ℕ → Bool
+may n r l h = within n (l ∪ h) && apart r l
 
-  -- what it asks to be in the action; where it is offered what it bars it asks what cannot be
-  abbrev pub wants : ℕ
-  wants = lacks ∪ r ∩ l
+-- what the charts from k on may put in for one below k comes from chart k or from one behind it
+abbrev pub Covers : List ℕ → ℕ → Type 0
+Covers m k = (d : ℕ) → d < k → aheadAt m k d ∖ (aheadAt m (k + 1) d ∪ backAt m d k) ≡ 0
 
-  -- what it asks not to be in the action: what it lacks and does not get of it, so that this cannot be either, and what
-  -- it bars
-  abbrev pub bans : ℕ
-  bans = lacks ∖ b ∪ r ∩ (l ∪ b)
-
--- what the charts below k ask of chart k's action
 module _ (m w : List ℕ) (k : ℕ) where
-  abbrev pub wantsIn : ℕ → ℕ
-  wantsIn d = wants (neededIn w d) (barredIn w d) (lowIn w k d) (aheadAt m (k + 1) d) (backAt m d k)
+  -- each chart below k can still be met, charts from k on being left
+  abbrev pub Passes : Type 0
+  Passes = (d : ℕ) → d < k → may (neededIn w d) (barredIn w d) (lowIn w k d) (aheadAt m k d) ≡ true
 
+  -- what chart d below k asks to be in chart k's action: what it needs and no chart behind k can put in
+  abbrev pub wantsIn : ℕ → ℕ
+  wantsIn d = neededIn w d ∖ (lowIn w k d ∪ aheadAt m (k + 1) d)
+
+  -- what it asks not to be in it: what it bars, of what it gets of it
   abbrev pub bansIn : ℕ → ℕ
-  bansIn d = bans (neededIn w d) (barredIn w d) (lowIn w k d) (aheadAt m (k + 1) d) (backAt m d k)
+  bansIn d = barredIn w d ∩ backAt m d k
 
   unfoldable pub asksOf : Guard
   asksOf = record { needed = unionUpTo k wantsIn; barred = unionUpTo k bansIn }

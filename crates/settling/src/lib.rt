@@ -12,7 +12,7 @@ ghost use Rattle.cells.specs.Table.{masksFor, smallSize, backAt};
 ghost use Rattle.cells.specs.Trail.{trailFor, lowIn, Room};
 ghost use Rattle.settling.specs.Trail.{trailIn, RowPut, Lowers};
 ghost use Rattle.settling.specs.Hunt.{wakes, fineAt, taken, Takes, Idles};
-ghost use Rattle.settling.specs.Asks.{asksOf};
+ghost use Rattle.settling.specs.Asks.{Passes, Covers, asksOf};
 ghost use Rattle.cells.specs.Triggers.{triggersFor, Guards};
 ghost use Rattle.settling.specs.Calm.{trips, calmAt, calmAll};
 use cells::CHARTS;
@@ -76,8 +76,7 @@ pub fn holds(g: Guard, low: u64, high: u64) -> bool
     true
 }
 
-// What the charts below k ask of chart k's action: what only it can put in for them, and what it must not. It
-// contradicts itself where one of them cannot be met whatever the action is.
+// What the charts below k ask of chart k's action: what only it can put in for them, and what it must not.
 pub fn asks(masks: &[u64], trail: &[u64], k: usize) -> Guard
     requires { ⌜ (masksFor (k + 1) ≤ length (now masks)) × (k < mostCharts) × (trailFor k ≤ length (now trail)) ⌝ }
     ensures { λ r. ⌜ r ≡ asksOf (now (masks .entry)) (now (trail .entry)) k ⌝ }
@@ -86,13 +85,9 @@ pub fn asks(masks: &[u64], trail: &[u64], k: usize) -> Guard
     let mut barred: u64 = 0;
     let mut d: usize = 0;
     while d < k {
-        let low = trail::low(trail, k, d);
-        let back = masks::back(masks, d, k);
-        let high = low | masks::ahead(masks, k + 1, d);
-        let lacks = signals::less(trail::needed(trail, d), high);
-        let bars = trail::barred(trail, d);
-        needed = needed | (lacks | bars & low);
-        barred = barred | (signals::less(lacks, back) | bars & (low | back));
+        let high = trail::low(trail, k, d) | masks::ahead(masks, k + 1, d);
+        needed = needed | signals::less(trail::needed(trail, d), high);
+        barred = barred | trail::barred(trail, d) & masks::back(masks, d, k);
         d += 1;
     }
     Guard { needed, barred }
@@ -102,8 +97,8 @@ pub fn asks(masks: &[u64], trail: &[u64], k: usize) -> Guard
 // met.
 pub fn fits(masks: &[u64], trail: &[u64], asked: Guard, k: usize, v: usize) -> bool
     requires { ⌜ (masksFor (k + 1) ≤ length (now masks)) × (k < mostCharts) × (v < mostFromState)
-        × (asked ≡ asksOf (now masks) (now trail) k)
-        × (trailFor k ≤ length (now trail)) ⌝ }
+        × (asked ≡ asksOf (now masks) (now trail) k) × (trailFor k ≤ length (now trail))
+        × Passes (now masks) (now trail) k × Covers (now masks) k ⌝ }
     ensures { λ r. ⌜ ((s b : List ℕ) (o : ℕ) →
         r ≡ fineAt (now (masks .entry)) s (taken (now (masks .entry)) s (trailIn (now (trail .entry)) b k o) k v) k) ⌝ }
 {

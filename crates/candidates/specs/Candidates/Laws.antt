@@ -1,8 +1,8 @@
 -- Laws for choosing candidates. In order: where a transition stands (from-byte), what a chart's transitions put out
 -- (puts-none, puts-more, puts-done), what the other charts might (join-more), one transition (left-other to left-put),
 -- a filling by one transition more (left-none to left-room), a chart's list (length-from), one chart more (mays-next to
--- chart-tabled), the present states (stated-none, stated-next), all of it (chooses), and that actions have no signal
--- from 64 on (actions-small).
+-- chart-tabled), the present states (stated-none, stated-next), all of it (chooses, searchable), and that actions have
+-- no signal from 64 on (actions-small).
 use mathlib.Core.Path.{_≡_, refl, sym, _∙_, ap, ap₂, subst}
 use mathlib.Core.Bool.{Bool, true, false, cond, false≢true}
 use mathlib.Core.List.{List, [], _∷_}
@@ -38,14 +38,13 @@ use Rattle.wiring.specs.Reach.{Small, full}
 use Rattle.wiring.specs.Dropped.{join-cong}
 use Rattle.wiring.specs.Sure.{sureOf, sureIn, sure-small}
 use Rattle.wiring.specs.Pruning.{mayOf, behind-empty}
-use Rattle.cells.specs.Table.{backAt, putMasks, Row, countCell, stateCell, putSmall}
+use Rattle.cells.specs.Table.{backAt, putMasks, Row, countCell, stateCell, putSmall, Tables}
 use Rattle.tables.specs.Narrowing.{narrowAll}
 use Rattle.tables.specs.Narrowing.Laws.{length-narrowed, narrow-from}
 use Rattle.tables.specs.Insertion.{Filling, considered, listing, lastsBy, isAgain, put, pickFilling, othersAt, sureAt}
 use Rattle.tables.specs.Insertion.{Raised, Until, AheadFrom}
 use Rattle.tables.specs.Insertion.Laws.{wiring-trans, length-masks, length-small, leave-room, count-few, until-next}
-use Rattle.tables.specs.Insertion.Laws.{chosen}
-use Rattle.tables.specs.Insertion.Laws.{raised-same}
+use Rattle.tables.specs.Insertion.Laws.{chosen, chosen-ahead, raised-same}
 use Rattle.candidates.specs.declared.Around.{Around}
 use Rattle.candidates.specs.declared.Puts.{Puts}
 use Rattle.candidates.specs.Candidates.{Ready, Tabled, Left, filling, consideredBy, listingBy, readAs, fromStart}
@@ -425,6 +424,17 @@ chooses n b config reads base shuts lows m₀ s₀ s₁ m s m′ r tb st ra un a
       wires = wiring-trans (un .wires) (ah .wires);
       masters = λ i p q. un .rest i (omega arith) (omega arith) ∙ st .below i q;
       tabled = record { masks = rw (ah .masks, un .masks) (tb .masks); small = un .small };
+    }
+
+-- the tables are what a search asks
+pub searchable : {n : Shape} {b config reads base shuts lows m₀ s₀ m s : List ℕ}
+    → Chooses n b config reads base shuts lows m₀ s₀ m s → Tables (n .charts) m s
+searchable h =
+    record {
+      masks = h .tabled .masks;
+      small = h .tabled .small;
+      counts = h .chosen .counts;
+      ahead = chosen-ahead (h .chosen);
     }
 
 -- ── actions of a file in bytes ──

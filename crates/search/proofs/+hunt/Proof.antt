@@ -30,8 +30,9 @@ use Rattle.settling.specs.Hunt.{wakes, taken, rested, fineAt, outcomeIn, settle
 use Rattle.settling.specs.Calm.{staysAt, stayed, calmAll, quietAt, huntsBoth, huntsCalm, Hunted}
 use Rattle.settling.specs.Calm.Laws.{fine-same}
 use Rattle.settling.specs.Hunt.Laws.{Stopped, over-append, over-stopped, each-none, over-each, over-each-stopped}
-use Rattle.settling.specs.Asks.{asksOf}
-use Rattle.settling.specs.Asks.Laws.{ownAt, asked-never, asked-some, asks-kept, fine-taken, fine-rested}
+use Rattle.settling.specs.Asks.{Passes, Covers, asksOf}
+use Rattle.settling.specs.Asks.Laws.{ownAt, asked-never, asked-some, asks-kept, passes-kept, passes-next}
+use Rattle.settling.specs.Asks.Laws.{fine-taken, fine-rested}
 use Rattle.search.proofs.hunt.Reads as hunt
 use Rattle.search.proofs.hunt.Kinds as hunt-kinds
 use Rattle.search.proofs.+hunt.Lts-hunt as lts
@@ -125,6 +126,12 @@ module _ (m s gs y : List ℕ) (charts left : ℕ) (some : left ≡ 0 → ⊥) (
       ≡ over (below m s gs y left k u) f
   goes-on w b o u e h = let z : charts - (left - 1) ≡ k + 1 = omega arith in rw (z, e, h)
 
+  -- where it stands, each settled chart can still be met
+  passes-on : charts ≤ mostCharts → (w b : List ℕ) (o : ℕ) (u : Trail) → trailIn w b (k + 1) o ≡ u
+      → fineAt m s u k ≡ true → Passes m w (charts - (left - 1))
+  passes-on few w b o u e h = let z : charts - (left - 1) ≡ k + 1 = omega arith in
+      rw z (passes-next m s w b k o (omega arith) (ap (λ (x : Trail). fineAt m s x k) e ∙ h))
+
   drops : (u : Trail) → fineAt m s u k ≡ false → f ≡ over (below m s gs y left k u) f
   unfolding over
   drops u h = rw h
@@ -153,10 +160,11 @@ module _ (m s gs y : List ℕ) (charts left : ℕ) (some : left ≡ 0 → ⊥) (
     leaves fine = drops (taken m s (trailIn w₀ b₀ k o) k v) (ap (λ (u : Trail). fineAt m s u k) (sym here) ∙ sym fine)
 
   -- what the settled charts ask contradicts itself
-  module _ (few : charts ≤ mostCharts) (w b : List ℕ) (o : ℕ) (g : Guard) (is : g ≡ asksOf m w k) where
+  module _ (few : charts ≤ mostCharts) (w b : List ℕ) (o : ℕ) (can : Passes m w k) (cover : Covers m k) (g : Guard)
+      (is : g ≡ asksOf m w k) where
     -- what an inactive chart's beginning is tested by, and one's that stays
     rest-fine : (z : Bool) → eqb (g .needed) 0 ≡ z → fineAt m s (rested m s (trailIn w b k o) k) k ≡ z
-    rest-fine z h = fine-rested m s w b k o (omega arith) ∙ ap (λ (a : Guard). eqb (a .needed) 0) (sym is) ∙ h
+    rest-fine z h = fine-rested m s w b k o (omega arith) can cover ∙ ap (λ (a : Guard). eqb (a .needed) 0) (sym is) ∙ h
 
     stay-fine : (z : Bool) → eqb (g .needed) 0 ≡ z → fineAt m s (stayed m s (trailIn w b k o) k) k ≡ z
     stay-fine z h = fine-same m s (trailIn w b k o) k ∙ rest-fine z h
@@ -181,13 +189,13 @@ module _ (m s gs y : List ℕ) (charts left : ℕ) (some : left ≡ 0 → ⊥) (
         h′ = ap (λ (a : Guard). apart (a .needed) (a .barred)) (sym is) ∙ h
 
         none : (v : ℕ) → block m s gs y left k t v ≡ []
-        none v = rw (fine-taken m s w b k o few′ v, asked-never _ _ (actionAt m k v) h′, and-false (ownAt m w k v))
+        none v = rw (fine-taken m s w b k o few′ can cover v, asked-never _ _ (actionAt m k v) h′, and-false (ownAt m w k v))
 
         no-rest : below m s gs y left k (rested m s t k) ≡ []
-        no-rest = rw (fine-rested m s w b k o few′, asked-some _ _ h′)
+        no-rest = rw (fine-rested m s w b k o few′ can cover, asked-some _ _ h′)
 
         no-stay : (a : Bool) → cond a (below m s gs y left k (stayed m s t k)) [] ≡ []
-        no-stay true = rw (fine-same m s t k, fine-rested m s w b k o few′, asked-some _ _ h′)
+        no-stay true = rw (fine-same m s t k, fine-rested m s w b k o few′ can cover, asked-some _ _ h′)
         no-stay false = refl
 
         either : (a : Bool) → f ≡ over (cond a [] []) f
@@ -306,6 +314,12 @@ module _ (t : ℕ) where
   calmed c = sym (c .before .before .before .before .before .all-calm .ensures (entry c .args .small .now)
       (entry c .args .output)) ∙ not-false _ (c .before .before .before .before .if1 .left)
 
+  -- what may still be put in for the settled charts comes from the next one or from those behind it
+  covered : (c : lts.After-apart (callees t) (at t) hunt.Post Inv-loop μ-loop) →
+      Covers (entry c .args .masks .now) (entry c .args .charts - entry c .args .left)
+  covered c d l = let some = some-left c in
+      let b = entry c in b .pre .1 .0 .ahead _ d (omega (arith, b .pre .1 .4)) (omega (arith, b .pre .1 .4))
+
   all-calm-requires : lts.Need-all-calm-requires (callees t) (at t) hunt.Post Inv-loop μ-loop
   all-calm-requires c κs =
       let b = c .before .before .before .before .before .before .before in (
@@ -349,7 +363,8 @@ module _ (t : ℕ) where
         found =
             never m s gs y (a .charts) (a .left) (some-left (c .before)) (b .pre .1 .4)
             (foundIn (a .best .now) (a .shown .now)) (b .pre .1 .3) (a .trail .now) (a .moves .now)
-            (a .output) (c .before .before .asks .result) (c .before .before .asks .ensures) (calmed (c .before))
+            (a .output) (b .pre .1 .6) (covered (c .before)) (c .before .before .asks .result)
+            (c .before .before .asks .ensures) (calmed (c .before))
             (sym (c .before .apart .ensures) ∙ not-true _ (c .if3 .taken));
         kept = keeps-refl _ _ _;
         held = b .pre .1 .2;
@@ -376,7 +391,8 @@ module _ (t : ℕ) where
             drops m s gs y (a .charts) (a .left) (some-left p) (b .pre .1 .4) (foundIn (a .best .now) (a .shown .now)) _
             (rest-fine m s gs y (a .charts) (a .left) (some-left p) (b .pre .1 .4)
             (foundIn (a .best .now) (a .shown .now)) (b .pre .1 .3) (a .trail .now) (a .moves .now)
-            (a .output) (p .before .asks .result) (p .before .asks .ensures) false (ne-eqb _ _ (c .if5 .taken)))
+            (a .output) (b .pre .1 .6) (covered p) (p .before .asks .result) (p .before .asks .ensures) false
+            (ne-eqb _ _ (c .if5 .taken)))
             ∙ asleep m s gs y (a .charts) (a .left) (some-left p) (b .pre .1 .4)
             (foundIn (a .best .now) (a .shown .now))
             (trailIn (a .trail .now) (a .moves .now) (a .charts - a .left) (a .output)) (calmed p)
@@ -396,11 +412,27 @@ module _ (t : ℕ) where
         omega (arith, b .pre .1 .3, b .pre .1 .4),
       )
 
+  -- nothing is to be in an inactive chart's action
+  rests : (r : lts.After-rest (callees t) (at t) hunt.Post Inv-loop μ-loop) →
+      let a = entry (r .before .before .before .before .before .before .before .before .before) .args in
+      let k = a .charts - a .left in
+      fineAt (a .masks .now) (a .small .now)
+      (rested (a .masks .now) (a .small .now) (trailIn (a .trail .now) (a .moves .now) k (a .output)) k) k ≡ true
+  rests r =
+      let p = r .before .before .before .before .before .before .before .before .before in
+      let b = entry p in
+      let a = b .args in
+      rest-fine (a .masks .now) (a .small .now) (a .guards .now) (a .stays .now) (a .charts) (a .left) (some-left p)
+      (b .pre .1 .4) (foundIn (a .best .now) (a .shown .now)) (b .pre .1 .3) (a .trail .now) (a .moves .now) (a .output)
+      (b .pre .1 .6) (covered p) (p .before .asks .result) (p .before .asks .ensures) true
+      (eq-eqb _ _ (r .before .before .before .if5 .left))
+
   hunt-requires : lts.Need-hunt-requires (callees t) (at t) hunt.Post Inv-loop μ-loop
   hunt-requires c κs =
       let r = c .before .before .before .before .before .before in
       let p = r .before .before .before .before .before .before .before .before .before in
       let b = entry p in
+      let a = b .args in
       let some = some-left p in (
         omega (arith, b .pre .0),
         (
@@ -410,6 +442,9 @@ module _ (t : ℕ) where
           b .pre .1 .3,
           omega (arith, b .pre .1 .4),
           b .pre .1 .5,
+          passes-on (a .masks .now) (a .small .now) (a .guards .now) (a .stays .now) (a .charts) (a .left) some
+              (b .pre .1 .4) (foundIn (a .best .now) (a .shown .now)) (b .pre .1 .3) _ _ (a .output) _
+              (r .rest .ensures .grown (a .masks .now) (a .output)) (rests r),
         ),
       )
 
@@ -433,10 +468,7 @@ module _ (t : ℕ) where
             ∙ goes-on m s gs y (a .charts) (a .left) some (b .pre .1 .4) (foundIn (a .best .now) (a .shown .now)) _ _
             (a .output) _
             (r .rest .ensures .grown m (a .output))
-            (rest-fine m s gs y (a .charts) (a .left) some (b .pre .1 .4) (foundIn (a .best .now) (a .shown .now))
-            (b .pre .1 .3) (a .trail .now) (a .moves .now)
-            (a .output) (p .before .asks .result) (p .before .asks .ensures) true
-            (eq-eqb _ _ (r .before .before .before .if5 .left)))
+            (rests r)
             ∙ asleep m s gs y (a .charts) (a .left) some (b .pre .1 .4) (foundIn (a .best .now) (a .shown .now))
             (trailIn (a .trail .now) (a .moves .now) (a .charts - a .left) (a .output)) (calmed p)
             (sym (w .wakes .ensures m (a .trail .now) (a .output))
@@ -525,6 +557,8 @@ module _ (t : ℕ) where
         omega (arith, counted l),
         tested l .before .asks .ensures ∙ sym (asks-kept (b .args .masks .now) (few l) (l .loop .inv .1)),
         omega (arith, one-more l .masks),
+        passes-kept (b .args .masks .now) (few l) (l .loop .inv .1) (b .pre .1 .6),
+        covered (tested l),
       )
 
   take-requires : lts.Need-take-requires (callees t) (at t) hunt.Post Inv-loop μ-loop
@@ -543,6 +577,7 @@ module _ (t : ℕ) where
       let r = c .before .before .before .before .before .before .before in
       let l = r .before .before .before .before .before .before .before in
       let b = entry (tested l) in
+      let a = b .args in
       let some = some-left (tested l) in (
         omega (arith, b .pre .0),
         (
@@ -552,6 +587,11 @@ module _ (t : ℕ) where
           b .pre .1 .3,
           omega (arith, b .pre .1 .4),
           b .pre .1 .5,
+          passes-on (a .masks .now) (a .small .now) (a .guards .now) (a .stays .now) (a .charts) (a .left) some
+              (b .pre .1 .4) (foundIn (a .best .now) (a .shown .now)) (b .pre .1 .3) _ _ _ _
+              (r .take .ensures .grown (a .output))
+              (sym (r .before .before .before .before .fits2 .ensures (a .small .now) (l .loop .moves) (a .output))
+              ∙ r .before .before .before .if6 .taken),
         ),
       )
 
@@ -701,9 +741,8 @@ module _ (t : ℕ) where
         found =
             drops m s gs y (a .charts) (a .left) (some-left (tested l)) (b .pre .1 .4) f (stayed m s u k)
             (stay-fine m s gs y (a .charts) (a .left) (some-left (tested l)) (b .pre .1 .4) f (b .pre .1 .3)
-            (a .trail .now) (a .moves .now)
-            (a .output) (tested l .before .asks .result) (tested l .before .asks .ensures) false
-            (ne-eqb _ _ (c .if9 .taken)))
+            (a .trail .now) (a .moves .now) (a .output) (b .pre .1 .6) (covered (tested l))
+            (tested l .before .asks .result) (tested l .before .asks .ensures) false (ne-eqb _ _ (c .if9 .taken)))
             ∙ sym (open-last m s gs y (a .left) k u f
             (λ e. c .before .before .if8 .left (c .before .before .before .told .ensures ∙ e)))
             ∙ ap (over (last m s gs y (a .left) k u)) (tried (c .before .before .before .before)) ∙ sym (whole l);
@@ -717,12 +756,31 @@ module _ (t : ℕ) where
       let b = entry (tested l) in
       (roomy l, b .pre .1 .0 .small, one-more l, few l)
 
+  -- nor in that of one that stays
+  stays-fine : (r : lts.After-stay (callees t) (at t) hunt.Post Inv-loop μ-loop) →
+      let a = entry (tested (r .before .before .before .before .before .before .before .before)) .args in
+      let k = a .charts - a .left in
+      fineAt (a .masks .now) (a .small .now)
+      (stayed (a .masks .now) (a .small .now) (trailIn (a .trail .now) (a .moves .now) k (a .output)) k) k ≡ true
+  stays-fine r =
+      let p = tested (r .before .before .before .before .before .before .before .before) in
+      let b = entry p in
+      let a = b .args in
+      stay-fine (a .masks .now) (a .small .now) (a .guards .now) (a .stays .now) (a .charts) (a .left) (some-left p)
+      (b .pre .1 .4) (foundIn (a .best .now) (a .shown .now)) (b .pre .1 .3) (a .trail .now) (a .moves .now) (a .output)
+      (b .pre .1 .6) (covered p) (p .before .asks .result) (p .before .asks .ensures) true
+      (eq-eqb _ _ (r .before .before .before .if9 .left))
+
   hunt-requires-3 : lts.Need-hunt-requires-3 (callees t) (at t) hunt.Post Inv-loop μ-loop
   hunt-requires-3 c κs =
       let r = c .before .before .before .before .before .before in
       let l = c .before .before .before .before .before .before .before .before .before .before .before .before
       .before .before in
       let b = entry (tested l) in
+      let a = b .args in
+      let m = a .masks .now in
+      let s = a .small .now in
+      let k = a .charts - a .left in
       let some = some-left (tested l) in (
         omega (arith, b .pre .0),
         (
@@ -732,6 +790,10 @@ module _ (t : ℕ) where
           b .pre .1 .3,
           omega (arith, b .pre .1 .4),
           b .pre .1 .5,
+          passes-on m s (a .guards .now) (a .stays .now) (a .charts) (a .left) some (b .pre .1 .4)
+              (foundIn (a .best .now) (a .shown .now)) (b .pre .1 .3) _ _ (a .output) _
+              (r .stay .ensures .grown m (a .output)
+              ∙ ap (λ (x : Trail). stayed m s x k) (trail-kept (l .loop .inv .1) (a .output))) (stays-fine r),
         ),
       )
 
@@ -760,10 +822,7 @@ module _ (t : ℕ) where
             ∙ goes-on m s gs y (a .charts) (a .left) some (b .pre .1 .4) f _ _ (a .output) (stayed m s u k)
             (r .stay .ensures .grown m (a .output)
             ∙ ap (λ (x : Trail). stayed m s x k) (trail-kept (l .loop .inv .1) (a .output)))
-            (stay-fine m s gs y (a .charts) (a .left) some (b .pre .1 .4) f (b .pre .1 .3) (a .trail .now)
-            (a .moves .now)
-            (a .output) (tested l .before .asks .result) (tested l .before .asks .ensures) true
-            (eq-eqb _ _ (e9 .if9 .left)))
+            (stays-fine r)
             ∙ sym (open-last m s gs y (a .left) k u f (λ e. e8 .if8 .left (e8 .before .told .ensures ∙ e)))
             ∙ ap (over (last m s gs y (a .left) k u)) (tried (e8 .before .before)) ∙ sym (whole l);
         kept = keeps-trans (l .loop .inv .1) (keeps-trans (r .stay .ensures .kept)

@@ -59,6 +59,7 @@ hunt-requires c κs =
       s .pre .1,
       omega arith,
       s .pre .2,
+      λ d l. absurd (omega arith),
     )
 
 returns : tie.Need-returns

@@ -29,20 +29,17 @@ loop-holds c = (omega arith, refl, refl)
 loop-again : tie.Need-loop-again Inv-loop μ-loop
 loop-again c =
     let bars = c .before .barred .ensures in
-    let less = c .before .before .less .ensures in
-    let needs = c .before .before .before .needed .ensures in
-    let t = c .before .before .before .before in
-    let ahead = t .ahead .ensures in
-    let back = t .before .back .ensures in
-    let low = t .before .before .low .ensures in
-    let l = t .before .before .before .before .loop in
-    let a = t .before .before .before .before .before .before .before .args in
+    let t = c .before .before in
+    let needs = t .before .needed .ensures in
+    let ahead = t .before .before .ahead .ensures in
+    let low = t .before .before .before .low .ensures in
+    let l = t .before .before .before .before .before .loop in
+    let a = t .before .before .before .before .before .before .before .before .args in
     let m = a .masks .now in
     let w = a .trail .now in (
       omega arith,
-      join-more (l .d) (wantsIn m w (a .k)) _ _ (l .inv .1) (rw (less, needs, ahead, bars, low) refl),
-      join-more (l .d) (bansIn m w (a .k)) _ _ (l .inv .2)
-          (rw (c .less2 .ensures, less, needs, ahead, bars, back, low) refl),
+      join-more (l .d) (wantsIn m w (a .k)) _ _ (l .inv .1) (rw (t .less .ensures, needs, ahead, low) refl),
+      join-more (l .d) (bansIn m w (a .k)) _ _ (l .inv .2) (rw (bars, c .back .ensures) refl),
     )
 
 returns : tie.Need-returns Inv-loop μ-loop
@@ -55,6 +52,6 @@ returns c =
 pub asks-spec : {M : Type 1} → statement M
 asks-spec =
     tie.close
-    (tie.spec Inv-loop μ-loop loop-holds (λ c κs. search needs) (λ c κs. search needs) (λ c. omega arith)
-    (λ c κs. search needs) (λ c κs. search needs)
-    (λ c κs. tt) (λ c κs. search needs) (λ c κs. tt) (λ c. omega arith) (λ c. omega arith) loop-again returns)
+    (tie.spec Inv-loop μ-loop loop-holds (λ c κs. search needs) (λ c. omega arith) (λ c κs. search needs)
+    (λ c κs. search needs) (λ c κs. tt) (λ c κs. search needs) (λ c κs. search needs) (λ c. omega arith)
+    (λ c. omega arith) loop-again returns)

@@ -10,17 +10,17 @@ use Rattle.settling.specs.declared.Guard.{Guard}
 use Rattle.cells.specs.Table.{actionAt}
 use Rattle.settling.specs.Trail.{trailIn}
 use Rattle.settling.specs.Hunt.{taken, fineAt}
-use Rattle.settling.specs.Asks.{asksOf}
+use Rattle.settling.specs.Asks.{Passes, Covers, asksOf}
 use Rattle.settling.specs.Asks.Laws.{met, ownAt, fine-taken}
 use Rattle.settling.proofs.fits.Statement.{statement}
 use Rattle.settling.proofs.fits.Tie as tie
 
-module _ (m s w b : List ℕ) (k o v : ℕ) (few : k < mostCharts) (g : Guard) (is : g ≡ asksOf m w k) (a : ℕ)
+module _ (m s w b : List ℕ) (k o v : ℕ) (few : k < mostCharts) (can : Passes m w k) (cover : Covers m k) (g : Guard) (is : g ≡ asksOf m w k) (a : ℕ)
     (at : a ≡ actionAt m k v) (z : Bool) where
   -- what was asked of the action, as the code tests it
   by : met (g .needed) (g .barred) a ≡ z → fineAt m s (taken m s (trailIn w b k o) k v) k ≡ (ownAt m w k v && z)
   by e =
-      fine-taken m s w b k o few v
+      fine-taken m s w b k o few can cover v
       ∙ ap (λ (h : Guard). ownAt m w k v && met (h .needed) (h .barred) (actionAt m k v)) (sym is)
       ∙ ap (λ (x : Bool). ownAt m w k v && x) (ap (met (g .needed) (g .barred)) (sym at) ∙ e)
 
@@ -31,7 +31,7 @@ returns c s b o =
     let m = a .args .masks .now in
     let w = a .args .trail .now in
     let h = sym (c .before .holds .ensures) ∙ not-true _ (c .if1 .taken) in
-    sym (by m s w b (a .args .k) o (a .args .v) (a .pre .1) (a .args .asked) (a .pre .3) (t .action .result)
+    sym (by m s w b (a .args .k) o (a .args .v) (a .pre .1) (a .pre .5) (a .pre .6) (a .args .asked) (a .pre .3) (t .action .result)
     (t .action .ensures) false h
     ∙ and-false (ownAt m w (a .args .k) (a .args .v)))
 
@@ -51,7 +51,7 @@ returns-2 c s b o =
     let own : c .holds2 .result ≡ ownAt m w (a .args .k) (a .args .v) =
     rw (c .holds2 .ensures, needed, barred, low, t .action .ensures, back, ahead) refl in
     own
-    ∙ sym (by m s w b (a .args .k) o (a .args .v) (a .pre .1) (a .args .asked) (a .pre .3) (t .action .result)
+    ∙ sym (by m s w b (a .args .k) o (a .args .v) (a .pre .1) (a .pre .5) (a .pre .6) (a .args .asked) (a .pre .3) (t .action .result)
     (t .action .ensures) true h
     ∙ and-true (ownAt m w (a .args .k) (a .args .v)))
 

@@ -1,6 +1,7 @@
 -- Laws of what settled charts ask of the next chart's action: that it is met exactly if each of them can still be met
 -- (`asked`, `asked-none`), and so for a candidate of the next chart (`fine-taken`) and for one that is inactive
--- (`fine-rested`); that it cannot be met where it contradicts itself (`asked-never`).
+-- (`fine-rested`); that it cannot be met where it contradicts itself (`asked-never`). All of them suppose that each
+-- could be met before, which the test of the chart settled last gives (`passes-next`).
 use mathlib.Core.Path.{_≡_, refl, sym, ap, ap₂, _∙_}
 use mathlib.Core.Bool.{Bool, true, false, _&&_}
 use mathlib.Core.List.{List, [], _∷_}
@@ -13,7 +14,7 @@ use lib.ListN.{getD}
 use Rattle.signals.specs.Mask.{_∪_, _∩_, _∖_, within, apart}
 use Rattle.signals.specs.Decide.{sets, A, B, C, D, E, F, G, H, ∅ₑ, _∪ₑ_, _∩ₑ_, _∖ₑ_, _≐_, _⊑_, _⊥ₑ_}
 use Rattle.meaning.specs.Calls.{made}
-use Rattle.meaning.specs.Laws.Bools.{and-l, and-r, and-i, bool-eq, every}
+use Rattle.meaning.specs.Laws.Bools.{and-l, and-r, and-i, bool-eq, every, every-elim}
 use Rattle.meaning.specs.Rewriting.{unionUpTo}
 use Rattle.wiring.specs.Dropped.{join-cong}
 use Rattle.wiring.specs.Pruning.{every-cong}
@@ -24,13 +25,9 @@ use Rattle.settling.specs.Trail.{trailIn, Keeps}
 use Rattle.meaning.specs.Calls.Laws.{getD-made}
 use Rattle.settling.specs.Trail.Laws.{getD-before, getD-last}
 use Rattle.settling.specs.Hunt.{taken, idled, rested, passesAt, fineAt}
-use Rattle.settling.specs.Asks.{wants, bans, wantsIn, bansIn, asksOf}
+use Rattle.settling.specs.Asks.{may, Passes, Covers, wantsIn, bansIn, asksOf}
 
 -- ── a test, and what it says ──
-
--- a guard that needs n and bars r can still be met, between l and l ∪ h
-abbrev may : ℕ → ℕ → ℕ → ℕ → Bool
-may n r l h = within n (l ∪ h) && apart r l
 
 -- a guard holds of a set
 abbrev pub met : ℕ → ℕ → ℕ → Bool
@@ -44,79 +41,87 @@ both a b c d e = (
 
 -- ── what is asked is met ──
 
--- one chart more, over what the others ask, g and q
-module _ (n r l h b a g q : ℕ) where
-  one : (may n r (l ∪ a ∩ b) h && met g q a) ≡ met (g ∪ wants n r l h b) (q ∪ bans n r l h b) a
-  one = bool-eq _ _ there back
-    where
-      there : (may n r (l ∪ a ∩ b) h && met g q a) ≡ true → met (g ∪ wants n r l h b) (q ∪ bans n r l h b) a ≡ true
-      there e =
-          let x = both n (l ∪ a ∩ b ∪ h) r (l ∪ a ∩ b) (and-l (may n r (l ∪ a ∩ b) h) _ e) in
-          let y = both g a q a (and-r (may n r (l ∪ a ∩ b) h) _ e) in
-          and-i
-          (eq-eqb _ _
-          (sets (n ∷ r ∷ l ∷ h ∷ b ∷ a ∷ g ∷ q ∷ []) (A ⊑ C ∪ₑ F ∩ₑ E ∪ₑ D ∷ B ⊥ₑ (C ∪ₑ F ∩ₑ E) ∷ G ⊑ F ∷ H ⊥ₑ F ∷ [])
-          (G ∪ₑ (A ∖ₑ (C ∪ₑ D) ∪ₑ B ∩ₑ C) ⊑ F) tt (x .0) (x .1) (y .0) (y .1)))
-          (eq-eqb _ _
-          (sets (n ∷ r ∷ l ∷ h ∷ b ∷ a ∷ g ∷ q ∷ []) (A ⊑ C ∪ₑ F ∩ₑ E ∪ₑ D ∷ B ⊥ₑ (C ∪ₑ F ∩ₑ E) ∷ G ⊑ F ∷ H ⊥ₑ F ∷ [])
-          ((H ∪ₑ (A ∖ₑ (C ∪ₑ D) ∖ₑ E ∪ₑ B ∩ₑ (C ∪ₑ E))) ⊥ₑ F) tt (x .0) (x .1) (y .0) (y .1)))
+-- A chart that needs n and bars r, is surely offered l, may be offered h by charts behind the next, and gets b of the
+-- next one's action. Before the next is settled it may be offered p, and can be met.
+module _ (n r l h b p : ℕ) (can : may n r l p ≡ true) (cover : p ∖ (h ∪ b) ≡ 0) where
+  -- over what the others ask, g and q, of the action a
+  module _ (a g q : ℕ) where
+    one : (may n r (l ∪ a ∩ b) h && met g q a) ≡ met (g ∪ n ∖ (l ∪ h)) (q ∪ r ∩ b) a
+    one = bool-eq _ _ there back
+      where
+        there : (may n r (l ∪ a ∩ b) h && met g q a) ≡ true → met (g ∪ n ∖ (l ∪ h)) (q ∪ r ∩ b) a ≡ true
+        there e =
+            let x = both n (l ∪ a ∩ b ∪ h) r (l ∪ a ∩ b) (and-l (may n r (l ∪ a ∩ b) h) _ e) in
+            let y = both g a q a (and-r (may n r (l ∪ a ∩ b) h) _ e) in
+            and-i
+            (eq-eqb _ _ (sets (n ∷ g ∷ l ∷ h ∷ b ∷ a ∷ []) (A ⊑ C ∪ₑ F ∩ₑ E ∪ₑ D ∷ B ⊑ F ∷ [])
+            (B ∪ₑ A ∖ₑ (C ∪ₑ D) ⊑ F) tt (x .0) (y .0)))
+            (eq-eqb _ _ (sets (r ∷ q ∷ l ∷ b ∷ a ∷ []) (A ⊥ₑ (C ∪ₑ E ∩ₑ D) ∷ B ⊥ₑ E ∷ [])
+            ((B ∪ₑ A ∩ₑ D) ⊥ₑ E) tt (x .1) (y .1)))
 
-      back : met (g ∪ wants n r l h b) (q ∪ bans n r l h b) a ≡ true → (may n r (l ∪ a ∩ b) h && met g q a) ≡ true
-      back e =
-          let x = both (g ∪ wants n r l h b) a (q ∪ bans n r l h b) a e in
-          and-i
-          (and-i
-          (eq-eqb _ _ (sets (n ∷ r ∷ l ∷ h ∷ b ∷ a ∷ g ∷ q ∷ [])
-          (G ∪ₑ (A ∖ₑ (C ∪ₑ D) ∪ₑ B ∩ₑ C) ⊑ F ∷ (H ∪ₑ (A ∖ₑ (C ∪ₑ D) ∖ₑ E ∪ₑ B ∩ₑ (C ∪ₑ E))) ⊥ₑ F ∷ [])
-          (A ⊑ C ∪ₑ F ∩ₑ E ∪ₑ D) tt (x .0) (x .1)))
-          (eq-eqb _ _ (sets (n ∷ r ∷ l ∷ h ∷ b ∷ a ∷ g ∷ q ∷ [])
-          (G ∪ₑ (A ∖ₑ (C ∪ₑ D) ∪ₑ B ∩ₑ C) ⊑ F ∷ (H ∪ₑ (A ∖ₑ (C ∪ₑ D) ∖ₑ E ∪ₑ B ∩ₑ (C ∪ₑ E))) ⊥ₑ F ∷ [])
-          (B ⊥ₑ (C ∪ₑ F ∩ₑ E)) tt (x .0) (x .1))))
-          (and-i
-          (eq-eqb _ _ (sets (a ∷ g ∷ wants n r l h b ∷ []) (B ∪ₑ C ⊑ A ∷ []) (B ⊑ A) tt (x .0)))
-          (eq-eqb _ _ (sets (a ∷ q ∷ bans n r l h b ∷ []) ((B ∪ₑ C) ⊥ₑ A ∷ []) (B ⊥ₑ A) tt (x .1))))
+        back : met (g ∪ n ∖ (l ∪ h)) (q ∪ r ∩ b) a ≡ true → (may n r (l ∪ a ∩ b) h && met g q a) ≡ true
+        back e =
+            let x = both (g ∪ n ∖ (l ∪ h)) a (q ∪ r ∩ b) a e in
+            let y = both n (l ∪ p) r l can in
+            and-i
+            (and-i
+            (eq-eqb _ _ (sets (n ∷ g ∷ l ∷ h ∷ b ∷ a ∷ p ∷ [])
+            (B ∪ₑ A ∖ₑ (C ∪ₑ D) ⊑ F ∷ A ⊑ C ∪ₑ G ∷ G ⊑ D ∪ₑ E ∷ []) (A ⊑ C ∪ₑ F ∩ₑ E ∪ₑ D) tt (x .0) (y .0) cover))
+            (eq-eqb _ _ (sets (r ∷ q ∷ l ∷ b ∷ a ∷ []) ((B ∪ₑ A ∩ₑ D) ⊥ₑ E ∷ A ⊥ₑ C ∷ [])
+            (A ⊥ₑ (C ∪ₑ E ∩ₑ D)) tt (x .1) (y .1))))
+            (and-i
+            (eq-eqb _ _ (sets (a ∷ g ∷ n ∖ (l ∪ h) ∷ []) (B ∪ₑ C ⊑ A ∷ []) (B ⊑ A) tt (x .0)))
+            (eq-eqb _ _ (sets (a ∷ q ∷ r ∩ b ∷ []) ((B ∪ₑ C) ⊥ₑ A ∷ []) (B ⊥ₑ A) tt (x .1))))
 
--- the same of an inactive chart, which has no action
-module _ (n r l h b g : ℕ) where
-  one-none : (may n r l h && eqb g 0) ≡ eqb (g ∪ wants n r l h b) 0
-  one-none = bool-eq _ _ there back
-    where
-      there : (may n r l h && eqb g 0) ≡ true → eqb (g ∪ wants n r l h b) 0 ≡ true
-      there e =
-          let x = both n (l ∪ h) r l (and-l (may n r l h) _ e) in
-          eq-eqb _ _ (sets (n ∷ r ∷ l ∷ h ∷ g ∷ []) (A ⊑ C ∪ₑ D ∷ B ⊥ₑ C ∷ E ≐ ∅ₑ ∷ [])
-          (E ∪ₑ (A ∖ₑ (C ∪ₑ D) ∪ₑ B ∩ₑ C) ≐ ∅ₑ) tt (x .0) (x .1)
-          (eqb-true _ _ (and-r (may n r l h) _ e)))
+  -- the same of an inactive chart, which has no action
+  module _ (g : ℕ) where
+    one-none : (may n r l h && eqb g 0) ≡ eqb (g ∪ n ∖ (l ∪ h)) 0
+    one-none = bool-eq _ _ there back
+      where
+        there : (may n r l h && eqb g 0) ≡ true → eqb (g ∪ n ∖ (l ∪ h)) 0 ≡ true
+        there e =
+            eq-eqb _ _ (sets (n ∷ l ∷ h ∷ g ∷ []) (A ⊑ B ∪ₑ C ∷ D ≐ ∅ₑ ∷ []) (D ∪ₑ A ∖ₑ (B ∪ₑ C) ≐ ∅ₑ) tt
+            (both n (l ∪ h) r l (and-l (may n r l h) _ e) .0) (eqb-true _ _ (and-r (may n r l h) _ e)))
 
-      back : eqb (g ∪ wants n r l h b) 0 ≡ true → (may n r l h && eqb g 0) ≡ true
-      back e =
-          let x = eqb-true _ _ e in
-          and-i
-          (and-i
-          (eq-eqb _ _ (sets (n ∷ r ∷ l ∷ h ∷ g ∷ []) (E ∪ₑ (A ∖ₑ (C ∪ₑ D) ∪ₑ B ∩ₑ C) ≐ ∅ₑ ∷ []) (A ⊑ C ∪ₑ D) tt x))
-          (eq-eqb _ _ (sets (n ∷ r ∷ l ∷ h ∷ g ∷ []) (E ∪ₑ (A ∖ₑ (C ∪ₑ D) ∪ₑ B ∩ₑ C) ≐ ∅ₑ ∷ []) (B ⊥ₑ C) tt x)))
-          (eq-eqb _ _ (sets (n ∷ r ∷ l ∷ h ∷ g ∷ []) (E ∪ₑ (A ∖ₑ (C ∪ₑ D) ∪ₑ B ∩ₑ C) ≐ ∅ₑ ∷ []) (E ≐ ∅ₑ) tt x))
+        back : eqb (g ∪ n ∖ (l ∪ h)) 0 ≡ true → (may n r l h && eqb g 0) ≡ true
+        back e =
+            let x = eqb-true _ _ e in
+            and-i
+            (and-i
+            (eq-eqb _ _ (sets (n ∷ l ∷ h ∷ g ∷ []) (D ∪ₑ A ∖ₑ (B ∪ₑ C) ≐ ∅ₑ ∷ []) (A ⊑ B ∪ₑ C) tt x))
+            (eq-eqb _ _ (both n (l ∪ p) r l can .1)))
+            (eq-eqb _ _ (sets (n ∷ l ∷ h ∷ g ∷ []) (D ∪ₑ A ∖ₑ (B ∪ₑ C) ≐ ∅ₑ ∷ []) (D ≐ ∅ₑ) tt x))
 
-module _ (n r l h b : ℕ → ℕ) where
+module _ (n r l h b p : ℕ → ℕ) where
   abbrev all-want : ℕ → ℕ
-  all-want k = unionUpTo k (λ d. wants (n d) (r d) (l d) (h d) (b d))
+  all-want k = unionUpTo k (λ d. n d ∖ (l d ∪ h d))
 
   abbrev all-ban : ℕ → ℕ
-  all-ban k = unionUpTo k (λ d. bans (n d) (r d) (l d) (h d) (b d))
+  all-ban k = unionUpTo k (λ d. r d ∩ b d)
 
-  asked : (a k : ℕ) → every k (λ d. may (n d) (r d) (l d ∪ a ∩ b d) (h d)) ≡ met (all-want k) (all-ban k) a
-  unfolding every unionUpTo
-  asked a zero = sym (and-i (eq-eqb _ _ (sets (a ∷ []) [] (∅ₑ ⊑ A) tt)) (eq-eqb _ _ (sets (a ∷ []) [] (∅ₑ ⊥ₑ A) tt)))
-  asked a (suc k) =
-      ap (λ (z : Bool). may (n k) (r k) (l k ∪ a ∩ b k) (h k) && z) (asked a k)
-      ∙ one (n k) (r k) (l k) (h k) (b k) a (all-want k) (all-ban k)
+  abbrev Can : ℕ → Type 0
+  Can k = (d : ℕ) → d < k → may (n d) (r d) (l d) (p d) ≡ true
 
-  asked-none : (k : ℕ) → every k (λ d. may (n d) (r d) (l d) (h d)) ≡ eqb (all-want k) 0
+  abbrev Cover : ℕ → Type 0
+  Cover k = (d : ℕ) → d < k → p d ∖ (h d ∪ b d) ≡ 0
+
+  asked : (a k : ℕ) → Can k → Cover k
+      → every k (λ d. may (n d) (r d) (l d ∪ a ∩ b d) (h d)) ≡ met (all-want k) (all-ban k) a
   unfolding every unionUpTo
-  asked-none zero = refl
-  asked-none (suc k) =
-      ap (λ (z : Bool). may (n k) (r k) (l k) (h k) && z) (asked-none k)
-      ∙ one-none (n k) (r k) (l k) (h k) (b k) (all-want k)
+  asked a zero can cover =
+      sym (and-i (eq-eqb _ _ (sets (a ∷ []) [] (∅ₑ ⊑ A) tt)) (eq-eqb _ _ (sets (a ∷ []) [] (∅ₑ ⊥ₑ A) tt)))
+  asked a (suc k) can cover =
+      ap (λ (z : Bool). may (n k) (r k) (l k ∪ a ∩ b k) (h k) && z)
+      (asked a k (λ d t. can d (omega arith)) (λ d t. cover d (omega arith)))
+      ∙ one (n k) (r k) (l k) (h k) (b k) (p k) (can k (omega arith)) (cover k (omega arith)) a (all-want k) (all-ban k)
+
+  asked-none : (k : ℕ) → Can k → Cover k → every k (λ d. may (n d) (r d) (l d) (h d)) ≡ eqb (all-want k) 0
+  unfolding every unionUpTo
+  asked-none zero can cover = refl
+  asked-none (suc k) can cover =
+      ap (λ (z : Bool). may (n k) (r k) (l k) (h k) && z)
+      (asked-none k (λ d t. can d (omega arith)) (λ d t. cover d (omega arith)))
+      ∙ one-none (n k) (r k) (l k) (h k) (b k) (p k) (can k (omega arith)) (cover k (omega arith)) (all-want k)
 
 -- what contradicts itself holds of no set
 pub asked-never : (n r a : ℕ) → apart n r ≡ false → met n r a ≡ false
@@ -138,36 +143,36 @@ asked-some n r h = go (eqb n 0) refl
         let y : apart n r ≡ true = eq-eqb _ _ (sets (n ∷ r ∷ []) (A ≐ ∅ₑ ∷ []) (A ⊥ₑ B) tt (eqb-true _ _ e)) in
         e ∙ (sym y ∙ h)
 
+may-eq : {n n′ r r′ l l′ h h′ : ℕ} → n ≡ n′ → r ≡ r′ → l ≡ l′ → h ≡ h′ → may n r l h ≡ may n′ r′ l′ h′
+may-eq p q u v = rw (p, q, u, v)
+
 -- what is asked stands in the beginning of k charts
 pub asks-kept : (m : List ℕ) {k : ℕ} {w b w′ b′ : List ℕ} → k < mostCharts → Keeps k w b w′ b′
     → asksOf m w′ k ≡ asksOf m w k
 unfolding asksOf
 asks-kept m {k} {w} {b} {w′} {b′} few h =
     ap₂ (λ (x y : ℕ). record { needed = x; barred = y })
-    (join-cong k (wantsIn m w′ k) (wantsIn m w k) (λ d l. five (λ n r p q u. wants n r p q u) d l))
-    (join-cong k (bansIn m w′ k) (bansIn m w k) (λ d l. five (λ n r p q u. bans n r p q u) d l))
-  where
-    five : (f : ℕ → ℕ → ℕ → ℕ → ℕ → ℕ) (d : ℕ) → d < k →
-        f (neededIn w′ d) (barredIn w′ d) (lowIn w′ k d) (aheadAt m (k + 1) d) (backAt m d k)
-        ≡ f (neededIn w d) (barredIn w d) (lowIn w k d) (aheadAt m (k + 1) d) (backAt m d k)
-    five f d l =
-        rw (
-          h .masks .at (needsCell d) (omega arith),
-          h .masks .at (barsCell d) (omega arith),
-          h .masks .at (lowCell k d) (omega arith),
-        )
+    (join-cong k (wantsIn m w′ k) (wantsIn m w k)
+    (λ d l. rw (h .masks .at (needsCell d) (omega arith), h .masks .at (lowCell k d) (omega arith)) refl))
+    (join-cong k (bansIn m w′ k) (bansIn m w k)
+    (λ d l. rw (h .masks .at (barsCell d) (omega arith)) refl))
+
+-- and so does that each chart below k can still be met
+pub passes-kept : (m : List ℕ) {k : ℕ} {w b w′ b′ : List ℕ} → k < mostCharts → Keeps k w b w′ b′
+    → Passes m w k → Passes m w′ k
+passes-kept m {k} {w} {b} {w′} {b′} few h can d l =
+    may-eq {h = aheadAt m k d} (h .masks .at (needsCell d) (omega arith)) (h .masks .at (barsCell d) (omega arith))
+    (h .masks .at (lowCell k d) (omega arith)) refl
+    ∙ can d l
 
 -- ── the next chart ──
-
-may-eq : {n n′ r r′ l l′ h h′ : ℕ} → n ≡ n′ → r ≡ r′ → l ≡ l′ → h ≡ h′ → may n r l h ≡ may n′ r′ l′ h′
-may-eq p q u v = rw (p, q, u, v)
 
 -- the guard of chart k's candidate v can still be met
 abbrev pub ownAt : List ℕ → List ℕ → ℕ → ℕ → Bool
 ownAt m w k v =
     may (neededAt m k v) (barredAt m k v) (lowIn w k k ∪ actionAt m k v ∩ backAt m k k) (aheadAt m (k + 1) k)
 
-module _ (m s w b : List ℕ) (k o : ℕ) (few : k < mostCharts) where
+module _ (m s w b : List ℕ) (k o : ℕ) (few : k < mostCharts) (can : Passes m w k) (cover : Covers m k) where
   next-ahead : (d : ℕ) → aheadAt m (suc k) d ≡ aheadAt m (k + 1) d
   next-ahead d = ap (λ (j : ℕ). aheadAt m j d) (sym (add-one k))
 
@@ -197,7 +202,8 @@ module _ (m s w b : List ℕ) (k o : ℕ) (few : k < mostCharts) where
         (λ d l. may-eq (getD-before k (neededIn w) (neededAt m k v) d l ∙ getD-made k (neededIn w) d l)
         (getD-before k (barredIn w) (barredAt m k v) d l ∙ getD-made k (barredIn w) d l) (offered-is d (omega arith))
         (next-ahead d))
-        ∙ asked (neededIn w) (barredIn w) (lowIn w k) (aheadAt m (k + 1)) (λ d. backAt m d k) action k)
+        ∙ asked (neededIn w) (barredIn w) (lowIn w k) (aheadAt m (k + 1)) (λ d. backAt m d k) (aheadAt m k) action k can
+        cover)
 
   -- it is inactive: nothing is to be in its action
   pub fine-rested : fineAt m s (rested m s (trailIn w b k o) k) k ≡ eqb (asksOf m w k .needed) 0
@@ -213,4 +219,14 @@ module _ (m s w b : List ℕ) (k o : ℕ) (few : k < mostCharts) where
       (λ d l. may-eq (getD-before k (neededIn w) 0 d l ∙ getD-made k (neededIn w) d l)
       (getD-before k (barredIn w) 0 d l ∙ getD-made k (barredIn w) d l)
       (getD-made mostCharts (lowIn w k) d (omega arith)) (next-ahead d))
-      ∙ asked-none (neededIn w) (barredIn w) (lowIn w k) (aheadAt m (k + 1)) (λ d. backAt m d k) k)
+      ∙ asked-none (neededIn w) (barredIn w) (lowIn w k) (aheadAt m (k + 1)) (λ d. backAt m d k) (aheadAt m k) k can
+      cover)
+
+-- every chart up to k can still be met, where the charts below k + 1 are settled
+pub passes-next : (m s w b : List ℕ) (k o : ℕ) → k < mostCharts → fineAt m s (trailIn w b (k + 1) o) k ≡ true
+    → Passes m w (k + 1)
+unfolding fineAt passesAt trailIn
+passes-next m s w b k o few fine d l =
+    may-eq (sym (getD-made (k + 1) (neededIn w) d l)) (sym (getD-made (k + 1) (barredIn w) d l))
+    (sym (getD-made mostCharts (lowIn w (k + 1)) d (omega arith))) (ap (λ (j : ℕ). aheadAt m j d) (add-one k))
+    ∙ every-elim (suc k) _ fine d (omega arith)

@@ -14,8 +14,8 @@ use lib.ListN.{length, getD, set, length-set}
 use lib.Seq.{getD-set-same, getD-set-other}
 use borrow.Author.Tests.{lt-ltb, le-ltb, ltb-false}
 use borrow.Author.Tests.{not-true as tests-not-true}
-use Rattle.signals.specs.Mask.{_∪_, _∩_, bit}
-use Rattle.signals.specs.Decide.{sets, A, B, C, D, E as Eₑ, F as Fₑ, ∅ₑ, _∪ₑ_, _∩ₑ_, _≐_}
+use Rattle.signals.specs.Mask.{_∪_, _∩_, _∖_, bit}
+use Rattle.signals.specs.Decide.{sets, A, B, C, D, E as Eₑ, F as Fₑ, ∅ₑ, _∪ₑ_, _∩ₑ_, _≐_, _⊑_}
 use Rattle.layout.specs.Row.Laws.{row-rest}
 use Rattle.layout.specs.declared.record.Transition.{Transition}
 use Rattle.meaning.specs.Numbers.{mostCharts, mostFromState}
@@ -515,6 +515,20 @@ module _ (N : ℕ) (few : N ≤ mostCharts) (s m₀ : List ℕ) where
           ∙ sym (ap (λ n. ahead n k (part c)) (let h : N - k ≡ suc (N - suc k) = omega arith in h)))
       go j c p q x false y = let z : j ≢ k = λ o. false≢true (sym y ∙ rw o (same-refl k)) in
           row-rest r (aheadCell j c) (λ d o w. omega arith) ∙ a .rows j c (omega arith) q x
+
+-- what the charts from k on may put in comes from chart k or from one behind it
+pub chosen-ahead : {E : ℕ → Chart} {cfg : ℕ → ℕ} {N : ℕ} {lows shuts m s : List ℕ} → Chosen E cfg N lows shuts m s
+    → (k c : ℕ) → k < N → c < N → aheadAt m k c ∖ (aheadAt m (k + 1) c ∪ backAt m c k) ≡ 0
+unfolding ahead
+chosen-ahead {E} {cfg} {N} {lows} {shuts} {m} {s} h k c p q =
+    ap₂ (λ (x y : ℕ). x ∖ (y ∪ backAt m c k))
+    (h .ahead-at k c (omega arith) q
+    ∙ ap (λ (n : ℕ). ahead n k part) (let e : N - k ≡ suc (N - suc k) = omega arith in e))
+    (h .ahead-at (k + 1) c (omega arith) q ∙ ap (λ (j : ℕ). ahead (N - j) j part) (add-one k))
+    ∙ sets (mayAt m s k ∷ backAt m c k ∷ ahead (N - suc k) (suc k) part ∷ []) [] (A ∩ₑ B ∪ₑ C ⊑ C ∪ₑ B) tt
+  where
+    part : ℕ → Set
+    part e = mayAt m s e ∩ backAt m c e
 
 -- ── all of it ──
 

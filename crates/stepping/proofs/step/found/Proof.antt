@@ -6,6 +6,7 @@ use Prim.Native.Nat.{ℕ}
 use borrow.Author.Needs.{needs}
 use lib.ListN.{replicate}
 use Rattle.cells.specs.Triggers.{staysSize}
+use Rattle.candidates.specs.Candidates.Laws.{searchable}
 use Rattle.staying.specs.Staying.{Stays}
 use Rattle.staying.specs.Staying.Laws.{stays-none}
 use Rattle.stepping.specs.Step.Laws.{prepared-again, found-here}
@@ -22,7 +23,7 @@ found-staying-requires c κs =
     let d = c .before .before .before .before .before .before .before .before in
     let s = d .before .before .before .before .before .before .before .before .before in
     let k = d .choose .ensures in
-    (s .pre .1, record { masks = k .tabled .masks; small = k .tabled .small; counts = k .chosen .counts })
+    (s .pre .1, searchable k)
 
 returns : tie.Need-returns
 returns c =
@@ -53,7 +54,7 @@ searched-requires c κs =
     let d = e .before .before .before .before .before .before in
     let s = d .before .before .before .before .before .before .before .before .before in
     let k = d .choose .ensures in (
-      record { masks = k .tabled .masks; small = k .tabled .small; counts = k .chosen .counts },
+      searchable k,
       s .pre .0 .sized .charts,
       none e [] .guards,
     )
