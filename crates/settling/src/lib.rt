@@ -29,13 +29,13 @@ pub const NO_PLACE: u8 = 255;
 pub const STAY_PLACE: u8 = 254;
 
 // What was found so far: the first permitted choice's outcome, if there is one, and whether all others agree with it.
-// Places do not count for that.
+// Places do not count for that. The rows stand first: a copy in words of sixteen bytes then reads no two fields at once.
 pub struct Found {
-    pub has: bool,
-    pub agree: bool,
-    pub output: u64,
     pub next: [u8; CHARTS],
     pub places: [u8; CHARTS],
+    pub output: u64,
+    pub has: bool,
+    pub agree: bool,
 }
 
 // Signals that have to be in a set, and signals that must not be in it.

@@ -32,11 +32,11 @@ use settling::Found;
 // What a step answers, the next configuration aside (RULES 5.9): 0 or the refusal, the output, the mark, the places,
 // 254 for a chart that stayed and 255 for one that took none, and how many choices are open.
 pub struct Stepped {
-    pub refusal: u8,
-    pub output: u64,
-    pub mark: bool,
     pub places: [u8; CHARTS],
+    pub output: u64,
     pub open_choices: u64,
+    pub refusal: u8,
+    pub mark: bool,
 }
 
 // A refusal, which says that so many choices are open.
@@ -237,8 +237,8 @@ fn counted(
 
 // What a step comes to: how many choices are open, and what was found among them.
 pub struct Tried {
-    pub open_choices: u64,
     pub found: Found,
+    pub open_choices: u64,
 }
 
 // Nothing was looked for among so many open choices.
