@@ -20,6 +20,10 @@ needsCell k = width * k + mostCharts
 abbrev pub barsCell : ℕ → ℕ
 barsCell k = width * k + (mostCharts + 1)
 
+-- a row has two halves: where there are few charts, only the first is made anew
+abbrev pub half : ℕ
+half = 8
+
 -- how many masks the beginnings of N charts need: behind the last chart stands what each chart is offered once all are
 -- settled. They stand chart by chart, so that fewer charts need fewer
 abbrev pub trailFor : ℕ → ℕ

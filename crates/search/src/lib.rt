@@ -169,8 +169,8 @@ fn disagree(best: &[u8; FOUND_BYTES]) -> bool
 
 // What the charts left to be settled give, from chart charts - left on, joined to what was found before, in `best` and
 // `shown`. The charts before it stand in `trail` and `moves`, and stay there; what it writes stands behind them. So
-// that nothing is copied, all four are lent. Each settled chart can still be met; nothing is found where one stays and is
-// surely triggered.
+// that nothing is copied, all four are lent. Each settled chart can still be met; nothing is found where one of them
+// stays and is surely triggered.
 fn hunt(
     masks: &[u64],
     small: &[u8],
@@ -208,7 +208,7 @@ fn hunt(
         if asked.needed != 0 {
             return;
         }
-        settling::rest(masks, small, trail, moves, k);
+        settling::rest(masks, small, trail, moves, charts, k);
         hunt(
             masks,
             small,
@@ -228,7 +228,7 @@ fn hunt(
     let mut v: usize = 0;
     while v < n {
         if settling::fits(masks, trail, asked, k, v) {
-            settling::take(masks, small, trail, moves, k, v);
+            settling::take(masks, small, trail, moves, charts, k, v);
             let more = shown_by(masks, output, k, v);
             hunt(
                 masks,
@@ -255,7 +255,7 @@ fn hunt(
     if asked.needed != 0 {
         return;
     }
-    settling::stay(masks, small, trail, moves, k);
+    settling::stay(masks, small, trail, moves, charts, k);
     hunt(
         masks,
         small,

@@ -1,6 +1,6 @@
--- What the settled charts ask of the next chart's action. Where each of them could be met before, each still can exactly
--- if the action has what it lacks and nothing that it bars. So all of them together are a guard on the action, made once
--- for all candidates.
+-- What the settled charts ask of the next chart's action. Where each of them could be met before, each still can
+-- exactly if the action has what it lacks and nothing that it bars. So all of them together are a guard on the action,
+-- made once for all candidates.
 use mathlib.Core.Path.{_≡_}
 use mathlib.Core.Bool.{Bool, true, _&&_}
 use mathlib.Core.List.{List}

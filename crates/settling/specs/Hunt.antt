@@ -15,7 +15,7 @@ use Rattle.meaning.specs.Laws.Bools.{every}
 use Rattle.cells.specs.Table.{neededAt, barredAt, actionAt, backAt, aheadAt, upAt, toAt, countAt, masterAt}
 use Rattle.cells.specs.Table.{slaveStateAt, stateAt, placeAt}
 use Rattle.cells.specs.Trail.{nextIn, placeIn}
-use Rattle.settling.specs.Trail.{Trail, trailIn, Keeps}
+use Rattle.settling.specs.Trail.{Trail, Matches, trailIn, Keeps}
 use Rattle.settling.specs.declared.Found.{Found}
 pub mod Laws
 
@@ -155,13 +155,15 @@ pub record Held (f g : List ℕ) : Type 0 where
 abbrev pub BytesPut : ℕ → List ℕ → List ℕ → List ℕ → Type 0
 BytesPut at r l l′ = RowAt at mostCharts (λ c. getD r c 0) l l′
 
--- chart k takes its candidate v: the beginning of k charts that stands in w and b stays, and in w′ and b′ stands that
--- of one chart more
-pub record Takes (m s : List ℕ) (k v : ℕ) (w b w′ b′ : List ℕ) : Type 0 where
+-- chart k of N takes its candidate v: the beginning of k charts that stands in w and b stays, and in w′ and b′ stands
+-- that of one chart more
+pub record Takes (m s : List ℕ) (N k v : ℕ) (w b w′ b′ : List ℕ) : Type 0 where
   pub kept : Keeps k w b w′ b′
-  pub grown : (o : ℕ) → trailIn w′ b′ (k + 1) (o ∪ actionAt m k v ∩ upAt m k) ≡ taken m s (trailIn w b k o) k v
+  pub grown : (o : ℕ)
+      → Matches N (trailIn w′ b′ (k + 1) (o ∪ actionAt m k v ∩ upAt m k)) (taken m s (trailIn w b k o) k v)
 
 -- the same where chart k takes no transition
-pub record Idles (active place : ℕ) (s : List ℕ) (k : ℕ) (w b w′ b′ : List ℕ) : Type 0 where
+pub record Idles (active place : ℕ) (s : List ℕ) (N k : ℕ) (w b w′ b′ : List ℕ) : Type 0 where
   pub kept : Keeps k w b w′ b′
-  pub grown : (m : List ℕ) (o : ℕ) → trailIn w′ b′ (k + 1) o ≡ idled m s active place (trailIn w b k o) k
+  pub grown : (m : List ℕ) (o : ℕ)
+      → Matches N (trailIn w′ b′ (k + 1) o) (idled m s active place (trailIn w b k o) k)

@@ -28,6 +28,24 @@ pub record Trail : Type 0 where
 unfoldable pub beginning : List ℕ → Trail
 beginning low = record { low = low; needed = []; barred = []; next = []; awake = []; places = []; output = 0 }
 
+-- without what charts are offered
+abbrev pub bare : Trail → Trail
+bare t =
+    record {
+      low = [];
+      needed = t .needed;
+      barred = t .barred;
+      next = t .next;
+      awake = t .awake;
+      places = t .places;
+      output = t .output;
+    }
+
+-- two that differ at most in what charts from N on are offered, which a search over N charts does not read
+pub record Matches (N : ℕ) (t t′ : Trail) : Type 0 where
+  pub low : (c : ℕ) → c < N → getD (t .low) c 0 ≡ getD (t′ .low) c 0
+  pub rest : bare t ≡ bare t′
+
 -- ── where it stands ──
 
 -- the charts below k are settled, and o comes out of them
@@ -60,7 +78,7 @@ pub record RowPut (k : ℕ) (r w w′ : List ℕ) : Type 0 where
   pub kept : Same (lowCell k 0) w w′
   pub row : (c : ℕ) → c < mostCharts → lowIn w′ k c ≡ getD r c 0
 
--- chart k has the action a: what each chart is surely offered then stands behind what chart k needs and bars
-pub record Lowers (m : List ℕ) (a k : ℕ) (w w′ : List ℕ) : Type 0 where
+-- chart k has the action a: what each of the N charts is surely offered then stands behind what chart k needs and bars
+pub record Lowers (m : List ℕ) (a N k : ℕ) (w w′ : List ℕ) : Type 0 where
   pub kept : Same (lowCell (k + 1) 0) w w′
-  pub rows : (c : ℕ) → c < mostCharts → lowIn w′ (k + 1) c ≡ lowIn w k c ∪ a ∩ backAt m c k
+  pub rows : (c : ℕ) → c < N → lowIn w′ (k + 1) c ≡ lowIn w k c ∪ a ∩ backAt m c k

@@ -4,12 +4,13 @@ ghost use mathlib.Core.Path.{_≡_};
 ghost use mathlib.Core.Bool.{_&&_, not};
 ghost use mathlib.Core.List.{List};
 ghost use Prim.Native.Nat.{ℕ, _+_, _≤_, _<_};
-ghost use lib.ListN.{length};
+ghost use lib.ListN.{length, getD};
 ghost use Rattle.signals.specs.Mask.{_∪_, _∩_, within, apart};
 ghost use Rattle.meaning.specs.Numbers.{mostCharts, mostFromState, noPlace, stayPlace};
 ghost use Rattle.meaning.specs.Calls.{made};
 ghost use Rattle.cells.specs.Table.{masksFor, smallSize, backAt};
-ghost use Rattle.cells.specs.Trail.{trailFor, lowIn, Room};
+ghost use Rattle.layout.specs.Row.{RowAt};
+ghost use Rattle.cells.specs.Trail.{half, lowCell, trailFor, lowIn, Room};
 ghost use Rattle.settling.specs.Trail.{trailIn, RowPut, Lowers};
 ghost use Rattle.settling.specs.Hunt.{wakes, fineAt, taken, Takes, Idles};
 ghost use Rattle.settling.specs.Asks.{Passes, Covers, asksOf};
@@ -29,7 +30,8 @@ pub const NO_PLACE: u8 = 255;
 pub const STAY_PLACE: u8 = 254;
 
 // What was found so far: the first permitted choice's outcome, if there is one, and whether all others agree with it.
-// Places do not count for that. The rows stand first: a copy in words of sixteen bytes then reads no two fields at once.
+// Places do not count for that. The rows stand first: a copy by words of sixteen bytes then reads no two fields at
+// once.
 pub struct Found {
     pub next: [u8; CHARTS],
     pub places: [u8; CHARTS],
@@ -114,20 +116,33 @@ pub fn fits(masks: &[u64], trail: &[u64], asked: Guard, k: usize, v: usize) -> b
     holds(own, low, low | masks::ahead(masks, k + 1, k))
 }
 
-// What each chart is surely offered once chart k has this action. It is a row of its own, so that its masks are
-// computed side by side.
-fn lowered(masks: &[u64], trail: &[u64], action: u64, k: usize) -> [u64; CHARTS]
-    requires { ⌜ (masksFor (k + 1) ≤ length (now masks)) × (k < mostCharts) × (trailFor k ≤ length (now trail)) ⌝ }
-    ensures { λ r. ⌜ r ≡ made mostCharts
-        (λ c. lowIn (now (trail .entry)) k c ∪ action ∩ backAt (now (masks .entry)) c k) ⌝ }
+// What the charts of a half are surely offered, from chart `from` on, once chart k has this action. It is a row of its
+// own, so that its masks are computed side by side.
+fn lowered(masks: &[u64], trail: &[u64], action: u64, k: usize, from: usize) -> [u64; cells::HALF]
+    requires { ⌜ (masksFor (k + 1) ≤ length (now masks)) × (k < mostCharts) × (trailFor k ≤ length (now trail))
+        × (from + half ≤ mostCharts) ⌝ }
+    ensures { λ r. ⌜ r ≡ made half
+        (λ c. lowIn (now (trail .entry)) k (from + c) ∪ action ∩ backAt (now (masks .entry)) (from + c) k) ⌝ }
 {
-    let mut row = [0u64; CHARTS];
+    let mut row = [0u64; cells::HALF];
     let mut c: usize = 0;
-    while c < CHARTS {
-        row[c] = trail::low(trail, k, c) | action & masks::back(masks, c, k);
+    while c < cells::HALF {
+        row[c] = trail::low(trail, k, from + c) | action & masks::back(masks, from + c, k);
         c += 1;
     }
     row
+}
+
+// Puts what the charts of a half are surely offered before chart k is settled.
+fn put_half(trail: &mut [u64], row: [u64; cells::HALF], k: usize, from: usize)
+    requires { ⌜ (trailFor k ≤ length (now trail)) × (k ≤ mostCharts) × (from + half ≤ mostCharts) ⌝ }
+    ensures { λ _. ⌜ RowAt (lowCell k from) half (λ c. getD row c 0) (now (trail .entry)) (now (trail .exit)) ⌝ }
+{
+    let mut c: usize = 0;
+    while c < cells::HALF {
+        trail::put_low(trail, k, from + c, row[c]);
+        c += 1;
+    }
 }
 
 // Puts what each chart is surely offered before chart k is settled.
@@ -142,14 +157,29 @@ pub fn put_row(trail: &mut [u64], row: [u64; CHARTS], k: usize)
     }
 }
 
-// Chart k has this action.
-fn lower(masks: &[u64], trail: &mut [u64], action: u64, k: usize)
+// Chart k has this action: what that puts in for the charts of a half.
+fn lower_half(masks: &[u64], trail: &mut [u64], action: u64, k: usize, from: usize)
     requires { ⌜ (masksFor (k + 1) ≤ length (now masks)) × (trailFor (k + 1) ≤ length (now trail))
-        × (k < mostCharts) ⌝ }
-    ensures { λ _. ⌜ Lowers (now (masks .entry)) action k (now (trail .entry)) (now (trail .exit)) ⌝ }
+        × (k < mostCharts) × (from + half ≤ mostCharts) ⌝ }
+    ensures { λ _. ⌜ RowAt (lowCell (k + 1) from) half
+        (λ c. lowIn (now (trail .entry)) k (from + c) ∪ action ∩ backAt (now (masks .entry)) (from + c) k)
+        (now (trail .entry)) (now (trail .exit)) ⌝ }
 {
-    let row = lowered(masks, trail, action, k);
-    put_row(trail, row, k + 1);
+    let row = lowered(masks, trail, action, k, from);
+    put_half(trail, row, k + 1, from);
+}
+
+// The same of all charts. Where there are few, the second half has none.
+fn lower(masks: &[u64], trail: &mut [u64], action: u64, charts: usize, k: usize)
+    requires { ⌜ (masksFor (k + 1) ≤ length (now masks)) × (trailFor (k + 1) ≤ length (now trail))
+        × (k < mostCharts) × (charts ≤ mostCharts) ⌝ }
+    ensures { λ _. ⌜ Lowers (now (masks .entry)) action charts k (now (trail .entry)) (now (trail .exit)) ⌝ }
+{
+    lower_half(masks, trail, action, k, 0);
+    if charts <= cells::HALF {
+        return;
+    }
+    lower_half(masks, trail, action, k, cells::HALF);
 }
 
 // Chart k takes its candidate v.
@@ -158,13 +188,14 @@ pub fn take(
     small: &[u8],
     trail: &mut [u64],
     moves: &mut [u8; moves::SIZE],
+    charts: usize,
     k: usize,
     v: usize,
 )
     requires { ⌜ (masksFor (k + 1) ≤ length (now masks)) × (length (now small) ≡ smallSize)
-        × Room (k + 1) (now trail) (now moves) × (k < mostCharts) × (v < mostFromState) ⌝ }
-    ensures { λ _. ⌜ Takes (now (masks .entry)) (now (small .entry)) k v (now (trail .entry)) (now (moves .entry))
-        (now (trail .exit)) (now (moves .exit)) ⌝ }
+        × Room (k + 1) (now trail) (now moves) × (k < mostCharts) × (v < mostFromState) × (charts ≤ mostCharts) ⌝ }
+    ensures { λ _. ⌜ Takes (now (masks .entry)) (now (small .entry)) charts k v (now (trail .entry))
+        (now (moves .entry)) (now (trail .exit)) (now (moves .exit)) ⌝ }
 {
     let needed = masks::needed(masks, k, v);
     let barred = masks::barred(masks, k, v);
@@ -173,7 +204,7 @@ pub fn take(
     let place = small::place(small, k, v);
     moves::put(moves, k, next, 1, place);
     let action = masks::action(masks, k, v);
-    lower(masks, trail, action, k);
+    lower(masks, trail, action, charts, k);
 }
 
 // Chart k takes no transition and keeps its state; 1 if it is active, and what stands for its place.
@@ -182,39 +213,54 @@ fn idle(
     small: &[u8],
     trail: &mut [u64],
     moves: &mut [u8; moves::SIZE],
+    charts: usize,
     k: usize,
     active: u8,
     place: u8,
 )
     requires { ⌜ (masksFor (k + 1) ≤ length (now masks)) × (length (now small) ≡ smallSize)
-        × Room (k + 1) (now trail) (now moves) × (k < mostCharts) ⌝ }
-    ensures { λ _. ⌜ Idles active place (now (small .entry)) k (now (trail .entry)) (now (moves .entry))
+        × Room (k + 1) (now trail) (now moves) × (k < mostCharts) × (charts ≤ mostCharts) ⌝ }
+    ensures { λ _. ⌜ Idles active place (now (small .entry)) charts k (now (trail .entry)) (now (moves .entry))
         (now (trail .exit)) (now (moves .exit)) ⌝ }
 {
     trail::put_asked(trail, k, 0, 0);
     let next = small::state(small, k);
     moves::put(moves, k, next, active, place);
-    lower(masks, trail, 0, k);
+    lower(masks, trail, 0, charts, k);
 }
 
 // Chart k is inactive.
-pub fn rest(masks: &[u64], small: &[u8], trail: &mut [u64], moves: &mut [u8; moves::SIZE], k: usize)
+pub fn rest(
+    masks: &[u64],
+    small: &[u8],
+    trail: &mut [u64],
+    moves: &mut [u8; moves::SIZE],
+    charts: usize,
+    k: usize,
+)
     requires { ⌜ (masksFor (k + 1) ≤ length (now masks)) × (length (now small) ≡ smallSize)
-        × Room (k + 1) (now trail) (now moves) × (k < mostCharts) ⌝ }
-    ensures { λ _. ⌜ Idles 0 noPlace (now (small .entry)) k (now (trail .entry)) (now (moves .entry))
+        × Room (k + 1) (now trail) (now moves) × (k < mostCharts) × (charts ≤ mostCharts) ⌝ }
+    ensures { λ _. ⌜ Idles 0 noPlace (now (small .entry)) charts k (now (trail .entry)) (now (moves .entry))
         (now (trail .exit)) (now (moves .exit)) ⌝ }
 {
-    idle(masks, small, trail, moves, k, 0, NO_PLACE);
+    idle(masks, small, trail, moves, charts, k, 0, NO_PLACE);
 }
 
 // Chart k stays: it is active.
-pub fn stay(masks: &[u64], small: &[u8], trail: &mut [u64], moves: &mut [u8; moves::SIZE], k: usize)
+pub fn stay(
+    masks: &[u64],
+    small: &[u8],
+    trail: &mut [u64],
+    moves: &mut [u8; moves::SIZE],
+    charts: usize,
+    k: usize,
+)
     requires { ⌜ (masksFor (k + 1) ≤ length (now masks)) × (length (now small) ≡ smallSize)
-        × Room (k + 1) (now trail) (now moves) × (k < mostCharts) ⌝ }
-    ensures { λ _. ⌜ Idles 1 stayPlace (now (small .entry)) k (now (trail .entry)) (now (moves .entry))
+        × Room (k + 1) (now trail) (now moves) × (k < mostCharts) × (charts ≤ mostCharts) ⌝ }
+    ensures { λ _. ⌜ Idles 1 stayPlace (now (small .entry)) charts k (now (trail .entry)) (now (moves .entry))
         (now (trail .exit)) (now (moves .exit)) ⌝ }
 {
-    idle(masks, small, trail, moves, k, 1, STAY_PLACE);
+    idle(masks, small, trail, moves, charts, k, 1, STAY_PLACE);
 }
 
 // Whether one of the first n triggers of chart d holds, where what the chart is surely offered is low and what it may

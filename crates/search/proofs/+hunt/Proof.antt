@@ -22,13 +22,13 @@ use Rattle.settling.specs.declared.Guard.{Guard}
 use lib.ListN.{length}
 use Rattle.cells.specs.Table.{masksFor, actionAt, upAt, countAt}
 use Rattle.cells.specs.Triggers.{toldAt}
-use Rattle.settling.specs.Trail.{Trail, trailIn, Keeps}
+use Rattle.settling.specs.Trail.{Trail, Matches, trailIn, Keeps}
 use Rattle.cells.specs.Trail.{Room}
 use Rattle.settling.specs.Trail.Laws.{keeps-refl, keeps-trans, keeps-fewer, keeps-room, room-fewer, trail-kept}
 use Rattle.meaning.specs.Rewriting.{inTurn}
 use Rattle.settling.specs.Hunt.{wakes, taken, rested, fineAt, outcomeIn, settleOf, over, foundIn, Held, Takes}
 use Rattle.settling.specs.Calm.{staysAt, stayed, calmAll, quietAt, huntsBoth, huntsCalm, Hunted}
-use Rattle.settling.specs.Calm.Laws.{fine-same}
+use Rattle.settling.specs.Calm.Laws.{fine-same, fine-match, hunts-match}
 use Rattle.settling.specs.Hunt.Laws.{Stopped, over-append, over-stopped, each-none, over-each, over-each-stopped}
 use Rattle.settling.specs.Asks.{Passes, Covers, asksOf}
 use Rattle.settling.specs.Asks.Laws.{ownAt, asked-never, asked-some, asks-kept, passes-kept, passes-next}
@@ -121,16 +121,18 @@ module _ (m s gs y : List ℕ) (charts left : ℕ) (some : left ≡ 0 → ⊥) (
   asleep t q w = rw (hunts-step m s gs y left k t some q, w)
 
   -- a beginning that can still be met, where it stands, and one that cannot
-  goes-on : (w b : List ℕ) (o : ℕ) (u : Trail) → trailIn w b (k + 1) o ≡ u → fineAt m s u k ≡ true →
+  goes-on : charts ≤ mostCharts → (w b : List ℕ) (o : ℕ) (u : Trail) → Matches charts (trailIn w b (k + 1) o) u
+      → fineAt m s u k ≡ true →
       over (huntsCalm m s gs y (left - 1) (charts - (left - 1)) (trailIn w b (charts - (left - 1)) o)) f
       ≡ over (below m s gs y left k u) f
-  goes-on w b o u e h = let z : charts - (left - 1) ≡ k + 1 = omega arith in rw (z, e, h)
+  goes-on few w b o u e h = let z : charts - (left - 1) ≡ k + 1 = omega arith in
+      rw (z, h) (ap (λ (os : List Outcome). over os f) (hunts-match m s gs y (left - 1) (k + 1) few e (omega arith)))
 
   -- where it stands, each settled chart can still be met
-  passes-on : charts ≤ mostCharts → (w b : List ℕ) (o : ℕ) (u : Trail) → trailIn w b (k + 1) o ≡ u
+  passes-on : charts ≤ mostCharts → (w b : List ℕ) (o : ℕ) (u : Trail) → Matches charts (trailIn w b (k + 1) o) u
       → fineAt m s u k ≡ true → Passes m w (charts - (left - 1))
   passes-on few w b o u e h = let z : charts - (left - 1) ≡ k + 1 = omega arith in
-      rw z (passes-next m s w b k o (omega arith) (ap (λ (x : Trail). fineAt m s x k) e ∙ h))
+      rw z (passes-next m s w b k o (omega arith) (fine-match m s e k (omega arith) ∙ h))
 
   drops : (u : Trail) → fineAt m s u k ≡ false → f ≡ over (below m s gs y left k u) f
   unfolding over
@@ -141,17 +143,18 @@ module _ (m s gs y : List ℕ) (charts left : ℕ) (some : left ≡ 0 → ⊥) (
     here : taken m s (trailIn w b k o) k v ≡ taken m s (trailIn w₀ b₀ k o) k v
     here = ap (λ (u : Trail). taken m s u k v) (trail-kept kept o)
 
-    goes : (w₁ b₁ f₁ g₁ w₂ b₂ f₂ g₂ : List ℕ) (o₁ : ℕ) → foundIn f₁ g₁ ≡ f
+    goes : charts ≤ mostCharts → (w₁ b₁ f₁ g₁ w₂ b₂ f₂ g₂ : List ℕ) (o₁ : ℕ) → foundIn f₁ g₁ ≡ f
         → true ≡ fineAt m s (taken m s (trailIn w b k o) k v) k →
-        Takes m s k v w b w₁ b₁ → o₁ ≡ o ∪ actionAt m k v ∩ upAt m k
+        Takes m s charts k v w b w₁ b₁ → o₁ ≡ o ∪ actionAt m k v ∩ upAt m k
         → Hunted m s gs y charts (left - 1) o₁ w₁ b₁ f₁ g₁ w₂ b₂ f₂ g₂ →
         Keeps k w₀ b₀ w₂ b₂ × (foundIn f₂ g₂ ≡ over (block m s gs y left k (trailIn w₀ b₀ k o) v) f)
-    goes w₁ b₁ f₁ g₁ w₂ b₂ f₂ g₂ o₁ q fine t e h =
+    goes few w₁ b₁ f₁ g₁ w₂ b₂ f₂ g₂ o₁ q fine t e h =
         let z : charts - (left - 1) ≡ k + 1 = omega arith in (
           keeps-trans kept (keeps-trans (t .kept) (keeps-fewer (charts - (left - 1)) z (h .kept))),
           h .found ∙ ap
               (over (huntsCalm m s gs y (left - 1) (charts - (left - 1)) (trailIn w₁ b₁ (charts - (left - 1)) o₁))) q
-              ∙ goes-on w₁ b₁ o₁ (taken m s (trailIn w₀ b₀ k o) k v) (ap (trailIn w₁ b₁ (k + 1)) e ∙ t .grown o ∙ here)
+              ∙ goes-on few w₁ b₁ o₁ (taken m s (trailIn w₀ b₀ k o) k v)
+              (subst₂ (Matches charts) (sym (ap (trailIn w₁ b₁ (k + 1)) e)) here (t .grown o))
               (ap (λ (u : Trail). fineAt m s u k) (sym here) ∙ sym fine),
         )
 
@@ -189,7 +192,11 @@ module _ (m s gs y : List ℕ) (charts left : ℕ) (some : left ≡ 0 → ⊥) (
         h′ = ap (λ (a : Guard). apart (a .needed) (a .barred)) (sym is) ∙ h
 
         none : (v : ℕ) → block m s gs y left k t v ≡ []
-        none v = rw (fine-taken m s w b k o few′ can cover v, asked-never _ _ (actionAt m k v) h′, and-false (ownAt m w k v))
+        none v = rw (
+          fine-taken m s w b k o few′ can cover v,
+          asked-never _ _ (actionAt m k v) h′,
+          and-false (ownAt m w k v),
+        )
 
         no-rest : below m s gs y left k (rested m s t k) ≡ []
         no-rest = rw (fine-rested m s w b k o few′ can cover, asked-some _ _ h′)
@@ -410,6 +417,7 @@ module _ (t : ℕ) where
         b .pre .1 .0 .small,
         room-fewer _ (omega (arith, b .pre .1 .4)) (b .pre .1 .1),
         omega (arith, b .pre .1 .3, b .pre .1 .4),
+        b .pre .1 .3,
       )
 
   -- nothing is to be in an inactive chart's action
@@ -465,8 +473,8 @@ module _ (t : ℕ) where
       record {
         found =
             h .hunt .ensures .found
-            ∙ goes-on m s gs y (a .charts) (a .left) some (b .pre .1 .4) (foundIn (a .best .now) (a .shown .now)) _ _
-            (a .output) _
+            ∙ goes-on m s gs y (a .charts) (a .left) some (b .pre .1 .4) (foundIn (a .best .now) (a .shown .now))
+            (b .pre .1 .3) _ _ (a .output) _
             (r .rest .ensures .grown m (a .output))
             (rests r)
             ∙ asleep m s gs y (a .charts) (a .left) some (b .pre .1 .4) (foundIn (a .best .now) (a .shown .now))
@@ -565,7 +573,7 @@ module _ (t : ℕ) where
   take-requires c κs =
       let l = c .before .before .before .before .before .before in
       let b = entry (tested l) in
-      (roomy l, b .pre .1 .0 .small, one-more l, few l, omega (arith, counted l))
+      (roomy l, b .pre .1 .0 .small, one-more l, few l, omega (arith, counted l), b .pre .1 .3)
 
   shown-by-requires : lts.Need-shown-by-requires (callees t) (at t) hunt.Post Inv-loop μ-loop
   shown-by-requires c κs =
@@ -618,7 +626,7 @@ module _ (t : ℕ) where
       let all = block m s gs y (a .left) k (trailIn (a .trail .now) (a .moves .now) k (a .output)) in
       let one = goes m s gs y (a .charts) (a .left) (some-left (tested l)) (b .pre .1 .4)
       (foundIn (l .loop .best) (l .loop .shown)) (a .trail .now) (a .moves .now)
-      (l .loop .trail) (l .loop .moves) (l .loop .v) (a .output) (l .loop .inv .1) _ _ _ _ _ _ _ _ _ refl
+      (l .loop .trail) (l .loop .moves) (l .loop .v) (a .output) (l .loop .inv .1) (b .pre .1 .3) _ _ _ _ _ _ _ _ _ refl
       (sym (r .before .before .before .if6 .taken)
       ∙ r .before .before .before .before .fits2 .ensures s (l .loop .moves) (a .output))
       (r .take .ensures) (g .shown-by .ensures) (h .hunt2 .ensures) in
@@ -667,7 +675,7 @@ module _ (t : ℕ) where
       ⊎-elim
       (λ w.
       let one = goes m s gs y (a .charts) (a .left) some (b .pre .1 .4) f (a .trail .now) (a .moves .now)
-      (l .loop .trail) (l .loop .moves) (l .loop .v) (a .output) (l .loop .inv .1) _ _ _ _ _ _ _ _ _ refl
+      (l .loop .trail) (l .loop .moves) (l .loop .v) (a .output) (l .loop .inv .1) (b .pre .1 .3) _ _ _ _ _ _ _ _ _ refl
       (sym (w .0 .taken) ∙ fits)
       (w .3 .ensures) (w .6 .ensures) (w .11 .ensures) in (
         subst₂ (λ (x y : List ℕ). Keeps k (a .trail .now) (a .moves .now) x y) (sym (w .17)) (sym (w .18)) (one .0),
@@ -754,7 +762,7 @@ module _ (t : ℕ) where
   stay-requires c κs =
       let l = c .before .before .before .before .before .before .before in
       let b = entry (tested l) in
-      (roomy l, b .pre .1 .0 .small, one-more l, few l)
+      (roomy l, b .pre .1 .0 .small, one-more l, few l, b .pre .1 .3)
 
   -- nor in that of one that stays
   stays-fine : (r : lts.After-stay (callees t) (at t) hunt.Post Inv-loop μ-loop) →
@@ -770,6 +778,21 @@ module _ (t : ℕ) where
       (b .pre .1 .4) (foundIn (a .best .now) (a .shown .now)) (b .pre .1 .3) (a .trail .now) (a .moves .now) (a .output)
       (b .pre .1 .6) (covered p) (p .before .asks .result) (p .before .asks .ensures) true
       (eq-eqb _ _ (r .before .before .before .if9 .left))
+
+  -- what stands there then, from the beginning at the function's entry
+  grown-stay : (r : lts.After-stay (callees t) (at t) hunt.Post Inv-loop μ-loop) →
+      let a = entry (tested (r .before .before .before .before .before .before .before .before)) .args in
+      let k = a .charts - a .left in
+      Matches (a .charts) (trailIn (r .stay .last .1 .1 .0) (r .stay .last .1 .1 .1 .0) (k + 1) (a .output))
+      (stayed (a .masks .now) (a .small .now) (trailIn (a .trail .now) (a .moves .now) k (a .output)) k)
+  grown-stay r =
+      let l = r .before .before .before .before .before .before .before .before in
+      let a = entry (tested l) .args in
+      let m = a .masks .now in
+      let k = a .charts - a .left in
+      subst (Matches (a .charts) _)
+      (ap (λ (x : Trail). stayed m (a .small .now) x k) (trail-kept (l .loop .inv .1) (a .output)))
+      (r .stay .ensures .grown m (a .output))
 
   hunt-requires-3 : lts.Need-hunt-requires-3 (callees t) (at t) hunt.Post Inv-loop μ-loop
   hunt-requires-3 c κs =
@@ -792,8 +815,7 @@ module _ (t : ℕ) where
           b .pre .1 .5,
           passes-on m s (a .guards .now) (a .stays .now) (a .charts) (a .left) some (b .pre .1 .4)
               (foundIn (a .best .now) (a .shown .now)) (b .pre .1 .3) _ _ (a .output) _
-              (r .stay .ensures .grown m (a .output)
-              ∙ ap (λ (x : Trail). stayed m s x k) (trail-kept (l .loop .inv .1) (a .output))) (stays-fine r),
+              (grown-stay r) (stays-fine r),
         ),
       )
 
@@ -819,9 +841,8 @@ module _ (t : ℕ) where
       record {
         found =
             h .hunt3 .ensures .found
-            ∙ goes-on m s gs y (a .charts) (a .left) some (b .pre .1 .4) f _ _ (a .output) (stayed m s u k)
-            (r .stay .ensures .grown m (a .output)
-            ∙ ap (λ (x : Trail). stayed m s x k) (trail-kept (l .loop .inv .1) (a .output)))
+            ∙ goes-on m s gs y (a .charts) (a .left) some (b .pre .1 .4) f (b .pre .1 .3) _ _ (a .output)
+            (stayed m s u k) (grown-stay r)
             (stays-fine r)
             ∙ sym (open-last m s gs y (a .left) k u f (λ e. e8 .if8 .left (e8 .before .told .ensures ∙ e)))
             ∙ ap (over (last m s gs y (a .left) k u)) (tried (e8 .before .before)) ∙ sym (whole l);

@@ -24,8 +24,11 @@ loop-holds c = (omega arith, refl)
 loop-again : tie.Need-loop-again Inv-loop μ-loop
 loop-again c =
     let l = c .before .before .loop in
-    let a = c .before .before .before .args in
-    (omega arith, made-filled 0 (λ d. getD (a .best .now) (a .at + d) 0) (l .c) (l .row) (omega arith) (l .inv .1))
+    let a = c .before .before .before .args in (
+      omega arith,
+      made-filled mostCharts 0 (λ d. getD (a .best .now) (a .at + d) 0) (l .c) (l .row) (omega arith)
+          (l .inv .1),
+    )
 
 returns : tie.Need-returns Inv-loop μ-loop
 returns c = let e : c .before .loop .c ≡ mostCharts = omega arith in rw e at (c .before .loop .inv .1) ∙ append-nil _

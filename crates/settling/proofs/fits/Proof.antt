@@ -15,8 +15,8 @@ use Rattle.settling.specs.Asks.Laws.{met, ownAt, fine-taken}
 use Rattle.settling.proofs.fits.Statement.{statement}
 use Rattle.settling.proofs.fits.Tie as tie
 
-module _ (m s w b : List ℕ) (k o v : ℕ) (few : k < mostCharts) (can : Passes m w k) (cover : Covers m k) (g : Guard) (is : g ≡ asksOf m w k) (a : ℕ)
-    (at : a ≡ actionAt m k v) (z : Bool) where
+module _ (m s w b : List ℕ) (k o v : ℕ) (few : k < mostCharts) (can : Passes m w k) (cover : Covers m k) (g : Guard)
+    (is : g ≡ asksOf m w k) (a : ℕ) (at : a ≡ actionAt m k v) (z : Bool) where
   -- what was asked of the action, as the code tests it
   by : met (g .needed) (g .barred) a ≡ z → fineAt m s (taken m s (trailIn w b k o) k v) k ≡ (ownAt m w k v && z)
   by e =
@@ -31,8 +31,8 @@ returns c s b o =
     let m = a .args .masks .now in
     let w = a .args .trail .now in
     let h = sym (c .before .holds .ensures) ∙ not-true _ (c .if1 .taken) in
-    sym (by m s w b (a .args .k) o (a .args .v) (a .pre .1) (a .pre .5) (a .pre .6) (a .args .asked) (a .pre .3) (t .action .result)
-    (t .action .ensures) false h
+    sym (by m s w b (a .args .k) o (a .args .v) (a .pre .1) (a .pre .5) (a .pre .6) (a .args .asked)
+    (a .pre .3) (t .action .result) (t .action .ensures) false h
     ∙ and-false (ownAt m w (a .args .k) (a .args .v)))
 
 returns-2 : tie.Need-returns-2
@@ -51,8 +51,8 @@ returns-2 c s b o =
     let own : c .holds2 .result ≡ ownAt m w (a .args .k) (a .args .v) =
     rw (c .holds2 .ensures, needed, barred, low, t .action .ensures, back, ahead) refl in
     own
-    ∙ sym (by m s w b (a .args .k) o (a .args .v) (a .pre .1) (a .pre .5) (a .pre .6) (a .args .asked) (a .pre .3) (t .action .result)
-    (t .action .ensures) true h
+    ∙ sym (by m s w b (a .args .k) o (a .args .v) (a .pre .1) (a .pre .5) (a .pre .6) (a .args .asked)
+    (a .pre .3) (t .action .result) (t .action .ensures) true h
     ∙ and-true (ownAt m w (a .args .k) (a .args .v)))
 
 pub fits-spec : {M : Type 1} → statement M

@@ -18,7 +18,7 @@ use Rattle.meaning.specs.Calls.Laws.{length-made, getD-made, made-cong}
 use Rattle.cells.specs.Table.{neededAt, barredAt, actionAt, backAt, upAt, toAt, stateAt, placeAt}
 use Rattle.cells.specs.Trail.{lowCell, needsCell, barsCell, nextCell, awakeCell, takenCell, lowIn, neededIn, barredIn}
 use Rattle.cells.specs.Trail.{nextIn, awakeIn, placeIn, columnIn, putAsked, putMove, Room}
-use Rattle.settling.specs.Trail.{Trail, beginning, trailIn, Same, Keeps, Lowers}
+use Rattle.settling.specs.Trail.{Trail, bare, Matches, beginning, trailIn, Same, Keeps, Lowers}
 use Rattle.settling.specs.Hunt.{taken, idled}
 use Rattle.settling.specs.Calm.{stayed}
 
@@ -38,16 +38,15 @@ made-more : (n : ℕ) (f g : ℕ → ℕ) (x : ℕ) → ((i : ℕ) → i < n →
 unfolding made
 made-more n f g x h e = rw add-one (ap₂ (λ (l : List ℕ) (y : ℕ). l ++ (y ∷ [])) (made-cong n f g h) e)
 
--- one more in an array that is x behind
-pub made-filled : (x : ℕ) (f : ℕ → ℕ) (d : ℕ) (l : List ℕ) → d < mostCharts
-    → l ≡ made d f ++ replicate (mostCharts - d) x →
-    set l d (f d) ≡ made (d + 1) f ++ replicate (mostCharts - (d + 1)) x
+-- one more in an array of N that is x behind
+pub made-filled : (N x : ℕ) (f : ℕ → ℕ) (d : ℕ) (l : List ℕ) → d < N → l ≡ made d f ++ replicate (N - d) x
+    → set l d (f d) ≡ made (d + 1) f ++ replicate (N - (d + 1)) x
 unfolding made
-made-filled x f d l h e =
+made-filled N x f d l h e =
     let n : length (made d f) ≡ d = length-made d f in
-    let z : mostCharts - d ≡ suc (mostCharts - (d + 1)) = omega arith in
-    let q : l ≡ made d f ++ x ∷ replicate (mostCharts - (d + 1)) x = e ∙ rw z in
-    rw (q, set-at (made d f) x (replicate (mostCharts - (d + 1)) x) (f d) d n, add-one, append-assoc)
+    let z : N - d ≡ suc (N - (d + 1)) = omega arith in
+    let q : l ≡ made d f ++ x ∷ replicate (N - (d + 1)) x = e ∙ rw z in
+    rw (q, set-at (made d f) x (replicate (N - (d + 1)) x) (f d) d n, add-one, append-assoc)
 
 -- a number for each chart, those below n made and x behind them: how many, and an entry of either kind
 module _ (n : ℕ) (f : ℕ → ℕ) (x : ℕ) where
@@ -126,13 +125,12 @@ module _ {k : ℕ} {w b w′ b′ : List ℕ} (h : Keeps k w b w′ b′) where
       (made-cong k (awakeIn b′) (awakeIn b) (λ i l. h .small .at (awakeCell i) (omega arith)))
       (made-cong k (placeIn b′) (placeIn b) (λ i l. h .small .at (takenCell i) (omega arith)))
 
-  -- chart k needs n and bars r, goes to x, is active or not, and takes the transition at t; p is what each chart is
-  -- surely offered then
-  grown : {n r x a t : ℕ} {p : List ℕ} (o : ℕ) → made mostCharts (lowIn w′ (k + 1)) ≡ p →
+  -- chart k needs n and bars r, goes to x, is active or not, and takes the transition at t
+  grown : {n r x a t : ℕ} (o : ℕ) →
       neededIn w′ k ≡ n → barredIn w′ k ≡ r → nextIn b′ k ≡ x → awakeIn b′ k ≡ a → placeIn b′ k ≡ t →
-      trailIn w′ b′ (k + 1) o
+      bare (trailIn w′ b′ (k + 1) o)
       ≡ record {
-        low = p;
+        low = [];
         needed = trailIn w b k o .needed ++ (n ∷ []);
         barred = trailIn w b k o .barred ++ (r ∷ []);
         next = trailIn w b k o .next ++ (x ∷ []);
@@ -141,31 +139,41 @@ module _ {k : ℕ} {w b w′ b′ : List ℕ} (h : Keeps k w b w′ b′) where
         output = o;
       }
   unfolding trailIn
-  grown o e₁ e₂ e₃ e₄ e₅ e₆ =
-      trail-eq o e₁ (made-more k (neededIn w′) (neededIn w) _ (λ i l. h .masks .at (needsCell i) (omega arith)) e₂)
-      (made-more k (barredIn w′) (barredIn w) _ (λ i l. h .masks .at (barsCell i) (omega arith)) e₃)
-      (made-more k (nextIn b′) (nextIn b) _ (λ i l. h .small .at (nextCell i) (omega arith)) e₄)
-      (made-more k (awakeIn b′) (awakeIn b) _ (λ i l. h .small .at (awakeCell i) (omega arith)) e₅)
-      (made-more k (placeIn b′) (placeIn b) _ (λ i l. h .small .at (takenCell i) (omega arith)) e₆)
+  grown o e₁ e₂ e₃ e₄ e₅ =
+      trail-eq o refl (made-more k (neededIn w′) (neededIn w) _ (λ i l. h .masks .at (needsCell i) (omega arith)) e₁)
+      (made-more k (barredIn w′) (barredIn w) _ (λ i l. h .masks .at (barsCell i) (omega arith)) e₂)
+      (made-more k (nextIn b′) (nextIn b) _ (λ i l. h .small .at (nextCell i) (omega arith)) e₃)
+      (made-more k (awakeIn b′) (awakeIn b) _ (λ i l. h .small .at (awakeCell i) (omega arith)) e₄)
+      (made-more k (placeIn b′) (placeIn b) _ (λ i l. h .small .at (takenCell i) (omega arith)) e₅)
 
-  taken-in : (m s : List ℕ) (v o : ℕ)
-      → ((c : ℕ) → c < mostCharts → lowIn w′ (k + 1) c ≡ lowIn w k c ∪ actionAt m k v ∩ backAt m c k) →
-      neededIn w′ k ≡ neededAt m k v → barredIn w′ k ≡ barredAt m k v → nextIn b′ k ≡ toAt s k v → awakeIn b′ k ≡ 1
-      → placeIn b′ k ≡ placeAt s k v →
-      trailIn w′ b′ (k + 1) (o ∪ actionAt m k v ∩ upAt m k) ≡ taken m s (trailIn w b k o) k v
-  unfolding trailIn taken
-  taken-in m s v o l e₁ e₂ e₃ e₄ e₅ =
-      grown (o ∪ actionAt m k v ∩ upAt m k)
-      (made-cong mostCharts (lowIn w′ (k + 1))
-      (λ c. getD (made mostCharts (lowIn w k)) c 0 ∪ actionAt m k v ∩ backAt m c k)
-      (λ c p. l c p ∙ ap (λ (x : ℕ). x ∪ actionAt m k v ∩ backAt m c k) (sym (getD-made mostCharts (lowIn w k) c p))))
-      e₁ e₂ e₃ e₄ e₅
+  -- N is how many charts there are
+  module _ (N : ℕ) (few : N ≤ mostCharts) where
+    taken-in : (m s : List ℕ) (v o : ℕ)
+        → ((c : ℕ) → c < N → lowIn w′ (k + 1) c ≡ lowIn w k c ∪ actionAt m k v ∩ backAt m c k) →
+        neededIn w′ k ≡ neededAt m k v → barredIn w′ k ≡ barredAt m k v → nextIn b′ k ≡ toAt s k v → awakeIn b′ k ≡ 1
+        → placeIn b′ k ≡ placeAt s k v →
+        Matches N (trailIn w′ b′ (k + 1) (o ∪ actionAt m k v ∩ upAt m k)) (taken m s (trailIn w b k o) k v)
+    unfolding trailIn taken
+    taken-in m s v o l e₁ e₂ e₃ e₄ e₅ =
+        record {
+          low = λ c p. getD-made mostCharts (lowIn w′ (k + 1)) c (omega arith) ∙ l c p
+              ∙ ap (λ (x : ℕ). x ∪ actionAt m k v ∩ backAt m c k)
+              (sym (getD-made mostCharts (lowIn w k) c (omega arith)))
+              ∙ sym (getD-made mostCharts
+              (λ d. getD (made mostCharts (lowIn w k)) d 0 ∪ actionAt m k v ∩ backAt m d k) c (omega arith));
+          rest = grown (o ∪ actionAt m k v ∩ upAt m k) e₁ e₂ e₃ e₄ e₅;
+        }
 
-  idled-in : (m s : List ℕ) (z t o : ℕ) → ((c : ℕ) → c < mostCharts → lowIn w′ (k + 1) c ≡ lowIn w k c) →
-      neededIn w′ k ≡ 0 → barredIn w′ k ≡ 0 → nextIn b′ k ≡ stateAt s k → awakeIn b′ k ≡ z → placeIn b′ k ≡ t →
-      trailIn w′ b′ (k + 1) o ≡ idled m s z t (trailIn w b k o) k
-  unfolding trailIn idled
-  idled-in m s z t o l e₁ e₂ e₃ e₄ e₅ = grown o (made-cong mostCharts (lowIn w′ (k + 1)) (lowIn w k) l) e₁ e₂ e₃ e₄ e₅
+    idled-in : (m s : List ℕ) (z t o : ℕ) → ((c : ℕ) → c < N → lowIn w′ (k + 1) c ≡ lowIn w k c) →
+        neededIn w′ k ≡ 0 → barredIn w′ k ≡ 0 → nextIn b′ k ≡ stateAt s k → awakeIn b′ k ≡ z → placeIn b′ k ≡ t →
+        Matches N (trailIn w′ b′ (k + 1) o) (idled m s z t (trailIn w b k o) k)
+    unfolding trailIn idled
+    idled-in m s z t o l e₁ e₂ e₃ e₄ e₅ =
+        record {
+          low = λ c p. getD-made mostCharts (lowIn w′ (k + 1)) c (omega arith) ∙ l c p
+              ∙ sym (getD-made mostCharts (lowIn w k) c (omega arith));
+          rest = grown o e₁ e₂ e₃ e₄ e₅;
+        }
 
 -- two numbers are written
 module _ (l : List ℕ) (i j x y : ℕ) (apart : j ≢ i) where
@@ -176,12 +184,12 @@ module _ (l : List ℕ) (i j x y : ℕ) (apart : j ≢ i) where
   second-written h = getD-set-same (set l i x) j y 0 (lt-length-set l i x h)
 
 -- chart k needs n and bars r, its action is a; it goes to x, z is 1 if it is active, and it takes the transition at t
-module _ (m w b w′ : List ℕ) (k n r x z t a : ℕ) (room : Room (k + 1) w b) (few : k < mostCharts)
-    (h : Lowers m a k (putAsked w k n r) w′) where
+module _ (m w b w′ : List ℕ) (N k n r x z t a : ℕ) (room : Room (k + 1) w b) (few : N ≤ mostCharts)
+    (one : k < mostCharts) (h : Lowers m a N k (putAsked w k n r) w′) where
   abbrev moved : List ℕ
   moved = putMove b k x z t
 
-  rows : (c : ℕ) → c < mostCharts → lowIn w′ (k + 1) c ≡ lowIn w k c ∪ a ∩ backAt m c k
+  rows : (c : ℕ) → c < N → lowIn w′ (k + 1) c ≡ lowIn w k c ∪ a ∩ backAt m c k
   rows c l =
       h .rows c l
       ∙ ap (λ (y : ℕ). y ∪ a ∩ backAt m c k)
@@ -229,33 +237,47 @@ module _ (m w b w′ : List ℕ) (k n r x z t a : ℕ) (room : Room (k + 1) w b)
       }
 
 -- chart k takes its candidate v
-module _ (m s w b w′ : List ℕ) (k v : ℕ) (room : Room (k + 1) w b) (few : k < mostCharts)
-    (h : Lowers m (actionAt m k v) k (putAsked w k (neededAt m k v) (barredAt m k v)) w′) where
+module _ (m s w b w′ : List ℕ) (N k v : ℕ) (room : Room (k + 1) w b) (few : N ≤ mostCharts)
+    (one : k < mostCharts) (h : Lowers m (actionAt m k v) N k (putAsked w k (neededAt m k v) (barredAt m k v)) w′) where
   pub take-in : (o : ℕ) →
-      trailIn w′ (putMove b k (toAt s k v) 1 (placeAt s k v)) (k + 1) (o ∪ actionAt m k v ∩ upAt m k)
-      ≡ taken m s (trailIn w b k o) k v
+      Matches N (trailIn w′ (putMove b k (toAt s k v) 1 (placeAt s k v)) (k + 1) (o ∪ actionAt m k v ∩ upAt m k))
+      (taken m s (trailIn w b k o) k v)
   take-in o =
-      taken-in (written-keeps m w b w′ k (neededAt m k v) (barredAt m k v) (toAt s k v) 1 (placeAt s k v)
-      (actionAt m k v) room few h) m s v o
-      (rows m w b w′ k (neededAt m k v) (barredAt m k v) (toAt s k v) 1 (placeAt s k v) (actionAt m k v) room few h)
-      (needs m w b w′ k (neededAt m k v) (barredAt m k v) (toAt s k v) 1 (placeAt s k v) (actionAt m k v) room few h)
-      (bars m w b w′ k (neededAt m k v) (barredAt m k v) (toAt s k v) 1 (placeAt s k v) (actionAt m k v) room few h)
-      (goes m w b w′ k (neededAt m k v) (barredAt m k v) (toAt s k v) 1 (placeAt s k v) (actionAt m k v) room few h)
-      (wakes m w b w′ k (neededAt m k v) (barredAt m k v) (toAt s k v) 1 (placeAt s k v) (actionAt m k v) room few h)
-      (takes m w b w′ k (neededAt m k v) (barredAt m k v) (toAt s k v) 1 (placeAt s k v) (actionAt m k v) room few h)
+      taken-in (written-keeps m w b w′ N k n r x 1 t a room few one h) N few m s v o
+      (rows m w b w′ N k n r x 1 t a room few one h) (needs m w b w′ N k n r x 1 t a room few one h)
+      (bars m w b w′ N k n r x 1 t a room few one h) (goes m w b w′ N k n r x 1 t a room few one h)
+      (wakes m w b w′ N k n r x 1 t a room few one h) (takes m w b w′ N k n r x 1 t a room few one h)
+    where
+      n : ℕ
+      n = neededAt m k v
+
+      r : ℕ
+      r = barredAt m k v
+
+      x : ℕ
+      x = toAt s k v
+
+      t : ℕ
+      t = placeAt s k v
+
+      a : ℕ
+      a = actionAt m k v
 
 -- chart k takes no transition: z is 1 if it is active, and t stands for its place
-module _ (m s w b w′ : List ℕ) (k z t : ℕ) (room : Room (k + 1) w b) (few : k < mostCharts)
-    (h : Lowers m 0 k (putAsked w k 0 0) w′) where
+module _ (m s w b w′ : List ℕ) (N k z t : ℕ) (room : Room (k + 1) w b) (few : N ≤ mostCharts)
+    (one : k < mostCharts) (h : Lowers m 0 N k (putAsked w k 0 0) w′) where
   pub idle-in : (n : List ℕ) (o : ℕ) →
-      trailIn w′ (putMove b k (stateAt s k) z t) (k + 1) o ≡ idled n s z t (trailIn w b k o) k
+      Matches N (trailIn w′ (putMove b k (stateAt s k) z t) (k + 1) o) (idled n s z t (trailIn w b k o) k)
   idle-in n o =
-      idled-in (written-keeps m w b w′ k 0 0 (stateAt s k) z t 0 room few h) n s z t o
-      (λ c l. rows m w b w′ k 0 0 (stateAt s k) z t 0 room few h c l
+      idled-in (written-keeps m w b w′ N k 0 0 x z t 0 room few one h) N few n s z t o
+      (λ c l. rows m w b w′ N k 0 0 x z t 0 room few one h c l
       ∙ sets (lowIn w k c ∷ backAt m c k ∷ []) [] (A ∪ₑ ∅ₑ ∩ₑ B ≐ A) tt)
-      (needs m w b w′ k 0 0 (stateAt s k) z t 0 room few h) (bars m w b w′ k 0 0 (stateAt s k) z t 0 room few h)
-      (goes m w b w′ k 0 0 (stateAt s k) z t 0 room few h) (wakes m w b w′ k 0 0 (stateAt s k) z t 0 room few h)
-      (takes m w b w′ k 0 0 (stateAt s k) z t 0 room few h)
+      (needs m w b w′ N k 0 0 x z t 0 room few one h) (bars m w b w′ N k 0 0 x z t 0 room few one h)
+      (goes m w b w′ N k 0 0 x z t 0 room few one h) (wakes m w b w′ N k 0 0 x z t 0 room few one h)
+      (takes m w b w′ N k 0 0 x z t 0 room few one h)
+    where
+      x : ℕ
+      x = stateAt s k
 
 -- ── no chart yet ──
 

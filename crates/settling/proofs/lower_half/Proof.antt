@@ -1,0 +1,32 @@
+-- `settling::lower_half` meets its contract: the row that is put is what the charts are offered then.
+use mathlib.Core.Path.{ap, _∙_}
+use mathlib.Core.List.{List}
+use Prim.Native.Nat.{ℕ, _+_}
+use native.Mathlib.Omega.{arith}
+use borrow.Author.Needs.{needs}
+use lib.ListN.{getD}
+use Rattle.signals.specs.Mask.{_∪_, _∩_}
+use Rattle.meaning.specs.Calls.Laws.{getD-made}
+use Rattle.cells.specs.Table.{backAt}
+use Rattle.cells.specs.Trail.{half, lowIn}
+use Rattle.settling.proofs.lower_half.Statement.{statement}
+use Rattle.settling.proofs.lower_half.Tie as tie
+
+returns : tie.Need-returns
+returns c =
+    let p = c .before .before .put-half .ensures in
+    let r = c .before .before .before .before in
+    let a = r .before .before .before .before .args in
+    record {
+      in-row =
+          λ d l. p .in-row d l ∙ ap (λ (x : List ℕ). getD x d 0) (r .lowered .ensures)
+          ∙ getD-made half (λ e. lowIn (a .trail .now) (a .k) (a .from + e)
+          ∪ a .action ∩ backAt (a .masks .now) (a .from + e) (a .k)) d l;
+      below = p .below;
+      above = p .above;
+      long = p .long;
+    }
+
+pub lower-half-spec : {M : Type 1} → statement M
+lower-half-spec =
+    tie.close (tie.spec (λ c κs. search needs) (λ c. search needs) (λ c κs. search needs) (λ c. search needs) returns)
