@@ -7,7 +7,7 @@ use crate::day::line;
 use crate::first::first_configuration;
 use crate::interface::interface;
 use crate::lacking::{lacking, shown as shown_by};
-use crate::limits::{refusal, SIGNALS};
+use crate::limits::{refusal, EDITION_AT, SIGNALS, TRAILER_BYTES};
 use crate::notation::file_of;
 use crate::notation::laid_out::laid_out;
 use crate::notation::write::text_of;
@@ -44,6 +44,8 @@ pub fn chart(command: &str, file: &[u8], words: &[&str]) -> Option<String> {
         }
         ("rewrite", []) => rewritten(file).map(|out| format!("{} bytes written\n", out.len())),
         ("clear", []) => cleared(file).and_then(|out| lost(file, &out)),
+        ("edition", [edition @ ("1" | "2")]) => under_edition(file, edition.parse().ok()?)
+            .map(|out| format!("{} bytes written\n", out.len())),
         ("read", []) => file_typed(file).map(|out| format!("{} bytes written\n", out.len())),
         ("write", []) => text(file).map(|text| text + "\n"),
         ("show", []) => text(file).map(|text| laid_out(&text)),
@@ -73,6 +75,15 @@ pub fn cleared(file: &[u8]) -> Result<Vec<u8>, Refused> {
         return Err(("clearing", done.refusal));
     }
     out.truncate(done.length);
+    Ok(out)
+}
+
+/// The file with another edition in its trailer.
+pub fn under_edition(file: &[u8], edition: u8) -> Result<Vec<u8>, Refused> {
+    accept(file).map_err(of_file)?;
+    let mut out = file.to_vec();
+    out[file.len() - TRAILER_BYTES + EDITION_AT] = edition;
+    accept(&out).map_err(of_file)?;
     Ok(out)
 }
 

@@ -44,9 +44,14 @@ fn main() -> ExitCode {
         ["file", name] => file(name),
         ["show"] => show(),
         ["day"] => day(),
-        ["chart", "rewrite", file, out] => written("rewrite", file, out, chart::rewritten),
-        ["chart", "clear", file, out] => written("clear", file, out, chart::cleared),
-        ["chart", "read", text, out] => written("read", text, out, chart::file_typed),
+        ["chart", "rewrite", file, out] => written("rewrite", file, &[], out, chart::rewritten),
+        ["chart", "clear", file, out] => written("clear", file, &[], out, chart::cleared),
+        ["chart", "edition", file, edition, out] => {
+            let number = edition.parse().map_err(|_| USE)?;
+            let make = |file: &[u8]| chart::under_edition(file, number);
+            written("edition", file, &[edition], out, make)
+        }
+        ["chart", "read", text, out] => written("read", text, &[], out, chart::file_typed),
         ["chart", command, file, ref words @ ..] => answer(command, file, words),
         ["replay"] => replay(),
         ["laws", seed, count] => told("laws", seed, count, laws::hold),
@@ -116,15 +121,18 @@ fn answer(command: &str, file: &str, words: &[&str]) -> Result<(), String> {
     print(answer.as_bytes())
 }
 
-/// What makes a file of a file or of a text.
-type Make = fn(&[u8]) -> Result<Vec<u8>, chart::Refused>;
-
-/// The same of a command that also writes a file.
-fn written(command: &str, file: &str, out: &str, make: Make) -> Result<(), String> {
+/// The same of a command that also writes a file, which is made of a file or of a text.
+fn written(
+    command: &str,
+    file: &str,
+    words: &[&str],
+    out: &str,
+    make: impl Fn(&[u8]) -> Result<Vec<u8>, chart::Refused>,
+) -> Result<(), String> {
     if let Ok(bytes) = make(&read(file)?) {
         write(out, &bytes)?;
     }
-    answer(command, file, &[])
+    answer(command, file, words)
 }
 
 /// The engines that laws are asked of.

@@ -4,6 +4,7 @@ ghost use Prim.Native.Nat.{_≤_};
 ghost use lib.ListN.{length};
 ghost use Rattle.io.specs.Counts.{Counts};
 use crate::words;
+use checks::limits;
 use typed::Configuration;
 use typed::Read;
 
@@ -16,6 +17,7 @@ pub enum Command {
     Run,
     Rewrite,
     Clear,
+    Edition,
     Lacking,
     Why,
     Read,
@@ -36,6 +38,10 @@ const FILE: usize = 2;
 const CONFIG: usize = 3;
 
 pub const OUT: usize = 3;
+
+const EDITION: usize = 3;
+
+pub const CHANGED: usize = 4;
 
 const SETS: usize = 4;
 
@@ -73,6 +79,9 @@ fn command_of(word: &[u8]) -> Command {
     if typed::is(word, b"clear") {
         return Command::Clear;
     }
+    if typed::is(word, b"edition") {
+        return Command::Edition;
+    }
     if typed::is(word, b"lacking") {
         return Command::Lacking;
     }
@@ -109,6 +118,7 @@ fn fewest(c: Command) -> usize {
         Command::Run => 5,
         Command::Rewrite => 4,
         Command::Clear => 4,
+        Command::Edition => 5,
         Command::Read => 4,
         Command::Lacking => 6,
         Command::Why => 5,
@@ -217,6 +227,23 @@ pub fn config() -> Configuration
         );
     }
     c
+}
+
+// No edition has this number.
+pub const NO_EDITION: u8 = 0;
+
+// The edition that was typed; none if it was typed wrong.
+pub fn edition() -> u8 {
+    let mut buffer = io::buffer();
+    let n = word(EDITION, &mut buffer);
+    if typed::is(&buffer[..n], b"1") {
+        return limits::FIRST_EDITION;
+    }
+    if typed::is(&buffer[..n], b"2") {
+        return limits::STAY_EDITION;
+    }
+    words::wrong(&buffer[..n], b"\" is no edition. Expected: 1 or 2.\n");
+    NO_EDITION
 }
 
 // How many sets were typed.

@@ -2,6 +2,7 @@
 // lines of the day program's form. Answers and refusals go to standard output; what is wrong with a command or a file's
 // name goes to standard error.
 mod ask;
+mod edition;
 mod parse;
 mod tell;
 mod why;
@@ -32,7 +33,7 @@ fn text_room() -> [u8; 1048577]
 }
 
 // The answer to a command on its file.
-fn answer(c: Command, file: &[u8]) {
+fn answer(c: Command, file: &mut [u8]) {
     match c {
         Command::Check => tell::check(file),
         Command::First => tell::first(file),
@@ -42,6 +43,7 @@ fn answer(c: Command, file: &[u8]) {
         Command::Run => tell::run(file, false),
         Command::Rewrite => tell::rewrite(file),
         Command::Clear => tell::clear(file),
+        Command::Edition => edition::change(file),
         Command::Lacking => why::lacking(file),
         Command::Why => why::why(file),
         Command::Write => tell::write(file, false),
@@ -63,7 +65,7 @@ fn on_file(c: Command) {
         words::complain(b"chart: the file is longer than 65,536 bytes.\n");
         return;
     }
-    answer(c, &file[..n]);
+    answer(c, &mut file[..n]);
 }
 
 // The command on a text.

@@ -1,4 +1,5 @@
 // A typed text: the file that it means is written, or it is said why there is none, and where the text goes wrong.
+use crate::ask;
 use crate::tell;
 use crate::words;
 use checks::limits;
@@ -29,5 +30,5 @@ pub fn read(text: &[u8]) {
         return;
     }
     let n = f.length;
-    tell::save(&out[..n]);
+    tell::save(ask::OUT, &out[..n]);
 }

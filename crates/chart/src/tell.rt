@@ -313,10 +313,10 @@ fn write_file(path: &[u8], bytes: &[u8]) -> bool {
     is_written & is_closed
 }
 
-// Writes a file to where it was asked for.
-fn is_saved(bytes: &[u8]) -> bool {
+// Writes a file of the name that was typed as word i.
+fn is_saved(i: usize, bytes: &[u8]) -> bool {
     let mut path = io::buffer();
-    let n = ask::word(ask::OUT, &mut path);
+    let n = ask::word(i, &mut path);
     let is_written = write_file(&path[..n], bytes);
     if !is_written {
         words::failed(&path[..n]);
@@ -325,8 +325,8 @@ fn is_saved(bytes: &[u8]) -> bool {
 }
 
 // The same, and says how long the file is.
-pub fn save(bytes: &[u8]) {
-    if is_saved(bytes) {
+pub fn save(i: usize, bytes: &[u8]) {
+    if is_saved(i, bytes) {
         io::print_decimal(STDOUT_FILENO, bytes.len() as u64);
         say(b" bytes written\n");
     }
@@ -341,7 +341,7 @@ pub fn rewrite(file: &[u8]) {
         return;
     }
     let n = w.length;
-    save(&out[..n]);
+    save(ask::OUT, &out[..n]);
 }
 
 // Says how many transitions chart c lost, if it had more before.
@@ -407,7 +407,7 @@ pub fn clear(file: &[u8]) {
         return;
     }
     let n = w.length;
-    if is_saved(&out[..n]) {
+    if is_saved(ask::OUT, &out[..n]) {
         lost_in_charts(file, &out[..n]);
     }
 }

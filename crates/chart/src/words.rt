@@ -228,6 +228,7 @@ pub fn help(fd: i32) {
           chart run FILE CONFIG SET..    one step for each set, in order\n  \
           chart rewrite FILE OUT         writes the same chart without slaves to the file OUT\n  \
           chart clear FILE OUT           writes the same chart without dead transitions to the file OUT\n  \
+          chart edition FILE N OUT       writes the file under edition N, which is 1 or 2, to the file OUT\n  \
           chart lacking FILE CHART PLACE SET  whether a transition's guard is met when its chart is offered the set, \
           or what it lacks\n  \
           chart why FILE CONFIG SET      the same of each transition from the present states, under the input alone\n  \
