@@ -7,9 +7,27 @@ use desk::Day;
 use desk::Entry;
 use typed::Read;
 
-// The entries joined; the day's number, 0 if it has none; or that they are wrong, and which line is.
+// What is wrong with a line.
+pub enum Fault {
+    Nothing,
+    // It is the last, and no line feed follows.
+    NoFeed,
+    // A carriage return stands before its line feed.
+    Return,
+    Blank,
+    // It has the day's number, and is not the first.
+    LateDay,
+    // It begins with `day`, and no number of a day follows.
+    BadDay,
+    // It does not begin with the number of a case,
+    BadCase,
+    // or no set follows.
+    BadSet,
+}
+
+// The entries joined; the day's number, 0 if it has none; or what is wrong, and in which line, counted from 1.
 pub struct Entered {
-    pub is_right: bool,
+    pub fault: Fault,
     pub line: u64,
     pub number: u64,
     pub day: Day,
@@ -17,7 +35,7 @@ pub struct Entered {
 
 // A line that was read: an entry, or the day's number.
 pub struct Line {
-    pub is_right: bool,
+    pub fault: Fault,
     pub is_day: bool,
     pub number: u64,
     pub signals: u64,
@@ -54,44 +72,59 @@ pub fn count(i: usize) -> Read {
     decimal(&word[..n])
 }
 
-fn line_of(is_right: bool, is_day: bool, number: u64, signals: u64) -> Line {
+fn line_of(fault: Fault, is_day: bool, number: u64, signals: u64) -> Line {
     Line {
-        is_right,
+        fault,
         is_day,
         number,
         signals,
     }
 }
 
+fn wrong(fault: Fault) -> Line {
+    line_of(fault, false, 0, 0)
+}
+
 // A line whose two words stand before and behind its first space.
 fn words(first: &[u8], second: &[u8]) -> Line {
     if typed::is(first, b"day") {
         let Read::Is(n) = decimal(second) else {
-            return line_of(false, true, 0, 0);
+            return wrong(Fault::BadDay);
         };
-        return line_of(n > 0, true, n, 0);
+        if n == 0 {
+            return wrong(Fault::BadDay);
+        }
+        return line_of(Fault::Nothing, true, n, 0);
     }
     let Read::Is(n) = decimal(first) else {
-        return line_of(false, false, 0, 0);
+        return wrong(Fault::BadCase);
     };
     let Read::Is(s) = typed::set(second) else {
-        return line_of(false, false, 0, 0);
+        return wrong(Fault::BadSet);
     };
-    line_of(true, false, n, s)
+    line_of(Fault::Nothing, false, n, s)
 }
 
+// Without a space, the second word is empty.
 fn read_line(line: &[u8]) -> Line {
+    let n = line.len();
+    if n == 0 {
+        return wrong(Fault::Blank);
+    }
+    if line[n - 1] == b'\r' {
+        return wrong(Fault::Return);
+    }
     let space = typed::end(line, 0, b' ');
-    if space >= line.len() {
-        return line_of(false, false, 0, 0);
+    if space >= n {
+        return words(line, b"");
     }
     let behind = space + 1;
     words(&line[..space], &line[behind..])
 }
 
-fn entries_of(is_right: bool, line: u64, number: u64, day: Day) -> Entered {
+fn entries_of(fault: Fault, line: u64, number: u64, day: Day) -> Entered {
     Entered {
-        is_right,
+        fault,
         line,
         number,
         day,
@@ -102,20 +135,21 @@ fn entries_of(is_right: bool, line: u64, number: u64, day: Day) -> Entered {
 pub fn entries(text: &[u8], n: usize) -> Entered {
     let mut d = deciding::no_day();
     let mut number: u64 = 0;
-    let mut line: u64 = 0;
+    let mut line: u64 = 1;
     let mut at: usize = 0;
     while at < text.len() {
         let e = typed::end(text, at, b'\n');
-        let r = read_line(&text[at..e]);
         if e >= text.len() {
-            return entries_of(false, line, 0, d);
+            return entries_of(Fault::NoFeed, line, 0, d);
         }
-        if !r.is_right {
-            return entries_of(false, line, 0, d);
-        }
+        let r = read_line(&text[at..e]);
+        let f = r.fault;
+        let Fault::Nothing = f else {
+            return entries_of(f, line, 0, d);
+        };
         if r.is_day {
-            if line > 0 {
-                return entries_of(false, line, 0, d);
+            if line > 1 {
+                return entries_of(Fault::LateDay, line, 0, d);
             }
             number = r.number;
         } else {
@@ -131,5 +165,5 @@ pub fn entries(text: &[u8], n: usize) -> Entered {
         at = e + 1;
         line = std::num::wrapping_add_u64(line, 1);
     }
-    entries_of(true, line, number, d)
+    entries_of(Fault::Nothing, line, number, d)
 }

@@ -8,6 +8,7 @@ mod tell;
 ghost use mathlib.Core.Path.{_≡_};
 ghost use Prim.Native.Nat.{_≤_};
 ghost use lib.ListN.{length};
+use day::Fault;
 use desk::Day;
 use typed::Read;
 
@@ -136,13 +137,15 @@ fn day_of(file: &[u8], book: &mut [u8], n: usize, text: &[u8])
     requires { ⌜ (n ≤ 64) × (length (now book) ≡ 2112) ⌝ }
 {
     let e = day::entries(text, n);
-    if !e.is_right {
-        tell::wrong_line(e.line);
+    let f = e.fault;
+    let Fault::Nothing = f else {
+        tell::wrong_line(f, e.line);
         return;
-    }
-    let number = number_of(e.number, book::last_day(book));
+    };
+    let last = book::last_day(book);
+    let number = number_of(e.number, last);
     if number == 0 {
-        tell::complain(b"post: the book has posted this day already.\n");
+        tell::posted_already(e.number, last);
         return;
     }
     let d = e.day;

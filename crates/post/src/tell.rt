@@ -3,6 +3,7 @@ ghost use mathlib.Core.Path.{_≡_};
 ghost use Prim.Native.Nat.{_+_, _*_, _≤_};
 ghost use lib.ListN.{length};
 use crate::book;
+use crate::day::Fault;
 use libc::STDERR_FILENO;
 use libc::STDOUT_FILENO;
 
@@ -29,12 +30,49 @@ pub fn refused(what: &[u8], refusal: u8) {
     say(b"\n");
 }
 
-pub fn wrong_line(before: u64) {
-    complain(b"post: of the day's lines these are right: ");
-    io::print_decimal(STDERR_FILENO, before);
-    complain(
-        b"; the next is wrong. Expected: the number of a case and a set, as 7 s0,s3; or, first, day 12.\n",
-    );
+// What is wrong with a line of the day's entries, and what was expected.
+pub fn wrong_line(fault: Fault, line: u64) {
+    complain(b"post: line ");
+    io::print_decimal(STDERR_FILENO, line);
+    match fault {
+        Fault::Nothing => complain(b" is right.\n"),
+        Fault::NoFeed => complain(
+            b" does not end with a line feed. Expected: a line feed behind every line, also the last.\n",
+        ),
+        Fault::Return => complain(
+            b" ends with a carriage return and a line feed. Expected: a line feed alone.\n",
+        ),
+        Fault::Blank => complain(
+            b" is blank. Expected: the number of a case and a set, as 7 s0,s3.\n",
+        ),
+        Fault::LateDay => complain(
+            b" has the day's number. Expected: only the first line has it.\n",
+        ),
+        Fault::BadDay => complain(
+            b" has no number of a day behind its first word. Expected: 1 to 999999999, as day 12.\n",
+        ),
+        Fault::BadCase => complain(
+            b" does not begin with the number of a case. Expected: a number and a set, as 7 s0,s3; \
+              or, first, day 12.\n",
+        ),
+        Fault::BadSet => complain(
+            b" has no set behind the number of its case. Expected: one space and a set, as 7 s0,s3; \
+              or 7 - for none.\n",
+        ),
+    }
+}
+
+// The day's number is not above that of the last day, or there is none left.
+pub fn posted_already(number: u64, last: u64) {
+    if number == 0 {
+        complain(b"post: the book has posted the last day that there can be.\n");
+        return;
+    }
+    complain(b"post: line 1 has day ");
+    io::print_decimal(STDERR_FILENO, number);
+    complain(b", but the book has posted day ");
+    io::print_decimal(STDERR_FILENO, last);
+    complain(b" already. Expected: a higher number.\n");
 }
 
 pub fn help() {

@@ -1,7 +1,6 @@
 -- `day::read_line` is safe and ends.
 use mathlib.Core.Path.{_≡_, sym}
 use lib.Seq.{length-take-le}
-use native.Mathlib.Omega.{arith}
 use borrow.Author.Needs.{needs}
 use Rattle.post.proofs.day.read_line.Statement.{statement}
 use Rattle.post.proofs.day.read_line.Tie as tie
@@ -11,12 +10,19 @@ read-line-spec =
     tie.close
     (tie.spec
     (λ c κs. search needs)
+    (λ c. search needs)
+    (λ c. search needs)
+    (λ c. search needs)
     (λ c κs. search needs)
     (λ c. search needs)
-    (λ c. omega arith)
+    (λ c κs. search needs)
+    (λ c. search needs)
+    (λ c κs. search needs)
+    (λ c. search needs)
+    (λ c. search needs)
     (λ c. sym (length-take-le _ _ (c .before .before .end .ensures .within)))
-    (λ c. omega (arith, c .before .if1 .left))
-    (λ c. omega (arith, c .before .if1 .left))
-    (λ c. omega (arith, c .before .if1 .left))
+    (λ c. search needs)
+    (λ c. search needs)
+    (λ c. search needs)
     (λ c κs. search needs)
     (λ c. search needs))
