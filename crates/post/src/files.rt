@@ -27,6 +27,15 @@ pub fn failed(i: usize) {
     tell::complain(b"\n");
 }
 
+// Says that the file of word i has more bytes than there is room for.
+fn too_long(i: usize) {
+    let mut path = io::buffer();
+    let n = os::arg(i, &mut path);
+    tell::complain(b"post: too long: ");
+    tell::complain(&path[..n]);
+    tell::complain(b"\n");
+}
+
 pub fn no_book(i: usize) {
     let mut path = io::buffer();
     let n = os::arg(i, &mut path);
@@ -56,7 +65,8 @@ fn unread() -> Loaded
     }
 }
 
-// Reads the file of word i, as far as the buffer goes.
+// Reads the file of word i. One more read tells whether the first ones came to its end: it gives nothing then, and more
+// bytes or a failure otherwise.
 pub fn load(i: usize, bytes: &mut [u8]) -> Loaded
     ensures { λ r. ⌜ Counts (r .count) (now (bytes .exit)) ⌝ }
 {
@@ -68,7 +78,17 @@ pub fn load(i: usize, bytes: &mut [u8]) -> Loaded
         return unread();
     }
     let count = io::read_full(fd, bytes);
+    let mut more = [0u8; 1];
+    let rest = libc::read(fd, &mut more);
     libc::close(fd);
+    if rest < 0 {
+        failed(i);
+        return unread();
+    }
+    if rest > 0 {
+        too_long(i);
+        return unread();
+    }
     Loaded {
         is_read: true,
         count,

@@ -25,12 +25,12 @@ const ENTRIES: usize = 4;
 
 const SHOWN: usize = 2;
 
-// Room for a chart file or a day's entries, and a byte more, which tells that it is longer; and for the rows of 64
-// cases of sixteen charts. Only the lengths are promised, so that no proof looks at so many zeros.
-fn file_room() -> [u8; 65537]
-    ensures { λ r. ⌜ 65537 ≡ length r ⌝ }
+// Room for a chart file or a day's entries, and for the rows of 64 cases of sixteen charts. Only the lengths are
+// promised, so that no proof looks at so many zeros.
+fn file_room() -> [u8; 65536]
+    ensures { λ r. ⌜ 65536 ≡ length r ⌝ }
 {
-    [0; 65537]
+    [0; 65536]
 }
 
 fn row_room() -> [u8; 1920]
