@@ -18,30 +18,25 @@ pub struct Name {
     pub count: usize,
 }
 
-// Says that the file of word i cannot be read or written.
-pub fn failed(i: usize) {
+// Says what is wrong with the file of word i.
+fn complain_of(i: usize, what: &[u8]) {
     let mut path = io::buffer();
     let n = os::arg(i, &mut path);
-    tell::complain(b"post: cannot read or write ");
+    tell::complain(what);
     tell::complain(&path[..n]);
     tell::complain(b"\n");
 }
 
-// Says that the file of word i has more bytes than there is room for.
+pub fn failed(i: usize) {
+    complain_of(i, b"post: cannot read or write ");
+}
+
 fn too_long(i: usize) {
-    let mut path = io::buffer();
-    let n = os::arg(i, &mut path);
-    tell::complain(b"post: too long: ");
-    tell::complain(&path[..n]);
-    tell::complain(b"\n");
+    complain_of(i, b"post: too long: ");
 }
 
 pub fn no_book(i: usize) {
-    let mut path = io::buffer();
-    let n = os::arg(i, &mut path);
-    tell::complain(b"post: no book, or not a whole one: ");
-    tell::complain(&path[..n]);
-    tell::complain(b"\n");
+    complain_of(i, b"post: no book, or not a whole one: ");
 }
 
 // Whether there is a file of this name.
