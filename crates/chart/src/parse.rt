@@ -13,6 +13,10 @@ fn refused(text: &[u8], refusal: u8, place: usize) {
     if refusal != texts::NOT_NOTATION {
         return;
     }
+    if engine::file::check(text) == limits::ACCEPTED {
+        words::say(b"this is a chart file already: all other commands take it as it is\n");
+        return;
+    }
     if place > text.len() {
         return;
     }

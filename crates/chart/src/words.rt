@@ -19,7 +19,7 @@ fn say_file(refusal: u8) {
         say(b"fewer than 12 bytes, so there is no trailer");
     }
     if refusal == limits::OTHER_EDITION {
-        say(b"the edition is neither 1 nor 2");
+        say(b"the edition is neither 1 nor 2 (a typed chart becomes a file by chart read)");
     }
     if refusal == limits::BAD_COUNTS {
         say(
