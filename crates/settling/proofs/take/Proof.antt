@@ -15,9 +15,9 @@ use Rattle.settling.proofs.take.Tie as tie
 
 -- what was read is candidate v, and what was written is chart k's
 takes : (m s w b : List ℕ) (N k v : ℕ) {w₁ b₁ w′ : List ℕ} {n r x t a : ℕ} → Room (k + 1) w b → N ≤ mostCharts
-    → k < mostCharts → n ≡ neededAt m k v → r ≡ barredAt m k v → w₁ ≡ putAsked w k n r → x ≡ toAt s k v → t ≡ placeAt s k v
-    → b₁ ≡ putMove b k x 1 t → a ≡ actionAt m k v →
-    Lowers m a N k w₁ w′ → Takes m s N k v w b w′ b₁
+    → k < mostCharts → n ≡ neededAt m k v → r ≡ barredAt m k v → w₁ ≡ putAsked w k n r → x ≡ toAt s k v
+    → t ≡ placeAt s k v → b₁ ≡ putMove b k x 1 t → a ≡ actionAt m k v → Lowers m a N k w₁ w′
+    → Takes m s N k v w b w′ b₁
 takes m s w b N k v {w′ = w′} room few one en er ew ex et eb ea h =
     let l : Lowers m (actionAt m k v) N k (putAsked w k (neededAt m k v) (barredAt m k v)) w′ =
     rw (ea, ew, en, er) at h in
