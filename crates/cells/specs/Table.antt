@@ -182,10 +182,13 @@ module _ (s : List ℕ) where
   abbrev pub putNearest : ℕ → ℕ → ℕ → List ℕ
   putNearest c x y = set (set s (masterCell c) x) (slaveStateCell c) y
 
+-- what the charts from k on may put in for chart c comes from chart k or from one behind it
+abbrev pub Covered : List ℕ → ℕ → ℕ → Type 0
+Covered m k c = aheadAt m k c ∖ (aheadAt m (k + 1) c ∪ backAt m c k) ≡ 0
+
 -- what a search over N charts asks of its tables
 pub record Tables (N : ℕ) (m s : List ℕ) : Type 0 where
   pub masks : masksFor N ≤ length m
   pub small : length s ≡ smallSize
   pub counts : (c : ℕ) → c < N → countAt s c ≤ mostFromState
-  -- what the charts from k on may put in for chart c comes from chart k or from one behind it
-  pub ahead : (k c : ℕ) → k < N → c < N → aheadAt m k c ∖ (aheadAt m (k + 1) c ∪ backAt m c k) ≡ 0
+  pub ahead : (k c : ℕ) → k < N → c < N → Covered m k c

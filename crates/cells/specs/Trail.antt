@@ -2,7 +2,7 @@
 -- which earlier tries have left, is no part of it.
 use mathlib.Core.Path.{_≡_}
 use mathlib.Core.List.{List, _++_}
-use Prim.Native.Nat.{ℕ, _+_, _-_, _*_, _≤_}
+use Prim.Native.Nat.{ℕ, _+_, _-_, _*_, _/_, _≤_}
 use lib.ListN.{length, getD, set, replicate}
 use Rattle.meaning.specs.Numbers.{mostCharts}
 use Rattle.meaning.specs.Calls.{made}
@@ -22,7 +22,7 @@ barsCell k = width * k + (mostCharts + 1)
 
 -- a row has two halves: where there are few charts, only the first is made anew
 abbrev pub half : ℕ
-half = 8
+half = mostCharts / 2
 
 -- how many masks the beginnings of N charts need: behind the last chart stands what each chart is offered once all are
 -- settled. They stand chart by chart, so that fewer charts need fewer

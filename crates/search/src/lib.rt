@@ -318,7 +318,7 @@ fn hunted(
     let mut moves = [0u8; moves::SIZE];
     let mut best = [0u8; FOUND_BYTES];
     let mut shown = [0u64; 1];
-    settling::put_row(trail, low, 0);
+    settling::put_row(trail, &low, 0, 0);
     put_column(
         &mut best,
         PLACES,

@@ -2,23 +2,19 @@
 -- exactly if the action has what it lacks and nothing that it bars. So all of them together are a guard on the action,
 -- made once for all candidates.
 use mathlib.Core.Path.{_≡_}
-use mathlib.Core.Bool.{Bool, true, _&&_}
+use mathlib.Core.Bool.{true}
 use mathlib.Core.List.{List}
 use Prim.Native.Nat.{ℕ, _+_, _<_}
-use Rattle.signals.specs.Mask.{_∪_, _∩_, _∖_, within, apart}
+use Rattle.signals.specs.Mask.{_∪_, _∩_, _∖_}
 use Rattle.meaning.specs.Rewriting.{unionUpTo}
 use Rattle.settling.specs.declared.Guard.{Guard}
-use Rattle.cells.specs.Table.{backAt, aheadAt}
+use Rattle.cells.specs.Table.{Covered, backAt, aheadAt}
 use Rattle.cells.specs.Trail.{lowIn, neededIn, barredIn}
+use Rattle.settling.specs.Hunt.{may}
 pub mod Laws
 
--- a guard that needs n and bars r can still be met, between l and l ∪ h
-abbrev pub may : ℕ → ℕ → ℕ → ℕ → Bool
-may n r l h = within n (l ∪ h) && apart r l
-
--- what the charts from k on may put in for one below k comes from chart k or from one behind it
 abbrev pub Covers : List ℕ → ℕ → Type 0
-Covers m k = (d : ℕ) → d < k → aheadAt m k d ∖ (aheadAt m (k + 1) d ∪ backAt m d k) ≡ 0
+Covers m k = (d : ℕ) → d < k → Covered m k d
 
 module _ (m w : List ℕ) (k : ℕ) where
   -- each chart below k can still be met, charts from k on being left

@@ -19,6 +19,11 @@ use Rattle.settling.specs.Trail.{Trail, Matches, trailIn, Keeps}
 use Rattle.settling.specs.declared.Found.{Found}
 pub mod Laws
 
+-- A guard can still be met that needs n and bars r, where l is surely offered and h may be beside it: what it needs is
+-- in what may be offered, and what it bars in nothing that surely is.
+abbrev pub may : ℕ → ℕ → ℕ → ℕ → Bool
+may n r l h = within n (l ∪ h) && apart r l
+
 module _ (m s : List ℕ) where
   -- settled chart d is active
   abbrev pub isAwake : Trail → ℕ → Bool
@@ -64,12 +69,9 @@ module _ (m s : List ℕ) where
   abbrev pub rested : Trail → ℕ → Trail
   rested t k = idled 0 noPlace t k
 
-  -- Settled chart d can still be met, charts from k on being left: what it needs is in what it may be offered, and what
-  -- it bars in nothing that it surely is.
+  -- settled chart d can still be met, charts from k on being left
   unfoldable pub passesAt : Trail → ℕ → ℕ → Bool
-  passesAt t k d =
-      within (getD (t .needed) d 0) (getD (t .low) d 0 ∪ aheadAt m k d)
-      && apart (getD (t .barred) d 0) (getD (t .low) d 0)
+  passesAt t k d = may (getD (t .needed) d 0) (getD (t .barred) d 0) (getD (t .low) d 0) (aheadAt m k d)
 
   -- every chart up to k can still be met
   unfoldable pub fineAt : Trail → ℕ → Bool

@@ -73,11 +73,6 @@ pub record Keeps (k : ℕ) (w b w′ b′ : List ℕ) : Type 0 where
   pub masks : Same (lowCell k mostCharts) w w′
   pub small : Same (nextCell k) b b′
 
--- what each chart is surely offered before chart k is settled is the row r
-pub record RowPut (k : ℕ) (r w w′ : List ℕ) : Type 0 where
-  pub kept : Same (lowCell k 0) w w′
-  pub row : (c : ℕ) → c < mostCharts → lowIn w′ k c ≡ getD r c 0
-
 -- chart k has the action a: what each of the N charts is surely offered then stands behind what chart k needs and bars
 pub record Lowers (m : List ℕ) (a N k : ℕ) (w w′ : List ℕ) : Type 0 where
   pub kept : Same (lowCell (k + 1) 0) w w′

@@ -11,7 +11,7 @@ ghost use Rattle.meaning.specs.Calls.{made};
 ghost use Rattle.cells.specs.Table.{masksFor, smallSize, backAt};
 ghost use Rattle.layout.specs.Row.{RowAt};
 ghost use Rattle.cells.specs.Trail.{half, lowCell, trailFor, lowIn, Room};
-ghost use Rattle.settling.specs.Trail.{trailIn, RowPut, Lowers};
+ghost use Rattle.settling.specs.Trail.{trailIn, Lowers};
 ghost use Rattle.settling.specs.Hunt.{wakes, fineAt, taken, Takes, Idles};
 ghost use Rattle.settling.specs.Asks.{Passes, Covers, asksOf};
 ghost use Rattle.cells.specs.Triggers.{triggersFor, Guards};
@@ -133,26 +133,15 @@ fn lowered(masks: &[u64], trail: &[u64], action: u64, k: usize, from: usize) -> 
     row
 }
 
-// Puts what the charts of a half are surely offered before chart k is settled.
-fn put_half(trail: &mut [u64], row: [u64; cells::HALF], k: usize, from: usize)
-    requires { ⌜ (trailFor k ≤ length (now trail)) × (k ≤ mostCharts) × (from + half ≤ mostCharts) ⌝ }
-    ensures { λ _. ⌜ RowAt (lowCell k from) half (λ c. getD row c 0) (now (trail .entry)) (now (trail .exit)) ⌝ }
+// Puts what charts are surely offered before chart k is settled, from chart `from` on.
+pub fn put_row(trail: &mut [u64], row: &[u64], k: usize, from: usize)
+    requires { ⌜ (trailFor k ≤ length (now trail)) × (k ≤ mostCharts) × (from + length (now row) ≤ mostCharts) ⌝ }
+    ensures { λ _. ⌜ RowAt (lowCell k from) (length (now (row .entry))) (λ c. getD (now (row .entry)) c 0)
+        (now (trail .entry)) (now (trail .exit)) ⌝ }
 {
     let mut c: usize = 0;
-    while c < cells::HALF {
+    while c < row.len() {
         trail::put_low(trail, k, from + c, row[c]);
-        c += 1;
-    }
-}
-
-// Puts what each chart is surely offered before chart k is settled.
-pub fn put_row(trail: &mut [u64], row: [u64; CHARTS], k: usize)
-    requires { ⌜ (trailFor k ≤ length (now trail)) × (k ≤ mostCharts) ⌝ }
-    ensures { λ _. ⌜ RowPut k row (now (trail .entry)) (now (trail .exit)) ⌝ }
-{
-    let mut c: usize = 0;
-    while c < CHARTS {
-        trail::put_low(trail, k, c, row[c]);
         c += 1;
     }
 }
@@ -166,7 +155,7 @@ fn lower_half(masks: &[u64], trail: &mut [u64], action: u64, k: usize, from: usi
         (now (trail .entry)) (now (trail .exit)) ⌝ }
 {
     let row = lowered(masks, trail, action, k, from);
-    put_half(trail, row, k + 1, from);
+    put_row(trail, &row, k + 1, from);
 }
 
 // The same of all charts. Where there are few, the second half has none.

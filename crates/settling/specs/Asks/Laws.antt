@@ -24,8 +24,8 @@ use Rattle.cells.specs.Trail.{lowCell, needsCell, barsCell, lowIn, neededIn, ba
 use Rattle.settling.specs.Trail.{trailIn, Keeps}
 use Rattle.meaning.specs.Calls.Laws.{getD-made}
 use Rattle.settling.specs.Trail.Laws.{getD-before, getD-last}
-use Rattle.settling.specs.Hunt.{taken, idled, rested, passesAt, fineAt}
-use Rattle.settling.specs.Asks.{may, Passes, Covers, wantsIn, bansIn, asksOf}
+use Rattle.settling.specs.Hunt.{may, taken, idled, rested, passesAt, fineAt}
+use Rattle.settling.specs.Asks.{Passes, Covers, wantsIn, bansIn, asksOf}
 
 -- ── a test, and what it says ──
 

@@ -9,7 +9,7 @@ use native.Mathlib.Numerals.{add-one}
 use native.Mathlib.Omega.{arith}
 use native.Mathlib.Decide.{decLt}
 use lib.ListN.{getD, replicate}
-use Rattle.signals.specs.Mask.{_∪_, _∩_, within, apart}
+use Rattle.signals.specs.Mask.{_∪_, _∩_}
 use Rattle.meaning.specs.Numbers.{mostCharts, noPlace, stayPlace}
 use Rattle.meaning.specs.Meaning.{same, Outcome}
 use Rattle.meaning.specs.Sums.{anyUpTo}
@@ -20,7 +20,7 @@ use Rattle.meaning.specs.Laws.Bools.{every, every-intro, and-i, same-refl, same
 use Rattle.cells.specs.Table.{actionAt, backAt, aheadAt, countAt}
 use Rattle.cells.specs.Trail.{lowIn, placeIn}
 use Rattle.settling.specs.Trail.{Trail, bare, Matches, trailIn}
-use Rattle.settling.specs.Hunt.{wakes, taken, idled, rested, passesAt, fineAt}
+use Rattle.settling.specs.Hunt.{may, wakes, taken, idled, rested, passesAt, fineAt}
 use Rattle.cells.specs.Triggers.{Guards, toldAt, someStay}
 use Rattle.settling.specs.Calm.{trips, staysAt, calm, stayed, calmAt, calmAll, quietAt, huntsBoth, huntsCalm}
 
@@ -80,7 +80,7 @@ module _ (m s : List ℕ) {N : ℕ} where
   fine-match {t} {t′} h k l =
       every-cong (suc k) (passesAt m s t (suc k)) (passesAt m s t′ (suc k))
       (λ d p. ap₂
-      (λ (u : Trail) (x : ℕ). within (getD (u .needed) d 0) (x ∪ aheadAt m (suc k) d) && apart (getD (u .barred) d 0) x)
+      (λ (u : Trail) (x : ℕ). may (getD (u .needed) d 0) (getD (u .barred) d 0) x (aheadAt m (suc k) d))
       (h .rest) (h .low d (omega arith)))
 
   taken-match : {t t′ : Trail} → N ≤ mostCharts → Matches N t t′ → (k v : ℕ)

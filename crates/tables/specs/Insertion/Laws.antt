@@ -35,7 +35,7 @@ use Rattle.wiring.specs.Sure.{sureOf, sureIn, surely, outside}
 use Rattle.cells.specs.Table.{SameWiring, SameLists, block, upCell, backCell, aheadCell, neededCell, barredCell}
 use Rattle.cells.specs.Table.{actionCell, masksFor, neededAt, barredAt, actionAt, backAt, aheadAt, putMasks, countFrom}
 use Rattle.cells.specs.Table.{masterFrom, stateFrom, placeFrom, toCell, countCell, masterCell, stateCell, placeCell}
-use Rattle.cells.specs.Table.{smallSize, toAt, countAt, masterAt, stateAt, placeAt, putSmall}
+use Rattle.cells.specs.Table.{Covered, smallSize, toAt, countAt, masterAt, stateAt, placeAt, putSmall}
 use Rattle.settling.specs.Trail.{Trail}
 use Rattle.meaning.specs.Rewriting.{inTurn}
 use Rattle.settling.specs.Hunt.{wakes, taken, rested, fineAt}
@@ -516,9 +516,8 @@ module _ (N : ℕ) (few : N ≤ mostCharts) (s m₀ : List ℕ) where
       go j c p q x false y = let z : j ≢ k = λ o. false≢true (sym y ∙ rw o (same-refl k)) in
           row-rest r (aheadCell j c) (λ d o w. omega arith) ∙ a .rows j c (omega arith) q x
 
--- what the charts from k on may put in comes from chart k or from one behind it
 pub chosen-ahead : {E : ℕ → Chart} {cfg : ℕ → ℕ} {N : ℕ} {lows shuts m s : List ℕ} → Chosen E cfg N lows shuts m s
-    → (k c : ℕ) → k < N → c < N → aheadAt m k c ∖ (aheadAt m (k + 1) c ∪ backAt m c k) ≡ 0
+    → (k c : ℕ) → k < N → c < N → Covered m k c
 unfolding ahead
 chosen-ahead {E} {cfg} {N} {lows} {shuts} {m} {s} h k c p q =
     ap₂ (λ (x y : ℕ). x ∖ (y ∪ backAt m c k))
