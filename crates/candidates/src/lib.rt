@@ -423,13 +423,13 @@ fn puts_out(masks: &[u64], small: &[u8], c: usize) -> u64
     u
 }
 
-// Nothing is left to put out after the last chart.
+// Nothing is left to put out after the last chart. The row is cleared whole: it has the same length in every file.
 fn clear_row(masks: &mut [u64], charts: usize)
     requires { ⌜ (masksFor charts ≤ length (now masks)) × (charts ≤ mostCharts) ⌝ }
-    ensures { λ _. ⌜ AheadRow charts (λ c. 0) charts (now (masks .entry)) (now (masks .exit)) ⌝ }
+    ensures { λ _. ⌜ AheadRow charts (λ c. 0) mostCharts (now (masks .entry)) (now (masks .exit)) ⌝ }
 {
     let mut c: usize = 0;
-    while c < charts {
+    while c < CHARTS {
         masks::put_ahead(masks, charts, c, 0);
         c += 1;
     }

@@ -3,6 +3,7 @@ use mathlib.Core.Path.{_≡_, refl, subst}
 use Prim.Native.Nat.{_*_, _-_, _≤_}
 use native.Mathlib.Omega.{arith}
 use borrow.Author.Needs.{needs}
+use Rattle.meaning.specs.Numbers.{mostCharts}
 use Rattle.cells.specs.Table.{block}
 use Rattle.tables.specs.Insertion.{AheadRow}
 use Rattle.layout.specs.Row.Laws.{row-none, row-more}
@@ -10,10 +11,10 @@ use Rattle.candidates.proofs.clear_row.Statement.{statement}
 use Rattle.candidates.proofs.clear_row.Tie as tie
 
 abbrev Inv-loop : tie.InvT-loop
-Inv-loop masks₀ charts c₀ masks c = (c ≤ charts) × AheadRow charts (λ d. 0) c masks₀ masks
+Inv-loop masks₀ charts c₀ masks c = (c ≤ mostCharts) × AheadRow charts (λ d. 0) c masks₀ masks
 
 abbrev μ-loop : tie.MeasureT-loop
-μ-loop masks₀ charts c₀ masks c = charts - c
+μ-loop masks₀ charts c₀ masks c = mostCharts - c
 
 loop-holds : tie.Need-loop-holds Inv-loop μ-loop
 loop-holds c = (search needs, row-none _ _ _)
@@ -33,7 +34,7 @@ returns : tie.Need-returns Inv-loop μ-loop
 returns c =
     let l = c .before .loop in
     let a = c .before .before .before .args in
-    let e : l .c ≡ a .charts = omega arith in
+    let e : l .c ≡ mostCharts = omega arith in
     subst (λ n. AheadRow (a .charts) (λ d. 0) n (a .masks .now) (l .masks)) e (l .inv .1)
 
 put-ahead-requires : tie.Need-put-ahead-requires Inv-loop μ-loop

@@ -480,13 +480,13 @@ row-value k w c m₀ m u a l r = ap₂ (λ x y. u ∩ x ∪ y) (row-rest a (back
 
 module _ (N : ℕ) (few : N ≤ mostCharts) (s m₀ : List ℕ) where
   -- nothing is left after the last chart
-  pub from-last : (m : List ℕ) → AheadRow N (λ c. 0) N m₀ m → AheadFrom N s N m₀ m
+  pub from-last : (m : List ℕ) → AheadRow N (λ c. 0) mostCharts m₀ m → AheadFrom N s N m₀ m
   unfolding ahead
   from-last m a =
       record {
-        rows = λ j c p q l. let e : j ≡ N = omega arith in let z : N - N ≡ 0 = omega arith in rw (e, z) (a .in-row c l);
-        wires = row-wiring N (λ c. 0) N m₀ m few few a;
-        lists = row-lists N (λ c. 0) N m₀ m few few a;
+        rows = λ j c p q l. let e : j ≡ N = omega arith in let z : N - N ≡ 0 = omega arith in rw (e, z) (a .in-row c (omega arith));
+        wires = row-wiring N (λ c. 0) mostCharts m₀ m few (omega arith) a;
+        lists = row-lists N (λ c. 0) mostCharts m₀ m few (omega arith) a;
         masks = a .long;
       }
 
