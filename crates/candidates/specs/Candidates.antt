@@ -2,9 +2,10 @@
 use mathlib.Core.Path.{_≡_}
 use mathlib.Core.Bool.{Bool, true, false}
 use mathlib.Core.List.{List}
-use Prim.Native.Nat.{ℕ, _+_, _≤_, _<_}
-use lib.ListN.{length, getD}
+use Prim.Native.Nat.{ℕ, _+_, _*_, _≤_, _<_}
+use lib.ListN.{length, getD, drop}
 use Rattle.signals.specs.Mask.{_∪_, _∩_}
+use Rattle.layout.specs.Record.{transitionOf}
 use Rattle.layout.specs.Body.{headAt, transitionAt, startOf, transitionsOf}
 use Rattle.layout.specs.Body.{from as fromOn}
 use Rattle.layout.specs.declared.body.Shape.{Shape}
@@ -60,6 +61,10 @@ readAs n b read t = narrow read (transitionAt n b t)
 -- the same of transition u from `start` on
 abbrev pub fromStart : Shape → List ℕ → Set → ℕ → ℕ → Transition
 fromStart n b read start u = readAs n b read (start + u)
+
+-- the same of the transition whose first byte is that of the u-th record behind `at`
+abbrev pub readFrom : List ℕ → Set → ℕ → ℕ → Transition
+readFrom b read at u = narrow read (transitionOf (drop (at + 28 * u) b))
 
 -- the charts, with only what is read of their actions
 abbrev pub readCharts : Shape → List ℕ → List ℕ → ℕ → Chart

@@ -5,7 +5,8 @@ ghost use mathlib.Core.Path.{_≡_};
 ghost use mathlib.Core.Bool.{cond};
 ghost use mathlib.Core.List.{List};
 ghost use Prim.Native.Nat.{ℕ, _+_, _*_, _≤_, _<_};
-ghost use lib.ListN.{length, getD};
+ghost use lib.ListN.{length, getD, drop};
+ghost use Rattle.layout.specs.Record.{transitionOf};
 ghost use Rattle.layout.specs.Body.{Holds, transitionAt, startOf};
 ghost use Rattle.layout.specs.Body.{from as fromOn};
 ghost use Rattle.meaning.specs.Sums.{tally, one};
@@ -61,12 +62,13 @@ pub fn from_at(n: Shape, body: &[u8], t: usize) -> u8
     body[HEAD_BYTES * n.charts + TRANSITION_BYTES * t]
 }
 
-// Transition t, with only what is read of its action.
-fn read_at(n: Shape, body: &[u8], t: usize, read: u64) -> Transition
-    requires { ⌜ Holds n (now body) × (t < n .transitions) ⌝ }
-    ensures { λ r. ⌜ r ≡ narrow read (transitionAt n (now (body .entry)) t) ⌝ }
+// The transition whose first byte stands at `at`, with only what is read of its action. A loop over a chart's
+// transitions goes from record to record, so that most of them cost it one byte.
+fn read_at(body: &[u8], at: usize, read: u64) -> Transition
+    requires { ⌜ at + 28 ≤ length (now body) ⌝ }
+    ensures { λ r. ⌜ r ≡ narrow read (transitionOf (drop at (now (body .entry)))) ⌝ }
 {
-    let r = layout::body::transition_at(n, body, t);
+    let r = layout::record::read_transition(body, at);
     Transition {
         from: r.from,
         to: r.to,
@@ -76,14 +78,14 @@ fn read_at(n: Shape, body: &[u8], t: usize, read: u64) -> Transition
     }
 }
 
-// One transition more, if it is from the state.
-fn with_one(n: Shape, body: &[u8], t: usize, state: u8, read: u64, p: Puts) -> Puts
-    requires { ⌜ Holds n (now body) × (t < n .transitions) × (p .count < 18446744073709551615) ⌝ }
-    ensures { λ r. ⌜ r ≡ withOne (same (transitionAt n (now (body .entry)) t .from) state)
-        (narrow read (transitionAt n (now (body .entry)) t) .action) p ⌝ }
+// One transition more, by its first byte, if it is from the state.
+fn with_one(body: &[u8], at: usize, state: u8, read: u64, p: Puts) -> Puts
+    requires { ⌜ (at + 28 ≤ length (now body)) × (p .count < 18446744073709551615) ⌝ }
+    ensures { λ r. ⌜ r ≡ withOne (same (transitionOf (drop at (now (body .entry))) .from) state)
+        (narrow read (transitionOf (drop at (now (body .entry)))) .action) p ⌝ }
 {
-    if from_at(n, body, t) == state {
-        let r = read_at(n, body, t, read);
+    if body[at] == state {
+        let r = read_at(body, at, read);
         return Puts {
             may: p.may | r.action,
             sure: p.sure & r.action,
@@ -103,9 +105,11 @@ fn puts_of(n: Shape, body: &[u8], start: usize, count: usize, state: u8, read: u
         sure: signals::ALL,
         count: 0,
     };
+    let mut at = HEAD_BYTES * n.charts + TRANSITION_BYTES * start;
     let mut p: usize = 0;
     while p < count {
-        puts = with_one(n, body, start + p, state, read, puts);
+        puts = with_one(body, at, state, read, puts);
+        at += TRANSITION_BYTES;
         p += 1;
     }
     puts
@@ -274,28 +278,27 @@ fn put(masks: &mut [u64], small: &mut [u8], c: usize, v: usize, place: u8, t: Tr
     small::put_candidate(small, c, v, place, t);
 }
 
-// One transition more, at its place in its chart's list: a candidate if it is from the chart's state, lasts, and is
-// none yet.
+// One transition more, by its first byte and its place in its chart's list: a candidate if it is from the chart's
+// state, lasts, and is none yet.
 fn consider(
-    n: Shape,
     body: &[u8],
-    t: usize,
+    at: usize,
     place: u8,
     masks: &mut [u64],
     small: &mut [u8],
     a: Around,
     have: usize,
 ) -> usize
-    requires { ⌜ Holds n (now body) × (t < n .transitions) × Tabled (a .chart + 1) (now masks) (now small)
+    requires { ⌜ (at + 28 ≤ length (now body)) × Tabled (a .chart + 1) (now masks) (now small)
         × (a .chart < mostCharts) × (have ≤ mostFromState)
-        × (transitionAt n (now body) t .from ≡ a .state → have < mostFromState) ⌝ }
-    ensures { λ r. ⌜ Left (consideredBy a place (narrow (a .read) (transitionAt n (now (body .entry)) t))
+        × (transitionOf (drop at (now body)) .from ≡ a .state → have < mostFromState) ⌝ }
+    ensures { λ r. ⌜ Left (consideredBy a place (narrow (a .read) (transitionOf (drop at (now (body .entry)))))
         (filling (now (masks .entry)) (now (small .entry)) have)) (now (masks .exit)) (now (small .exit)) r ⌝ }
 {
-    if from_at(n, body, t) != a.state {
+    if body[at] != a.state {
         return have;
     }
-    let r = read_at(n, body, t, a.read);
+    let r = read_at(body, at, a.read);
     if !lasts(r, a.low, a.own, a.others, a.shut) {
         return have;
     }
@@ -324,9 +327,11 @@ fn list(
         × (r ≤ mostFromState) ⌝ }
 {
     let mut have: usize = 0;
+    let mut at = HEAD_BYTES * n.charts + TRANSITION_BYTES * start;
     let mut p: usize = 0;
     while p < count {
-        have = consider(n, body, start + p, p as u8, masks, small, a, have);
+        have = consider(body, at, p as u8, masks, small, a, have);
+        at += TRANSITION_BYTES;
         p += 1;
     }
     have

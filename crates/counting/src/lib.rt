@@ -2,8 +2,9 @@
 // is open is said in the crate meaning (Open); that this is its number, in the crate wiring (Completions to Few).
 ghost use mathlib.Core.Path.{_≡_};
 ghost use Prim.Native.Nat.{_+_, _≤_, _<_};
-ghost use lib.ListN.{length, replicate};
-ghost use Rattle.layout.specs.Body.{Holds, headAt, transitionAt, startOf};
+ghost use lib.ListN.{length, drop, replicate};
+ghost use Rattle.layout.specs.Record.{transitionOf};
+ghost use Rattle.layout.specs.Body.{Holds, headAt, startOf};
 ghost use Rattle.meaning.specs.Numbers.{mostCharts};
 ghost use Rattle.meaning.specs.File.{fileAt};
 ghost use Rattle.meaning.specs.Open.{openIn};
@@ -14,6 +15,8 @@ ghost use Rattle.counting.specs.Counting.{outsideIn, TotalSmall, CountsO
 ghost use Rattle.counting.specs.Counting.{Shuts};
 use layout::body::Shape;
 use layout::limits::CHARTS;
+use layout::limits::HEAD_BYTES;
+use layout::limits::TRANSITION_BYTES;
 
 // The states that a mask has room for.
 const BITS: u8 = 64;
@@ -78,23 +81,24 @@ fn staying(n: Shape, masters: &[u8], states: &[u8], counts: &[u64], c: usize, q:
     branch(charts, masters, states, counts, c, q, q)
 }
 
-// What transition t adds to the entry of chart c in state q: nothing, if it leaves another state.
+// What the transition whose first byte stands at `at` adds to the entry of chart c in state q: nothing, if it leaves
+// another state.
 fn added(
     n: Shape,
     body: &[u8],
-    t: usize,
+    at: usize,
     masters: &[u8],
     states: &[u8],
     counts: &[u64],
     c: usize,
     q: u8,
 ) -> u64
-    requires { ⌜ Holds n (now body) × (t < n .transitions) × Roomy (n .charts) (now masters) (now states) (now counts)
-        × Small (n .charts) (now masters) (now states) (now counts) c q (transitionAt n (now body) t .to) ⌝ }
+    requires { ⌜ (at + 28 ≤ length (now body)) × Roomy (n .charts) (now masters) (now states) (now counts)
+        × Small (n .charts) (now masters) (now states) (now counts) c q (transitionOf (drop at (now body)) .to) ⌝ }
     ensures { λ r. ⌜ r ≡ addedIn (n .charts) (now (masters .entry)) (now (states .entry)) (now (counts .entry)) c q
-        (transitionAt n (now (body .entry)) t) ⌝ }
+        (transitionOf (drop at (now (body .entry)))) ⌝ }
 {
-    let r = layout::body::transition_at(n, body, t);
+    let r = layout::record::read_transition(body, at);
     let from = r.from;
     let to = r.to;
     if from != q {
@@ -123,9 +127,11 @@ fn summed(
         (now (counts .entry)) c q count ⌝ }
 {
     let mut total = staying(n, masters, states, counts, c, q);
+    let mut at = HEAD_BYTES * n.charts + TRANSITION_BYTES * start;
     let mut p: usize = 0;
     while p < count {
-        total = added(n, body, start + p, masters, states, counts, c, q) + total;
+        total = added(n, body, at, masters, states, counts, c, q) + total;
+        at += TRANSITION_BYTES;
         p += 1;
     }
     total

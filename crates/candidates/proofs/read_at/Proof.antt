@@ -6,7 +6,7 @@ use Rattle.candidates.proofs.read_at.Statement.{statement}
 use Rattle.candidates.proofs.read_at.Tie as tie
 
 returns : tie.Need-returns
-returns c = ap (narrow (c .before .before .before .args .read)) (c .before .transition-at .ensures)
+returns c = ap (narrow (c .before .before .before .args .read)) (c .before .read-transition .ensures)
 
 pub read-at-spec : {M : Type 1} → statement M
 read-at-spec = tie.close (tie.spec (λ c κs. search needs) returns)

@@ -3,14 +3,16 @@ use mathlib.Core.Path.{_≡_}
 use Prim.Native.Nat.{ℕ, _+_}
 use borrow.Author.Needs.{needs}
 use denote.Ref.{now}
+use lib.ListN.{drop}
 use Rattle.signals.specs.Mask.{_∪_, _∩_}
-use Rattle.layout.specs.Body.{transitionAt}
+use Rattle.layout.specs.Record.{transitionOf}
 use Rattle.layout.specs.declared.record.Transition.{Transition}
 use Rattle.meaning.specs.Meaning.{same}
 use Rattle.meaning.specs.Laws.Bools.{same-refl, same-≢}
 use Rattle.tables.specs.Narrowing.{narrow}
 use Rattle.candidates.specs.declared.Puts.{Puts}
 use Rattle.candidates.specs.Candidates.{withOne}
+use Rattle.candidates.specs.Candidates.Laws.{first-byte}
 use Rattle.candidates.proofs.with_one.Statement.{statement}
 use Rattle.candidates.proofs.with_one.Tie as tie
 
@@ -27,12 +29,14 @@ returns : tie.Need-returns
 returns c =
     let r = c .before .before .before .before .before in
     let a = r .before .before .before .before .args in
-    from-here (transitionAt (a .n) (now (a .body)) (a .t)) (a .state) _ (a .read) (r .before .before .from-at .ensures)
+    from-here (transitionOf (drop (a .at) (now (a .body)))) (a .state) _ (a .read) (first-byte (now (a .body)) (a .at))
     (a .p) (r .before .if1 .taken) _ (r .read-at .ensures)
 
 returns-2 : tie.Need-returns-2
-returns-2 c = let a = c .before .before .before .args in from-elsewhere (transitionAt (a .n) (now (a .body)) (a .t))
-    (a .state) _ (a .read) (c .before .from-at .ensures) _ (c .if1 .left)
+returns-2 c =
+    let a = c .before .before .before .args in
+    from-elsewhere (transitionOf (drop (a .at) (now (a .body)))) (a .state) _ (a .read)
+    (first-byte (now (a .body)) (a .at)) _ (c .if1 .left)
 
 pub with-one-spec : {M : Type 1} → statement M
-with-one-spec = tie.close (tie.spec (λ c κs. search needs) (λ c κs. search needs) (λ c. search needs) returns returns-2)
+with-one-spec = tie.close (tie.spec (λ c. search needs) (λ c κs. search needs) (λ c. search needs) returns returns-2)

@@ -1,9 +1,9 @@
--- Laws for choosing candidates. In order: where a transition stands (from-byte), what a chart's transitions put out
--- (puts-none, puts-more, puts-done), what the other charts might (join-more), one transition (left-other to left-put),
--- a filling by one transition more (left-none to left-room), a chart's list (length-from), one chart more (mays-next to
--- chart-tabled), the present states (stated-none, stated-next), all of it (chooses, searchable), and that actions have
--- no signal from 64 on (actions-small).
-use mathlib.Core.Path.{_≡_, refl, sym, _∙_, ap, ap₂, subst}
+-- Laws for choosing candidates. In order: where a transition stands (first-byte to read-from), what a chart's
+-- transitions put out (puts-none to puts-from), what the other charts might (join-more), one transition (left-other to
+-- left-put), a filling by one transition more (left-none to left-room), a chart's list (length-from), one chart more
+-- (mays-next to chart-tabled), the present states (stated-none, stated-next), all of it (chooses, searchable), and that
+-- actions have no signal from 64 on (actions-small).
+use mathlib.Core.Path.{_≡_, refl, sym, _∙_, ap, ap₂, subst, fun-ext}
 use mathlib.Core.Bool.{Bool, true, false, cond, false≢true}
 use mathlib.Core.List.{List, [], _∷_}
 use mathlib.Core.Logic.{_≢_}
@@ -39,7 +39,7 @@ use Rattle.wiring.specs.Dropped.{join-cong}
 use Rattle.wiring.specs.Sure.{sureOf, sureIn, sure-small}
 use Rattle.wiring.specs.Pruning.{mayOf, behind-empty}
 use Rattle.cells.specs.Table.{backAt, putMasks, Row, countCell, stateCell, putSmall, Tables}
-use Rattle.tables.specs.Narrowing.{narrowAll}
+use Rattle.tables.specs.Narrowing.{narrow, narrowAll}
 use Rattle.tables.specs.Narrowing.Laws.{length-narrowed, narrow-from}
 use Rattle.tables.specs.Insertion.{Filling, considered, listing, lastsBy, isAgain, put, pickFilling, othersAt, sureAt}
 use Rattle.tables.specs.Insertion.{Raised, Until, AheadFrom}
@@ -48,15 +48,28 @@ use Rattle.tables.specs.Insertion.Laws.{chosen, chosen-ahead, raised-same}
 use Rattle.candidates.specs.declared.Around.{Around}
 use Rattle.candidates.specs.declared.Puts.{Puts}
 use Rattle.candidates.specs.Candidates.{Ready, Tabled, Left, filling, consideredBy, listingBy, readAs, fromStart}
+use Rattle.candidates.specs.Candidates.{readFrom}
 use Rattle.candidates.specs.Candidates.{readCharts, withOne, PutsOf, Mays, Sures, PutsBy, RaisedBy}
 use Rattle.candidates.specs.Candidates.{UntilChart, NextChart, Stated, Chooses}
 
 -- ── where transitions stand ──
 
+-- a transition's first byte is the state that it leaves
+pub first-byte : (b : List ℕ) (at : ℕ) → getD b at 0 ≡ transitionOf (drop at b) .from
+unfolding transitionOf
+first-byte b at = sym (getD-drop at b 0 0 ∙ ap (λ i. getD b i 0) (let h : at + 0 ≡ at = omega arith in h))
+
 pub from-byte : (n : Shape) (b : List ℕ) (t : ℕ) → getD b (24 * n .charts + 28 * t) 0 ≡ transitionAt n b t .from
-unfolding transitionAt transitionOf
-from-byte n b t = sym (getD-drop (transitionsFrom n + 28 * t) b 0 0
-    ∙ ap (λ i. getD b i 0) (let h : transitionsFrom n + 28 * t + 0 ≡ transitionsFrom n + 28 * t = omega arith in h))
+unfolding transitionAt
+from-byte n b t = first-byte b (transitionsFrom n + 28 * t)
+
+-- records one behind the other, from where transition `start` begins
+pub read-from : (n : Shape) (b : List ℕ) (read : Set) (start : ℕ)
+    → readFrom b read (24 * n .charts + 28 * start) ≡ fromStart n b read start
+unfolding transitionAt
+read-from n b read start =
+    fun-ext (λ u. let e : 24 * n .charts + 28 * start + 28 * u ≡ transitionsFrom n + 28 * (start + u) = omega arith in
+    ap (λ i. narrow read (transitionOf (drop i b))) e)
 
 -- ── what transitions put out ──
 
@@ -153,6 +166,30 @@ module _ (f : ℕ → Transition) (start count q : ℕ) where
 
       all : p ≡ count
       all = omega arith
+
+-- a run of values counted from `start` on, and from 0
+counted-from : {A : Type 0} (f : ℕ → A) (start k n : ℕ) → fromOn (λ u. f (start + u)) k n ≡ fromOn f (start + k) n
+unfolding fromOn
+counted-from f start k zero = refl
+counted-from f start k (suc n) =
+    let e : start + suc k ≡ suc (start + k) = omega arith in
+    ap (f (start + k) ∷_) (counted-from f start (suc k) n ∙ ap (λ i. fromOn f i n) e)
+
+-- what records put out, one behind the other from where transition `start` begins
+pub puts-from : (n : Shape) (b : List ℕ) (read : Set) (start count q : ℕ) (u : Puts)
+    → PutsOf (readFrom b read (24 * n .charts + 28 * start)) 0 count q u → PutsOf (readAs n b read) start count q u
+puts-from n b read start count q u h =
+    let g = subst (λ f. PutsOf f 0 count q u) (read-from n b read start) h in
+    let z : start + 0 ≡ start = omega arith in
+    let e : fromOn (fromStart n b read start) 0 count ≡ fromOn (readAs n b read) start count =
+    counted-from (readAs n b read) start 0 count ∙ ap (λ i. fromOn (readAs n b read) i count) z in
+    record {
+      may = g .may ∙ ap (λ l. mayOf l q) e;
+      sure = g .sure ∙ ap (λ l. sureOf l q) e;
+      many = g .many ∙ ap (tally count)
+          (fun-ext (λ j. let w : 0 + j ≡ j = omega arith in
+          ap (λ i. one (same (readAs n b read (start + i) .from) q)) w));
+    }
 
 -- ── what the other charts might put in ──
 

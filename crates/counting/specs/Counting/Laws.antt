@@ -1,11 +1,11 @@
 -- Laws of the loops that count, in this order: a factor by what a move activates (`factor-other` to `factor-none`); a
 -- product one factor longer (`branch-none` to `branch-done`); what staying and a transition add (`staying-no` to
--- `adds-small`), a sum one transition longer (`sum-none` to `sum-done`), and that of a chart that encloses none
--- (`sum-alone`); of a file, where a chart's
--- transitions start (`starts-at`), that nothing on the way is too large (`smalls`, `total-small`), an entry stored
--- (`stores`), that the total is the number of open choices (`total-is`), and that no place that begins an open choice
--- leads to a state that is shut (`begins-open`); the total one factor longer (`total-none` to `total-done`). The states
--- that are shut (`to-all` to `open-not-shut`) stand before the laws of a file.
+-- `adds-small`), a sum one transition longer (`begins-at` to `sum-done`), and that of a chart that encloses none
+-- (`sum-alone`); of a file, where a chart's transitions start (`starts-at`), that nothing on the way is too large
+-- (`smalls`, `total-small`), an entry stored (`stores`), that the total is the number of open choices (`total-is`), and
+-- that no place that begins an open choice leads to a state that is shut (`begins-open`); the total one factor longer
+-- (`total-none` to `total-done`). The states that are shut (`to-all` to `open-not-shut`) stand before the laws of a
+-- file.
 use mathlib.Core.Path.{_≡_, refl, sym, _∙_, ap, ap₂, subst}
 use mathlib.Core.Bool.{Bool, true, false, _&&_, _||_, cond, false≢true, and-false, or-false, and-or-distrib-left}
 use mathlib.Core.List.{List}
@@ -18,11 +18,12 @@ use native.Mathlib.Numerals.{add-one}
 use native.Mathlib.Decide.{decLt}
 use borrow.Author.Tests.{lt-ltb, le-ltb, ltb-true}
 use lib.Dec.{ltb, lit<, lit≤}
-use lib.ListN.{length, set, replicate, getD-replicate}
+use lib.ListN.{length, set, drop, replicate, getD-replicate}
 use lib.Seq.{getD-set-same, getD-set-other}
 use Rattle.signals.specs.Mask.{_∪_, bit, single}
 use Rattle.signals.specs.Mask.Laws.{bit-union, bit-none, bit-single, bit-high}
 use Rattle.signals.specs.All.{bit-all}
+use Rattle.layout.specs.Record.{transitionOf}
 use Rattle.layout.specs.Body.{headAt, transitionAt, startOf, transitionsOf}
 use Rattle.layout.specs.Body.Laws.{length-from, startOf-next, startOf-mono}
 use Rattle.layout.specs.declared.body.Shape.{Shape}
@@ -105,6 +106,12 @@ module _ (charts : ℕ) (m s t : List ℕ) (c q : ℕ) (r u : Transition) (e : r
   adds-small h = rw e h
 
 -- ── a sum ──
+
+-- the transition that begins at a byte, by its number
+pub begins-at : (n : Shape) (b : List ℕ) (t at : ℕ) → at ≡ 24 * n .charts + 28 * t
+    → transitionOf (drop at b) ≡ transitionAt n b t
+unfolding transitionAt
+begins-at n b t at e = ap (λ i. transitionOf (drop i b)) e
 
 module _ (n : Shape) (b m s t : List ℕ) (c q : ℕ) where
   pub sum-none : (x : ℕ) → x ≡ stayingIn n m s t c q → x ≡ sumIn n b m s t c q 0

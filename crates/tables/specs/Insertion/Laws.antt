@@ -484,7 +484,9 @@ module _ (N : ℕ) (few : N ≤ mostCharts) (s m₀ : List ℕ) where
   unfolding ahead
   from-last m a =
       record {
-        rows = λ j c p q l. let e : j ≡ N = omega arith in let z : N - N ≡ 0 = omega arith in rw (e, z) (a .in-row c (omega arith));
+        rows = λ j c p q l.
+            let e : j ≡ N = omega arith in
+            let z : N - N ≡ 0 = omega arith in rw (e, z) (a .in-row c (omega arith));
         wires = row-wiring N (λ c. 0) mostCharts m₀ m few (omega arith) a;
         lists = row-lists N (λ c. 0) mostCharts m₀ m few (omega arith) a;
         masks = a .long;
