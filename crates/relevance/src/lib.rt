@@ -8,7 +8,9 @@ ghost use Rattle.layout.specs.Body.{from as fromOn};
 ghost use Rattle.meaning.specs.Meaning.{same};
 ghost use Rattle.meaning.specs.Numbers.{mostCharts};
 ghost use Rattle.signals.specs.Mask.{_∪_};
-ghost use Rattle.cells.specs.Table.{masksFor};
+ghost use Rattle.meaning.specs.Laws.Bools.{every};
+ghost use Rattle.wiring.specs.Reach.{full};
+ghost use Rattle.cells.specs.Table.{masksFor, upAt};
 ghost use Rattle.tables.specs.Narrowing.{asked, readAt};
 ghost use Rattle.candidates.specs.Candidates.{Ready};
 ghost use Rattle.relevance.specs.Relevance.{Asks, ReadRow};
@@ -75,7 +77,22 @@ fn read_of(masks: &[u64], charts: usize, asks: &[u64; CHARTS], k: usize) -> u64
     masks::up(masks, k) | u
 }
 
-// The same of each chart from a configuration, by tables that have the wiring.
+// Whether all that charts put out comes out of the whole: then all of it is read. In a file that hides nothing it does.
+pub fn all_out(masks: &[u64], charts: usize) -> bool
+    requires { ⌜ (masksFor charts ≤ length (now masks)) × (charts ≤ mostCharts) ⌝ }
+    ensures { λ r. ⌜ r ≡ every charts (λ c. same (upAt (now (masks .entry)) c) full) ⌝ }
+{
+    let mut c: usize = 0;
+    while c < charts {
+        if masks::up(masks, c) != signals::ALL {
+            return false;
+        }
+        c += 1;
+    }
+    true
+}
+
+// What is read of each chart's action from a configuration, by tables that have the wiring.
 pub fn rows(n: Shape, body: &[u8], config: &[u8], masks: &[u64]) -> [u64; CHARTS]
     requires { ⌜ Ready n (now body) (now config) × (masksFor (n .charts) ≤ length (now masks)) ⌝ }
     ensures { λ r. ⌜ ReadRow n (now (body .entry)) (now (config .entry)) (now (masks .entry)) (n .charts) r ⌝ }

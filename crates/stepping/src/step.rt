@@ -139,7 +139,7 @@ fn found_staying(
 const FEW_OPEN: u64 = 4096;
 
 // What is read of each chart's actions, and what its transitions put out of that, where many choices are open. Where
-// few are, all signals stand for what is read.
+// few are, or all that charts put out comes out, all signals stand for what is read.
 fn read_by(
     n: Shape,
     body: &[u8],
@@ -159,6 +159,9 @@ fn read_by(
         (now (sures .exit))) ⌝ }
 {
     if open_choices <= FEW_OPEN {
+        return;
+    }
+    if relevance::all_out(masks, n.charts) {
         return;
     }
     let rows = relevance::rows(n, body, config, masks);
