@@ -62,9 +62,13 @@ readAs n b read t = narrow read (transitionAt n b t)
 abbrev pub fromStart : Shape → List ℕ → Set → ℕ → ℕ → Transition
 fromStart n b read start u = readAs n b read (start + u)
 
--- the same of the transition whose first byte is that of the u-th record behind `at`
+-- the transitions that stand one behind the other from byte `at` on
+abbrev pub recordFrom : List ℕ → ℕ → ℕ → Transition
+recordFrom b at u = transitionOf (drop (at + 28 * u) b)
+
+-- the same, with only what is read of their actions
 abbrev pub readFrom : List ℕ → Set → ℕ → ℕ → Transition
-readFrom b read at u = narrow read (transitionOf (drop (at + 28 * u) b))
+readFrom b read at u = narrow read (recordFrom b at u)
 
 -- the charts, with only what is read of their actions
 abbrev pub readCharts : Shape → List ℕ → List ℕ → ℕ → Chart

@@ -54,14 +54,6 @@ pub struct Puts {
     pub count: u64,
 }
 
-// Where transition t starts.
-pub fn from_at(n: Shape, body: &[u8], t: usize) -> u8
-    requires { ⌜ Holds n (now body) × (t < n .transitions) ⌝ }
-    ensures { λ r. ⌜ r ≡ transitionAt n (now (body .entry)) t .from ⌝ }
-{
-    body[HEAD_BYTES * n.charts + TRANSITION_BYTES * t]
-}
-
 // The transition whose first byte stands at `at`, with only what is read of its action. A loop over a chart's
 // transitions goes from record to record, so that most of them cost it one byte.
 fn read_at(body: &[u8], at: usize, read: u64) -> Transition

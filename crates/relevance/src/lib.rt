@@ -1,8 +1,8 @@
 // What is read of each chart's action: what comes out of the whole, and what gets to a chart that looks for it.
 ghost use mathlib.Core.Path.{_≡_};
-ghost use mathlib.Core.Bool.{cond};
 ghost use Prim.Native.Nat.{_+_, _≤_, _<_};
-ghost use lib.ListN.{length, getD};
+ghost use lib.ListN.{length, getD, drop};
+ghost use Rattle.layout.specs.Record.{transitionOf};
 ghost use Rattle.layout.specs.Body.{Holds, transitionAt};
 ghost use Rattle.layout.specs.Body.{from as fromOn};
 ghost use Rattle.meaning.specs.Meaning.{same};
@@ -13,19 +13,20 @@ ghost use Rattle.wiring.specs.Reach.{full};
 ghost use Rattle.cells.specs.Table.{masksFor, upAt};
 ghost use Rattle.tables.specs.Narrowing.{asked, readAt};
 ghost use Rattle.candidates.specs.Candidates.{Ready};
-ghost use Rattle.relevance.specs.Relevance.{Asks, ReadRow};
+ghost use Rattle.relevance.specs.Relevance.{askedBy, Asks, ReadRow};
 use cells::CHARTS;
 use cells::masks;
 use layout::body::Shape;
+use layout::limits::HEAD_BYTES;
+use layout::limits::TRANSITION_BYTES;
 
-// The signals u, and those of transition t's guard, if it is from the state.
-fn asked_with(n: Shape, body: &[u8], t: usize, state: u8, u: u64) -> u64
-    requires { ⌜ Holds n (now body) × (t < n .transitions) ⌝ }
-    ensures { λ r. ⌜ r ≡ u ∪ cond (same (transitionAt n (now (body .entry)) t .from) state)
-        (transitionAt n (now (body .entry)) t .needed ∪ transitionAt n (now (body .entry)) t .barred) 0 ⌝ }
+// The signals u, and those of the guard of the transition whose first byte stands at `at`, if it is from the state.
+fn asked_with(body: &[u8], at: usize, state: u8, u: u64) -> u64
+    requires { ⌜ at + 28 ≤ length (now body) ⌝ }
+    ensures { λ r. ⌜ r ≡ u ∪ askedBy state (transitionOf (drop at (now (body .entry)))) ⌝ }
 {
-    if candidates::from_at(n, body, t) == state {
-        let r = layout::body::transition_at(n, body, t);
+    if body[at] == state {
+        let r = layout::record::read_transition(body, at);
         return u | (r.needed | r.barred);
     }
     u
@@ -37,9 +38,11 @@ fn asked_of(n: Shape, body: &[u8], start: usize, count: usize, state: u8) -> u64
     ensures { λ r. ⌜ r ≡ asked (fromOn (transitionAt n (now (body .entry))) start count) state ⌝ }
 {
     let mut u: u64 = 0;
+    let mut at = HEAD_BYTES * n.charts + TRANSITION_BYTES * start;
     let mut p: usize = 0;
     while p < count {
-        u = asked_with(n, body, start + p, state, u);
+        u = asked_with(body, at, state, u);
+        at += TRANSITION_BYTES;
         p += 1;
     }
     u

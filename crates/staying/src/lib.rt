@@ -2,8 +2,9 @@
 // Triggers are all transitions from a chart's present state, those too that are no candidates.
 ghost use mathlib.Core.Path.{_≡_};
 ghost use Prim.Native.Nat.{_+_, _*_, _≤_, _<_};
-ghost use lib.ListN.{length, getD};
+ghost use lib.ListN.{length, getD, drop};
 ghost use Rattle.signals.specs.Mask.{_∪_};
+ghost use Rattle.layout.specs.Record.{transitionOf};
 ghost use Rattle.layout.specs.Body.{Holds, transitionAt, startOf};
 ghost use Rattle.layout.specs.Body.{from as fromOn};
 ghost use Rattle.meaning.specs.Sums.{tally, one};
@@ -16,27 +17,21 @@ ghost use Rattle.staying.specs.Staying.{Notes, Noting, Tells, Telling, S
 use cells::CHARTS;
 use cells::triggers;
 use layout::body::Shape;
+use layout::limits::HEAD_BYTES;
+use layout::limits::TRANSITION_BYTES;
 
-// One transition more: a trigger of chart c, if it is from the chart's state. How many there are then.
-fn note(
-    n: Shape,
-    body: &[u8],
-    t: usize,
-    state: u8,
-    guards: &mut [u64],
-    c: usize,
-    have: usize,
-) -> usize
-    requires { ⌜ Holds n (now body) × (t < n .transitions) × (triggersFor (c + 1) ≤ length (now guards))
-        × (c < mostCharts)
-        × (have ≤ mostFromState) × (transitionAt n (now body) t .from ≡ state → have < mostFromState) ⌝ }
-    ensures { λ r. ⌜ Notes (transitionAt n (now (body .entry)) t) state c have (now (guards .entry))
+// One transition more, by its first byte: a trigger of chart c, if it is from the chart's state. How many there are
+// then.
+fn note(body: &[u8], at: usize, state: u8, guards: &mut [u64], c: usize, have: usize) -> usize
+    requires { ⌜ (at + 28 ≤ length (now body)) × (triggersFor (c + 1) ≤ length (now guards)) × (c < mostCharts)
+        × (have ≤ mostFromState) × (transitionOf (drop at (now body)) .from ≡ state → have < mostFromState) ⌝ }
+    ensures { λ r. ⌜ Notes (transitionOf (drop at (now (body .entry)))) state c have (now (guards .entry))
         (now (guards .exit)) r ⌝ }
 {
-    if candidates::from_at(n, body, t) != state {
+    if body[at] != state {
         return have;
     }
-    let r = layout::body::transition_at(n, body, t);
+    let r = layout::record::read_transition(body, at);
     triggers::put(guards, c, have, r);
     have + 1
 }
@@ -58,9 +53,11 @@ fn note_chart(
         (now (guards .exit)) r × (r ≤ mostFromState) ⌝ }
 {
     let mut have: usize = 0;
+    let mut at = HEAD_BYTES * n.charts + TRANSITION_BYTES * start;
     let mut p: usize = 0;
     while p < count {
-        have = note(n, body, start + p, state, guards, c, have);
+        have = note(body, at, state, guards, c, have);
+        at += TRANSITION_BYTES;
         p += 1;
     }
     have

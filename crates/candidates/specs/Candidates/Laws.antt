@@ -1,4 +1,4 @@
--- Laws for choosing candidates. In order: where a transition stands (first-byte to read-from), what a chart's
+-- Laws for choosing candidates. In order: where a transition stands (first-byte to counted-from), what a chart's
 -- transitions put out (puts-none to puts-from), what the other charts might (join-more), one transition (left-other to
 -- left-put), a filling by one transition more (left-none to left-room), a chart's list (length-from), one chart more
 -- (mays-next to chart-tabled), the present states (stated-none, stated-next), all of it (chooses, searchable), and that
@@ -48,7 +48,7 @@ use Rattle.tables.specs.Insertion.Laws.{chosen, chosen-ahead, raised-same}
 use Rattle.candidates.specs.declared.Around.{Around}
 use Rattle.candidates.specs.declared.Puts.{Puts}
 use Rattle.candidates.specs.Candidates.{Ready, Tabled, Left, filling, consideredBy, listingBy, readAs, fromStart}
-use Rattle.candidates.specs.Candidates.{readFrom}
+use Rattle.candidates.specs.Candidates.{recordFrom, readFrom}
 use Rattle.candidates.specs.Candidates.{readCharts, withOne, PutsOf, Mays, Sures, PutsBy, RaisedBy}
 use Rattle.candidates.specs.Candidates.{UntilChart, NextChart, Stated, Chooses}
 
@@ -59,17 +59,30 @@ pub first-byte : (b : List ℕ) (at : ℕ) → getD b at 0 ≡ transitionOf (dro
 unfolding transitionOf
 first-byte b at = sym (getD-drop at b 0 0 ∙ ap (λ i. getD b i 0) (let h : at + 0 ≡ at = omega arith in h))
 
-pub from-byte : (n : Shape) (b : List ℕ) (t : ℕ) → getD b (24 * n .charts + 28 * t) 0 ≡ transitionAt n b t .from
+-- the records from where transition `start` begins are the transitions from that one on
+pub record-from : (n : Shape) (b : List ℕ) (start : ℕ)
+    → recordFrom b (24 * n .charts + 28 * start) ≡ (λ u. transitionAt n b (start + u))
 unfolding transitionAt
-from-byte n b t = first-byte b (transitionsFrom n + 28 * t)
+record-from n b start =
+    fun-ext (λ u. let e : 24 * n .charts + 28 * start + 28 * u ≡ transitionsFrom n + 28 * (start + u) = omega arith in
+    ap (λ i. transitionOf (drop i b)) e)
 
--- records one behind the other, from where transition `start` begins
 pub read-from : (n : Shape) (b : List ℕ) (read : Set) (start : ℕ)
     → readFrom b read (24 * n .charts + 28 * start) ≡ fromStart n b read start
-unfolding transitionAt
 read-from n b read start =
-    fun-ext (λ u. let e : 24 * n .charts + 28 * start + 28 * u ≡ transitionsFrom n + 28 * (start + u) = omega arith in
-    ap (λ i. narrow read (transitionOf (drop i b))) e)
+    fun-ext (λ u. ap (λ (f : ℕ → Transition). narrow read (f u)) (record-from n b start))
+
+-- a run of values counted from `start` on, and from 0
+counted-on : {A : Type 0} (f : ℕ → A) (start k n : ℕ) → fromOn (λ u. f (start + u)) k n ≡ fromOn f (start + k) n
+unfolding fromOn
+counted-on f start k zero = refl
+counted-on f start k (suc n) =
+    let e : start + suc k ≡ suc (start + k) = omega arith in
+    ap (f (start + k) ∷_) (counted-on f start (suc k) n ∙ ap (λ i. fromOn f i n) e)
+
+pub counted-from : {A : Type 0} (f : ℕ → A) (start n : ℕ) → fromOn (λ u. f (start + u)) 0 n ≡ fromOn f start n
+counted-from f start n =
+    let e : start + 0 ≡ start = omega arith in counted-on f start 0 n ∙ ap (λ i. fromOn f i n) e
 
 -- ── what transitions put out ──
 
@@ -167,22 +180,12 @@ module _ (f : ℕ → Transition) (start count q : ℕ) where
       all : p ≡ count
       all = omega arith
 
--- a run of values counted from `start` on, and from 0
-counted-from : {A : Type 0} (f : ℕ → A) (start k n : ℕ) → fromOn (λ u. f (start + u)) k n ≡ fromOn f (start + k) n
-unfolding fromOn
-counted-from f start k zero = refl
-counted-from f start k (suc n) =
-    let e : start + suc k ≡ suc (start + k) = omega arith in
-    ap (f (start + k) ∷_) (counted-from f start (suc k) n ∙ ap (λ i. fromOn f i n) e)
-
 -- what records put out, one behind the other from where transition `start` begins
 pub puts-from : (n : Shape) (b : List ℕ) (read : Set) (start count q : ℕ) (u : Puts)
     → PutsOf (readFrom b read (24 * n .charts + 28 * start)) 0 count q u → PutsOf (readAs n b read) start count q u
 puts-from n b read start count q u h =
     let g = subst (λ f. PutsOf f 0 count q u) (read-from n b read start) h in
-    let z : start + 0 ≡ start = omega arith in
-    let e : fromOn (fromStart n b read start) 0 count ≡ fromOn (readAs n b read) start count =
-    counted-from (readAs n b read) start 0 count ∙ ap (λ i. fromOn (readAs n b read) i count) z in
+    let e = counted-from (readAs n b read) start count in
     record {
       may = g .may ∙ ap (λ l. mayOf l q) e;
       sure = g .sure ∙ ap (λ l. sureOf l q) e;

@@ -18,7 +18,7 @@ use Rattle.wiring.specs.Dropped.{join-cong}
 use Rattle.cells.specs.Table.{backAt, upAt}
 use Rattle.tables.specs.Narrowing.{asked, readAt}
 use Rattle.layout.specs.Row.Laws.{fill-more}
-use Rattle.relevance.specs.Relevance.{Asks, ReadRow}
+use Rattle.relevance.specs.Relevance.{askedBy, Asks, ReadRow}
 
 -- ── what transitions ask ──
 
@@ -36,15 +36,14 @@ module _ (f : ℕ → Transition) (start count q : ℕ) where
       (ap₂ (λ x y. asked (fromOn f x y) q) s k)
 
   pub asks-more : (p : ℕ) (u v : Set) → AsksLeft p u → p < count
-      → v ≡ u ∪ cond (same (f (start + p) .from) q) (f (start + p) .needed ∪ f (start + p) .barred) 0
-      → AsksLeft (p + 1) v
+      → v ≡ u ∪ askedBy q (f (start + p)) → AsksLeft (p + 1) v
   unfolding asked fromOn
   asks-more p u v h l e =
       sets (u ∷ v ∷ mine ∷ asked rest q ∷ asked (fromOn f start count) q ∷ []) (B ≐ A ∪ₑ C ∷ A ∪ₑ (D ∪ₑ C) ≐ Eₑ ∷ [])
       (B ∪ₑ D ≐ Eₑ) tt e (ap (λ ts. u ∪ asked ts q) (sym one-more) ∙ h)
     where
       mine : Set
-      mine = cond (same (f (start + p) .from) q) (f (start + p) .needed ∪ f (start + p) .barred) 0
+      mine = askedBy q (f (start + p))
 
       rest : List Transition
       rest = fromOn f (start + (p + 1)) (count - (p + 1))

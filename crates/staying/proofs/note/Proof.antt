@@ -10,6 +10,7 @@ use Rattle.meaning.specs.Sums.{one}
 use Rattle.meaning.specs.Meaning.{same}
 use Rattle.meaning.specs.Laws.Bools.{same-refl, same-≢}
 use Rattle.cells.specs.Triggers.{putTrigger}
+use Rattle.candidates.specs.Candidates.Laws.{first-byte}
 use Rattle.staying.specs.Staying.{Notes}
 use Rattle.staying.proofs.note.Statement.{statement}
 use Rattle.staying.proofs.note.Tie as tie
@@ -24,14 +25,16 @@ module _ (t : Transition) (q c k x : ℕ) (e : x ≡ t .from) (g : List ℕ) whe
       record { table = rw (o, y, i); count = ap (λ b. k + one b) (sym y) }
 
 returns : tie.Need-returns
-returns c = let s = c .before .before .before .before in from-elsewhere _ (s .args .state) (s .args .c)
-    (s .args .have) _ (c .before .from-at .ensures) (s .args .guards .now) (c .if1 .taken)
+returns c =
+    let s = c .before .before .before .before in
+    from-elsewhere _ (s .args .state) (s .args .c) (s .args .have) _ (first-byte (s .args .body .now) (s .args .at))
+    (s .args .guards .now) (c .if1 .taken)
 
 put-requires : tie.Need-put-requires
 put-requires c κs =
     let e = c .before .before in
     let s = e .before .before .before .before in
-    (s .pre .2, s .pre .3, s .pre .5 (sym (e .before .from-at .ensures) ∙ e .if1 .left))
+    (s .pre .1, s .pre .2, s .pre .4 (sym (first-byte (s .args .body .now) (s .args .at)) ∙ e .if1 .left))
 
 returns-2 : tie.Need-returns-2
 returns-2 c =
@@ -39,10 +42,10 @@ returns-2 c =
     let t = p .before .before in
     let e = t .before in
     let s = e .before .before .before .before in
-    from-here _ (s .args .state) (s .args .c) (s .args .have) _ (e .before .from-at .ensures) (s .args .guards .now)
-    (e .if1 .left) (t .transition-at .ensures) (p .put .ensures)
+    from-here _ (s .args .state) (s .args .c) (s .args .have) _ (first-byte (s .args .body .now) (s .args .at))
+    (s .args .guards .now) (e .if1 .left) (t .read-transition .ensures) (p .put .ensures)
 
 pub note-spec : {M : Type 1} → statement M
 note-spec =
-    tie.close (tie.spec (λ c κs. search needs) returns (λ c κs. search needs) put-requires (λ c. search needs)
+    tie.close (tie.spec (λ c. search needs) returns (λ c κs. search needs) put-requires (λ c. search needs)
     (λ c. search needs) returns-2)

@@ -1,8 +1,8 @@
 -- Laws of noting triggers. In order: a trigger that is put down (put-needed, put-barred, put-other), what stands beside
--- it (beside-none, beside-put), one transition more (noting-none, noting-next, noting-room, noting-few), what a search
--- is told of a chart (tells-shut, tells-open), of all charts (telling-none, telling-next), and that this is as the
--- search asks for (stays-told, stays-none).
-use mathlib.Core.Path.{_≡_, refl, sym, _∙_, ap, ap₂, subst}
+-- it (beside-none, beside-put), a chart's records one behind the other (records-few, noting-from), one transition more
+-- (noting-none, noting-next, noting-room, noting-few), what a search is told of a chart (tells-shut, tells-open), of
+-- all charts (telling-none, telling-next), and that this is as the search asks for (stays-told, stays-none).
+use mathlib.Core.Path.{_≡_, refl, sym, _∙_, ap, ap₂, subst, fun-ext}
 use mathlib.Core.Bool.{Bool, true, false, _&&_, not, cond, false≢true}
 use mathlib.Core.List.{List}
 use mathlib.Core.Logic.{_≢_}
@@ -34,9 +34,9 @@ use Rattle.tables.specs.Insertion.{othersAt, keepAt}
 use Rattle.tables.specs.Insertion.Laws.{keep-stay}
 use Rattle.tables.specs.Triggers.{Noted, begun, passed, noted, SameTriggers, noted-kept, noted-trips, Told, shut}
 use Rattle.tables.specs.Triggers.{listed, told-kept, told-narrowed, stayers}
-use Rattle.candidates.specs.Candidates.{Mays, readCharts}
+use Rattle.candidates.specs.Candidates.{Mays, readCharts, recordFrom}
 use Rattle.meaning.specs.Laws.Choices.{nth-from}
-use Rattle.candidates.specs.Candidates.Laws.{length-from}
+use Rattle.candidates.specs.Candidates.Laws.{record-from, counted-from, length-from}
 use Rattle.staying.specs.Staying.{Notes, Beside, Noting, Tells, quiet, Telling, Stays}
 
 -- ── a trigger that is put down ──
@@ -84,6 +84,35 @@ module _ (g : List ℕ) (c k : ℕ) (t : Transition) (l : c < mostCharts) (r : k
 
 beside-none : (c : ℕ) (g : List ℕ) → Beside c g g
 beside-none c g = record { others = λ d m n v h. (refl, refl); size = refl }
+
+-- ── the records of a chart ──
+
+-- a chart's records, one behind the other from where its first transition begins
+module _ (n : Shape) (b : List ℕ) (start count q : ℕ) where
+  abbrev records : ℕ → Transition
+  records = recordFrom b (24 * n .charts + 28 * start)
+
+  same-tally : tally count (λ u. one (same (transitionAt n b (start + u) .from) q))
+      ≡ tally count (λ u. one (same (records (0 + u) .from) q))
+  same-tally = ap (tally count) (fun-ext (λ u.
+      let e : u ≡ 0 + u = omega arith in
+      ap (λ (f : ℕ → Transition). one (same (f u .from) q)) (sym (record-from n b start))
+      ∙ ap (λ (i : ℕ). one (same (records i .from) q)) e))
+
+  pub records-few : tally count (λ u. one (same (transitionAt n b (start + u) .from) q)) ≤ mostFromState
+      → tally count (λ u. one (same (records (0 + u) .from) q)) ≤ mostFromState
+  records-few few = rw same-tally at few
+
+  pub noting-from : (c : ℕ) (g₀ g : List ℕ) (k : ℕ) → Noting records 0 count q c count g₀ g k
+      → Noting (transitionAt n b) start count q c count g₀ g k
+  noting-from c g₀ g k h =
+      record {
+        noted = subst (λ l. Noted g c l q count k)
+            (ap (λ (f : ℕ → Transition). fromOn f 0 count) (record-from n b start)
+            ∙ counted-from (transitionAt n b) start count) (h .noted);
+        counts = h .counts ∙ sym same-tally;
+        beside = h .beside;
+      }
 
 -- ── a chart's transitions ──
 
