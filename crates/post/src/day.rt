@@ -25,12 +25,21 @@ pub enum Fault {
     BadSet,
 }
 
-// The entries joined; the day's number, 0 if it has none; or what is wrong, and in which line, counted from 1.
+// The first entry for a case that is not in the book: its line, counted from 1, or 0 if there is no such entry; and the
+// number of the case.
+pub struct Outside {
+    pub line: u64,
+    pub case: u64,
+}
+
+// The entries joined; the day's number, 0 if it has none; the first entry outside the book; or what is wrong, and in
+// which line, counted from 1.
 pub struct Entered {
     pub fault: Fault,
     pub line: u64,
     pub number: u64,
     pub day: Day,
+    pub outside: Outside,
 }
 
 // A line that was read: an entry, or the day's number.
@@ -122,37 +131,51 @@ fn read_line(line: &[u8]) -> Line {
     words(&line[..space], &line[behind..])
 }
 
-fn entries_of(fault: Fault, line: u64, number: u64, day: Day) -> Entered {
+fn entries_of(fault: Fault, line: u64, number: u64, day: Day, outside: Outside) -> Entered {
     Entered {
         fault,
         line,
         number,
         day,
+        outside,
     }
+}
+
+// The first entry outside a book of n cases: the one found before; or else this one, if it is outside.
+fn first_outside(found: Outside, line: u64, case: u64, n: usize) -> Outside {
+    if found.line != 0 {
+        return found;
+    }
+    if case as usize >= n {
+        return Outside { line, case };
+    }
+    found
 }
 
 // All entries, for a book of n cases. Each line ends in byte 10.
 pub fn entries(text: &[u8], n: usize) -> Entered {
     let mut d = deciding::no_day();
+    let mut outside = Outside { line: 0, case: 0 };
     let mut number: u64 = 0;
     let mut line: u64 = 1;
     let mut at: usize = 0;
     while at < text.len() {
         let e = typed::end(text, at, b'\n');
         if e >= text.len() {
-            return entries_of(Fault::NoFeed, line, 0, d);
+            return entries_of(Fault::NoFeed, line, 0, d, outside);
         }
         let r = read_line(&text[at..e]);
         let f = r.fault;
         let Fault::Nothing = f else {
-            return entries_of(f, line, 0, d);
+            return entries_of(f, line, 0, d, outside);
         };
         if r.is_day {
             if line > 1 {
-                return entries_of(Fault::LateDay, line, 0, d);
+                return entries_of(Fault::LateDay, line, 0, d, outside);
             }
             number = r.number;
         } else {
+            outside = first_outside(outside, line, r.number, n);
             d = deciding::take_one(
                 d,
                 Entry {
@@ -165,5 +188,5 @@ pub fn entries(text: &[u8], n: usize) -> Entered {
         at = e + 1;
         line = std::num::wrapping_add_u64(line, 1);
     }
-    entries_of(Fault::Nothing, line, number, d)
+    entries_of(Fault::Nothing, line, number, d, outside)
 }

@@ -1,5 +1,6 @@
 // The posting desk's program (RULES 11): makes a book, posts a day to it, shows it. A book is a file (docs/FORMAT.md).
 // What is wrong with a command or a file goes to standard error; rows, and the refusal of a day, go to standard output.
+// A day that is refused for a case outside the book has both: the refusal, and which line it is.
 mod book;
 mod day;
 mod files;
@@ -9,6 +10,7 @@ ghost use mathlib.Core.Path.{_≡_};
 ghost use Prim.Native.Nat.{_≤_};
 ghost use lib.ListN.{length};
 use day::Fault;
+use day::Outside;
 use desk::Day;
 use typed::Read;
 
@@ -102,8 +104,8 @@ fn write(rows: &[u8], w: usize, n: usize, book: &[u8])
     tell::lines(libc::STDOUT_FILENO, rows, w, n);
 }
 
-// A day that is read, posted to a book of n cases.
-fn post_day(file: &[u8], book: &mut [u8], n: usize, d: Day, number: u64)
+// A day that is read, posted to a book of n cases; or its refusal, and with 61 the first entry outside the book.
+fn post_day(file: &[u8], book: &mut [u8], n: usize, d: Day, outside: Outside, number: u64)
     requires { ⌜ (n ≤ 64) × (length (now book) ≡ 2112) ⌝ }
 {
     let s = book::looked(file, book, n);
@@ -111,6 +113,9 @@ fn post_day(file: &[u8], book: &mut [u8], n: usize, d: Day, number: u64)
     let p = deciding::decide(s, d.outside, n, rows.len());
     if p.refusal != 0 {
         tell::refused(b"day", p.refusal);
+        if p.refusal == desk::NO_SUCH_CASE {
+            tell::no_such_case(outside, n as u64);
+        }
         return;
     }
     let charts = p.charts;
@@ -149,7 +154,8 @@ fn day_of(file: &[u8], book: &mut [u8], n: usize, text: &[u8])
         return;
     }
     let d = e.day;
-    post_day(file, book, n, d, number);
+    let outside = e.outside;
+    post_day(file, book, n, d, outside, number);
 }
 
 fn read_day(file: &[u8]) {

@@ -4,6 +4,7 @@ ghost use Prim.Native.Nat.{_+_, _*_, _≤_};
 ghost use lib.ListN.{length};
 use crate::book;
 use crate::day::Fault;
+use crate::day::Outside;
 use libc::STDERR_FILENO;
 use libc::STDOUT_FILENO;
 
@@ -60,6 +61,23 @@ pub fn wrong_line(fault: Fault, line: u64) {
               or 7 - for none.\n",
         ),
     }
+}
+
+// Which entry is for a case that a book of n cases does not have, and what was expected.
+pub fn no_such_case(entry: Outside, n: u64) {
+    complain(b"post: line ");
+    io::print_decimal(STDERR_FILENO, entry.line);
+    complain(b" has case ");
+    io::print_decimal(STDERR_FILENO, entry.case);
+    if n < 2 {
+        complain(b", but the book has 1 case. Expected: 0.\n");
+        return;
+    }
+    complain(b", but the book has ");
+    io::print_decimal(STDERR_FILENO, n);
+    complain(b" cases. Expected: 0 to ");
+    io::print_decimal(STDERR_FILENO, n - 1);
+    complain(b".\n");
 }
 
 // The day's number is not above that of the last day, or there is none left.

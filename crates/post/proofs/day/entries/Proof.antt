@@ -7,10 +7,10 @@ use Rattle.post.proofs.day.entries.Statement.{statement}
 use Rattle.post.proofs.day.entries.Tie as tie
 
 abbrev Inv-loop : tie.InvT-loop
-Inv-loop text n d₀ number₀ line₀ at₀ d number line at = at ≤ length text
+Inv-loop text n d₀ outside₀ number₀ line₀ at₀ d outside number line at = at ≤ length text
 
 abbrev μ-loop : tie.MeasureT-loop
-μ-loop text n d₀ number₀ line₀ at₀ d number line at = length text - at
+μ-loop text n d₀ outside₀ number₀ line₀ at₀ d outside number line at = length text - at
 
 pub entries-spec : {M : Type 1} → statement M
 entries-spec =
@@ -32,6 +32,7 @@ entries-spec =
     (λ c. search needs)
     (λ c κs. search needs)
     (λ c. search needs)
+    (λ c κs. search needs)
     (λ c κs. search needs)
     (λ c. omega arith)
     (λ c κs. search needs)
