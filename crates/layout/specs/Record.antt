@@ -1,9 +1,9 @@
 -- The records of a chart file in bytes (RULES 2.2 to 2.6): of each, the record that bytes begin with, and the bytes of
--- a record. Zero bytes are not a part of it: they are not read here, and written as 0. That what is written reads back
--- is in Record/Laws.antt.
+-- a record. Zero bytes are not a part of it: they are not read here, and written as 0. Behind the trailer comes a file
+-- under another edition. That what is written reads back is in Record/Laws.antt.
 use mathlib.Core.List.{List, [], _∷_, _++_}
-use Prim.Native.Nat.{ℕ}
-use lib.ListN.{getD, drop}
+use Prim.Native.Nat.{ℕ, _+_, _-_}
+use lib.ListN.{length, getD, drop, set}
 use Rattle.layout.specs.Le.{le, bytes}
 use Rattle.layout.specs.declared.record.Trailer.{Trailer}
 use Rattle.layout.specs.declared.record.Head.{Head}
@@ -27,6 +27,10 @@ trailerOf s =
 unfoldable pub trailerBytes : Trailer → List ℕ
 trailerBytes r =
     bytes 4 (r .distance) ++ (r .charts ∷ r .slaves ∷ r .nodes ∷ r .edition ∷ bytes 2 (r .transitions)) ++ (0 ∷ 0 ∷ [])
+
+-- the file, whose last 12 bytes are its trailer, with this edition in it; all other bytes stay, those of its front too
+unfoldable pub withEdition : ℕ → List ℕ → List ℕ
+withEdition e f = set f ((length f - 12) + 7) e
 
 -- a chart: 24 bytes, of which 3 to 7 are zero bytes (RULES 2.3)
 unfoldable pub headOf : List ℕ → Head

@@ -6,6 +6,7 @@ ghost use lib.ListN.{length, drop};
 ghost use lib.Seq.{sets};
 ghost use Rattle.layout.specs.Record.{trailerOf, headOf, transitionOf, slaveOf, nodeOf};
 ghost use Rattle.layout.specs.Record.{trailerBytes, headBytes, transitionBytes, slaveBytes, nodeBytes};
+ghost use Rattle.layout.specs.Record.{withEdition};
 
 // The last 12 bytes of a file.
 pub struct Trailer {
@@ -131,6 +132,15 @@ pub fn write_trailer(s: &mut [u8], at: usize, r: Trailer)
     s[at + 7] = r.edition;
     crate::number::put16(s, at + 8, r.transitions);
     crate::number::put16(s, at + 10, 0);
+}
+
+// A file under another edition (RULES 7.1): one byte of its trailer is replaced.
+pub fn write_edition(file: &mut [u8], edition: u8)
+    requires { ⌜ 12 ≤ length (now file) ⌝ }
+    ensures { λ _. ⌜ now (file .exit) ≡ withEdition edition (now (file .entry)) ⌝ }
+{
+    let end = file.len() - crate::limits::TRAILER_BYTES;
+    file[end + 7] = edition;
 }
 
 pub fn write_head(s: &mut [u8], at: usize, r: Head)

@@ -1,14 +1,16 @@
 -- Laws of the records of a chart file, in this order: how long each is in bytes; what is written reads back, whatever
--- comes after it; the same in a slice; the fields of a record that is read from bytes are below their widths.
+-- comes after it; the same in a slice; a file has the edition that it was given; the fields of a record that is read
+-- from bytes are below their widths.
 use mathlib.Core.Path.{_≡_, refl, ap, _∙_}
 use mathlib.Core.List.{List, _++_}
-use Prim.Native.Nat.{ℕ, _+_, _^_, _≤_, _<_}
-use lib.ListN.{length, drop}
-use lib.Seq.{sets}
+use Prim.Native.Nat.{ℕ, _+_, _-_, _^_, _≤_, _<_}
+use native.Mathlib.Omega.{arith}
+use lib.ListN.{length, drop, getD, set, length-set}
+use lib.Seq.{sets, getD-drop, getD-set-same}
 use Rattle.layout.specs.Le.{le, bytes, AllBytes}
 use Rattle.layout.specs.Le.Laws.{le-lt, le-bytes-append, bytes-drop, drop-sets}
 use Rattle.layout.specs.Record.{trailerOf, headOf, transitionOf, slaveOf, nodeOf}
-use Rattle.layout.specs.Record.{trailerBytes, headBytes, transitionBytes, slaveBytes, nodeBytes}
+use Rattle.layout.specs.Record.{trailerBytes, headBytes, transitionBytes, slaveBytes, nodeBytes, withEdition}
 use Rattle.layout.specs.declared.record.Trailer.{Trailer}
 use Rattle.layout.specs.declared.record.Head.{Head}
 use Rattle.layout.specs.declared.record.Transition.{Transition}
@@ -99,6 +101,17 @@ node-back r rest x y =
 pub put-back : {A : Type 0} (of : List ℕ → A) (r : A) (xs : List ℕ) → ((rest : List ℕ) → of (xs ++ rest) ≡ r)
     → (s : List ℕ) (at : ℕ) → at + length xs ≤ length s → of (drop at (sets s at xs)) ≡ r
 put-back of r xs back s at h = ap of (drop-sets s at xs h) ∙ back (drop (at + length xs) s)
+
+-- ---- a file has the edition that it was given
+pub edition-is : (e : ℕ) (f : List ℕ) → 12 ≤ length f
+    → (let g = withEdition e f in trailerOf (drop (length g - 12) g) .edition ≡ e)
+unfolding trailerOf withEdition
+edition-is e f long =
+    let at = (length f - 12) + 7 in
+    let g = set f at e in
+    getD-drop (length g - 12) g 7 0
+    ∙ ap (λ k. getD g ((k - 12) + 7) 0) (length-set f at e)
+    ∙ getD-set-same f at e 0 (omega arith)
 
 -- ---- a record's fields are below their widths
 pub record TrailerFits (r : Trailer) : Type 0 where

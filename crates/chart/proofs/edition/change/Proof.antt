@@ -5,8 +5,8 @@ use Rattle.meaning.specs.Check.Laws.{passed}
 use Rattle.chart.proofs.edition.change.Statement.{statement}
 use Rattle.chart.proofs.edition.change.Tie as tie
 
-put-requires : tie.Need-put-requires
-put-requires c κs = passed _ (sym (c .before .before .check .ensures) ∙ c .before .if2 .left) .long
+write-edition-requires : tie.Need-write-edition-requires
+write-edition-requires c κs = passed _ (sym (c .before .before .check .ensures) ∙ c .before .if2 .left) .long
 
 pub change-spec : {M : Type 1} → statement M
 change-spec =
@@ -18,7 +18,7 @@ change-spec =
     (λ c κs. search needs)
     (λ c. search needs)
     (λ c. search needs)
-    put-requires
+    write-edition-requires
     (λ c κs. search needs)
     (λ c κs. search needs)
     (λ c. search needs)
