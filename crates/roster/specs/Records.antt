@@ -8,6 +8,7 @@ use lib.ListN.{length, drop, getD}
 use Rattle.layout.specs.Record.{headBytes, transitionBytes}
 use Rattle.layout.specs.declared.record.Head.{Head}
 use Rattle.layout.specs.declared.record.Transition.{Transition as Record}
+use Rattle.meaning.specs.Each.{Each}
 use Rattle.notation.specs.Syntax.{OneOrMore, Transition, Sequential}
 use Rattle.notation.specs.Grammar.{rbrace, sign, Tokens, ofTransitionList, Text}
 use Rattle.reading.specs.Numbers.{namedStates}
@@ -18,7 +19,6 @@ use Rattle.lists.specs.Lists.{moreOf}
 use Rattle.laying.specs.Room.{Tries}
 use Rattle.roster.specs.declared.Roster.{Roster}
 use Rattle.roster.specs.Roster.{crowded?, StandsAt, Charted}
-use Rattle.roster.specs.Walk.{Every}
 
 -- ── bytes ──
 
@@ -62,14 +62,14 @@ pub record InRange (t : Transition) : Type 0 where
 -- the transitions that stand at a place, each behind a comma, are written
 abbrev pub LinesMore : List ℕ → ℕ → List ℕ → ℕ → List ℕ → ℕ → Type 0
 LinesMore w at before to after next =
-    (ts : List Transition) (us : Tokens) → Text (moreOf ts ++ (sign rbrace ∷ us)) (drop at w) → Every InRange ts
+    (ts : List Transition) (us : Tokens) → Text (moreOf ts ++ (sign rbrace ∷ us)) (drop at w) → Each InRange ts
     → Tries before to (all lineOf ts) after next
 
 -- the transitions that stand at a place are written
 abbrev pub LinesFrom : List ℕ → ℕ → List ℕ → ℕ → List ℕ → ℕ → Type 0
 LinesFrom w at before to after next =
     (ts : OneOrMore Transition) (us : Tokens) → Text (ofTransitionList ts ++ (sign rbrace ∷ us)) (drop at w)
-    → Every InRange (membersOf ts) → Tries before to (all lineOf (membersOf ts)) after next
+    → Each InRange (membersOf ts) → Tries before to (all lineOf (membersOf ts)) after next
 
 -- the transitions of the chart that stands at a place are written
 abbrev pub LinesAt : List ℕ → ℕ → List ℕ → ℕ → List ℕ → ℕ → Type 0

@@ -1,10 +1,11 @@
 -- The walk from chart to chart: what is known on the way, and what its steps promise each other.
 use mathlib.Core.Path.{_≡_}
 use mathlib.Core.Bool.{false, _||_}
-use mathlib.Core.List.{List, [], _∷_, _++_, map}
+use mathlib.Core.List.{List, [], _++_, map}
 use Prim.Native.Nat.{ℕ, _+_, _≤_, _<_}
 use lib.Dec.{ltb}
 use lib.ListN.{length, drop, getD, set}
+use Rattle.meaning.specs.Each.{Each}
 use Rattle.meaning.specs.Numbers.{mostInChart}
 use Rattle.notation.specs.Syntax.{Sequential, Chart}
 use Rattle.notation.specs.Grammar.{Tokens, Text}
@@ -20,11 +21,6 @@ use Rattle.roster.specs.Roster.{cut, crowded?, StandsAt}
 
 -- ── what is known ──
 
--- each member of a list
-unfoldable pub Every : {A : Type 0} → (A → Type 0) → List A → Type 0
-Every P [] = Unit {0}
-Every P (a ∷ as′) = P a × Every P as′
-
 -- r is what is found of the charts `done`, each of which stands at the place that its name has
 pub record Holds (w : List ℕ) (r : Roster) (done : List Sequential) : Type 0 where
   pub long : length (r .places) ≡ 16
@@ -33,7 +29,7 @@ pub record Holds (w : List ℕ) (r : Roster) (done : List Sequential) : Type 0 w
   pub is-transitions : r .transitions ≡ cut (length (gathered transitionsIn done))
   pub is-crowded : r .crowded ≡ any crowded? done
   pub is-refused : r .refused ≡ any sequential? done
-  pub stand : r .bad ≡ false → Every (λ s. StandsAt w (getD (r .places) (nameOf s) 0) s) done
+  pub stand : r .bad ≡ false → Each (λ s. StandsAt w (getD (r .places) (nameOf s) 0) s) done
 
 -- the charts `done` of t are found, and the text goes on behind them with tokens that have the others
 pub record Walked (w : List ℕ) (r : Roster) (t : Chart) : Type 0 where

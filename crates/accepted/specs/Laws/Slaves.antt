@@ -13,6 +13,7 @@ use lib.ListN.{length}
 use Rattle.layout.specs.Le.{AllBytes}
 use Rattle.layout.specs.Body.{slaveAt}
 use Rattle.layout.specs.declared.record.Slave.{Slave}
+use Rattle.meaning.specs.Each.Laws.{each-both}
 use Rattle.meaning.specs.Numbers.{firstEdition}
 use Rattle.meaning.specs.Sums.{tally, one}
 use Rattle.meaning.specs.Sums.Laws.{any-all, tally-zero, tally-find}
@@ -40,8 +41,7 @@ use Rattle.spelling.specs.Write.{chartIn}
 use Rattle.faithful.specs.Faithful.{Rising}
 use Rattle.faithful.specs.Laws.Back.{At, shapeFor, slave-is}
 use Rattle.faithful.specs.Laws.Charts.{at-more, at-head, at-place}
-use Rattle.faithful.specs.Laws.Order.{each-imp, each-both, keys-with, keys-sorted, NotFalling, append-level}
-use Rattle.faithful.specs.Laws.Order.{sorted-level}
+use Rattle.faithful.specs.Laws.Order.{keys-with, keys-sorted, NotFalling, append-level, sorted-level}
 use Rattle.accepted.specs.Tree.{Within, WithinBy, keyFor, keyOf, Climbs}
 use Rattle.accepted.specs.Laws.Test10.{tally-total, each-at}
 use Rattle.accepted.specs.Laws.Records.{climbs-all, slave-passes, state-below, climbing}
@@ -141,7 +141,7 @@ level-imp : {A : Type 0} (key other : A → ℕ) (P : A → Type 0)
 unfolding NotFalling
 level-imp key other P f [] e h = tt
 level-imp key other P f (a ∷ l) (more p e) h = (
-  each-imp (λ b q. f a b p (q .0) (q .1)) l (each-both l e (h .0)),
+  each-of (λ b q. f a b p (q .0) (q .1)) (each-both l e (h .0)),
   level-imp key other P f l e (h .1),
 )
 
@@ -154,9 +154,9 @@ chart-level (suc n) l h e =
     append-level keyIn (n * 16) (sortedBy chart n l) (withKey chart n l) (chart-level n l h e)
     (level-imp (λ r. r .state) keyIn (λ r. r .chart ≡ n) (λ a b p q z. omega arith) (withKey chart n l)
     (keys-with chart n l) (level-with (λ r. r .state) chart n l h))
-    (each-imp (λ r q. let a = q .0 in let b = q .1 in omega arith) (sortedBy chart n l)
+    (each-of (λ r q. let a = q .0 in let b = q .1 in omega arith)
     (each-both (sortedBy chart n l) (keys-sorted chart n l) (each-sorted chart n l e)))
-    (each-imp (λ r q. omega arith) (withKey chart n l) (keys-with chart n l))
+    (each-of (λ r q. omega arith) (keys-with chart n l))
   where
     chart : Slave → ℕ
     chart r = r .chart
@@ -175,7 +175,7 @@ pub level-rising : {A : Type 0} (key : A → ℕ) (l : List A) → NotFalling ke
 unfolding NotFalling Rising total
 level-rising key [] h f = tt
 level-rising key (a ∷ l) h f = (
-  each-imp (λ b q. let x = q .0 in let y = q .1 in other (key a) (key b) x y) l
+  each-of (λ b q. let x = q .0 in let y = q .1 in other (key a) (key b) x y)
       (each-both l (h .0)
       (total-none key (key a) l
       (let z = f (key a) in let y : one (same (key a) (key a)) ≡ 1 = ap one (same-refl (key a)) in omega arith))),

@@ -8,32 +8,11 @@ use native.Mathlib.Decide.{decLt}
 use native.Mathlib.Omega.{arith}
 use borrow.Author.Tests.{eq-eqb, ne-eqb, eqb-true}
 use lib.Dec.{eqb}
+use Rattle.meaning.specs.Each.{Each, none, more}
+use Rattle.meaning.specs.Each.Laws.{each-of, each-append}
 use Rattle.reading.specs.Meant.{withKey, sortedBy}
-use Rattle.roster.specs.Walk.{Every}
 use Rattle.roster.specs.Laws.Sorted.{sorted-nil, insert-past}
-use Rattle.outline.specs.Laws.Sorted.{Each, none, more, each-append}
 use Rattle.walk.specs.Laws.Order.{key-append}
-
--- ── each member ──
-
-pub each-imp : {A : Type 0} {P Q : A → Type 0} → ((a : A) → P a → Q a) → (l : List A) → Each P l → Each Q l
-each-imp f [] e = none
-each-imp f (a ∷ l) (more p e) = more (f a p) (each-imp f l e)
-
-pub each-both : {A : Type 0} {P Q : A → Type 0} (l : List A) → Each P l → Each Q l → Each (λ a. P a × Q a) l
-each-both [] e f = none
-each-both (a ∷ l) (more p e) (more q f) = more (p, q) (each-both l e f)
-
-pub each-head : {A : Type 0} {P : A → Type 0} {a : A} {l : List A} → Each P (a ∷ l) → P a
-each-head (more p e) = p
-
-pub each-tail : {A : Type 0} {P : A → Type 0} {a : A} {l : List A} → Each P (a ∷ l) → Each P l
-each-tail (more p e) = e
-
-pub each-every : {A : Type 0} {P : A → Type 0} (l : List A) → Each P l → Every P l
-unfolding Every
-each-every [] e = tt
-each-every (a ∷ l) (more p e) = (p, each-every l e)
 
 module _ {A : Type 0} (key : A → ℕ) where
   -- one member in front: picked, or not
@@ -70,8 +49,8 @@ module _ {A : Type 0} (key : A → ℕ) where
   unfolding sortedBy
   keys-sorted zero l = none
   keys-sorted (suc n) l =
-      each-append (each-imp (λ a h. omega arith) (sortedBy key n l) (keys-sorted n l))
-      (each-imp (λ a h. omega arith) (withKey key n l) (keys-with n l))
+      each-append (each-of (λ a h. omega arith) (keys-sorted n l))
+      (each-of (λ a h. omega arith) (keys-with n l))
 
   -- ── picked by the key that it is sorted by ──
 
@@ -84,12 +63,12 @@ module _ {A : Type 0} (key : A → ℕ) where
       go : Dec (k < n) → (k < n → withKey key k (sortedBy key n l) ≡ withKey key k l)
           → withKey key k (sortedBy key n l) ++ withKey key k (withKey key n l) ≡ withKey key k l
       go (yes i) f =
-          ap₂ _++_ (f i) (with-none k (withKey key n l) (each-imp (λ a e q. omega arith) _ (keys-with n l)))
+          ap₂ _++_ (f i) (with-none k (withKey key n l) (each-of (λ a e q. omega arith) (keys-with n l)))
           ∙ append-nil (withKey key k l)
       go (no i) f =
           let e : n ≡ k = omega arith in
-          ap₂ _++_ (with-none k (sortedBy key n l) (each-imp (λ a e q. omega arith) _ (keys-sorted n l)))
-          (with-all k (withKey key n l) (each-imp (λ a q. q ∙ e) _ (keys-with n l)))
+          ap₂ _++_ (with-none k (sortedBy key n l) (each-of (λ a e q. omega arith) (keys-sorted n l)))
+          (with-all k (withKey key n l) (each-of (λ a q. q ∙ e) (keys-with n l)))
           ∙ ap (λ m. withKey key m l) e
 
   -- ── sorted ──
@@ -104,21 +83,21 @@ module _ {A : Type 0} (key : A → ℕ) where
   unfolding NotFalling
   append-level n [] m r s e f = s
   append-level n (a ∷ l) m r s (more p e) f = (
-    each-append (r .0) (each-imp (λ b h. omega arith) m f),
+    each-append (r .0) (each-of (λ b h. omega arith) f),
     append-level n l m (r .1) s e f,
   )
 
   same-level : (n : ℕ) (l : List A) → Each (λ a. key a ≡ n) l → NotFalling l
   unfolding NotFalling
   same-level n [] e = tt
-  same-level n (a ∷ l) (more p e) = (each-imp (λ b h. omega arith) l e, same-level n l e)
+  same-level n (a ∷ l) (more p e) = (each-of (λ b h. omega arith) e, same-level n l e)
 
   pub sorted-level : (n : ℕ) (l : List A) → NotFalling (sortedBy key n l)
   unfolding sortedBy NotFalling
   sorted-level zero l = tt
   sorted-level (suc n) l =
       append-level n (sortedBy key n l) (withKey key n l) (sorted-level n l) (same-level n _ (keys-with n l))
-      (each-imp (λ a h. omega arith) _ (keys-sorted n l)) (each-imp (λ a h. omega arith) _ (keys-with n l))
+      (each-of (λ a h. omega arith) (keys-sorted n l)) (each-of (λ a h. omega arith) (keys-with n l))
 
   sorted-none : (n : ℕ) (l : List A) → Each (λ a. n ≤ key a) l → sortedBy key n l ≡ []
   sorted-none n [] e = sorted-nil key n
@@ -134,7 +113,7 @@ module _ {A : Type 0} (key : A → ℕ) where
           → sortedBy key n (a ∷ l) ++ withKey key n (a ∷ l) ≡ a ∷ (sortedBy key n l ++ withKey key n l)
       go (yes i) f = ap₂ _++_ (f i) (with-not n a l (λ q. omega arith))
       go (no i) f =
-          let z = sorted-none n l (each-imp (λ b q. omega arith) l e) in
+          let z = sorted-none n l (each-of (λ b q. omega arith) e) in
           ap₂ _++_ (insert-past key n a l (omega arith) ∙ z) (with-here n a l (omega arith))
           ∙ ap (λ m. a ∷ (m ++ withKey key n l)) (sym z)
 

@@ -9,6 +9,7 @@ use borrow.Author.Tests.{eq-eqb, eqb-true}
 use lib.Dec.{eqb}
 use lib.ListN.{length}
 use Rattle.layout.specs.declared.record.Slave.{Slave}
+use Rattle.meaning.specs.Each.Laws.{each-head, each-tail}
 use Rattle.meaning.specs.Sums.{one}
 use Rattle.meaning.specs.Sums.Laws.{or-left, or-right}
 use Rattle.notation.specs.Syntax.{Sequential, Single, sequential, decomposed, hidden, Chart, single, composed, Slaves}
@@ -23,8 +24,7 @@ use Rattle.outline.specs.Laws.Sorted.{Each, none, more, each-append, each-sorte
 use Rattle.walk.specs.Laws.Order.{key-append}
 use Rattle.roster.specs.Laws.Sorted.{sorted-perm}
 use Rattle.faithful.specs.Faithful.{pairsOf, Rising}
-use Rattle.faithful.specs.Laws.Order.{with-here, with-not, NotFalling, map-sorted, each-every, each-head}
-use Rattle.faithful.specs.Laws.Order.{each-tail}
+use Rattle.faithful.specs.Laws.Order.{with-here, with-not, NotFalling, map-sorted}
 
 -- ── slaves as pairs ──
 
@@ -43,7 +43,7 @@ abbrev pub byState : Slaves → List Pair
 byState ps = sortedBy (λ p. p .state) namedStates (pairsOf ps)
 
 pub typed-pairs : (ps : Slaves) → Each (λ p. p .state < namedStates) (pairsOf ps) → List·Permᴰ (byState ps) (pairsOf ps)
-typed-pairs ps e = sorted-perm (λ p. p .state) namedStates (pairsOf ps) (each-every (pairsOf ps) e)
+typed-pairs ps e = sorted-perm (λ p. p .state) namedStates (pairsOf ps) e
 
 pub by-state : (ps : Slaves) → sortedBy (λ p. p .at) namedStates (placed ps) ≡ map placedOf (byState ps)
 by-state ps =

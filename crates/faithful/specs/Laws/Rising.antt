@@ -9,6 +9,7 @@ use borrow.Author.Tests.{ltb-true, eqb-true, not-false}
 use lib.Dec.{ltb, eqb}
 use lib.ListN.{length, length-append}
 use Rattle.layout.specs.declared.record.Slave.{Slave}
+use Rattle.meaning.specs.Each.Laws.{each-of, each-both}
 use Rattle.meaning.specs.Sums.Laws.{or-four, any-never}
 use Rattle.meaning.specs.Meaning.{same}
 use Rattle.meaning.specs.Laws.Bools.{and-l, and-r, or-elim, same→≡}
@@ -20,7 +21,7 @@ use Rattle.lists.specs.Laws.States.{length-snoc}
 use Rattle.outline.specs.Laws.Sorted.{Each, none, more, each-with}
 use Rattle.faithful.specs.Faithful.{Rising}
 use Rattle.faithful.specs.Laws.Back.{At}
-use Rattle.faithful.specs.Laws.Order.{each-imp, each-both, keys-with}
+use Rattle.faithful.specs.Laws.Order.{keys-with}
 use Rattle.faithful.specs.Laws.Parts.{chartOf, stateOf}
 
 -- ── records, one after another ──
@@ -48,7 +49,7 @@ Steps (r ∷ (s ∷ l)) = Above r s × Steps (s ∷ l)
 steps-all : (r : Slave) (l : List Slave) → Steps (r ∷ l) → Each (Above r) l
 unfolding Steps
 steps-all r [] h = none
-steps-all r (s ∷ l) h = more (h .0) (each-imp (λ u a. above-trans r s u (h .0) a) l (steps-all s l (h .1)))
+steps-all r (s ∷ l) h = more (h .0) (each-of (λ u a. above-trans r s u (h .0) a) (steps-all s l (h .1)))
 
 steps-rest : (r : Slave) (l : List Slave) → Steps (r ∷ l) → Steps l
 unfolding Steps
@@ -68,7 +69,7 @@ steps-rise c (r ∷ l) h = go (eqb (r .chart) c) refl (steps-rise c l (steps-res
         → Rising stateOf (cond b (r ∷ withKey chartOf c l) (withKey chartOf c l))
     go true e i =
         let z = eqb-true (r .chart) c e in
-        (each-imp (λ s a. above-state r s (z ∙ sym (a .1)) (a .0)) (withKey chartOf c l) above, i)
+        (each-of (λ s a. above-state r s (z ∙ sym (a .1)) (a .0)) above, i)
     go false e i = i
 
 -- ── those of a file ──

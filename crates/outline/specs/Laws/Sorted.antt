@@ -1,5 +1,5 @@
--- Lists that are sorted by keys below a limit: what holds of each member stays (`each-sorted`), and a sum over the
--- members too (`total-sorted`), so their number (`length-sorted`).
+-- Lists that are sorted by keys below a limit: a sum over the members stays (`total-sorted`), so their number too
+-- (`length-sorted`). What holds of each member, and stays as well, is passed on from meaning and reading.
 use mathlib.Core.Path.{_≡_, refl, sym, ap, ap₂, _∙_}
 use mathlib.Core.Bool.{Bool, true, false, cond}
 use mathlib.Core.List.{List, [], _∷_, _++_}
@@ -10,20 +10,9 @@ use borrow.Author.Tests.{lt-ltb, le-ltb, eq-eqb, ne-eqb}
 use lib.Dec.{ltb, eqb}
 use lib.ListN.{length}
 use Rattle.reading.specs.Meant.{withKey, sortedBy}
-
--- something holds of each member
-pub data Each {A : Type 0} (P : A → Type 0) : List A → Type 0 where
-  none : Each P []
-  more : {a : A} {l : List A} → P a → Each P l → Each P (a ∷ l)
-
--- what follows from it holds of each as well
-pub each-of : {A : Type 0} {P Q : A → Type 0} {l : List A} → ((a : A) → P a → Q a) → Each P l → Each Q l
-each-of f none = none
-each-of f (more {a} p e) = more (f a p) (each-of f e)
-
-pub each-append : {A : Type 0} {P : A → Type 0} {l m : List A} → Each P l → Each P m → Each P (l ++ m)
-each-append none n = n
-each-append (more p e) n = more p (each-append e n)
+pub use Rattle.meaning.specs.Each.{Each, none, more}
+pub use Rattle.meaning.specs.Each.Laws.{each-of, each-append}
+pub use Rattle.reading.specs.Laws.Sorted.{each-with, each-sorted}
 
 -- the sum of a number of each member
 unfoldable pub total : {A : Type 0} → (A → ℕ) → List A → ℕ
@@ -67,20 +56,6 @@ next-limit k n x = go (decLt k n) (decLt n k)
         (omega arith)
 
 module _ {A : Type 0} (key : A → ℕ) where
-  pub each-with : {P : A → Type 0} (k : ℕ) (l : List A) → Each P l → Each P (withKey key k l)
-  unfolding withKey
-  each-with k [] e = none
-  each-with {P} k (a ∷ l) (more p e) = go (eqb (key a) k) (each-with k l e)
-    where
-      go : (b : Bool) → Each P (withKey key k l) → Each P (cond b (a ∷ withKey key k l) (withKey key k l))
-      go true i = more p i
-      go false i = i
-
-  pub each-sorted : {P : A → Type 0} (n : ℕ) (l : List A) → Each P l → Each P (sortedBy key n l)
-  unfolding sortedBy
-  each-sorted zero l e = none
-  each-sorted (suc n) l e = each-append (each-sorted n l e) (each-with n l e)
-
   total-with : (f : A → ℕ) (k : ℕ) (l : List A)
       → total f (withKey key k l) ≡ total (λ a. cond (eqb (key a) k) (f a) 0) l
   unfolding withKey total

@@ -1,16 +1,16 @@
 -- `begun` meets its contract.
 use mathlib.Core.Path.{refl}
+use Rattle.meaning.specs.Each.{none}
 use Rattle.reading.specs.Numbers.{namedCharts}
 use Rattle.reading.specs.Names.{any}
 use Rattle.reading.specs.Meant.{gathered}
 use Rattle.lists.specs.Laws.States.{so-far-none}
 use Rattle.roster.specs.Roster.{cut}
-use Rattle.roster.specs.Walk.{Every}
 use Rattle.roster.proofs.begun.Statement.{statement}
 use Rattle.roster.proofs.begun.Tie as tie
 
 returns : tie.Need-returns
-unfolding cut any gathered Every
+unfolding cut any gathered
 returns c = (
   refl,
   λ w.
@@ -21,7 +21,7 @@ returns c = (
         is-transitions = refl;
         is-crowded = refl;
         is-refused = refl;
-        stand = λ e. tt;
+        stand = λ e. none;
       },
 )
 

@@ -1,5 +1,5 @@
 -- Laws of bytes of the members of a list, one after another: the bytes of a list (`all-..`), with room for the next
--- member (`room-of`) and one member more (`put-of`); tests that no member passes (`every-..`); and the charts of a
+-- member (`room-of`) and one member more (`put-of`); tests that no member passes (`each-false`); and the charts of a
 -- roster (`laid-..`).
 use mathlib.Core.Path.{_≡_, refl, sym, ap, _∙_, subst}
 use mathlib.Core.Bool.{Bool, false}
@@ -10,6 +10,7 @@ use native.Mathlib.Omega.{arith}
 use lib.ListN.{length, length-append}
 use Rattle.layout.specs.Put.{Room, Put}
 use Rattle.layout.specs.Put.Laws.{put-none, put-append, room-first, room-next}
+use Rattle.meaning.specs.Each.{Each, none, more}
 use Rattle.meaning.specs.Sums.Laws.{or-left, or-right}
 use Rattle.notation.specs.Syntax.{Sequential}
 use Rattle.notation.specs.Grammar.{ofSequential, Text}
@@ -20,7 +21,6 @@ use Rattle.lists.specs.Laws.States.{length-snoc}
 use Rattle.laying.specs.Room.{Tries}
 use Rattle.roster.specs.declared.Roster.{Roster}
 use Rattle.roster.specs.Roster.{StandsAt, Stand, Charted}
-use Rattle.roster.specs.Walk.{Every}
 use Rattle.roster.specs.Records.{PlaceOf}
 
 -- ── the bytes of a list ──
@@ -53,16 +53,10 @@ all-gathered g f (a ∷ l) =
 
 -- ── tests that no member passes ──
 
-module _ {A : Type 0} where
-  pub every-false : (p : A → Bool) (l : List A) → any p l ≡ false → Every (λ a. p a ≡ false) l
-  unfolding any Every
-  every-false p [] e = tt
-  every-false p (a ∷ l) e = (or-left (p a) (any p l) e, every-false p l (or-right (p a) (any p l) e))
-
-  pub every-both : (P Q : A → Type 0) (l : List A) → Every P l → Every Q l → Every (λ a. P a × Q a) l
-  unfolding Every
-  every-both P Q [] p q = tt
-  every-both P Q (a ∷ l) p q = ((p .0, q .0), every-both P Q l (p .1) (q .1))
+pub each-false : {A : Type 0} (p : A → Bool) (l : List A) → any p l ≡ false → Each (λ a. p a ≡ false) l
+unfolding any
+each-false p [] e = none
+each-false p (a ∷ l) e = more (or-left (p a) (any p l) e) (each-false p l (or-right (p a) (any p l) e))
 
 -- ── the charts of a roster ──
 
@@ -75,13 +69,13 @@ pub record Laid (g : Sequential → List ℕ) (Good : Sequential → Type 0) (w 
     pub all-of : ss ≡ done ++ rest
     pub counted : length done ≡ c
     pub stand : Stand w (r .places) c rest
-    pub good : Every Good rest
+    pub good : Each Good rest
     pub put : Put before at (all g done) after p
 
 module _ (g : Sequential → List ℕ) (Good : Sequential → Type 0) (w : List ℕ) (r : Roster) (ss : List Sequential)
     (before : List ℕ) (at : ℕ)
   where
-    pub laid-first : Charted w r ss → Every Good ss → Laid g Good w r ss before at 0 before at
+    pub laid-first : Charted w r ss → Each Good ss → Laid g Good w r ss before at 0 before at
     unfolding all
     laid-first h e =
         record {
@@ -98,15 +92,15 @@ module _ (g : Sequential → List ℕ) (Good : Sequential → Type 0) (w : List 
         → PlaceOf w r c place → ((s : Sequential) → StandsAt w place s → Good s → Tries after p (g s) later q)
         → Room before at (all g ss) → Laid g Good w r ss before at c after p
         → Laid g Good w r ss before at (c + 1) later q
-    unfolding Stand Every
+    unfolding Stand
     laid-more c place after later p q h l o f room k =
         go (k .rest) (k .all-of) (k .stand) (k .good)
       where
-        go : (rest : List Sequential) → ss ≡ k .done ++ rest → Stand w (r .places) c rest → Every Good rest
+        go : (rest : List Sequential) → ss ≡ k .done ++ rest → Stand w (r .places) c rest → Each Good rest
             → Laid g Good w r ss before at (c + 1) later q
         go [] e s i =
             absurd (omega (arith, ap length (e ∙ append-nil (k .done)), k .counted, h .is-charts, l))
-        go (u ∷ rest) e s i =
+        go (u ∷ rest) e s (more i is) =
             let few = h .few in
             let here : StandsAt w place u =
             record {
@@ -121,8 +115,8 @@ module _ (g : Sequential → List ℕ) (Good : Sequential → Type 0) (w : List 
               all-of = e ∙ sym (append-assoc (k .done) (u ∷ []) rest);
               counted = length-snoc (k .done) u ∙ ap suc (k .counted) ∙ sym (add-one c);
               stand = subst (λ n. Stand w (r .places) n rest) (sym (add-one c)) (s .1);
-              good = i .1;
-              put = put-of g (k .done) u (k .put) (f u here (i .0) (room-of g (k .done) u rest e room (k .put)));
+              good = is;
+              put = put-of g (k .done) u (k .put) (f u here i (room-of g (k .done) u rest e room (k .put)));
             }
 
     pub laid-end : (c p : ℕ) (after : List ℕ) → Charted w r ss → r .charts ≤ c → Laid g Good w r ss before at c after p

@@ -10,6 +10,8 @@ use Rattle.layout.specs.Record.{transitionBytes}
 use Rattle.layout.specs.declared.record.Transition.{Transition as Record}
 use Rattle.layout.specs.Put.{Room, Put}
 use Rattle.layout.specs.Put.Laws.{put-none, put-append, room-first, room-next}
+use Rattle.meaning.specs.Each.{Each}
+use Rattle.meaning.specs.Each.Laws.{each-head, each-tail}
 use Rattle.notation.specs.Syntax.{OneOrMore, Transition, Sequential}
 use Rattle.notation.specs.Grammar.{comma, rbrace, sign, signBytes, Tokens, ofTransition}
 use Rattle.notation.specs.Grammar.{ofTransitions, Text}
@@ -29,7 +31,6 @@ use Rattle.lists.specs.Laws.Transitions.{some-next}
 use Rattle.lists.specs.Laws.Sequentials.{parts, parts-are}
 use Rattle.laying.specs.Room.{Tries}
 use Rattle.roster.specs.Roster.{StandsAt}
-use Rattle.roster.specs.Walk.{Every}
 use Rattle.roster.specs.Records.{lineOf, linesOf, recordOf, InRange, LinesMore, LinesFrom}
 use Rattle.roster.specs.Records.{LinesAt}
 use Rattle.roster.specs.Laws.Laid.{room-of, put-of, all-gathered}
@@ -45,7 +46,7 @@ pub record Going (w : List ℕ) (i : ℕ) (ts : List Transition) (us : Tokens) (
     pub rest : List Transition
     pub all-of : ts ≡ done ++ rest
     pub text : Text (moreOf rest ++ (sign rbrace ∷ us)) (drop i w)
-    pub in-range : Every InRange rest
+    pub in-range : Each InRange rest
     pub put : Put before to (all lineOf done) after p
 
 -- one transition, written as it is read
@@ -57,7 +58,7 @@ line-put w u m t us after later p q e g i f =
     subst (λ r. Tries after p (transitionBytes r) later q) (e ∙ record-right w u t us g i) f
 
 module _ (w : List ℕ) (ts : List Transition) (us : Tokens) (before : List ℕ) (to : ℕ) where
-  pub lines-start : (i : ℕ) → Text (moreOf ts ++ (sign rbrace ∷ us)) (drop i w) → Every InRange ts
+  pub lines-start : (i : ℕ) → Text (moreOf ts ++ (sign rbrace ∷ us)) (drop i w) → Each InRange ts
       → Going w i ts us before to before to
   unfolding all
   lines-start i x e =
@@ -67,11 +68,11 @@ module _ (w : List ℕ) (ts : List Transition) (us : Tokens) (before : List ℕ)
       → getD (afterBlanks (drop i w)) 0 0 ≡ 44 → BehindSign w i 1 j → TransitionAt w j u → m ≡ recordOf u
       → Tries after p (transitionBytes m) later q → Room before to (all lineOf ts)
       → Going w i ts us before to after p → Going w (u .next) ts us before to later q
-  unfolding moreOf firstByte signBytes Every
+  unfolding moreOf firstByte signBytes
   lines-next i j u m after later p q s o a n f room g = go (g .rest) (g .all-of) (g .text) (g .in-range)
     where
       go : (rest : List Transition) → ts ≡ g .done ++ rest → Text (moreOf rest ++ (sign rbrace ∷ us)) (drop i w)
-          → Every InRange rest → Going w (u .next) ts us before to later q
+          → Each InRange rest → Going w (u .next) ts us before to later q
       go [] e x k = absurd (let z = peek-sign rbrace x in omega arith)
       go (t ∷ rest) e x k =
           let y = behind-right w i comma j x (o .behind) in
@@ -82,10 +83,11 @@ module _ (w : List ℕ) (ts : List Transition) (us : Tokens) (before : List ℕ)
             rest = rest;
             all-of = e ∙ sym (append-assoc (g .done) (t ∷ []) rest);
             text = z .goes-on;
-            in-range = k .1;
+            in-range = each-tail k;
             put =
                 put-of lineOf (g .done) t (g .put)
-                (line-put w u m t _ after later p q n z (k .0) f (room-of lineOf (g .done) t rest e room (g .put)));
+                (line-put w u m t _ after later p q n z (each-head k) f
+                (room-of lineOf (g .done) t rest e room (g .put)));
           }
 
   pub lines-end : (i p : ℕ) (after : List ℕ) → (getD (afterBlanks (drop i w)) 0 0 ≡ 44 → ⊥)
@@ -103,15 +105,15 @@ module _ (w : List ℕ) (ts : List Transition) (us : Tokens) (before : List ℕ)
 pub lines-all : (w : List ℕ) (at : ℕ) (u : Passage) (m : Record) (before after later : List ℕ) (to p q : ℕ)
     → TransitionAt w at u → m ≡ recordOf u → Tries before to (transitionBytes m) after p
     → LinesMore w (u .next) after p later q → LinesFrom w at before to later q
-unfolding all Every
+unfolding all
 lines-all w at u m before after later to p q a n f more ts us x i room =
     let z = a .gives (firstIn ts) _ (first-text w at ts us x) in
-    let j = subst (Every InRange) (members-list ts) i in
+    let j = subst (Each InRange) (members-list ts) i in
     let e = ap (all lineOf) (members-list ts) in
     let r = subst (Room before to) e room in
-    let h = line-put w u m (firstIn ts) _ before after to p n z (j .0) f
+    let h = line-put w u m (firstIn ts) _ before after to p n z (each-head j) f
     (room-first before to (lineOf (firstIn ts)) (all lineOf (restIn ts)) r) in
-    let k = more (restIn ts) us (z .goes-on) (j .1)
+    let k = more (restIn ts) us (z .goes-on) (each-tail j)
     (room-next before to (lineOf (firstIn ts)) (all lineOf (restIn ts)) r h) in
     subst (λ l. Put before to l later q) (sym e) (put-append h k)
 
@@ -151,7 +153,7 @@ module _ (w : List ℕ) (at i j : ℕ) (h : Headed) (o : HeadingAt w at h) (b : 
         us = behind-heading s x .0
 
         go : (ts : Option (OneOrMore Transition)) → Text (ofTransitions ts ++ us) (drop i w)
-            → Every InRange (membersOr ts) → Room before to (all lineOf (membersOr ts))
+            → Each InRange (membersOr ts) → Room before to (all lineOf (membersOr ts))
             → Put before to (all lineOf (membersOr ts)) after q
         go none t k room = absurd (p (none-next w j us (none-text w i j us c t)))
         go (some ts) t k room = f ts us (some-text w i j ts us c t) k room

@@ -9,6 +9,7 @@ use borrow.Author.Tests.{lt-ltb, ltb-false, eqb-true, not-false}
 use lib.ListN.{length}
 use Rattle.layout.specs.Record.{headBytes}
 use Rattle.layout.specs.declared.record.Head.{Head}
+use Rattle.meaning.specs.Each.{Each, none, more}
 use Rattle.meaning.specs.Meaning.{same}
 use Rattle.meaning.specs.Numbers.{mostInChart}
 use Rattle.meaning.specs.Check.{notBelow, differ}
@@ -28,7 +29,6 @@ use Rattle.lists.specs.Laws.States.{any-at, cap-in}
 use Rattle.lists.specs.Laws.Headings.{first-in}
 use Rattle.laying.specs.Room.{Tries}
 use Rattle.roster.specs.Roster.{crowded?, StandsAt}
-use Rattle.roster.specs.Walk.{Every}
 use Rattle.roster.specs.Records.{HeadAt, recordOf, InRange}
 use Rattle.roster.specs.Laws.Sorted.{few-names}
 
@@ -86,13 +86,13 @@ module _ (s : Sequential) (e : sequential? s ≡ false) where
         sets = or-right (not (has states (t .to))) _ f;
       }
 
-  all-in-range : (ts : List Transition) → any (transition? states) ts ≡ false → Every InRange ts
-  unfolding any Every
-  all-in-range [] h = tt
+  all-in-range : (ts : List Transition) → any (transition? states) ts ≡ false → Each InRange ts
+  unfolding any
+  all-in-range [] h = none
   all-in-range (t ∷ ts) h =
-      (in-range t (or-left _ _ h), all-in-range ts (or-right (transition? states t) _ h))
+      more (in-range t (or-left _ _ h)) (all-in-range ts (or-right (transition? states t) _ h))
 
-  pub lines-in-range : Every InRange (transitionsIn s)
+  pub lines-in-range : Each InRange (transitionsIn s)
   lines-in-range = all-in-range (transitionsIn s) lines-good
 
 -- ── the records ──

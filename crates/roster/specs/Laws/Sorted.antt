@@ -1,6 +1,6 @@
--- Laws of lists sorted by a key: each member (`every-sorted`); they hold the same members (`sorted-perm`), so what does
--- not depend on the order is the same (`length-perm`, `any-perm`, `gathered-perm`); and keys that are all numbers from
--- 0 up, each once, come in their order (`sorted-order`), and are at most as many as the limit (`few-names`).
+-- Laws of lists sorted by a key: they hold the same members (`sorted-perm`), so what does not depend on the order is
+-- the same (`length-perm`, `any-perm`, `gathered-perm`); and keys that are all numbers from 0 up, each once, come in
+-- their order (`sorted-order`), and are at most as many as the limit (`few-names`).
 use mathlib.Core.Path.{_≡_, refl, sym, ap, ap₂, _∙_, subst}
 use mathlib.Core.Bool.{Bool, true, false, _||_, cond, true≢false, false≢true}
 use mathlib.Core.List.{List, [], _∷_, _++_, map, append-nil, List·Permᴰ, List·Permᴰ·nil}
@@ -12,13 +12,13 @@ use native.Mathlib.Omega.{arith}
 use borrow.Author.Tests.{ltb-true, eqb-true, eq-eqb, not-false}
 use lib.Dec.{ltb, eqb}
 use lib.ListN.{length, length-append}
+use Rattle.meaning.specs.Each.{Each, none, more}
 use Rattle.meaning.specs.Check.{notBelow}
 use Rattle.meaning.specs.Laws.Bools.{or-swap}
 use Rattle.meaning.specs.Sums.Laws.{or-left, or-right}
 use Rattle.reading.specs.Names.{any, has, twice?, lacksBefore, leftOut?, notAll?}
 use Rattle.reading.specs.Meant.{withKey, sortedBy, gathered}
 use Rattle.lists.specs.Laws.States.{any-at, length-snoc}
-use Rattle.roster.specs.Walk.{Every}
 
 -- ── tests ──
 
@@ -28,29 +28,6 @@ eqb-no m n h = go (eqb m n) refl
     go : (b : Bool) → eqb m n ≡ b → b ≡ false
     go true e = absurd (h (eqb-true m n e))
     go false e = refl
-
--- ── each member ──
-
-module _ {A : Type 0} (P : A → Type 0) where
-  pub every-append : (l m : List A) → Every P l → Every P m → Every P (l ++ m)
-  unfolding Every
-  every-append [] m p q = q
-  every-append (a ∷ l) m p q = (p .0, every-append l m (p .1) q)
-
-  every-with : (key : A → ℕ) (k : ℕ) (l : List A) → Every P l → Every P (withKey key k l)
-  unfolding Every withKey
-  every-with key k [] p = tt
-  every-with key k (a ∷ l) p = go (eqb (key a) k) (every-with key k l (p .1))
-    where
-      go : (b : Bool) → Every P (withKey key k l) → Every P (cond b (a ∷ withKey key k l) (withKey key k l))
-      go true q = (p .0, q)
-      go false q = q
-
-  pub every-sorted : (key : A → ℕ) (n : ℕ) (l : List A) → Every P l → Every P (sortedBy key n l)
-  unfolding Every sortedBy
-  every-sorted key zero l p = tt
-  every-sorted key (suc n) l p =
-      every-append (sortedBy key n l) (withKey key n l) (every-sorted key n l p) (every-with key n l p)
 
 -- ── the same members ──
 
@@ -87,11 +64,10 @@ module _ {A : Type 0} (key : A → ℕ) where
           (subst (λ m. List·Permᴰ (m ++ (a ∷ withKey key n l)) (a ∷ (sortedBy key n l ++ withKey key n l)))
           (sym (insert-past n a l (omega arith))) (Permᴰ·middle a (sortedBy key n l) (withKey key n l)))
 
-  pub sorted-perm : (n : ℕ) (l : List A) → Every (λ a. key a < n) l → List·Permᴰ (sortedBy key n l) l
-  unfolding Every
-  sorted-perm n [] p = subst (λ m. List·Permᴰ m []) (sym (sorted-nil n)) List·Permᴰ·nil
-  sorted-perm n (a ∷ l) p =
-      List·Permᴰ·trans (insert-perm n a l (p .0)) (List·Permᴰ·cons refl (sorted-perm n l (p .1)))
+  pub sorted-perm : (n : ℕ) (l : List A) → Each (λ a. key a < n) l → List·Permᴰ (sortedBy key n l) l
+  sorted-perm n [] e = subst (λ m. List·Permᴰ m []) (sym (sorted-nil n)) List·Permᴰ·nil
+  sorted-perm n (a ∷ l) (more p e) =
+      List·Permᴰ·trans (insert-perm n a l p) (List·Permᴰ·cons refl (sorted-perm n l e))
 
 -- ── what does not depend on the order ──
 
@@ -229,17 +205,16 @@ module _ {A : Type 0} (key : A → ℕ) where
         go s f true h = sorts-one n s f h
         go s f false h = sorts-none n s h
 
-  below-keys : (n : ℕ) (l : List A) → any (λ k. notBelow k n) (map key l) ≡ false → Every (λ a. key a < n) l
-  unfolding any Every
-  below-keys n [] e = tt
-  below-keys n (a ∷ l) e = (
-    ltb-true (key a) n (not-false (ltb (key a) n) (or-left _ _ e)),
-    below-keys n l (or-right (notBelow (key a) n) (any (λ k. notBelow k n) (map key l)) e),
-  )
+  below-keys : (n : ℕ) (l : List A) → any (λ k. notBelow k n) (map key l) ≡ false → Each (λ a. key a < n) l
+  unfolding any
+  below-keys n [] e = none
+  below-keys n (a ∷ l) e =
+      more (ltb-true (key a) n (not-false (ltb (key a) n) (or-left _ _ e)))
+      (below-keys n l (or-right (notBelow (key a) n) (any (λ k. notBelow k n) (map key l)) e))
 
   -- the keys are all numbers from 0 up to some number below the limit, each once
   module _ (limit : ℕ) (l : List A) (e : notAll? limit (map key l) ≡ false) where
-    pub all-below : Every (λ a. key a < limit) l
+    pub all-below : Each (λ a. key a < limit) l
     unfolding notAll?
     all-below = below-keys limit l (or-left _ _ e)
 

@@ -13,6 +13,8 @@ use lib.Dec.{ltb, eqb}
 use lib.ListN.{length, drop, getD, set}
 use lib.Seq.{getD-set-same, getD-set-other}
 use Rattle.signals.specs.Mask.{bit}
+use Rattle.meaning.specs.Each.{Each, none, more}
+use Rattle.meaning.specs.Each.Laws.{each-append}
 use Rattle.meaning.specs.Check.{notBelow}
 use Rattle.meaning.specs.Numbers.{mostInChart}
 use Rattle.meaning.specs.Sums.Laws.{or-left, or-right}
@@ -28,13 +30,14 @@ use Rattle.lists.specs.Found.{Found, nothing, passed, found, begins?, named?, T
 use Rattle.lists.specs.Laws.Found.{found-all}
 use Rattle.lists.specs.Laws.States.{so-far-more, gap-is}
 use Rattle.reading.specs.Laws.Lists.{bit-mask}
+use Rattle.reading.specs.Laws.Sorted.{each-sorted}
 use Rattle.lists.specs.Laws.States.{refused-more, cap-test, cap-in, length-snoc}
 use Rattle.lists.specs.Laws.Tokens.{text-end, text-some}
 use Rattle.lists.specs.Laws.Transitions.{any-more}
 use Rattle.roster.specs.declared.Roster.{Roster}
 use Rattle.roster.specs.Roster.{cut, crowded?, StandsAt, Stand, GivesRoster}
-use Rattle.roster.specs.Walk.{Every, Holds, Walked, Enters, moved, Steps, Closes}
-use Rattle.roster.specs.Laws.Sorted.{every-append, every-sorted, any-perm, length-perm, gathered-perm}
+use Rattle.roster.specs.Walk.{Holds, Walked, Enters, moved, Steps, Closes}
+use Rattle.roster.specs.Laws.Sorted.{any-perm, length-perm, gathered-perm}
 use Rattle.roster.specs.Laws.Sorted.{gathered-snoc, InOrder, sorted-same, sorted-order, few-names}
 
 -- ── counts ──
@@ -64,14 +67,13 @@ map-snoc f (b ∷ l) a = ap (f b ∷_) (map-snoc f l a)
 
 -- the places of the other charts stay
 stand-other : (w places : List ℕ) (n at : ℕ) (l : List Sequential) → has (map nameOf l) n ≡ false
-    → Every (λ s. StandsAt w (getD places (nameOf s) 0) s) l
-    → Every (λ s. StandsAt w (getD (set places n at) (nameOf s) 0) s) l
-unfolding Every has any
-stand-other w places n at [] e p = tt
-stand-other w places n at (s ∷ l) e p = (
-  subst (λ k. StandsAt w k s) (sym (getD-set-other places n (nameOf s) at 0 differs)) (p .0),
-  stand-other w places n at l (or-right (eqb (nameOf s) n) (has (map nameOf l) n) e) (p .1),
-)
+    → Each (λ s. StandsAt w (getD places (nameOf s) 0) s) l
+    → Each (λ s. StandsAt w (getD (set places n at) (nameOf s) 0) s) l
+unfolding has any
+stand-other w places n at [] e p = none
+stand-other w places n at (s ∷ l) e (more p ps) =
+    more (subst (λ k. StandsAt w k s) (sym (getD-set-other places n (nameOf s) at 0 differs)) p)
+    (stand-other w places n at l (or-right (eqb (nameOf s) n) (has (map nameOf l) n) e) ps)
   where
     differs : nameOf s ≡ n → ⊥
     differs q = true≢false (sym (eq-eqb (nameOf s) n q) ∙ or-left (eqb (nameOf s) n) (has (map nameOf l) n) e)
@@ -80,7 +82,7 @@ module _ (w : List ℕ) (r : Roster) (v : Drawn) (q : Roster) (done : List Seque
   where
     pub holds-more : Text (ofSequential s ++ ts) (drop (r .next) w) → GivesSequential w v s ts
         → Enters r v (r .next) q → Holds w r done → Holds w q (done ++ (s ∷ []))
-    unfolding Every headFor
+    unfolding headFor
     holds-more t g e h =
         record {
           long = e .is-places .0 (h .long);
@@ -110,11 +112,10 @@ module _ (w : List ℕ) (r : Roster) (v : Drawn) (q : Roster) (done : List Seque
               is-mask = λ f. e .is-mask ∙ z .is-mask (sym (e .is-bad) ∙ f) ∙ ap maskOf (sym (map-snoc nameOf done s));
             }
 
-        stand : q .bad ≡ false → Every (λ s. StandsAt w (getD (q .places) (nameOf s) 0) s) (done ++ (s ∷ []))
+        stand : q .bad ≡ false → Each (λ s. StandsAt w (getD (q .places) (nameOf s) 0) s) (done ++ (s ∷ []))
         stand f =
-            subst (λ l. Every (λ u. StandsAt w (getD l (nameOf u) 0) u) (done ++ (s ∷ []))) (sym noted)
-            (every-append (λ u. StandsAt w (getD (set (r .places) n (r .next)) (nameOf u) 0) u) done (s ∷ [])
-            (stand-other w (r .places) n (r .next) done free (h .stand good)) (here, tt))
+            subst (λ l. Each (λ u. StandsAt w (getD l (nameOf u) 0) u) (done ++ (s ∷ []))) (sym noted)
+            (each-append (stand-other w (r .places) n (r .next) done free (h .stand good)) (more here none))
           where
             n : ℕ
             n = nameOf s
@@ -238,11 +239,11 @@ module _ (w : List ℕ) (r : Roster) (some : r .next + blanks (drop (r .next) w)
 
 -- charts that have their places by name, in the order of their names
 stand-of : (w places : List ℕ) (c : ℕ) (ss : List Sequential) → InOrder nameOf c ss
-    → Every (λ s. StandsAt w (getD places (nameOf s) 0) s) ss → Stand w places c ss
-unfolding InOrder Every Stand
+    → Each (λ s. StandsAt w (getD places (nameOf s) 0) s) ss → Stand w places c ss
+unfolding InOrder Stand
 stand-of w places c [] o e = tt
-stand-of w places c (s ∷ ss) o e =
-    (subst (λ n. StandsAt w (getD places n 0) s) (o .0) (e .0), stand-of w places (suc c) ss (o .1) (e .1))
+stand-of w places c (s ∷ ss) o (more p e) =
+    (subst (λ n. StandsAt w (getD places n 0) s) (o .0) p, stand-of w places (suc c) ss (o .1) e)
 
 gives-all : (w : List ℕ) (r q : Roster) (t : Chart) (done : List Sequential) → sequentialsOf t ≡ done → Holds w r done
     → Closes r q → GivesRoster w q t
@@ -264,8 +265,8 @@ gives-all w r q t done i h k =
                 subst (λ l. Stand w l 0 (chartsOf t)) (sym (k .is-places))
                 (stand-of w (r .places) 0 (chartsOf t)
                 (sorted-order nameOf namedCharts (sequentialsOf t) (sym bad ∙ f))
-                (every-sorted (λ s. StandsAt w (getD (r .places) (nameOf s) 0) s) nameOf namedCharts (sequentialsOf t)
-                (subst (Every (λ s. StandsAt w (getD (r .places) (nameOf s) 0) s)) (sym i)
+                (each-sorted nameOf namedCharts (sequentialsOf t)
+                (subst (Each (λ s. StandsAt w (getD (r .places) (nameOf s) 0) s)) (sym i)
                 (h .stand (or-left (r .bad) (gap (r .mask)) (sym (k .is-bad) ∙ f))))));
           };
       is-transitions =

@@ -20,7 +20,7 @@ use Rattle.outline.specs.Laws.Sorted.{Each, none, more, each-append, total}
 use Rattle.roster.specs.Laws.Sorted.{sorted-perm}
 use Rattle.faithful.specs.Faithful.{Rising}
 use Rattle.faithful.specs.Laws.Charts.{mem-perm}
-use Rattle.faithful.specs.Laws.Order.{each-every, sorted-level}
+use Rattle.faithful.specs.Laws.Order.{sorted-level}
 use Rattle.accepted.specs.Tree.{Climbs}
 use Rattle.accepted.specs.Laws.Records.{climbs-all}
 use Rattle.accepted.specs.Laws.Slaves.{level-rising}
@@ -107,7 +107,7 @@ module _ {A : Type 0} (key : A → ℕ) where
       → sortedBy key n m ≡ l
   unfolding same
   sorted-rising n l m d r e =
-      let p = sorted-perm key n m (each-every m (mem-each m (λ a w. each-mem l a e (mem-perm (Permᴰ·symm d) w)))) in
+      let p = sorted-perm key n m (mem-each m (λ a w. each-mem l a e (mem-perm (Permᴰ·symm d) w))) in
       rising-unique (sortedBy key n m) l
       (level-rising key (sortedBy key n m) (sorted-level key n m)
       (λ k. let a = times-perm k p in let b = times-perm k d in let c = times-rising l r k in omega arith))

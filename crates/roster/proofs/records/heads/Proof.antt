@@ -8,12 +8,13 @@ use borrow.Author.Needs.{needs}
 use lib.ListN.{length}
 use Rattle.layout.specs.Record.{headBytes}
 use Rattle.layout.specs.Put.{Room}
+use Rattle.meaning.specs.Each.{Each}
+use Rattle.meaning.specs.Each.Laws.{each-both}
 use Rattle.notation.specs.Syntax.{Sequential}
 use Rattle.reading.specs.Names.{sequential?}
 use Rattle.reading.specs.Meant.{all, headFor}
 use Rattle.roster.specs.Roster.{crowded?, Charted}
-use Rattle.roster.specs.Walk.{Every}
-use Rattle.roster.specs.Laws.Laid.{every-false, every-both, Laid, laid-first, laid-more, laid-end}
+use Rattle.roster.specs.Laws.Laid.{each-false, Laid, laid-first, laid-more, laid-end}
 use Rattle.roster.specs.Laws.Right.{head-put}
 use Rattle.roster.proofs.records.heads.Statement.{statement}
 use Rattle.roster.proofs.records.heads.Tie as tie
@@ -27,7 +28,7 @@ Good s = (sequential? s ≡ false) × (crowded? s ≡ false)
 abbrev Inv-loop : tie.InvT-loop
 Inv-loop text r out₀ at charts p₀ c₀ out p c =
     (c ≤ charts) × ((length out ≡ length out₀)
-    × ((ss : List Sequential) → Charted text r ss → Every Good ss → Room out₀ at (all bytes ss)
+    × ((ss : List Sequential) → Charted text r ss → Each Good ss → Room out₀ at (all bytes ss)
     → Laid bytes Good text r ss out₀ at c out p))
 
 abbrev μ-loop : tie.MeasureT-loop
@@ -54,8 +55,7 @@ returns : tie.Need-returns Inv-loop μ-loop
 returns c ss h e f room =
     laid-end bytes Good _ _ ss _ _ _ _ _ h (c .loop-test .left)
     (c .before .loop .inv .1 .1 ss h
-    (every-both (λ s. sequential? s ≡ false) (λ s. crowded? s ≡ false) ss (every-false sequential? ss e)
-    (every-false crowded? ss f)) room)
+    (each-both ss (each-false sequential? ss e) (each-false crowded? ss f)) room)
 
 pub heads-spec : {M : Type 1} → statement M
 heads-spec =

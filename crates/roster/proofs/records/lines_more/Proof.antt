@@ -7,13 +7,13 @@ use native.Mathlib.Omega.{arith}
 use borrow.Author.Needs.{needs}
 use lib.ListN.{length, drop}
 use Rattle.layout.specs.Put.{Room}
+use Rattle.meaning.specs.Each.{Each}
 use Rattle.notation.specs.Syntax.{Transition}
 use Rattle.notation.specs.Grammar.{rbrace, sign, Tokens, Text}
 use Rattle.reading.specs.Meant.{all}
 use Rattle.tokens.specs.Tokens.{blanks}
 use Rattle.tokens.specs.Laws.Steps.{peek-some}
 use Rattle.lists.specs.Lists.{moreOf}
-use Rattle.roster.specs.Walk.{Every}
 use Rattle.roster.specs.Records.{lineOf, InRange}
 use Rattle.roster.specs.Laws.Lines.{Going, lines-start, lines-next, lines-end}
 use Rattle.roster.proofs.records.lines_more.Statement.{statement}
@@ -23,7 +23,7 @@ abbrev Inv-loop : tie.InvT-loop
 Inv-loop text at out₀ to p₀ i₀ out p i =
     (i ≤ length text) × ((length out ≡ length out₀)
     × ((ts : List Transition) (us : Tokens) → Text (moreOf ts ++ (sign rbrace ∷ us)) (drop at text)
-    → Every InRange ts → Room out₀ to (all lineOf ts) → Going text i ts us out₀ to out p))
+    → Each InRange ts → Room out₀ to (all lineOf ts) → Going text i ts us out₀ to out p))
 
 abbrev μ-loop : tie.MeasureT-loop
 μ-loop text at out₀ to p₀ i₀ out p i = length text - i

@@ -7,14 +7,14 @@ use native.Mathlib.Omega.{arith}
 use borrow.Author.Needs.{needs}
 use lib.ListN.{length}
 use Rattle.layout.specs.Put.{Room}
+use Rattle.meaning.specs.Each.{Each}
 use Rattle.notation.specs.Syntax.{Sequential}
 use Rattle.reading.specs.Names.{sequential?}
 use Rattle.reading.specs.Meant.{all}
 use Rattle.laying.specs.Sequence.{put-is}
 use Rattle.roster.specs.Roster.{Charted}
-use Rattle.roster.specs.Walk.{Every}
 use Rattle.roster.specs.Records.{linesOf}
-use Rattle.roster.specs.Laws.Laid.{every-false, Laid, laid-first, laid-more, laid-end}
+use Rattle.roster.specs.Laws.Laid.{each-false, Laid, laid-first, laid-more, laid-end}
 use Rattle.roster.specs.Laws.Lines.{lines-gathered}
 use Rattle.roster.proofs.records.transitions.Statement.{statement}
 use Rattle.roster.proofs.records.transitions.Tie as tie
@@ -25,7 +25,7 @@ Good s = sequential? s ≡ false
 abbrev Inv-loop : tie.InvT-loop
 Inv-loop text r out₀ at charts p₀ c₀ out p c =
     (c ≤ charts) × ((length out ≡ length out₀)
-    × ((ss : List Sequential) → Charted text r ss → Every Good ss → Room out₀ at (all linesOf ss)
+    × ((ss : List Sequential) → Charted text r ss → Each Good ss → Room out₀ at (all linesOf ss)
     → Laid linesOf Good text r ss out₀ at c out p))
 
 abbrev μ-loop : tie.MeasureT-loop
@@ -52,7 +52,7 @@ returns c ss h e room =
     let is = lines-gathered ss in
     put-is is
     (laid-end linesOf Good _ _ ss _ _ _ _ _ h (c .loop-test .left)
-    (c .before .loop .inv .1 .1 ss h (every-false sequential? ss e) (rw is room)))
+    (c .before .loop .inv .1 .1 ss h (each-false sequential? ss e) (rw is room)))
 
 pub transitions-spec : {M : Type 1} → statement M
 transitions-spec =
