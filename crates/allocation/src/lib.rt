@@ -1,5 +1,7 @@
 // Call signals: the signals that a file uses, for each slave the lowest that is left, and which a chart needs and
 // outputs.
+#![tactic(auto)]
+
 ghost use Rattle.std.specs.Prelude.{◌≡◌, cond, ◌+◌, ◌≤◌, ltb, get_or};
 ghost use Rattle.signals.specs.Mask.{◌∪◌};
 ghost use Rattle.layout.specs.Body.{Holds, from, transition_at};
@@ -77,7 +79,7 @@ pub fn used(n: Shape, body: &[u8]) -> u64
 }
 
 // Of each slave the set of its call signal alone, if there are enough free signals.
-#[derive(Drop)]
+#[derive(Clone, Copy)]
 pub struct Calls {
     pub enough: bool,
     pub sets: [u64; CHARTS],

@@ -1,5 +1,7 @@
 // The rewritten file in bytes, record behind record. Each function writes from a place on and gives the place behind
 // what it wrote.
+#![tactic(auto)]
+
 ghost use Rattle.std.specs.Prelude.{◌≡◌, ◌+◌, ◌≤◌, ◌<◌, length};
 ghost use Rattle.layout.specs.Record.{head_bytes, transition_bytes};
 ghost use Rattle.meaning.specs.Numbers.{first_edition, most_nodes};

@@ -1,6 +1,8 @@
 // The candidates of a step: for each chart the transitions that it may take now, and what later charts may put out. How
 // the tables are laid out is in the crate cells (Table); that a search over them answers the step is in the crate
 // tables.
+#![tactic(auto)]
+
 ghost use Rattle.std.specs.Prelude.{◌≡◌, cond, List, ℕ, ◌+◌, ◌*◌, ◌≤◌, ◌<◌, length, get_or, drop};
 ghost use Rattle.layout.specs.Record.{transition_of};
 ghost use Rattle.layout.specs.Body.{Holds, transition_at, start_of};
@@ -27,7 +29,7 @@ use layout::record::Transition;
 
 // The chart whose candidates are chosen, its present state, what is read of its actions, what it may be offered:
 // surely, of its own action, and of all others'; and the states that it must not go to, as a mask.
-#[derive(Drop)]
+#[derive(Clone, Copy)]
 pub struct Around {
     pub chart: usize,
     pub state: u8,
@@ -42,7 +44,7 @@ pub struct Around {
 const BITS: u8 = 64;
 
 // What the transitions from a state put out, some of them and all of them, and how many they are.
-#[derive(Drop)]
+#[derive(Clone, Copy)]
 pub struct Puts {
     pub may: u64,
     pub sure: u64,

@@ -1,5 +1,7 @@
 // A place of a typed text, shown to a person: line and column, the line with a caret below the place, and what could
 // stand there; and the charts of a text to which 52 applies.
+#![tactic(auto)]
+
 ghost use Rattle.std.specs.Prelude.{◌≡◌, ◌+◌, ◌≤◌, ◌<◌, length, drop};
 ghost use Rattle.tokens.specs.Tokens.{blanks};
 

@@ -1,6 +1,8 @@
 // Answers recorded calls of the engine: reads commands from standard input, makes each call on buffers filled with one
 // byte, and prints a line for it. docs/CASES.md has the format; reference/ makes the commands and the lines that are
 // expected.
+#![tactic(auto)]
+
 ghost use Rattle.std.specs.Prelude.{◌≡◌, ◌≤◌, ◌<◌, length};
 ghost use Rattle.io.specs.Counts.{IsPrefixLen};
 
@@ -18,7 +20,7 @@ const FILL: u8 = 0xA5;
 const EARLIER_PLACES: usize = 8;
 
 // A command's header: which call, how many bytes of each kind follow it, and what is carried into a run.
-#[derive(Drop)]
+#[derive(Clone, Copy)]
 struct Command {
     op: u8,
     name: usize,

@@ -1,5 +1,7 @@
 // The tables of a search: where each cell stands, by chart and candidate. No other crate computes an index into them or
 // says how long they are. What the cells mean is in specs/.
+#![tactic(auto)]
+
 ghost use Rattle.std.specs.Prelude.{◌≡◌};
 
 pub mod masks;

@@ -6,7 +6,7 @@ use crate::words;
 use checks::limits;
 use typed::{Configuration, Read};
 
-#[derive(Drop)]
+#[derive(Clone, Copy)]
 pub enum Command {
     Check,
     First,
@@ -26,7 +26,7 @@ pub enum Command {
 }
 
 // Whether a file was read, and how many bytes it has.
-#[derive(Drop)]
+#[derive(Clone, Copy)]
 pub struct Loaded {
     pub is_read: bool,
     pub count: usize,

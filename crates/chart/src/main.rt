@@ -1,6 +1,8 @@
 // The command line tool. crates/typed reads what is typed, the public calls answer, and the answer is printed here, in
 // lines of the day program's form. Answers and refusals go to standard output; what is wrong with a command or a file's
 // name goes to standard error.
+#![tactic(auto)]
+
 mod ask;
 mod edition;
 mod parse;

@@ -1,4 +1,6 @@
 // Clearing a body that passed its check: which transitions are dead, how many are left, the bytes of the cleared file.
+#![tactic(auto)]
+
 ghost use Rattle.std.specs.Prelude.{◌≡◌, [], ◌∷◌, ◌+◌, ◌≤◌, ◌<◌, length};
 ghost use Rattle.layout.specs.Body.{Holds, from, transition_at};
 ghost use Rattle.layout.specs.Put.{Room, Put};
@@ -15,7 +17,7 @@ use layout::body::Shape;
 use layout::record::{Head, Transition};
 
 // What is left of a list of transitions: how many; the signals that its guards named, and those that they still name.
-#[derive(Drop)]
+#[derive(Clone, Copy)]
 pub struct Left {
     pub count: usize,
     pub was: u64,

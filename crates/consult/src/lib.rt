@@ -1,4 +1,6 @@
 // What the posting asks the engine: the states of a file's charts, and a step. No other crate of the posting calls it.
+#![tactic(auto)]
+
 ghost use Rattle.std.specs.Prelude.{◌≡◌, ◌≤◌};
 ghost use Rattle.desk.specs.Posting.{width};
 ghost use Rattle.desk.specs.Turns.{unseen_of, reply_of};

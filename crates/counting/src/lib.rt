@@ -1,5 +1,7 @@
 // How many choices of a step are open, in both editions: counted from the highest chart down, and not one by one. What
 // is open is said in the crate meaning (Open); that this is its number, in the crate wiring (Completions to Few).
+#![tactic(auto)]
+
 ghost use Rattle.std.specs.Prelude.{◌≡◌, ◌+◌, ◌≤◌, ◌<◌, length, drop, replicate};
 ghost use Rattle.layout.specs.Record.{transition_of};
 ghost use Rattle.layout.specs.Body.{Holds, head_at, start_of};

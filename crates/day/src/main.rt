@@ -1,5 +1,7 @@
 // The day program (RULES 10): it takes a chart file with inputs in front from standard input, and prints a line for
 // each input.
+#![tactic(auto)]
+
 ghost use Rattle.std.specs.Prelude.{◌≡◌, ◌+◌, ◌*◌, ◌≤◌, length};
 ghost use Rattle.meaning.specs.Numbers.{most_charts};
 ghost use Rattle.meaning.specs.File.{file_of};

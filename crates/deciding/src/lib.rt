@@ -1,5 +1,7 @@
 // What a day's posting is decided by (RULES 11): its entries joined case by case, its cases looked at, and then
 // 0 or the refusal. One record at a time, by value.
+#![tactic(auto)]
+
 ghost use Rattle.std.specs.Prelude.{◌≡◌, cond, ◌||◌, ◌≤◌, get_or};
 ghost use Rattle.meaning.specs.Numbers.{most_charts};
 ghost use Rattle.meaning.specs.Sums.{any_up_to};

@@ -1,4 +1,6 @@
 // Whether a file is nested deeper than a text may be: of each node how deep it is, from node 0 up.
+#![tactic(auto)]
+
 ghost use Rattle.std.specs.Prelude.{◌≡◌, ltb};
 ghost use Rattle.meaning.specs.File.{file_at};
 ghost use Rattle.meaning.specs.Check.Nodes.{Treed};

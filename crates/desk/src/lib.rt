@@ -1,5 +1,6 @@
 // The posting desk's records (RULES 11), and a theory: what the posting of a day for a whole book is, and what it comes
 // to one entry and one case at a time. Types, definitions and theorems in specs/, no function.
+#![tactic(auto)]
 
 // The most cases in a book, and the bytes that a record has for a configuration.
 pub const CASES: usize = 64;
@@ -36,7 +37,7 @@ pub const SHORT_ROWS: u8 = 63;
 // A case's record: what it carries, the number of its last row, and its configuration, which has `length` bytes at the
 // front of `config`.
 #[repr(C)]
-#[derive(Drop)]
+#[derive(Clone, Copy)]
 pub struct Case {
     pub carried: u64,
     pub last: u32,
@@ -46,7 +47,7 @@ pub struct Case {
 
 // An entry of a day: the number of a case, and the signals that arrived for it.
 #[repr(C)]
-#[derive(Drop)]
+#[derive(Clone, Copy)]
 pub struct Entry {
     pub number: u64,
     pub signals: u64,
@@ -54,7 +55,7 @@ pub struct Entry {
 
 // What the entries come to: the joined set of each case that a book may have, and whether one entry is for a case that
 // is not in the book.
-#[derive(Drop)]
+#[derive(Clone, Copy)]
 pub struct Day {
     pub sets: [u64; CASES],
     pub outside: bool,
@@ -62,7 +63,7 @@ pub struct Day {
 
 // What the file and the cases looked at say: the file's refusal, or else 20 or 21 of the first bad case; how many
 // charts the file has, and how many states each of them has; whether a row number is at its end.
-#[derive(Drop)]
+#[derive(Clone, Copy)]
 pub struct Seen {
     pub refusal: u8,
     pub charts: u8,
@@ -72,7 +73,7 @@ pub struct Seen {
 
 // What is decided: 0 or the refusal, how many cases are posted, none if it is refused, and how many charts the file
 // has.
-#[derive(Drop)]
+#[derive(Clone, Copy)]
 pub struct Plan {
     pub refusal: u8,
     pub count: usize,
@@ -80,7 +81,7 @@ pub struct Plan {
 }
 
 // The answer of a step, and the bytes of the record after it.
-#[derive(Drop)]
+#[derive(Clone, Copy)]
 pub struct Reply {
     pub refusal: u8,
     pub output: u64,

@@ -1,4 +1,6 @@
 // A file as text on standard output: in one line, or laid out (docs/NOTATION.md 6 and 7).
+#![tactic(auto)]
+
 ghost use Rattle.std.specs.Prelude.{◌≡◌, length};
 
 use checks::limits;

@@ -1,6 +1,8 @@
 // The engine, the posting and the typed notation for programs in C and Rust (include/mestecur.h). A slice passes as a
 // pointer and a length. Each function returns 0 or the refusal. A single number behind a pointer is an answer, and is 0
 // where the call is refused, but for the number of open choices in 24; places are answers too, and are 255 then.
+#![tactic(auto)]
+
 ghost use Rattle.std.specs.Prelude.{◌≡◌};
 ghost use Rattle.meaning.specs.Sums.{one};
 ghost use Rattle.exports.specs.Promises.{CheckReturns, FirstReturns, InterfaceReturns, PlainReturns};

@@ -1,11 +1,13 @@
 // The fields of a chart in a text that spells one, read into numbers: sets of signals, guards, transitions. What is
 // answered is right if the field is there; the functions are safe on every text.
+#![tactic(auto)]
+
 ghost use Rattle.std.specs.Prelude.{◌≡◌, ◌||◌, ◌≤◌, length};
 ghost use Rattle.fields.specs.Fields.{Joins, SetAt, MembersAt, LiteralAt, LiteralsAt, GuardAt};
 ghost use Rattle.fields.specs.Fields.{TransitionAt};
 
 // A set of signals: its mask, whether a signal is out of range, and the place behind it.
-#[derive(Drop)]
+#[derive(Clone, Copy)]
 pub struct SignalSet {
     pub mask: u64,
     pub bad: bool,
@@ -13,7 +15,7 @@ pub struct SignalSet {
 }
 
 // Signals read so far.
-#[derive(Drop)]
+#[derive(Clone, Copy)]
 pub struct Joined {
     pub mask: u64,
     pub bad: bool,
@@ -73,7 +75,7 @@ pub fn set(text: &[u8], at: usize) -> SignalSet
 
 // A guard: the masks of the needed and of the barred signals, whether a signal is out of range, and the place behind
 // it.
-#[derive(Drop)]
+#[derive(Clone, Copy)]
 pub struct Guard {
     pub needed: u64,
     pub barred: u64,
@@ -151,7 +153,7 @@ pub fn guard_at(text: &[u8], at: usize) -> Guard
 }
 
 // A transition: its states as far as they matter, its masks, whether a signal is out of range, and the place behind it.
-#[derive(Drop)]
+#[derive(Clone, Copy)]
 pub struct Passage {
     pub from: u64,
     pub to: u64,

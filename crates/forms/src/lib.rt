@@ -1,10 +1,12 @@
 // Which form of chart stands at a place of a text that spells one, and a hiding set, which may be left out. What is
 // answered is right if a chart is there; the functions are safe on every text.
+#![tactic(auto)]
+
 ghost use Rattle.std.specs.Prelude.{◌≤◌, length};
 ghost use Rattle.forms.specs.Forms.{FormAt, OptionalAt};
 
 // The forms of a chart as a part of a composition; a composition stands in round brackets there.
-#[derive(Drop)]
+#[derive(Clone, Copy)]
 pub enum Form {
     Sequential,
     Decomposed,

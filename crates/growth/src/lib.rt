@@ -1,4 +1,6 @@
 // How large the rewritten file is: transitions out of a state, in a chart and in all, and nodes.
+#![tactic(auto)]
+
 ghost use Rattle.std.specs.Prelude.{◌≡◌, ◌+◌, ◌≤◌, ◌<◌, ltb, length};
 ghost use Rattle.layout.specs.Body.{Holds, from, transition_at};
 ghost use Rattle.meaning.specs.Numbers.{most_slaves};

@@ -1,5 +1,7 @@
 // A written text laid out for a person (docs/NOTATION.md 7): where a line ends, and how far the next is indented. A
 // break stands only behind a sign, never within a name or a word, so the text laid out is read as the same chart.
+#![tactic(auto)]
+
 ghost use Rattle.std.specs.Prelude.{◌≡◌};
 ghost use Rattle.indent.specs.Breaks.{raised, lowered, start as begin, quiet, broken, opened, ended, counted};
 ghost use Rattle.indent.specs.Breaks.{round_opened, round_closed, round_ended, brace_opened, parted};
@@ -7,7 +9,7 @@ ghost use Rattle.indent.specs.Breaks.{at_bar, of_byte, closes, behind};
 
 // What is known behind a byte: how many brackets are open that count, how many are open within a chart, whether the
 // next bar is the second of its pair, and whether a line ends here.
-#[derive(Drop)]
+#[derive(Clone, Copy)]
 pub struct Place {
     pub level: u8,
     pub inner: u8,

@@ -1,5 +1,7 @@
 // What a transition lacks (RULES 13): whether its guard is met under an offered set, and if not, the signal that is to
 // blame.
+#![tactic(auto)]
+
 ghost use Rattle.std.specs.Prelude.{◌≡◌, ◌+◌, ◌<◌};
 ghost use Rattle.layout.specs.Body.{head_at, transition_at, start_of};
 ghost use Rattle.meaning.specs.File.{file_at};
@@ -12,14 +14,14 @@ use layout::record::Transition;
 use signals::guard::Tested;
 
 // The question is refused, with a number; or the test of the guard is shown.
-#[derive(Drop)]
+#[derive(Clone, Copy)]
 pub enum Lacking {
     Refused(u8),
     Shown(Tested),
 }
 
 // The same in numbers (RULES 13.2): 0 or the refusal, which of the three answers it is, and its signal.
-#[derive(Drop)]
+#[derive(Clone, Copy)]
 pub struct InNumbers {
     pub refusal: u8,
     pub answer: u8,

@@ -1,5 +1,7 @@
 // Records laid down one behind another, for the calls that write a file. Each function writes at a place, and gives the
 // place behind what it wrote.
+#![tactic(auto)]
+
 ghost use Rattle.std.specs.Prelude.{◌≡◌, ◌+◌, ◌≤◌, length};
 ghost use Rattle.std.proofs.lemmas.List.Edits.{sets};
 ghost use Rattle.layout.specs.Record.{head_bytes, transition_bytes, slave_bytes, node_bytes, trailer_bytes};

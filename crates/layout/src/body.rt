@@ -6,7 +6,7 @@ use crate::limits::{HEAD_BYTES, NODE_BYTES, SLAVE_BYTES, TRANSITION_BYTES};
 use crate::record::{Head, Node, Slave, Transition};
 
 // How many records of each kind a body has, and the edition by which it is read.
-#[derive(Drop)]
+#[derive(Clone, Copy)]
 pub struct Shape {
     pub charts: usize,
     pub transitions: usize,

@@ -7,7 +7,7 @@ ghost use Rattle.layout.specs.Record.{trailer_bytes, head_bytes, transition_byte
 ghost use Rattle.layout.specs.Record.{with_edition};
 
 // The last 12 bytes of a file.
-#[derive(Drop)]
+#[derive(Clone, Copy)]
 pub struct Trailer {
     pub distance: u32,
     pub charts: u8,
@@ -18,7 +18,7 @@ pub struct Trailer {
 }
 
 // The 24 bytes of a chart: all of it but its transitions, of which it has the number.
-#[derive(Drop)]
+#[derive(Clone, Copy)]
 pub struct Head {
     pub states: u8,
     pub initial: u8,
@@ -27,7 +27,7 @@ pub struct Head {
     pub extra: u64,
 }
 
-#[derive(Drop)]
+#[derive(Clone, Copy)]
 pub struct Transition {
     pub from: u8,
     pub to: u8,
@@ -37,7 +37,7 @@ pub struct Transition {
 }
 
 // Node `node` decomposes state `state` of the master `chart`.
-#[derive(Drop)]
+#[derive(Clone, Copy)]
 pub struct Slave {
     pub chart: u8,
     pub state: u8,
@@ -51,7 +51,7 @@ pub const COMPOSES: u8 = 1;
 // and one hides node a, without x in its input and y in its output.
 pub const HIDES: u8 = 2;
 
-#[derive(Drop)]
+#[derive(Clone, Copy)]
 pub struct Node {
     pub kind: u8,
     pub a: u8,

@@ -13,6 +13,8 @@
 // more: then the last mark takes all further levels, and when the ring is full before a walk back has come to its first
 // place, all marks are given up and each walk starts where the one before it stopped. That is linear for brackets
 // nested any way in which what is closed between two open ones is short.
+#![tactic(auto)]
+
 ghost use Rattle.std.specs.Prelude.{◌≡◌, true, false, ◌≤◌, ◌<◌, length, get_or};
 ghost use Rattle.notation.specs.Grammar.{blank};
 ghost use Rattle.scan.specs.Look.{opener, around};
@@ -45,7 +47,7 @@ pub type Tops = [u8; MARKS];
 
 // The innermost level stands before `end` in the ring, and `held` of them are there; the others are those around the
 // place `floor`, with so many marks. `fresh`: the last byte that is no blank opens a bracket.
-#[derive(Drop)]
+#[derive(Clone, Copy)]
 pub struct Kept {
     pub end: usize,
     pub held: usize,
@@ -55,7 +57,7 @@ pub struct Kept {
 }
 
 // One byte back: brackets closed further on, a bar further on, a state's name right behind; or the level that is found.
-#[derive(Drop)]
+#[derive(Clone, Copy)]
 pub enum Back {
     On(usize, bool, bool),
     Found(u8),
@@ -362,7 +364,7 @@ fn whole(second: bool) -> u8
 }
 
 // What a walk back has put into the ring: how many levels, and the place around which the others stand.
-#[derive(Drop)]
+#[derive(Clone, Copy)]
 struct Filled {
     held: usize,
     floor: usize,

@@ -1,5 +1,7 @@
 // The making of the day program's lines (RULES 10.3), and the parts that others make lines of. Nothing here knows a
 // file. Each function that writes a part of a line takes the place where it begins and returns the place behind it.
+#![tactic(auto)]
+
 ghost use Rattle.std.specs.Prelude.{◌≡◌, [], ◌∷◌, ◌+◌, ◌-◌, ◌≤◌, ◌<◌, ◌^◌, length};
 ghost use Rattle.meaning.specs.Calls.{laid_over};
 ghost use Rattle.line.specs.Line.{digit, digits, width, decimal, hex, dot, closing, dotted, letter, output_part};

@@ -2,6 +2,8 @@
 // transitions, all of it; and whether refusal 52 applies to it. Then what the walk from chart to chart needs: where a
 // sequential chart begins, and the place behind a token. What is answered is right if it is there; the functions are
 // safe on every text.
+#![tactic(auto)]
+
 ghost use Rattle.std.specs.Prelude.{◌≡◌, ◌||◌, ◌≤◌, length};
 ghost use Rattle.lists.specs.Lists.{gap, Lists, StatesFrom, StatesAt, HeadingAt};
 ghost use Rattle.lists.specs.Found.{letter?, width, TokenAt, BeginsAt};
@@ -11,7 +13,7 @@ ghost use Rattle.lists.specs.Lists.{lacks, TransitionsFrom, TransitionsAt, Extra
 const STATES: u64 = reading::NAMED_STATES as u64;
 
 // Names read so far.
-#[derive(Drop)]
+#[derive(Clone, Copy)]
 pub struct Listed {
     pub mask: u64,
     pub bad: bool,
@@ -19,7 +21,7 @@ pub struct Listed {
 
 // A list of states: its first state as far as it matters, how many there are, their mask, whether the list is refused,
 // and the place behind it.
-#[derive(Drop)]
+#[derive(Clone, Copy)]
 pub struct StateList {
     pub first: u64,
     pub count: usize,
@@ -96,7 +98,7 @@ pub fn states(text: &[u8], at: usize) -> StateList
 
 // The heading of a chart: its name and its initial state as far as they matter, how many states there are and their
 // mask, the feedback set, whether the heading is refused, and the place behind it.
-#[derive(Drop)]
+#[derive(Clone, Copy)]
 pub struct Heading {
     pub name: u64,
     pub initial: u64,
@@ -145,7 +147,7 @@ fn refused(mask: u64, from: u64, to: u64, bad: bool) -> bool
 }
 
 // A list of transitions: how many there are, whether one is refused, and the place behind it.
-#[derive(Drop)]
+#[derive(Clone, Copy)]
 pub struct TransitionList {
     pub count: usize,
     pub bad: bool,
@@ -207,7 +209,7 @@ fn extra_at(text: &[u8], at: usize) -> fields::SignalSet
 
 // A sequential chart: its name as far as it matters, what its record in the file says, the mask of its states, whether
 // it is refused, and the place behind it.
-#[derive(Drop)]
+#[derive(Clone, Copy)]
 pub struct Sequential {
     pub name: u64,
     pub states: usize,

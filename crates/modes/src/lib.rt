@@ -1,4 +1,6 @@
 // The table of modes: what can come in each, and where it leads; and one byte further by it.
+#![tactic(auto)]
+
 ghost use Rattle.std.specs.Prelude.{◌≡◌, ◌&&◌, ◌||◌, eqb, ◌+◌, ◌<◌, get_or};
 ghost use Rattle.scan.specs.Table.{numbers, table, lookup, refine};
 ghost use Rattle.scan.specs.Scan.{token_after, advance_between, expect, advance_letter, advance_number, advance};

@@ -1,4 +1,6 @@
 // What stands in which slave: of each node the nearest enclosing slave.
+#![tactic(auto)]
+
 ghost use Rattle.std.specs.Prelude.{◌≡◌, ◌<◌, length};
 ghost use Rattle.meaning.specs.File.{file_at};
 ghost use Rattle.meaning.specs.Laws.Names.{enc};

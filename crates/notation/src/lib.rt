@@ -1,1 +1,2 @@
 // A theory: the typed notation of charts, as definitions and theorems in specs/, and no function.
+#![tactic(auto)]

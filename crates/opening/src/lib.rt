@@ -1,4 +1,6 @@
 // The opening of a file: the whole check, 1 to 11, and where the body stands.
+#![tactic(auto)]
+
 ghost use Rattle.std.specs.Prelude.{◌≡◌};
 ghost use Rattle.opening.specs.Opening.{Opens};
 
@@ -9,7 +11,7 @@ use layout::body::Shape;
 
 // What the check of a file found: its refusal, and, if there is none, the body: how many records of each kind it has,
 // and where it stands.
-#[derive(Drop)]
+#[derive(Clone, Copy)]
 pub struct Opening {
     pub refusal: u8,
     pub shape: Shape,

@@ -2,6 +2,8 @@
 // to it, and how many nodes and slaves it has. What is answered is right if a chart is there; the functions are safe on
 // every text. A chart stands in a chart at most sixteen times, so that the recursion ends; slaves of a master, of which
 // there may be many, are read by a loop.
+#![tactic(auto)]
+
 ghost use Rattle.std.specs.Prelude.{◌≡◌, ◌+◌, ◌≤◌, ◌<◌, length};
 ghost use Rattle.notation.specs.Syntax.{larger};
 ghost use Rattle.tokens.specs.Tokens.{cap};
@@ -17,7 +19,7 @@ const MOST_COUNT: usize = 1000;
 
 // Whether a chart is deeper than it may be; and if it is not: how deep it is, whether it is refused, how many nodes and
 // slaves it has, and the place behind it.
-#[derive(Drop)]
+#[derive(Clone, Copy)]
 pub struct Outline {
     pub deep: bool,
     pub depth: usize,

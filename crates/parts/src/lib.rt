@@ -1,5 +1,7 @@
 // Values of the parts that nodes make, from node 0 up: each node names lower ones. A chart's own value is given; parts
 // are joined; hiding takes off.
+#![tactic(auto)]
+
 ghost use Rattle.std.specs.Prelude.{◌≡◌, ◌<◌};
 ghost use Rattle.meaning.specs.File.{file_at};
 ghost use Rattle.meaning.specs.Check.Nodes.{Treed};
@@ -10,7 +12,7 @@ use checks::limits::{MOST_CHARTS, MOST_NODES};
 use layout::body::Shape;
 
 // What hiding takes off: of an input interface x, of an output interface y.
-#[derive(Drop)]
+#[derive(Clone, Copy)]
 pub enum Off {
     Input,
     Output,

@@ -1,5 +1,7 @@
 // Which files are plain (RULES 8): whether each two transitions of a chart that leave the same state are told apart by
 // a signal that is not fed back.
+#![tactic(auto)]
+
 ghost use Rattle.std.specs.Prelude.{◌≡◌, cond, ◌+◌, ◌≤◌, ◌<◌};
 ghost use Rattle.layout.specs.Body.{Holds, from, transition_at};
 ghost use Rattle.meaning.specs.Meaning.{∅, same};

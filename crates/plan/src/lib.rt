@@ -2,6 +2,8 @@
 // one table: a node's parts are lower than it and share no chart, so what a part has there stays until the node that
 // names it. What the masks are is in the crate wiring (Reach, and after the first nodes Latest), and that a step may go
 // by them too.
+#![tactic(auto)]
+
 ghost use Rattle.std.specs.Prelude.{◌≡◌, ◌+◌, ◌≤◌, ◌<◌, length, get_or};
 ghost use Rattle.signals.specs.Mask.{◌∪◌, ◌∩◌};
 ghost use Rattle.meaning.specs.Numbers.{most_charts};

@@ -6,7 +6,7 @@ use desk::{Day, Entry};
 use typed::Read;
 
 // What is wrong with a line.
-#[derive(Drop)]
+#[derive(Clone, Copy)]
 pub enum Fault {
     Nothing,
     // It is the last, and no line feed follows.
@@ -26,7 +26,7 @@ pub enum Fault {
 
 // The first entry for a case that is not in the book: its line, counted from 1, or 0 if there is no such entry; and the
 // number of the case.
-#[derive(Drop)]
+#[derive(Clone, Copy)]
 pub struct Outside {
     pub line: u64,
     pub case: u64,
@@ -34,7 +34,7 @@ pub struct Outside {
 
 // The entries joined; the day's number, 0 if it has none; the first entry outside the book; or what is wrong, and in
 // which line, counted from 1.
-#[derive(Drop)]
+#[derive(Clone, Copy)]
 pub struct Entered {
     pub fault: Fault,
     pub line: u64,
@@ -44,7 +44,7 @@ pub struct Entered {
 }
 
 // A line that was read: an entry, or the day's number.
-#[derive(Drop)]
+#[derive(Clone, Copy)]
 pub struct Line {
     pub fault: Fault,
     pub is_day: bool,

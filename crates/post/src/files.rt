@@ -6,14 +6,14 @@ ghost use Rattle.io.specs.Counts.{IsPrefixLen};
 use crate::tell;
 
 // Whether a file was read, and how many bytes it has.
-#[derive(Drop)]
+#[derive(Clone, Copy)]
 pub struct Loaded {
     pub is_read: bool,
     pub count: usize,
 }
 
 // A file's name.
-#[derive(Drop)]
+#[derive(Clone, Copy)]
 pub struct Name {
     pub bytes: [u8; 4096],
     pub count: usize,

@@ -1,6 +1,8 @@
 // The posting desk's program (RULES 11): makes a book, posts a day to it, shows it. A book is a file (docs/FORMAT.md).
 // What is wrong with a command or a file goes to standard error; rows, and the refusal of a day, go to standard output.
 // A day that is refused for a case outside the book has both: the refusal, and which line it is.
+#![tactic(auto)]
+
 mod book;
 mod day;
 mod files;

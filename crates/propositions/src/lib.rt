@@ -1,2 +1,3 @@
 // A theory: two propositions of the paper on mu-Charts, for chart files. Definitions and theorems in specs/, no
 // function.
+#![tactic(auto)]

@@ -18,7 +18,7 @@ pub fn check(file: &[u8]) -> u8
 
 // What a configuration is compared with (RULES 3.3): 0 or the file's refusal, how many charts it has, and how many
 // states each of them has; 0 past the last chart. A refused file has none.
-#[derive(Drop)]
+#[derive(Clone, Copy)]
 pub struct StateCounts {
     pub refusal: u8,
     pub charts: u8,
@@ -107,7 +107,7 @@ pub fn first(file: &[u8], config: &mut [u8]) -> u8
 }
 
 // Whether a file is plain, so that no step of it can be marked no (RULES 8): 0 or the file's refusal, and the answer.
-#[derive(Drop)]
+#[derive(Clone, Copy)]
 pub struct Plainness {
     pub refusal: u8,
     pub plain: bool,

@@ -13,7 +13,7 @@ use checks::limits;
 use checks::limits::MOST_CHARTS;
 use layout::body::Shape;
 
-#[derive(Drop)]
+#[derive(Clone, Copy)]
 pub struct Faces {
     pub refusal: u8,
     pub input: u64,
@@ -21,7 +21,7 @@ pub struct Faces {
 }
 
 // Of each chart alone, both interfaces.
-#[derive(Drop)]
+#[derive(Clone, Copy)]
 struct Own {
     input: [u64; MOST_CHARTS as usize],
     output: [u64; MOST_CHARTS as usize],

@@ -1,5 +1,6 @@
 // A theory: which chart file a text means, and which texts are refused, as definitions and theorems in specs/. In code
 // only the numbers of the notation that have a name (docs/NOTATION.md), each written here once.
+#![tactic(auto)]
 
 // A chart is nested so deep at most.
 pub const MOST_DEPTH: u8 = 16;

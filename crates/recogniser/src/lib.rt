@@ -1,13 +1,15 @@
 // Whether a text spells a chart (docs/NOTATION.md), and where its first wrong byte is if not: one pass over the text,
 // without recursion. A text is walked back over only where more than levels::KEPT levels were open at once, and in
 // linear time in all (crate levels says why).
+#![tactic(auto)]
+
 ghost use Rattle.std.specs.Prelude.{◌≡◌, []};
 ghost use Rattle.notation.specs.Reader.{reader};
 ghost use Rattle.levels.specs.Ring.{Keeps, MarksIn};
 ghost use Rattle.recogniser.specs.Verdict.{verdict_of};
 
 // The text spells a chart, or its first wrong byte is at a place: the text's length if it only breaks off.
-#[derive(Drop)]
+#[derive(Clone, Copy)]
 pub enum Verdict {
     Spells,
     Wrong(usize),

@@ -1,4 +1,6 @@
 // What is read of each chart's action: what comes out of the whole, and what gets to a chart that looks for it.
+#![tactic(auto)]
+
 ghost use Rattle.std.specs.Prelude.{◌≡◌, ◌+◌, ◌≤◌, ◌<◌, length, get_or, drop};
 ghost use Rattle.layout.specs.Record.{transition_of};
 ghost use Rattle.layout.specs.Body.{Holds, transition_at};

@@ -1,6 +1,8 @@
 // The sequential charts of a text that spells a chart, by number: a walk from one to the next finds where each stands,
 // and counts. Then their records, laid down in the order of their numbers (records). What is answered is right if the
 // text spells a chart; the functions are safe on every text.
+#![tactic(auto)]
+
 ghost use Rattle.std.specs.Prelude.{◌≡◌, ◌||◌, ◌+◌, ◌<◌, length, drop};
 ghost use Rattle.tokens.specs.Tokens.{blanks};
 ghost use Rattle.roster.specs.Roster.{cut, RosterAt};
@@ -22,7 +24,7 @@ const MOST_COUNTED: usize = 65535;
 // The charts found so far, or all of them: the mask of their names, whether the names are refused, how many charts
 // there are and how many transitions, whether one has too many of them, whether one is refused, the place of each by
 // its number, and the place behind the last.
-#[derive(Drop)]
+#[derive(Clone, Copy)]
 pub struct Roster {
     pub mask: u64,
     pub bad: bool,

@@ -1,4 +1,6 @@
 // A run of a body that passed 1 to 11 (RULES 6): it is wired once, then a row is made for each input.
+#![tactic(auto)]
+
 ghost use Rattle.std.specs.Prelude.{◌≡◌, ◌∷◌, ◌++◌, ℕ, ◌+◌, ◌*◌, ◌≤◌, ◌<◌, length, take};
 ghost use Rattle.layout.specs.Le.{bytes};
 ghost use Rattle.meaning.specs.Numbers.{most_charts};
@@ -17,7 +19,7 @@ use stepping::step::Tried;
 
 // What a run answers, its rows aside: 0 or the refusal, and what is carried after the last input, nothing if the run is
 // refused (RULES 1.4, 6.4).
-#[derive(Drop)]
+#[derive(Clone, Copy)]
 pub struct Ran {
     pub refusal: u8,
     pub carried: u64,
@@ -73,7 +75,7 @@ fn put_row(row: &mut [u8], t: Tried, states: [u8; CHARTS], charts: usize)
 }
 
 // Where a run stands: the present states, what is carried, and how many inputs are left.
-#[derive(Drop)]
+#[derive(Clone, Copy)]
 struct Stand {
     states: [u8; CHARTS],
     carried: u64,

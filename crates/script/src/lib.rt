@@ -1,5 +1,7 @@
 // The text of a file's tree, written at a place of a buffer (crate printing has the sequential charts). A node is read
 // down to a depth; each node names lower ones, so a depth of all nodes is all of the tree.
+#![tactic(auto)]
+
 ghost use Rattle.std.specs.Prelude.{◌≡◌, ◌≤◌, ◌<◌, length};
 ghost use Rattle.layout.specs.Put.{Put};
 ghost use Rattle.meaning.specs.File.{file_at, build};
@@ -17,7 +19,7 @@ use layout::record::Node;
 use printing::{charts, sets, signs};
 
 // The list of the slaves of a chart: where it begins.
-#[derive(Drop)]
+#[derive(Clone, Copy)]
 pub struct Held {
     pub chart: u8,
     pub first: usize,

@@ -1,4 +1,6 @@
 // A search over tables of masks: it finds the permitted choices by settling chart after chart. It knows no file.
+#![tactic(auto)]
+
 ghost use Rattle.std.specs.Prelude.{◌≡◌, ◌&&◌, not, List, ℕ, ◌+◌, ◌-◌, ◌*◌, ◌≤◌, ◌<◌, length, get_or};
 ghost use Rattle.signals.specs.Mask.{◌∪◌, ◌∩◌, apart};
 ghost use Rattle.meaning.specs.Meaning.{eq_list};

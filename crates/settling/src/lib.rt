@@ -1,5 +1,7 @@
 // One chart settled after those before it: what they ask of its move, whether a move fits, and a move taken. The crate
 // search tries all moves of all charts by these. It knows no file.
+#![tactic(auto)]
+
 ghost use Rattle.std.specs.Prelude.{◌≡◌, ◌&&◌, not, List, ℕ, ◌+◌, ◌≤◌, ◌<◌, length, get_or};
 ghost use Rattle.signals.specs.Mask.{◌∪◌, ◌∩◌, within, apart};
 ghost use Rattle.meaning.specs.Numbers.{most_charts, most_from_state, no_place, stay_place};
@@ -24,7 +26,7 @@ pub const STAY_PLACE: u8 = 254;
 // What was found so far: the first permitted choice's outcome, if there is one, and whether all others agree with it.
 // Places do not count for that. The rows stand first: a copy by words of sixteen bytes then reads no two fields at
 // once.
-#[derive(Drop)]
+#[derive(Clone, Copy)]
 pub struct Found {
     pub next: [u8; CHARTS],
     pub places: [u8; CHARTS],
@@ -34,7 +36,7 @@ pub struct Found {
 }
 
 // Signals that have to be in a set, and signals that must not be in it.
-#[derive(Drop)]
+#[derive(Clone, Copy)]
 pub struct Guard {
     pub needed: u64,
     pub barred: u64,

@@ -6,7 +6,7 @@ ghost use Rattle.signals.specs.Halving.{Leads};
 
 // What testing a guard shows: it is met; or the lowest needed signal that is absent; or, where none is, the lowest
 // barred one that is present.
-#[derive(Drop)]
+#[derive(Clone, Copy)]
 pub enum Tested {
     Met,
     Absent(u8),
@@ -14,7 +14,7 @@ pub enum Tested {
 }
 
 // A set from one signal on; those passed over are not in it.
-#[derive(Drop)]
+#[derive(Clone, Copy)]
 struct Rest {
     left: u64,
     passed: u8,
@@ -53,7 +53,7 @@ pub fn lowest(s: u64) -> u8
 
 // What is lacking, as a set: nothing; or what is missing of the needed signals; or, where nothing is, what is there of
 // the barred ones.
-#[derive(Drop)]
+#[derive(Clone, Copy)]
 pub enum Lack {
     Nothing,
     Missing(u64),

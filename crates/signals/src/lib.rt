@@ -1,4 +1,6 @@
 // Sets of 64 signals as masks, and the test of a guard.
+#![tactic(auto)]
+
 ghost use Rattle.std.specs.Prelude.{◌≡◌, ◌<◌};
 ghost use Rattle.signals.specs.Mask.{◌∪◌, ◌∖◌, bit, single, within, apart};
 ghost use Rattle.signals.specs.Lowest.{IsLowestFree};
@@ -8,7 +10,7 @@ pub mod guard;
 // The set of all signals.
 pub const ALL: u64 = 18446744073709551615;
 
-#[derive(Drop)]
+#[derive(Clone, Copy)]
 pub enum Found {
     At(u32),
     Nothing,

@@ -1,5 +1,7 @@
 // The charts that may stay, in a file of the edition that lets them: what triggers each, for a search to look up.
 // Triggers are all transitions from a chart's present state, those too that are no candidates.
+#![tactic(auto)]
+
 ghost use Rattle.std.specs.Prelude.{◌≡◌, ◌+◌, ◌*◌, ◌≤◌, ◌<◌, length, get_or, drop};
 ghost use Rattle.signals.specs.Mask.{◌∪◌};
 ghost use Rattle.layout.specs.Record.{transition_of};

@@ -26,7 +26,7 @@ use settling::Found;
 
 // What a step answers, the next configuration aside (RULES 5.9): 0 or the refusal, the output, the mark, the places,
 // 254 for a chart that stayed and 255 for one that took none, and how many choices are open.
-#[derive(Drop)]
+#[derive(Clone, Copy)]
 pub struct Stepped {
     pub places: [u8; CHARTS],
     pub output: u64,
@@ -226,7 +226,7 @@ fn counted(
 }
 
 // What a step comes to: how many choices are open, and what was found among them.
-#[derive(Drop)]
+#[derive(Clone, Copy)]
 pub struct Tried {
     pub found: Found,
     pub open_choices: u64,

@@ -1,5 +1,7 @@
 // Charts from typed text: which file a text means, or why there is none (docs/NOTATION.md). The call has no
 // `requires`: what is wrong is refused by number.
+#![tactic(auto)]
+
 ghost use Rattle.std.specs.Prelude.{◌≡◌, ◌+◌, ◌≤◌, length};
 ghost use Rattle.layout.specs.Put.{Put};
 ghost use Rattle.reading.specs.Read.{read_file};
@@ -32,7 +34,7 @@ pub const MOST_FILE: usize = limits::MOST_CHARTS as usize * limits::HEAD_BYTES
     + limits::TRAILER_BYTES;
 
 // 0 or the refusal; how long the file is; and the place of the first byte that no text could have there.
-#[derive(Drop)]
+#[derive(Clone, Copy)]
 pub struct FileRead {
     pub refusal: u8,
     pub length: usize,

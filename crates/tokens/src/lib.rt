@@ -1,12 +1,14 @@
 // The tokens of a text that spells a chart, read again for their numbers: blanks, a sign, a name. What these functions
 // answer is right if such a token is there (specs/Laws/Text.antt); they are safe on every text.
+#![tactic(auto)]
+
 ghost use Rattle.std.specs.Prelude.{◌≡◌, ◌+◌, ◌*◌, ◌-◌, ◌≤◌, length, drop, get_or};
 ghost use Rattle.tokens.specs.Tokens.{blanks, after_blanks, cap, NumberAt, BehindSign, NameFrom};
 
 use scan::bytes;
 
 // The number of a name as far as it matters, and the place behind it.
-#[derive(Drop)]
+#[derive(Clone, Copy)]
 pub struct Name {
     pub value: u64,
     pub next: usize,

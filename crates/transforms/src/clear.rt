@@ -9,7 +9,7 @@ use checks::limits;
 use layout::body::Shape;
 
 // 0 or the refusal, and how long the cleared file is.
-#[derive(Drop)]
+#[derive(Clone, Copy)]
 pub struct Cleared {
     pub refusal: u8,
     pub length: usize,

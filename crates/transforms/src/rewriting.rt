@@ -12,7 +12,7 @@ use layout::body::Shape;
 use layout::limits::CHARTS;
 
 // 0 or the refusal, and how long the rewritten file is.
-#[derive(Drop)]
+#[derive(Clone, Copy)]
 pub struct Rewritten {
     pub refusal: u8,
     pub length: usize,

@@ -1,5 +1,7 @@
 // What a person types and reads: a configuration `0.1`; a set of signals `s0,s3`, `0x9` or `-`; a set shown as signals.
 // Nothing here knows a chart file or an operating system.
+#![tactic(auto)]
+
 ghost use Rattle.std.specs.Prelude.{◌≡◌, ◌≤◌, ◌<◌, length, take, replicate};
 ghost use Rattle.meaning.specs.Meaning.{eq_list};
 ghost use Rattle.meaning.specs.Calls.{laid_over};
@@ -12,14 +14,14 @@ ghost use Rattle.typed.specs.Parts.{Ends, next_signal};
 pub const MOST_STATES: usize = 64;
 
 // What a word says: a number, or nothing, since it is not typed as it should be.
-#[derive(Drop)]
+#[derive(Clone, Copy)]
 pub enum Read {
     Is(u64),
     Wrong,
 }
 
 // A configuration's states, at the front of 64 bytes; none if it is not typed as it should be.
-#[derive(Drop)]
+#[derive(Clone, Copy)]
 pub struct Configuration {
     pub count: usize,
     pub states: [u8; MOST_STATES],

@@ -2,6 +2,8 @@
 // records written where there is room (room), slaves in the order of a file (order), and the walk over the text, which
 // lays down nodes, and slaves as it meets them. What is written is right if the text is there and has no fault, and
 // there is room; the functions are safe on every text and every buffer.
+#![tactic(auto)]
+
 ghost use Rattle.std.specs.Prelude.{◌≡◌, List, ℕ, ◌+◌, ◌-◌, ◌≤◌, ◌<◌, length};
 ghost use Rattle.reading.specs.Numbers.{named_states};
 ghost use Rattle.walk.specs.Walk.{sheet, one_node, one_slave, Writes, WritesChart, SequentialAt, ChartAt, PartAt};
@@ -20,7 +22,7 @@ const MOST_DEPTH: usize = reading::MOST_DEPTH as usize;
 
 // Where the walk stands: the place in the text, the number of the next node, and the places of the next records of a
 // node and of a slave.
-#[derive(Drop)]
+#[derive(Clone, Copy)]
 pub struct Cursor {
     pub place: usize,
     pub node: u8,

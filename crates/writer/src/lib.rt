@@ -1,4 +1,6 @@
 // The text of a chart file (docs/NOTATION.md 6). The call has no `requires`: what is wrong is refused by number.
+#![tactic(auto)]
+
 ghost use Rattle.std.specs.Prelude.{◌≡◌};
 ghost use Rattle.meaning.specs.File.{file_at};
 ghost use Rattle.writer.specs.Promises.{WriteSays, Readable, WritesBody};
@@ -13,7 +15,7 @@ pub const TOO_DEEP: u8 = reading::TOO_DEEP;
 pub const MOST_TEXT: usize = printing::signs::MOST_TEXT;
 
 // 0 or the refusal, and how long the text is.
-#[derive(Drop)]
+#[derive(Clone, Copy)]
 pub struct Written {
     pub refusal: u8,
     pub length: usize,

@@ -57,6 +57,7 @@ each_at {P = P} l i a e m = each_then m.before a m.after (subst (Each P) m.is e)
 
 mem_times : (s : Sequential) (l : List Sequential) → Memᴰ s l → 0 < times_in (name_of s) l
 unfolding total
+mem_times s [] x' = elim x' [ ]
 mem_times s (u ∷ l) (Memᴰ.head e) =
     let z : one (eqb (name_of u) (name_of s)) ≡ 1 =
     ap (λ v. one (eqb (name_of v) (name_of s))) (sym e) ∙ named_so (name_of s) in

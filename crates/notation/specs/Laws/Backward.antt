@@ -250,12 +250,12 @@ text_laid {v = v} end d = laid-at (sym (append-nil v)) d
 text_laid {v = v} (blank_then {w = w} b e t) d = laid-at (append_assoc v (b ∷ []) w) (text_laid t (space b e d))
 text_laid {v = v} (token_then {w = w} k t) d = laid-at (append_assoc v (bytes_of k) w) (text_laid t (token k d))
 
-laid_text : {ts r : Tokens} {w v : List ℕ} → Laid r w → Text ts v → Text (onto r ts) (w ++ v)
+laid_text : {r ts : Tokens} {w v : List ℕ} → Laid r w → Text ts v → Text (onto r ts) (w ++ v)
 unfolding onto
 laid_text nothing t = t
-laid_text {ts} {v = v} (space {w = w} b e d) t =
+laid_text {ts = ts} {v = v} (space {w = w} b e d) t =
     text_at (sym (append_assoc w (b ∷ []) v)) (laid_text d (blank_then b e t))
-laid_text {ts} {v = v} (token {w = w} k d) t =
+laid_text {ts = ts} {v = v} (token {w = w} k d) t =
     text_at (sym (append_assoc w (bytes_of k) v)) (laid_text d (token_then k t))
 
 onto-onto : (ts r : Tokens) → onto (onto ts r) [] ≡ onto r ts
