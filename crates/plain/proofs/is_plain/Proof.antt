@@ -47,7 +47,7 @@ asked c =
     let h = c.before.before in
     let l = h.before.before.before in
     c.any-doubtful.ensures
-    ∙ ap₂ any_doubtful l.before.fed_back_lem.ensures
+    ∙ ap₂ any_doubtful l.before.fed_back.ensures
     (sym (own_are _ _ l.loop.c _ h.head_at.ensures l.loop.invariant.1))
 
 returns : tie.Need-returns invariant-loop decreases-loop
