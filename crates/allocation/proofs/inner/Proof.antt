@@ -124,7 +124,7 @@ loop-again c =
     let s = c.before.before.before.before.before.before.before.before in
     let i = c.before.before.before.before.before.loop in
     let p = s.requires in
-    let e = c.before.before.before.Node-at.ensures in
+    let e = c.before.before.before.node_at.ensures in
     let t = c.before.before.before.before.loop-test.true in (
       omega arith,
       ⊎_elim
@@ -161,7 +161,7 @@ inner_spec =
     (λ c. there _ _ c.before.before.before.before.before.before.before.before.before.requires.0
     c.before.before.before.before.before.before.loop.j
     c.before.before.before.before.before.loop-test.true _
-    c.before.before.before.before.Node-at.ensures
+    c.before.before.before.before.node_at.ensures
     c.before.before.before.before.before.before.loop.inner
     c.before.before.before.before.before.before.loop.invariant.1 c.before.if1.true)
     (λ c. omega arith)

@@ -24,7 +24,7 @@ unfolding file_at
 loop-again c =
     let i = c.before.before.before.before.loop in (
       omega arith,
-      ap₂ (λ (a : ℕ) (r : Node). a ∪ (r.x ∪ r.y)) i.invariant.1 c.before.Node-at.ensures ∙ union_more i.j _,
+      ap₂ (λ (a : ℕ) (r : Node). a ∪ (r.x ∪ r.y)) i.invariant.1 c.before.node_at.ensures ∙ union_more i.j _,
     )
 
 returns : tie.Need-returns invariant-loop decreases-loop

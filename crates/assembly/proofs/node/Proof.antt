@@ -102,7 +102,7 @@ holder-requires c κs =
     let s = c.before.before.before.before.before.before.before in
     let p = s.requires in
     let a = s.args in
-    let e = c.before.before.before.before.Node-at.ensures in
+    let e = c.before.before.before.before.node_at.ensures in
     let k = c.before.if1.true in (
       p.0,
       p.1,
@@ -113,7 +113,7 @@ holder-requires c κs =
 
 returns : tie.Need-returns
 returns c = let p = c.before.before.before.before.before.before.before.before.before.before.requires in
-    put_is (sym (held_bytes_lem _ _ _ _ c.before.before.before.before.before.before.before.Node-at.ensures p.0
+    put_is (sym (held_bytes_lem _ _ _ _ c.before.before.before.before.before.before.before.node_at.ensures p.0
     p.3.there _ p.3
     c.before.before.before.before.if1.true)) c.before.before.holder.ensures
 
@@ -122,7 +122,7 @@ unfolding file_at
 element-copy-out-t20 c =
     let p = c.before.before.before.before.before.before.before.requires in
     let h = p.0.sized.nodes in
-    let t = both_there _ _ _ _ c.before.before.before.before.Node-at.ensures p.0 p.3.there
+    let t = both_there _ _ _ _ c.before.before.before.before.node_at.ensures p.0 p.3.there
     c.if2.true in omega arith
 
 element-copy-out-t23 : tie.Need-element-copy-out-t23
@@ -130,7 +130,7 @@ unfolding file_at
 element-copy-out-t23 c =
     let p = c.before.before.before.before.before.before.before.before.requires in
     let h = p.0.sized.nodes in
-    let t = both_there _ _ _ _ c.before.before.before.before.before.Node-at.ensures p.0 p.3.there
+    let t = both_there _ _ _ _ c.before.before.before.before.before.node_at.ensures p.0 p.3.there
     c.before.if2.true in
     omega arith
 
@@ -140,7 +140,7 @@ put-node-requires c κs =
     let p = s.requires in
     let a = s.args in
     room_all _ _ 20 (both_bytes a.n a.body.now a.j _
-    c.before.before.before.before.before.before.before.Node-at.ensures p.0
+    c.before.before.before.before.before.before.before.node_at.ensures p.0
     p.3.there c.before.before.before.if2.true a.names.now p.2) (length_node _) a.at
     a.out.now p.4
 
@@ -150,7 +150,7 @@ returns-2 c =
     let p = s.requires in
     let a = s.args in
     put_is (sym (both_bytes a.n a.body.now a.j _
-    c.before.before.before.before.before.before.before.before.before.before.Node-at.ensures p.0
+    c.before.before.before.before.before.before.before.before.before.before.node_at.ensures p.0
     p.3.there
     c.before.before.before.before.before.before.if2.true a.names.now p.2))
     c.before.before.put-node.ensures
@@ -160,7 +160,7 @@ unfolding file_at
 element-copy-out-t28 c =
     let p = c.before.before.before.before.before.before.before.requires in
     let h = p.0.sized.nodes in
-    let t = hidden_there _ _ _ _ c.before.before.before.before.Node-at.ensures p.0 p.3.there
+    let t = hidden_there _ _ _ _ c.before.before.before.before.node_at.ensures p.0 p.3.there
     c.before.if1.false c.if2.false in
     omega arith
 
@@ -170,7 +170,7 @@ put-node-requires-2 c κs =
     let p = s.requires in
     let a = s.args in
     room_all _ _ 20 (hidden_bytes a.n a.body.now a.j _
-    c.before.before.before.before.before.before.Node-at.ensures p.0
+    c.before.before.before.before.before.before.node_at.ensures p.0
     p.3.there c.before.before.before.if1.false c.before.before.if2.false a.names.now p.2)
     (length_node _) a.at a.out.now
     p.4
@@ -181,7 +181,7 @@ returns-3 c =
     let p = s.requires in
     let a = s.args in
     put_is (sym (hidden_bytes a.n a.body.now a.j _
-    c.before.before.before.before.before.before.before.before.before.Node-at.ensures p.0 p.3.there
+    c.before.before.before.before.before.before.before.before.before.node_at.ensures p.0 p.3.there
     c.before.before.before.before.before.before.if1.false
     c.before.before.before.before.before.if2.false a.names.now p.2))
     c.before.before.put-node2.ensures

@@ -36,7 +36,7 @@ loop-again c =
     let r = c.before.before.before in
     let i = r.before.before.before in (
       omega arith,
-      put_next _ i.loop.invariant.1 (put_is (ap node_bytes r.Node-at.ensures) c.before.before.put-node.ensures),
+      put_next _ i.loop.invariant.1 (put_is (ap node_bytes r.node_at.ensures) c.before.before.put-node.ensures),
     )
 
 pub nodes_spec : {M : Type 1} → statement M

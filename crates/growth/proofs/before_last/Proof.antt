@@ -37,11 +37,11 @@ module _ (n : Shape) (b : List ℕ) (j : ℕ) (r : Node) (e : r ≡ node_at n b 
     some h = rw (← e, k, ← is) (before_some (file_at n b) s h)
 
 returns : tie.Need-returns
-returns c = (other _ _ _ _ c.before.before.Node-at.ensures c.if1.true, omega arith)
+returns c = (other _ _ _ _ c.before.before.node_at.ensures c.if1.true, omega arith)
 
 returns-2 : tie.Need-returns-2
 returns-2 c = (
-  none _ _ _ _ c.before.before.before.before.before.Node-at.ensures c.before.before.before.if1.false _
+  none _ _ _ _ c.before.before.before.before.before.node_at.ensures c.before.before.before.if1.false _
       c.before.slaves-of.ensures.0 c.if2.true,
   omega arith,
 )
@@ -50,7 +50,7 @@ returns-3 : tie.Need-returns-3
 returns-3 c =
     let m = c.before.slaves-of.ensures.1 in
     let h = c.before.before.before.before.before.before.before.requires.0.sized.slaves in (
-      some _ _ _ _ c.before.before.before.before.before.Node-at.ensures
+      some _ _ _ _ c.before.before.before.before.before.node_at.ensures
           c.before.before.before.if1.false _
           c.before.slaves-of.ensures.0 c.if2.false,
       omega arith,

@@ -44,43 +44,43 @@ element-copy-out-with-slaves : tie.Need-element-copy-out-with-slaves
 element-copy-out-with-slaves c =
     let s = c.before.before.before in
     let p = s.before.before.requires in
-    chart₀ _ _ _ _ s.Node-at.ensures p.0 p.1.0 p.1.1 c.match.keys1
+    chart₀ _ _ _ _ s.node_at.ensures p.0 p.1.0 p.1.1 c.match.keys1
 
 element-copy-out-result : tie.Need-element-copy-out-result
 element-copy-out-result c =
     let s = c.before.before.before in
     let p = s.before.before.requires in
-    (lower₁ _ _ _ _ s.Node-at.ensures p.0 p.1.0 p.1.1 c.match.keys2).0
+    (lower₁ _ _ _ _ s.node_at.ensures p.0 p.1.0 p.1.1 c.match.keys2).0
 
 element-copy-out-result-2 : tie.Need-element-copy-out-result-2
 element-copy-out-result-2 c =
     let s = c.before.before.before.before in
     let p = s.before.before.requires in
-    (lower₁ _ _ _ _ s.Node-at.ensures p.0 p.1.0 p.1.1 c.before.match.keys2).1
+    (lower₁ _ _ _ _ s.node_at.ensures p.0 p.1.0 p.1.1 c.before.match.keys2).1
 
 element-copy-out-less : tie.Need-element-copy-out-smaller
 element-copy-out-less c =
     let s = c.before.before.before in
     let p = s.before.before.requires in
-    lower₂ _ _ _ _ s.Node-at.ensures p.0 p.1.0 p.1.1 c.match.rest.0.1 c.match.rest.1
+    lower₂ _ _ _ _ s.node_at.ensures p.0 p.1.0 p.1.1 c.match.rest.0.1 c.match.rest.1
 
 returns : tie.Need-returns
 returns c =
     let m = c.before.before in
-    c.with-slaves.ensures ∙ value₀ _ _ _ _ m.before.before.before.Node-at.ensures _ _ _ m.match.keys1
+    c.with-slaves.ensures ∙ value₀ _ _ _ _ m.before.before.before.node_at.ensures _ _ _ m.match.keys1
 
 returns-2 : tie.Need-returns-2
 returns-2 c = let m = c.before.before in
-    value₁ _ _ _ _ m.before.before.before.Node-at.ensures _ _ _ m.match.keys2
+    value₁ _ _ _ _ m.before.before.before.node_at.ensures _ _ _ m.match.keys2
 
 returns-3 : tie.Need-returns-3
 returns-3 c =
     let m = c.before.before.before in
     c.less.ensures
     ∙ ap (λ (v : Set). get_or m.before.before.before.before.before.args.table.now
-    m.before.before.before.Node-at.result.a 0 ∖ v)
+    m.before.before.before.node_at.result.a 0 ∖ v)
     c.before.taken.ensures
-    ∙ value₂ _ _ _ _ m.before.before.before.Node-at.ensures _ _ _ m.match.rest.0.1 m.match.rest.1
+    ∙ value₂ _ _ _ _ m.before.before.before.node_at.ensures _ _ _ m.match.rest.0.1 m.match.rest.1
 
 pub value_spec : {M : Type 1} → statement M
 value_spec =

@@ -25,10 +25,10 @@ module _ (n : Shape) (b : List ℕ) (j : ℕ) {r : Node} (e : r ≡ node_at n b 
   other h = rw (← e, same_≢ r.kind 1 h)
 
 returns : tie.Need-returns
-returns c = composed _ _ _ c.before.before.Node-at.ensures (omega arith)
+returns c = composed _ _ _ c.before.before.node_at.ensures (omega arith)
 
 returns-2 : tie.Need-returns-2
-returns-2 c = other _ _ _ c.before.before.Node-at.ensures (λ h. omega arith)
+returns-2 c = other _ _ _ c.before.before.node_at.ensures (λ h. omega arith)
 
 pub fed_by_node_spec : {M : Type 1} → statement M
 fed_by_node_spec = tie.close (tie.spec (λ c κs. search rules) returns returns-2)

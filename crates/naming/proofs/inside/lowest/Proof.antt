@@ -39,34 +39,34 @@ module _ (n : Shape) (b : List ℕ) (j : ℕ) (r : Node) (e : r ≡ node_at n b 
       rw e (h.at _ (w.ordered.lower₂ j l g) ∙ sym (lowest₂ (file_at n b) w j l g))
 
 -- the nodes that a composed node names are in the table
-named : (c : tie.At-match-keys2) → let r = c.before.before.before.Node-at.result in
+named : (c : tie.At-match-keys2) → let r = c.before.before.before.node_at.result in
     (r.a < most_nodes) × (r.b < most_nodes)
 named c =
     let s = c.before.before.before in
     let p = s.before.before.requires in
-    lower₁ _ _ _ _ s.Node-at.ensures p.0 p.1.0 p.1.1.0 c.match.keys2
+    lower₁ _ _ _ _ s.node_at.ensures p.0 p.1.0 p.1.1.0 c.match.keys2
 
 hidden : tie.Need-element-copy-out-result-3
 hidden c =
     let s = c.before.before.before in
     let p = s.before.before.requires in
-    lower₂ _ _ _ _ s.Node-at.ensures p.0 p.1.0 p.1.1.0 c.match.rest.0.1 c.match.rest.1
+    lower₂ _ _ _ _ s.node_at.ensures p.0 p.1.0 p.1.1.0 c.match.rest.0.1 c.match.rest.1
 
 -- the lower of the two
 composed : (c : tie.At-match-keys2) → let s = c.before.before.before in let a = s.before.before.args in
-    let r = s.Node-at.result in
+    let r = s.node_at.result in
     lower (get_or a.low.now r.a 0) (get_or a.low.now r.b 0)
     ≡ lowest (tree_of (file_at a.n a.body.now) a.j)
 composed c =
     let s = c.before.before.before in
     let p = s.before.before.requires in
-    arm₁ _ _ _ _ s.Node-at.ensures p.1.0 p.1.1.0 _ p.1.1.1 c.match.keys2
+    arm₁ _ _ _ _ s.node_at.ensures p.1.0 p.1.1.0 _ p.1.1.1 c.match.keys2
 
 returns : tie.Need-returns
 returns c =
     let s = c.before.before.before in
     let p = s.before.before.requires in
-    arm₀ _ _ _ _ s.Node-at.ensures p.1.0 p.1.1.0 _ p.1.1.1 c.match.keys1
+    arm₀ _ _ _ _ s.node_at.ensures p.1.0 p.1.1.0 _ p.1.1.1 c.match.keys1
 
 returns-2 : tie.Need-returns-2
 returns-2 c = rw (lt-ltb _ _ c.before.if1.true) at (composed c.before.before.before.before)
@@ -79,8 +79,8 @@ returns-4 c =
     let m = c.before in
     let s = m.before.before.before in
     let p = s.before.before.requires in
-    arm₂ _ _ _ _ s.Node-at.ensures p.1.0 p.1.1.0 _ p.1.1.1
-    (kind₂ _ _ _ _ s.Node-at.ensures p.0 p.1.0 p.1.1.0 m.match.rest.0.1 m.match.rest.1)
+    arm₂ _ _ _ _ s.node_at.ensures p.1.0 p.1.1.0 _ p.1.1.1
+    (kind₂ _ _ _ _ s.node_at.ensures p.0 p.1.0 p.1.1.0 m.match.rest.0.1 m.match.rest.1)
 
 pub lowest_spec : {M : Type 1} → statement M
 lowest_spec =

@@ -64,24 +64,24 @@ module _ (n : Shape) (b : List ℕ) (k : ℕ) (r : Node) (e : r ≡ node_at n b 
 held_at : tie.Need-element-copy-out-held
 held_at c =
     let s = c.before.before.before in
-    let p = s.before.before.requires in in₀ _ _ _ _ s.Node-at.ensures p.0 p.1.0 c.match.keys1
+    let p = s.before.before.requires in in₀ _ _ _ _ s.node_at.ensures p.0 p.1.0 c.match.keys1
 
-named-at : (c : tie.At-match-keys2) → let r = c.before.before.before.Node-at.result in
+named-at : (c : tie.At-match-keys2) → let r = c.before.before.before.node_at.result in
     (r.a < most_nodes) × (r.b < most_nodes)
 named-at c =
     let s = c.before.before.before in
-    let p = s.before.before.requires in in₁ _ _ _ _ s.Node-at.ensures p.0 p.1.0 c.match.keys2
+    let p = s.before.before.requires in in₁ _ _ _ _ s.node_at.ensures p.0 p.1.0 c.match.keys2
 
-is_last : (c : tie.At-match-rest) → c.before.before.before.Node-at.result.kind ≡ 2
+is_last : (c : tie.At-match-rest) → c.before.before.before.node_at.result.kind ≡ 2
 is_last c =
     let s = c.before.before.before in
     let p = s.before.before.requires in
-    last_kind _ _ _ _ s.Node-at.ensures p.0 p.1.0 c.match.rest.0.1 c.match.rest.1
+    last_kind _ _ _ _ s.node_at.ensures p.0 p.1.0 c.match.rest.0.1 c.match.rest.1
 
 hidden_at : tie.Need-element-copy-out-named-3
 hidden_at c =
     let s = c.before.before.before in
-    let p = s.before.before.requires in in₂ _ _ _ _ s.Node-at.ensures p.0 p.1.0 (is_last c)
+    let p = s.before.before.requires in in₂ _ _ _ _ s.node_at.ensures p.0 p.1.0 (is_last c)
 
 -- a byte holds what they count
 add-held : tie.Need-overflow-add-held
@@ -112,19 +112,19 @@ returns : tie.Need-returns
 returns c =
     let s = c.before.before.before.before in
     let p = s.before.before.requires in
-    next₀ _ _ _ _ s.Node-at.ensures p.0 p.1.0 _ _ _ p.1.1 c.before.match.keys1
+    next₀ _ _ _ _ s.node_at.ensures p.0 p.1.0 _ _ _ p.1.1 c.before.match.keys1
 
 returns-2 : tie.Need-returns-2
 returns-2 c =
     let s = c.before.before.before.before.before in
     let p = s.before.before.requires in
-    next₁ _ _ _ _ s.Node-at.ensures p.0 p.1.0 _ _ _ p.1.1 c.before.before.match.keys2
+    next₁ _ _ _ _ s.node_at.ensures p.0 p.1.0 _ _ _ p.1.1 c.before.before.match.keys2
 
 returns-3 : tie.Need-returns-3
 returns-3 c =
     let s = c.before.before.before.before in
     let p = s.before.before.requires in
-    next₂ _ _ _ _ s.Node-at.ensures p.0 p.1.0 _ _ _ p.1.1 (is_last c.before)
+    next₂ _ _ _ _ s.node_at.ensures p.0 p.1.0 _ _ _ p.1.1 (is_last c.before)
 
 pub walk_node_spec : {M : Type 1} → statement M
 walk_node_spec =

@@ -42,18 +42,18 @@ module _ (n : Shape) (b : List ℕ) (j : ℕ) (r : Node) (er : r ≡ node_at n b
 
 returns : tie.Need-returns
 returns c = let m = c.before.before.before in
-    kind₀ _ _ _ _ m.before.before.before.Node-at.ensures m.match.keys1
+    kind₀ _ _ _ _ m.before.before.before.node_at.ensures m.match.keys1
 
 returns-2 : tie.Need-returns-2
-returns-2 c = let m = c.before in kind₁ _ _ _ _ m.before.before.before.Node-at.ensures m.match.keys2
+returns-2 c = let m = c.before in kind₁ _ _ _ _ m.before.before.before.node_at.ensures m.match.keys2
 
 returns-3 : tie.Need-returns-3
-returns-3 c = kind₂ _ _ _ _ c.before.before.before.Node-at.ensures c.match.keys3
+returns-3 c = kind₂ _ _ _ _ c.before.before.before.node_at.ensures c.match.keys3
 
 returns-4 : tie.Need-returns-4
 returns-4 c =
-    let e = ap (λ (x : Node). x.kind) c.before.before.before.Node-at.ensures in
-    other _ _ _ _ c.before.before.before.Node-at.ensures _ (λ p. c.match.rest.0.0.1 (e ∙ p))
+    let e = ap (λ (x : Node). x.kind) c.before.before.before.node_at.ensures in
+    other _ _ _ _ c.before.before.before.node_at.ensures _ (λ p. c.match.rest.0.0.1 (e ∙ p))
     (λ p. c.match.rest.0.1 (e ∙ p)) (λ p. c.match.rest.1 (e ∙ p))
 
 pub bad_node_spec : {M : Type 1} → statement M
