@@ -46,7 +46,7 @@ module _ (b f : List ℕ) (h : BytesPut most_charts (column_in b 0 2 no_place) (
             (λ c l. h.in_row c l ∙ filled_behind 0 (place_in b) no_place c (omega arith) l),
       )
 
-offered : (s : Start) → length s.args.t7 ≡ most_charts
+offered : (s : Start) → length s.args.low ≡ most_charts
 offered s = search rules
 
 -- what each chart is surely offered stands in front
@@ -73,6 +73,6 @@ pub returns : goal.returns
 returns c =
     let n = offered (goal.at.returns c).Start in
     c.found_in.ensures ∙ c.hunt.ensures.found
-    ∙ all c.args.masks.now c.args.small.now c.args.guards.now c.args.stays.now _ _ c.args.t7
-    c.args.charts _ (begun _ _ c.args.t7 n (first-row c.args.t7 _ _ n c.put_row.ensures))
+    ∙ all c.args.masks.now c.args.small.now c.args.guards.now c.args.stays.now _ _ c.args.low
+    c.args.charts _ (begun _ _ c.args.low n (first-row c.args.low _ _ n c.put_row.ensures))
     (begun-nothing (replicate moves_size 0) _ c.put_column.ensures)

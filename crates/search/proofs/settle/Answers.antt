@@ -14,7 +14,7 @@ use Rattle.meaning.specs.Calls.Laws.{made_cong}
 use Rattle.settling.specs.declared.Found.{Found}
 use Rattle.settling.specs.Hunt.{places_cell, has_cell, agree_cell, outcome_in, first_found, settle_of, found_in, Held}
 use Rattle.search.proofs.settle.Goals as goal
-use Rattle.search.proofs.settle.Goals.{else-output-shown, then-output-shown}
+use Rattle.search.proofs.settle.Goals.{else-output-shown, then-output-shown+else-same_states}
 
 module _ (o : Outcome) (acc : Found) where
   first : acc.has ≡ false → first_found o ≡ settle_of o acc
@@ -95,8 +95,8 @@ returns c =
       written_held a.best.now a.shown.now c.requires.0 _,
       off a.best.now a.shown.now c.requires.0
           ∙ (elim c.if-output-shown.branch [
-            | then-output-shown w ↦ other-next o acc (found_one _ c.if-best-ne1.false)
-                (sym (w.2.ensures a.output a.shown.now) ∙ w.3.left)
-            | else-output-shown w ↦ other_output o acc (found_one _ c.if-best-ne1.false) w.left
+            | then-output-shown+else-same_states w ↦ other-next o acc (found_one _ c.if-best-ne1.false)
+                (sym (w.same_states.ensures a.output a.shown.now) ∙ w.if-same_states.false)
+            | else-output-shown w ↦ other_output o acc (found_one _ c.if-best-ne1.false) w.if-output-shown.false
           ]),
     )
