@@ -60,7 +60,7 @@ returns c =
     let s = c.before.before.before.before in
     let p = s.before.before.requires in
     ap (λ z. z + 1) c.deepest.ensures
-    ∙ arm₀ _ _ _ _ s.Node-at.ensures p.0 p.1.0 p.1.1.0 _ p.1.1.1 c.before.match.keys1
+    ∙ arm₀ _ _ _ _ s.node_at.ensures p.0 p.1.0 p.1.1.0 _ p.1.1.1 c.before.match.keys1
 
 returns-2 : tie.Need-returns-2
 returns-2 c =
@@ -68,14 +68,14 @@ returns-2 c =
     let s = m.before.before.before in
     let p = s.before.before.requires in
     ap (λ z. z + 1) c.larger.ensures
-    ∙ arm₁ _ _ _ _ s.Node-at.ensures p.0 p.1.0 p.1.1.0 _ p.1.1.1 m.match.keys2
+    ∙ arm₁ _ _ _ _ s.node_at.ensures p.0 p.1.0 p.1.1.0 _ p.1.1.1 m.match.keys2
 
 returns-3 : tie.Need-returns-3
 returns-3 c =
     let m = c.before in
     let s = m.before.before.before in
     let p = s.before.before.requires in
-    arm₂ _ _ _ _ s.Node-at.ensures p.0 p.1.0 p.1.1.0 _ p.1.1.1 m.match.rest.0.1
+    arm₂ _ _ _ _ s.node_at.ensures p.0 p.1.0 p.1.1.0 _ p.1.1.1 m.match.rest.0.1
     m.match.rest.1
 
 -- ── it is a byte ──
@@ -84,7 +84,7 @@ low : (c : tie.After-node-at)
     → let a = c.before.before.args in depth_at (file_at a.n a.body.now) a.j ≤ most_nodes
 low c =
     let p = c.before.before.requires in
-    fits _ _ _ _ c.Node-at.ensures p.0 p.1.0 p.1.1.0 _ p.1.1.1
+    fits _ _ _ _ c.node_at.ensures p.0 p.1.0 p.1.1.0 _ p.1.1.1
 
 add-result : tie.Need-overflow-add-result
 add-result c = let e = returns c in let f = low c.before.before.before.before in omega arith
@@ -98,17 +98,17 @@ add-result-3 c = let e = returns-3 c in let f = low c.before.before.before.befor
 -- ── what it names is in the table ──
 
 composed : (c : tie.At-match-keys2)
-    → let r = c.before.before.before.Node-at.result in (r.a < most_nodes) × (r.b < most_nodes)
+    → let r = c.before.before.before.node_at.result in (r.a < most_nodes) × (r.b < most_nodes)
 composed c =
     let s = c.before.before.before in
     let p = s.before.before.requires in
-    lower₁ _ _ _ _ s.Node-at.ensures p.0 p.1.0 p.1.1.0 c.match.keys2
+    lower₁ _ _ _ _ s.node_at.ensures p.0 p.1.0 p.1.1.0 c.match.keys2
 
 hidden : tie.Need-element-copy-out-result
 hidden c =
     let s = c.before.before.before in
     let p = s.before.before.requires in
-    lower₂ _ _ _ _ s.Node-at.ensures p.0 p.1.0 p.1.1.0 c.match.rest.0.1 c.match.rest.1
+    lower₂ _ _ _ _ s.node_at.ensures p.0 p.1.0 p.1.1.0 c.match.rest.0.1 c.match.rest.1
 
 pub depth_spec : {M : Type 1} → statement M
 depth_spec =

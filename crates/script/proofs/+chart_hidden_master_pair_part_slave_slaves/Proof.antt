@@ -222,7 +222,7 @@ module _ (t : ℕ) where
       let e = v.before in
       let s = e.before.before.before in (
         omega (arith, s.requires.0, e.if1.false),
-        (s.requires.1.0, chart_there _ _ _ _ v.Node-at.ensures s.requires.1.0 s.requires.1.1 i.if2.true),
+        (s.requires.1.0, chart_there _ _ _ _ v.node_at.ensures s.requires.1.0 s.requires.1.1 i.if2.true),
       )
 
   chart_returns_2 : chart-lts.Need-returns-2 (chart-callees t) (chart-at t) chart.Post
@@ -231,7 +231,7 @@ module _ (t : ℕ) where
       let i = p.before.before in
       let v = i.before.before in
       let e = v.before in
-      prints_by (ap (text_by _) (node_chart _ _ _ _ v.Node-at.ensures _ e.if1.false i.if2.true))
+      prints_by (ap (text_by _) (node_chart _ _ _ _ v.node_at.ensures _ e.if1.false i.if2.true))
       p.master.ensures
 
   chart_pair_requires : chart-lts.Need-pair-requires (chart-callees t) (chart-at t) chart.Post
@@ -240,7 +240,7 @@ module _ (t : ℕ) where
       let v = i.before.before.before.before in
       let e = v.before in
       let s = e.before.before.before in
-      let q = both_there _ _ _ _ v.Node-at.ensures s.requires.1.0 s.requires.1.1 i.if3.true in
+      let q = both_there _ _ _ _ v.node_at.ensures s.requires.1.0 s.requires.1.1 i.if3.true in
       (omega (arith, s.requires.0, e.if1.false), (s.requires.1.0, q.0, q.1))
 
   chart_returns_3 : chart-lts.Need-returns-3 (chart-callees t) (chart-at t) chart.Post
@@ -249,7 +249,7 @@ module _ (t : ℕ) where
       let i = p.before.before in
       let v = i.before.before.before.before in
       let e = v.before in
-      prints_by (ap (text_by _) (node_composed _ _ _ _ v.Node-at.ensures _ e.if1.false i.if3.true))
+      prints_by (ap (text_by _) (node_composed _ _ _ _ v.node_at.ensures _ e.if1.false i.if3.true))
       p.pair.ensures
 
   chart_hidden_requires : chart-lts.Need-hidden-requires (chart-callees t) (chart-at t) chart.Post
@@ -262,7 +262,7 @@ module _ (t : ℕ) where
         omega (arith, s.requires.0, e.if1.false),
         (
           s.requires.1.0,
-          inside_there _ _ _ _ v.Node-at.ensures s.requires.1.0 s.requires.1.1 k.if2.false i.if3.false,
+          inside_there _ _ _ _ v.node_at.ensures s.requires.1.0 s.requires.1.1 k.if2.false i.if3.false,
         ),
       )
 
@@ -274,7 +274,7 @@ module _ (t : ℕ) where
       let v = k.before.before in
       let e = v.before in
       prints_by
-      (ap (text_by _) (node_hidden _ _ _ _ v.Node-at.ensures _ e.if1.false k.if2.false i.if3.false))
+      (ap (text_by _) (node_hidden _ _ _ _ v.node_at.ensures _ e.if1.false k.if2.false i.if3.false))
       p.hidden.ensures
 
 -- ── hidden ──

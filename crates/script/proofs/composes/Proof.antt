@@ -11,4 +11,4 @@ composes_spec =
     (λ c κs. (c.before.before.requires.0.ranged.sized.holds, c.before.before.requires.1))
     (λ c.
     let v = c.before in
-    composes_kind _ _ _ _ v.Node-at.ensures _ v.before.if1.false))
+    composes_kind _ _ _ _ v.node_at.ensures _ v.before.if1.false))
