@@ -12,7 +12,7 @@ use Rattle.layout.specs.declared.record.Transition.{Transition}
 use Rattle.meaning.specs.Meaning.{Set, ∅, same}
 use Rattle.meaning.specs.File.{file_at}
 use Rattle.meaning.specs.Rewriting.{call, is_of, touches, calls_by}
-use Rattle.meaning.specs.Rewriting.Laws.{union_none, union_taken, union_left}
+use Rattle.meaning.proofs.Rewriting.Laws.{union_none, union_taken, union_left}
 use Rattle.allocation.proofs.calls_by.Goals as goal
 use Rattle.allocation.proofs.calls_by.Goals.{else-s-c, then-s-c}
 

@@ -5,7 +5,7 @@ use Rattle.signals.specs.Mask.{single}
 use Rattle.meaning.specs.Meaning.{Set, ∅}
 use Rattle.meaning.specs.File.{file_at}
 use Rattle.meaning.specs.Rewriting.{call, calls_of}
-use Rattle.meaning.specs.Rewriting.Laws.{union_none, union_taken, union_left}
+use Rattle.meaning.proofs.Rewriting.Laws.{union_none, union_taken, union_left}
 use Rattle.allocation.specs.Known.Laws.{is_of_lem, is_not}
 use Rattle.allocation.proofs.calls_of.Goals as goal
 use Rattle.allocation.proofs.calls_of.Goals.{else-s-c, then-s-c}

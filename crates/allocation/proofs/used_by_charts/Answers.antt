@@ -10,7 +10,7 @@ use Rattle.layout.specs.declared.record.Head.{Head}
 use Rattle.layout.specs.declared.record.Transition.{Transition}
 use Rattle.meaning.specs.Meaning.{Set, guards, actions}
 use Rattle.meaning.specs.File.{file_at, chart_of}
-use Rattle.meaning.specs.Rewriting.Laws.{union_none, union_more}
+use Rattle.meaning.proofs.Rewriting.Laws.{union_none, union_more}
 use Rattle.checks.specs.Known.Laws.{in_all, start-next, own_are}
 use Rattle.allocation.proofs.used_by_charts.Goals as goal
 use Rattle.allocation.proofs.used_by_charts.Goals.{After-struct_known-in-loop-c-1}

@@ -4,7 +4,7 @@ use native.Mathlib.Omega.{arith}
 use Rattle.signals.specs.Mask.{◌∪◌}
 use Rattle.layout.specs.declared.record.Node.{Node}
 use Rattle.meaning.specs.File.{file_at}
-use Rattle.meaning.specs.Rewriting.Laws.{union_none, union_more}
+use Rattle.meaning.proofs.Rewriting.Laws.{union_none, union_more}
 use Rattle.allocation.proofs.used_by_nodes.Goals as goal
 
 pub loop-j-init : goal.loop-j-init

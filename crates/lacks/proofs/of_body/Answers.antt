@@ -14,9 +14,9 @@ use Rattle.signals.specs.declared.guard.Tested.{Tested}
 use Rattle.meaning.specs.Numbers.{no_such_chart, no_such_place}
 use Rattle.meaning.specs.Meaning.{Set, no_move, takes, nth}
 use Rattle.meaning.specs.File.{chart_of, file_at}
-use Rattle.meaning.specs.Laws.Choices.{nth-from}
+use Rattle.meaning.proofs.Laws.Choices.{nth-from}
 use Rattle.lacks.specs.Lacking.{test_of, lacking_in}
-use Rattle.lacks.specs.Lacking.Laws.{no_chart, no_place, both_there, in_refused, in_shown, at_place}
+use Rattle.lacks.proofs.Lacking.Laws.{no_chart, no_place, both_there, in_refused, in_shown, at_place}
 use Rattle.lacks.specs.declared.Lacking.TheVariants.{Refused, Shown}
 use Rattle.lacks.proofs.of_body.Goals as goal
 

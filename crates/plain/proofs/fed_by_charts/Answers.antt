@@ -2,7 +2,7 @@ use mathlib.Core.Path.{◌≡◌, ap}
 use native.Mathlib.Omega.{arith}
 use Rattle.layout.specs.declared.record.Head.{Head}
 use Rattle.meaning.specs.File.{file_at, chart_of}
-use Rattle.meaning.specs.Rewriting.Laws.{union_none, union_taken}
+use Rattle.meaning.proofs.Rewriting.Laws.{union_none, union_taken}
 use Rattle.plain.proofs.fed_by_charts.Goals as goal
 
 pub loop-c-init : goal.loop-c-init

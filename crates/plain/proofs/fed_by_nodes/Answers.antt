@@ -1,6 +1,6 @@
 use mathlib.Core.Path.{◌≡◌}
 use native.Mathlib.Omega.{arith}
-use Rattle.meaning.specs.Rewriting.Laws.{union_none, union_taken}
+use Rattle.meaning.proofs.Rewriting.Laws.{union_none, union_taken}
 use Rattle.plain.proofs.fed_by_nodes.Goals as goal
 
 pub loop-j-init : goal.loop-j-init

@@ -16,10 +16,10 @@ use Rattle.printing.specs.Separated.{in_turn}
 use Rattle.printing.specs.Laws.Prints.{prints_append}
 use Rattle.printing.specs.Laws.Separated.{in_turn-none, adds_none, adds_one}
 use Rattle.script.specs.Tree.{text_by, held_by, slave_text, slaves_in}
-use Rattle.script.specs.Laws.{prints_by, adds-by, part-composed, part-single, composed_text, hidden_text_lem}
-use Rattle.script.specs.Laws.{slaves_solid, slaves-none, slaves-more, master_some, master_none, chart-none}
-use Rattle.script.specs.Laws.{node_chart, node_composed, node_hidden, chart_there, both_there, inside_there}
-use Rattle.script.specs.Laws.{slave-other, slave-own, slave_text_lem, node-there}
+use Rattle.script.proofs.Laws.{prints_by, adds-by, part-composed, part-single, composed_text, hidden_text_lem}
+use Rattle.script.proofs.Laws.{slaves_solid, slaves-none, slaves-more, master_some, master_none, chart-none}
+use Rattle.script.proofs.Laws.{node_chart, node_composed, node_hidden, chart_there, both_there, inside_there}
+use Rattle.script.proofs.Laws.{slave-other, slave-own, slave_text_lem, node-there}
 use Rattle.script.proofs.chart.Reads as chart
 use Rattle.script.proofs.chart.Kinds as chart-kinds
 use Rattle.script.proofs.+chart_hidden_master_pair_part_slave_slaves.Lts-chart as chart-lts

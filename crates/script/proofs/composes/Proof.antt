@@ -1,5 +1,5 @@
 -- `composes` meets its contract: at least one level is read, and its kind tells.
-use Rattle.script.specs.Laws.{composes-none, composes_kind}
+use Rattle.script.proofs.Laws.{composes-none, composes_kind}
 use Rattle.script.proofs.composes.Statement.{statement}
 use Rattle.script.proofs.composes.Tie as tie
 

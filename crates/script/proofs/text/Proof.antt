@@ -1,7 +1,7 @@
 -- `text` meets its contract: all nodes are read, so the whole is written.
 use native.Mathlib.Omega.{arith}
 use borrow.Author.Rules.{rules}
-use Rattle.script.specs.Laws.{text_put}
+use Rattle.script.proofs.Laws.{text_put}
 use Rattle.script.proofs.text.Statement.{statement}
 use Rattle.script.proofs.text.Tie as tie
 

@@ -10,7 +10,7 @@ use Rattle.meaning.specs.Numbers.{most_charts}
 use Rattle.meaning.specs.Meaning.{eq_list}
 use Rattle.meaning.specs.Calls.{made}
 use Rattle.meaning.specs.Calls.Laws.{length-made, get_or-made}
-use Rattle.meaning.specs.Laws.Choices.{eq_list-more, eq_list-differ, eq_list-end}
+use Rattle.meaning.proofs.Laws.Choices.{eq_list-more, eq_list-differ, eq_list-end}
 use Rattle.cells.specs.Trail.{next_in, column_in}
 use Rattle.settling.specs.Trail.Laws.{length_filled, column_next}
 use Rattle.search.proofs.same_states.Given as goal

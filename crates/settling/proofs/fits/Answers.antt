@@ -9,17 +9,17 @@ use Rattle.cells.specs.Table.{action_at}
 use Rattle.settling.specs.Trail.{trail_in}
 use Rattle.settling.specs.Hunt.{taken, fine_at}
 use Rattle.settling.specs.Asks.{Passes, Covers, asks_of}
-use Rattle.settling.specs.Asks.Laws.{met, own_at, fine-taken}
+use Rattle.settling.specs.Asks.Laws.{met, field_own, fine-taken}
 use Rattle.settling.proofs.fits.Goals as goal
 
 module _ (m s w b : List ℕ) (k o v : ℕ) (few : k < most_charts) (can : Passes m w k) (cover : Covers m k) (g : Guard)
     (is : g ≡ asks_of m w k) (a : ℕ) (at : a ≡ action_at m k v) (z : Bool) where
   -- what was asked of the action, as the code tests it
-  by : met g.needed g.barred a ≡ z → fine_at m s (taken m s (trail_in w b k o) k v) k ≡ (own_at m w k v && z)
+  by : met g.needed g.barred a ≡ z → fine_at m s (taken m s (trail_in w b k o) k v) k ≡ (field_own m w k v && z)
   by e =
       fine-taken m s w b k o few can cover v
-      ∙ ap (λ (h : Guard). own_at m w k v && met h.needed h.barred (action_at m k v)) (sym is)
-      ∙ ap (λ (x : Bool). own_at m w k v && x) (ap (met g.needed g.barred) (sym at) ∙ e)
+      ∙ ap (λ (h : Guard). field_own m w k v && met h.needed h.barred (action_at m k v)) (sym is)
+      ∙ ap (λ (x : Bool). field_own m w k v && x) (ap (met g.needed g.barred) (sym at) ∙ e)
 
 pub returns-then-not-holds : goal.returns-then-not-holds
 returns-then-not-holds c s b o =
@@ -28,7 +28,7 @@ returns-then-not-holds c s b o =
     let h = sym c.holds.ensures ∙ c.if-not-holds.true in
     sym (by m s w b c.args.k o c.args.v c.requires.1 c.requires.5 c.requires.6 c.args.asked
     c.requires.3 c.action-action.result c.action-action.ensures false h
-    ∙ and-false (own_at m w c.args.k c.args.v))
+    ∙ and-false (field_own m w c.args.k c.args.v))
 
 pub returns : goal.returns
 returns c s b o =
@@ -40,12 +40,12 @@ returns c s b o =
     let m = c.args.masks.now in
     let w = c.args.trail.now in
     let h = sym c.holds.ensures ∙ c.if-not-holds.false in
-    let own : c.holds-2.result ≡ own_at m w c.args.k c.args.v =
+    let own : c.holds-2.result ≡ field_own m w c.args.k c.args.v =
     rw (c.holds-2.ensures, needed, barred, low, c.action-action.ensures, back, ahead) refl in
     own
     ∙ sym (by m s w b c.args.k o c.args.v c.requires.1 c.requires.5 c.requires.6 c.args.asked
     c.requires.3 c.action-action.result c.action-action.ensures true h
-    ∙ and-true (own_at m w c.args.k c.args.v))
+    ∙ and-true (field_own m w c.args.k c.args.v))
 
 pub holds-requires : goal.holds-requires
 holds-requires c = tt

@@ -6,7 +6,7 @@ use Prim.Native.Nat.{ℕ}
 use native.Mathlib.Omega.{arith}
 use borrow.Author.Rules.{rules}
 use Rattle.notation.specs.Reader.{Reading, spelt, wrong_at, reader}
-use Rattle.notation.specs.Laws.Theorems.{sound}
+use Rattle.notation.proofs.Laws.Theorems.{sound}
 use Rattle.recogniser.specs.Verdict.{verdict_of}
 use Rattle.recogniser.specs.declared.Verdict.{Verdict}
 use Rattle.recogniser.specs.declared.Verdict.TheVariants.{Spells, Wrong}

@@ -1,6 +1,6 @@
 use mathlib.Core.Path.{refl, sym, ◌∙◌}
 use native.Mathlib.Omega.{arith}
-use Rattle.meaning.specs.Laws.Choices.{eq_list-more, eq_list-differ, eq_list-end}
+use Rattle.meaning.proofs.Laws.Choices.{eq_list-more, eq_list-differ, eq_list-end}
 use Rattle.typed.specs.Typed.Laws.{unlike}
 use Rattle.typed.proofs.is.Goals as goal
 
