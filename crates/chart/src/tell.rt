@@ -144,12 +144,10 @@ fn rows(out: &impl Print, rows: &[u8], w: usize, n: usize)
     requires { (10 ≤ w) × (w ≤ 10 + most_charts) × ((10 + most_charts) * n ≤ length rows.now) }
 {
     let mut at: usize = 0;
-    let mut i: usize = 0;
-    while i < n {
+    for i in 0..n {
         let e = at + w;
         row(out, i as u64 + 1, &rows[at..e]);
         at = e;
-        i += 1;
     }
 }
 
@@ -197,10 +195,8 @@ fn took(out: &impl Print, chart: usize, place: u8) {
 fn taken(out: &impl Print, charts: usize, places: [u8; layout::limits::CHARTS])
     requires { charts ≤ most_charts }
 {
-    let mut c: usize = 0;
-    while c < charts {
+    for c in 0..charts {
         took(out, c, places[c]);
-        c += 1;
     }
 }
 
@@ -371,13 +367,10 @@ fn lost(out: &impl Print, c: usize, before: u8, after: u8) {
 fn lost_in_bodies(out: &impl Print, n: Shape, body: &[u8], m: Shape, cleared: &[u8])
     requires { Holds n body.now × Holds m cleared.now × (n.charts ≤ m.charts) }
 {
-    let charts = n.charts;
-    let mut c: usize = 0;
-    while c < charts {
+    for c in 0..n.charts {
         let h = layout::body::head_at(n, body, c);
         let k = layout::body::head_at(m, cleared, c);
         lost(out, c, h.transitions, k.transitions);
-        c += 1;
     }
 }
 

@@ -72,12 +72,10 @@ fn lines(out: &impl Print, n: Shape, body: &[u8], c: usize, state: u8, set: u64)
     requires { Sized n body.now × Summed n body.now × (c < n.charts) }
 {
     let count = layout::body::head_at(n, body, c).transitions as usize;
-    let mut place: usize = 0;
-    while place < count {
+    for place in 0..count {
         if lacks::at_place(n, body, c, place).from == state {
             line(out, n, body, c, place, set);
         }
-        place += 1;
     }
 }
 
@@ -85,10 +83,8 @@ fn lines(out: &impl Print, n: Shape, body: &[u8], c: usize, state: u8, set: u64)
 fn all_lines(out: &impl Print, n: Shape, body: &[u8], config: &[u8], set: u64)
     requires { Sized n body.now × Summed n body.now × (n.charts ≤ length config.now) }
 {
-    let mut c: usize = 0;
-    while c < n.charts {
+    for c in 0..n.charts {
         lines(out, n, body, c, config[c], set);
-        c += 1;
     }
 }
 
