@@ -279,7 +279,15 @@ fn print_within(
 ) -> io::Result<()>
     requires { (n ≤ length inputs.now) × (room ≤ length lent.old) }
 {
-    print_call(out, op, file, config, carried, &inputs[..n], &mut lent[..room])
+    print_call(
+        out,
+        op,
+        file,
+        config,
+        carried,
+        &inputs[..n],
+        &mut lent[..room],
+    )
 }
 
 // Reads n bytes to the front of a buffer, or as many as there are; none if they do not fit.

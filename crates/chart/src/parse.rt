@@ -13,7 +13,10 @@ fn refused(out: &impl Print, text: &[u8], refusal: u8, place: usize) {
         return;
     }
     if engine::file::check(text) == limits::ACCEPTED {
-        words::say(out, b"this is a chart file already: all other commands take it as it is\n");
+        words::say(
+            out,
+            b"this is a chart file already: all other commands take it as it is\n",
+        );
         return;
     }
     if place > text.len() {

@@ -52,7 +52,10 @@ pub fn lacking(rt: &impl Console, file: &[u8]) {
     let Read::Is(set) = ask::set(rt, ask::OFFERED) else {
         return;
     };
-    answer(rt, engine::lacking::lacking(file, chart as usize, place as usize, set));
+    answer(
+        rt,
+        engine::lacking::lacking(file, chart as usize, place as usize, set),
+    );
 }
 
 // One transition of a chart, at a place of its list.
@@ -101,7 +104,10 @@ fn all_of(out: &impl Print, file: &[u8], config: &[u8], set: u64) {
     let start = o.start;
     let end = o.end;
     all_lines(out, n, &file[start..end], config, set);
-    say(out, b"under the input alone; what charts feed back to each other may change this\n");
+    say(
+        out,
+        b"under the input alone; what charts feed back to each other may change this\n",
+    );
 }
 
 // Each transition that a chart could take from its present state. A run of no inputs tests the file and the

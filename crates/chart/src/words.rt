@@ -23,7 +23,10 @@ fn say_file(out: &impl Print, refusal: u8) {
         say(out, b"fewer than 12 bytes, so there is no trailer");
     }
     if refusal == limits::OTHER_EDITION {
-        say(out, b"the edition is neither 1 nor 2 (a typed chart becomes a file by chart read)");
+        say(
+            out,
+            b"the edition is neither 1 nor 2 (a typed chart becomes a file by chart read)",
+        );
     }
     if refusal == limits::BAD_COUNTS {
         say(
@@ -78,7 +81,10 @@ fn say_file(out: &impl Print, refusal: u8) {
         );
     }
     if refusal == limits::BAD_INSIDE {
-        say(out, b"a chart inside a slave has a number that is not above that of the slave's master");
+        say(
+            out,
+            b"a chart inside a slave has a number that is not above that of the slave's master",
+        );
     }
 }
 
@@ -100,10 +106,16 @@ fn say_step(out: &impl Print, refusal: u8) {
         say(out, b"more than 16777216 choices are open");
     }
     if refusal == limits::NO_SUCH_CHART {
-        say(out, b"the file has no chart of this number; they are counted from 0");
+        say(
+            out,
+            b"the file has no chart of this number; they are counted from 0",
+        );
     }
     if refusal == limits::NO_SUCH_PLACE {
-        say(out, b"the chart's list has no such place; they are counted from 0");
+        say(
+            out,
+            b"the chart's list has no such place; they are counted from 0",
+        );
     }
     if refusal == limits::SHORT_ROWS {
         say(out, b"the buffer is shorter than a row for each input");

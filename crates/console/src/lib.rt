@@ -6,10 +6,9 @@ ghost use Rattle.std.specs.Prelude.{◌≡◌, length, IfOk};
 ghost use Rattle.console.specs.Counts.{IsPrefixLen};
 
 use std::env::{Env, FillError};
-use std::fs;
 use std::fs::Files;
-use std::io;
 use std::io::{ErrorKind, Print, Read, Stderr};
+use std::{fs, io};
 
 // Standard error. `Eprint` takes text alone, and the words of a command may be any bytes.
 pub trait Errors {

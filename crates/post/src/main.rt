@@ -108,7 +108,15 @@ fn write(rt: &impl Console, rows: &[u8], w: usize, n: usize, book: &[u8])
 }
 
 // A day that is read, posted to a book of n cases; or its refusal, and with 61 the first entry outside the book.
-fn post_day(rt: &impl Console, file: &[u8], book: &mut [u8], n: usize, d: Day, outside: Outside, number: u64)
+fn post_day(
+    rt: &impl Console,
+    file: &[u8],
+    book: &mut [u8],
+    n: usize,
+    d: Day,
+    outside: Outside,
+    number: u64,
+)
     requires { (n ≤ 64) × (length book.old ≡ 2112) }
 {
     let s = book::looked(file, book, n);

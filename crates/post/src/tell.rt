@@ -96,7 +96,10 @@ pub fn no_such_case(rt: &impl Errors, entry: Outside, n: u64) {
 // The day's number is not above that of the last day, or there is none left.
 pub fn posted_already(rt: &impl Errors, number: u64, last: u64) {
     if number == 0 {
-        complain(rt, b"post: the book has posted the last day that there can be.\n");
+        complain(
+            rt,
+            b"post: the book has posted the last day that there can be.\n",
+        );
         return;
     }
     complain(rt, b"post: line 1 has day ");
