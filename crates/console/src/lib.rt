@@ -1,5 +1,5 @@
-// What the programs ask of the system: the bytes of a stream, the words of a command, files by the bytes of their names,
-// and standard error for bytes that need not be text.
+// What the programs ask of the system: the bytes of a stream, the words of a command, files by the bytes of their
+// names, and standard error for bytes that need not be text.
 #![tactic(auto)]
 
 ghost use Rattle.std.specs.Prelude.{◌≡◌, length, IfOk};
@@ -45,7 +45,8 @@ pub fn read_full<R: Read>(stream: &mut R, buffer: &mut [u8]) -> io::Result<usize
     Ok(at)
 }
 
-// How many words a command has, its own name among them. No room is lent: a word that does not fit is there all the same.
+// How many words a command has, its own name among them. No room is lent: a word that does not fit is there all the
+// same.
 pub fn word_count(rt: &impl Env) -> usize {
     for i in 0..usize::MAX {
         if let Err(FillError::NotPresent) = rt.arg(i, &mut []) {
@@ -55,7 +56,8 @@ pub fn word_count(rt: &impl Env) -> usize {
     usize::MAX
 }
 
-// Word i of a command, at the front of a buffer; how many bytes it has. One that is missing, or too long, counts as empty.
+// Word i of a command, at the front of a buffer; how many bytes it has. One that is missing or too long counts as
+// empty.
 pub fn word(rt: &impl Env, i: usize, buffer: &mut [u8]) -> usize
     ensures { IsPrefixLen result buffer.new }
 {

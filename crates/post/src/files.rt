@@ -61,8 +61,8 @@ fn unread() -> Loaded
     }
 }
 
-// Reads the file of this name: how many bytes came, and how many of one byte more. That one tells whether the first ones
-// came to its end: it is not there then.
+// Reads the file of this name: how many bytes came, and how many of one byte more. That one tells whether the first
+// ones came to its end: it is not there then.
 fn read(rt: &impl Files, name: &[u8], bytes: &mut [u8]) -> io::Result<(usize, usize)>
     ensures { IfOk result (λ came. IsPrefixLen came.0 bytes.new) }
 {
