@@ -5,7 +5,6 @@
 ghost use Rattle.std.specs.Prelude.{◌≡◌, ◌+◌, ◌≤◌, ◌<◌, length, drop};
 ghost use Rattle.tokens.specs.Tokens.{blanks};
 
-use libc::STDOUT_FILENO;
 use recogniser::Verdict;
 
 // The longest beginning of a text behind which it is tried what could stand.
@@ -18,8 +17,9 @@ const BEHIND: usize = 30;
 
 const LINE_END: u8 = 10;
 
-fn say(text: &[u8]) {
-    io::write_all(STDOUT_FILENO, text);
+// What cannot be printed is let go: nothing that is found out here depends on it.
+fn say(out: &impl Print, text: &[u8]) {
+    let _ = out.write_all(text);
 }
 
 // Room for the part of a line that is shown.
@@ -111,49 +111,49 @@ fn shown_from(start: usize, at: usize) -> usize
 }
 
 // The line that a place is in, and a caret below the place.
-fn show_line(text: &[u8], start: usize, at: usize)
+fn show_line(out: &impl Print, text: &[u8], start: usize, at: usize)
     requires { (start ≤ at) × (at ≤ length text.now) }
 {
     let from = shown_from(start, at);
     let mut line = line_room();
     let n = copy_line(text, from, &mut line);
-    say(&line[..n]);
-    say(b"\n");
+    say(out, &line[..n]);
+    say(out, b"\n");
     let blanks = line_room();
     let k = at - from;
-    say(&blanks[..k]);
-    say(b"^\n");
+    say(out, &blanks[..k]);
+    say(out, b"^\n");
 }
 
 // Line and column of a place, both counted from 1, and the line itself.
-pub fn show_place(text: &[u8], at: usize)
+pub fn show_place(out: &impl Print, text: &[u8], at: usize)
     requires { at ≤ length text.now }
 {
     let start = line_start(text, at);
-    say(b"line ");
-    io::print_decimal(STDOUT_FILENO, line_number(text, at) as u64);
-    say(b", column ");
-    io::print_decimal(STDOUT_FILENO, (at - start) as u64 + 1);
-    say(b":\n");
-    show_line(text, start, at);
+    say(out, b"line ");
+    console::say_decimal(out, line_number(text, at) as u64);
+    say(out, b", column ");
+    console::say_decimal(out, (at - start) as u64 + 1);
+    say(out, b":\n");
+    show_line(out, text, start, at);
 }
 
 // The token that a byte begins.
-fn token(b: u8) {
+fn token(out: &impl Print, b: u8) {
     if b == b'D' {
-        say(b" Dec");
+        say(out, b" Dec");
         return;
     }
     if b == b'b' {
-        say(b" by");
+        say(out, b" by");
         return;
     }
     if b == b'0' {
-        say(b" a digit");
+        say(out, b" a digit");
         return;
     }
     let one = [b' ', b];
-    say(&one);
+    say(out, &one);
 }
 
 // Room for the beginning of a text and one byte more.
@@ -187,32 +187,30 @@ fn could_stand(begun: &mut [u8], at: usize, b: u8) -> bool
 }
 
 // The token that a byte begins, if it could stand there, and whether it could.
-fn try_token(begun: &mut [u8], at: usize, b: u8) -> bool
+fn try_token(out: &impl Print, begun: &mut [u8], at: usize, b: u8) -> bool
     requires { at < length begun.old }
 {
     let can = could_stand(begun, at, b);
     if can {
-        token(b);
+        token(out, b);
     }
     can
 }
 
 // All tokens that could stand behind the first bytes of `begun`, and the parts of one that is begun; whether there is
 // one.
-fn try_all(begun: &mut [u8], at: usize, bytes: &[u8]) -> bool
+fn try_all(out: &impl Print, begun: &mut [u8], at: usize, bytes: &[u8]) -> bool
     requires { at < length begun.old }
 {
     let mut some = false;
-    let mut i: usize = 0;
-    while i < bytes.len() {
-        some = try_token(begun, at, bytes[i]) | some;
-        i += 1;
+    for b in bytes {
+        some = try_token(out, begun, at, *b) | some;
     }
     some
 }
 
 // What could stand at a place.
-pub fn show_possible(text: &[u8], at: usize)
+pub fn show_possible(out: &impl Print, text: &[u8], at: usize)
     requires { at ≤ length text.now }
 {
     if at > MOST_BEGUN {
@@ -220,23 +218,23 @@ pub fn show_possible(text: &[u8], at: usize)
     }
     let mut begun = begun_room();
     copy_begun(text, at, &mut begun);
-    say(b"here could stand:");
-    if !try_all(&mut begun, at, b"()[]{},|/&-Deby0cqs") {
-        say(b" nothing more");
+    say(out, b"here could stand:");
+    if !try_all(out, &mut begun, at, b"()[]{},|/&-Deby0cqs") {
+        say(out, b" nothing more");
     }
-    say(b"\n");
+    say(out, b"\n");
 }
 
 // Passes a chart of a text, or a token that begins none. A chart is shown if 52 applies to it.
-fn pass(text: &[u8], at: usize) -> usize
+fn pass(out: &impl Print, text: &[u8], at: usize) -> usize
     requires { at + blanks (drop at text.now) < length text.now }
     ensures { (at < result) × (result ≤ length text.now) }
 {
     if lists::begins_chart(text, at) {
         let s = lists::sequential_at(text, at);
         if s.bad {
-            say(b"in the chart at ");
-            show_place(text, tokens::next_token(text, at));
+            say(out, b"in the chart at ");
+            show_place(out, text, tokens::next_token(text, at));
         }
         return s.next;
     }
@@ -244,9 +242,9 @@ fn pass(text: &[u8], at: usize) -> usize
 }
 
 // The charts of a text to which 52 applies by themselves.
-pub fn show_faults(text: &[u8]) {
+pub fn show_faults(out: &impl Print, text: &[u8]) {
     let mut at: usize = 0;
     while tokens::next_token(text, at) < text.len() {
-        at = pass(text, at);
+        at = pass(out, text, at);
     }
 }

@@ -3,10 +3,11 @@
 // expected.
 #![tactic(auto)]
 
-ghost use Rattle.std.specs.Prelude.{◌≡◌, ◌≤◌, ◌<◌, length};
-ghost use Rattle.io.specs.Counts.{IsPrefixLen};
+ghost use Rattle.std.specs.Prelude.{◌≡◌, ◌≤◌, ◌<◌, length, IfOk};
+ghost use Rattle.console.specs.Counts.{IsPrefixLen};
 
-use libc::{STDIN_FILENO, STDOUT_FILENO};
+use std::io;
+use std::io::Read;
 
 const MOST_COMMANDS: u32 = 1000000;
 
@@ -49,138 +50,159 @@ fn header(head: &[u8]) -> Command
     }
 }
 
-fn space() {
-    io::write_all(STDOUT_FILENO, b" ");
+fn space(out: &impl Print) -> io::Result<()> {
+    out.write_all(b" ")
 }
 
 // A refusal, after the name of its call.
-fn print_refusal(call: &[u8], number: u8) {
-    io::write_all(STDOUT_FILENO, call);
-    io::print_decimal(STDOUT_FILENO, number as u64);
+fn print_refusal(out: &impl Print, call: &[u8], number: u8) -> io::Result<()> {
+    out.write_all(call)?;
+    out.print(number)
 }
 
-fn print_set(set: u64) {
-    space();
-    io::print_hex(STDOUT_FILENO, set, 16);
+// A number, after a space.
+fn print_number(out: &impl Print, number: u64) -> io::Result<()> {
+    space(out)?;
+    out.print(number)
 }
 
-fn print_byte(b: u8) {
-    io::print_hex(STDOUT_FILENO, b as u64, 2);
+fn print_set(out: &impl Print, set: u64) -> io::Result<()> {
+    space(out)?;
+    print!(out; "{set:016x}")
+}
+
+fn print_byte(out: &impl Print, b: u8) -> io::Result<()> {
+    print!(out; "{b:02x}")
 }
 
 // A step's places, or a buffer after the call, all of it; `-` if it is empty.
-fn print_buffer(buffer: &[u8]) {
-    space();
+fn print_buffer(out: &impl Print, buffer: &[u8]) -> io::Result<()> {
+    space(out)?;
     if buffer.len() == 0 {
-        io::write_all(STDOUT_FILENO, b"-");
+        out.write_all(b"-")?;
     }
-    let mut i: usize = 0;
-    while i < buffer.len() {
-        print_byte(buffer[i]);
-        i += 1;
+    for b in buffer {
+        print_byte(out, *b)?;
     }
+    Ok(())
 }
 
-fn end_line() {
-    io::write_all(STDOUT_FILENO, b"\n");
+fn end_line(out: &impl Print) -> io::Result<()> {
+    out.write_all(b"\n")
 }
 
-fn print_check(file: &[u8]) {
-    print_refusal(b" check ", engine::file::check(file));
-    end_line();
+fn print_check(out: &impl Print, file: &[u8]) -> io::Result<()> {
+    print_refusal(out, b" check ", engine::file::check(file))?;
+    end_line(out)
 }
 
-fn print_first(file: &[u8], config: &mut [u8]) {
-    print_refusal(b" first ", engine::file::first(file, config));
-    print_buffer(config);
-    end_line();
+fn print_first(out: &impl Print, file: &[u8], config: &mut [u8]) -> io::Result<()> {
+    print_refusal(out, b" first ", engine::file::first(file, config))?;
+    print_buffer(out, config)?;
+    end_line(out)
 }
 
-fn print_interface(file: &[u8]) {
+fn print_interface(out: &impl Print, file: &[u8]) -> io::Result<()> {
     let faces = engine::interface::interface(file);
-    print_refusal(b" interface ", faces.refusal);
-    print_set(faces.input);
-    print_set(faces.output);
-    end_line();
+    print_refusal(out, b" interface ", faces.refusal)?;
+    print_set(out, faces.input)?;
+    print_set(out, faces.output)?;
+    end_line(out)
 }
 
-fn print_plain(file: &[u8]) {
+fn print_plain(out: &impl Print, file: &[u8]) -> io::Result<()> {
     let p = engine::file::plain(file);
-    print_refusal(b" plain ", p.refusal);
+    print_refusal(out, b" plain ", p.refusal)?;
     if p.plain {
-        io::write_all(STDOUT_FILENO, b" 1");
+        out.write_all(b" 1")?;
     } else {
-        io::write_all(STDOUT_FILENO, b" 0");
+        out.write_all(b" 0")?;
     }
-    end_line();
+    end_line(out)
 }
 
-fn print_mark(mark: bool) {
+fn print_mark(out: &impl Print, mark: bool) -> io::Result<()> {
     if mark {
-        io::write_all(STDOUT_FILENO, b" y");
+        out.write_all(b" y")
     } else {
-        io::write_all(STDOUT_FILENO, b" n");
+        out.write_all(b" n")
     }
 }
 
 // The first n places of a step; none if there are fewer.
-fn print_places(places: &[u8], n: usize) {
+fn print_places(out: &impl Print, places: &[u8], n: usize) -> io::Result<()> {
     if n > places.len() {
-        return;
+        return Ok(());
     }
-    print_buffer(&places[..n]);
+    print_buffer(out, &places[..n])
 }
 
 // A step with the places of the first eight charts.
-fn print_step(file: &[u8], config: &[u8], input: u64, next: &mut [u8]) {
+fn print_step(
+    out: &impl Print,
+    file: &[u8],
+    config: &[u8],
+    input: u64,
+    next: &mut [u8],
+) -> io::Result<()> {
     let s = engine::step::step(file, config, input, next);
-    print_refusal(b" step ", s.refusal);
-    print_set(s.output);
-    print_mark(s.mark);
+    print_refusal(out, b" step ", s.refusal)?;
+    print_set(out, s.output)?;
+    print_mark(out, s.mark)?;
     let places = s.places;
-    print_places(&places, EARLIER_PLACES);
-    print_buffer(next);
-    end_line();
+    print_places(out, &places, EARLIER_PLACES)?;
+    print_buffer(out, next)?;
+    end_line(out)
 }
 
 // A step with all that it answers.
-fn print_open(file: &[u8], config: &[u8], input: u64, next: &mut [u8]) {
+fn print_open(
+    out: &impl Print,
+    file: &[u8],
+    config: &[u8],
+    input: u64,
+    next: &mut [u8],
+) -> io::Result<()> {
     let s = engine::step::step(file, config, input, next);
-    print_refusal(b" open ", s.refusal);
-    print_set(s.output);
-    print_mark(s.mark);
+    print_refusal(out, b" open ", s.refusal)?;
+    print_set(out, s.output)?;
+    print_mark(out, s.mark)?;
     let places = s.places;
-    print_buffer(&places);
-    space();
-    io::print_decimal(STDOUT_FILENO, s.open_choices);
-    print_buffer(next);
-    end_line();
+    print_buffer(out, &places)?;
+    print_number(out, s.open_choices)?;
+    print_buffer(out, next)?;
+    end_line(out)
 }
 
-fn print_run(file: &[u8], config: &[u8], carried: u64, inputs: &[u64], rows: &mut [u8]) {
+fn print_run(
+    out: &impl Print,
+    file: &[u8],
+    config: &[u8],
+    carried: u64,
+    inputs: &[u64],
+    rows: &mut [u8],
+) -> io::Result<()> {
     let a = engine::run::run(file, config, carried, inputs, rows);
-    print_refusal(b" run ", a.refusal);
-    print_set(a.carried);
-    print_buffer(rows);
-    end_line();
+    print_refusal(out, b" run ", a.refusal)?;
+    print_set(out, a.carried)?;
+    print_buffer(out, rows)?;
+    end_line(out)
 }
 
-fn print_rewriting(file: &[u8], out: &mut [u8]) {
-    let w = engine::rewriting::rewriting(file, out);
-    print_refusal(b" rewrite ", w.refusal);
-    space();
-    io::print_decimal(STDOUT_FILENO, w.length as u64);
-    print_buffer(out);
-    end_line();
+fn print_rewriting(out: &impl Print, file: &[u8], lent: &mut [u8]) -> io::Result<()> {
+    let w = engine::rewriting::rewriting(file, lent);
+    print_refusal(out, b" rewrite ", w.refusal)?;
+    print_number(out, w.length as u64)?;
+    print_buffer(out, lent)?;
+    end_line(out)
 }
 
-fn print_clearing(file: &[u8], out: &mut [u8]) {
-    let w = engine::clear::clear(file, out);
-    print_refusal(b" clear ", w.refusal);
-    space();
-    io::print_decimal(STDOUT_FILENO, w.length as u64);
-    print_buffer(out);
-    end_line();
+fn print_clearing(out: &impl Print, file: &[u8], lent: &mut [u8]) -> io::Result<()> {
+    let w = engine::clear::clear(file, lent);
+    print_refusal(out, b" clear ", w.refusal)?;
+    print_number(out, w.length as u64)?;
+    print_buffer(out, lent)?;
+    end_line(out)
 }
 
 // An input; one that is not there is the empty set.
@@ -189,59 +211,63 @@ fn input_at(inputs: &[u64], i: usize) -> u64 {
 }
 
 // What a transition lacks: the inputs are the chart's number, the place, and the offered set.
-fn print_lacking(file: &[u8], inputs: &[u64]) {
+fn print_lacking(out: &impl Print, file: &[u8], inputs: &[u64]) -> io::Result<()> {
     let chart = input_at(inputs, 0) as usize;
     let place = input_at(inputs, 1) as usize;
     let a = lacks::in_numbers(engine::lacking::lacking(file, chart, place, input_at(inputs, 2)));
-    print_refusal(b" lacking ", a.refusal);
-    space();
-    io::print_decimal(STDOUT_FILENO, a.answer as u64);
-    space();
-    io::print_decimal(STDOUT_FILENO, a.signal as u64);
-    end_line();
+    print_refusal(out, b" lacking ", a.refusal)?;
+    print_number(out, a.answer as u64)?;
+    print_number(out, a.signal as u64)?;
+    end_line(out)
 }
 
 // A text, in place of the file, that is read into the buffer.
-fn print_reading(text: &[u8], out: &mut [u8]) {
-    let f = texts::read(text, out);
-    print_refusal(b" read ", f.refusal);
-    space();
-    io::print_decimal(STDOUT_FILENO, f.length as u64);
-    space();
-    io::print_decimal(STDOUT_FILENO, f.place as u64);
-    print_buffer(out);
-    end_line();
+fn print_reading(out: &impl Print, text: &[u8], lent: &mut [u8]) -> io::Result<()> {
+    let f = texts::read(text, lent);
+    print_refusal(out, b" read ", f.refusal)?;
+    print_number(out, f.length as u64)?;
+    print_number(out, f.place as u64)?;
+    print_buffer(out, lent)?;
+    end_line(out)
 }
 
-fn print_writing(file: &[u8], out: &mut [u8]) {
-    let w = writer::write(file, out);
-    print_refusal(b" write ", w.refusal);
-    space();
-    io::print_decimal(STDOUT_FILENO, w.length as u64);
-    print_buffer(out);
-    end_line();
+fn print_writing(out: &impl Print, file: &[u8], lent: &mut [u8]) -> io::Result<()> {
+    let w = writer::write(file, lent);
+    print_refusal(out, b" write ", w.refusal)?;
+    print_number(out, w.length as u64)?;
+    print_buffer(out, lent)?;
+    end_line(out)
 }
 
 // The call that a command asks for, on its file, its configuration, what is carried, its inputs and a buffer.
-fn print_call(op: u8, file: &[u8], config: &[u8], carried: u64, inputs: &[u64], lent: &mut [u8]) {
+fn print_call(
+    out: &impl Print,
+    op: u8,
+    file: &[u8],
+    config: &[u8],
+    carried: u64,
+    inputs: &[u64],
+    lent: &mut [u8],
+) -> io::Result<()> {
     match op {
-        0 => print_check(file),
-        1 => print_first(file, lent),
-        2 => print_interface(file),
-        3 => print_step(file, config, input_at(inputs, 0), lent),
-        4 => print_run(file, config, carried, inputs, lent),
-        5 => print_rewriting(file, lent),
-        7 => print_clearing(file, lent),
-        8 => print_open(file, config, input_at(inputs, 0), lent),
-        9 => print_lacking(file, inputs),
-        10 => print_reading(file, lent),
-        11 => print_writing(file, lent),
-        _ => print_plain(file),
+        0 => print_check(out, file),
+        1 => print_first(out, file, lent),
+        2 => print_interface(out, file),
+        3 => print_step(out, file, config, input_at(inputs, 0), lent),
+        4 => print_run(out, file, config, carried, inputs, lent),
+        5 => print_rewriting(out, file, lent),
+        7 => print_clearing(out, file, lent),
+        8 => print_open(out, file, config, input_at(inputs, 0), lent),
+        9 => print_lacking(out, file, inputs),
+        10 => print_reading(out, file, lent),
+        11 => print_writing(out, file, lent),
+        _ => print_plain(out, file),
     }
 }
 
 // Makes the call with the first n inputs, on the first `room` bytes of the buffer.
 fn print_within(
+    out: &impl Print,
     op: u8,
     file: &[u8],
     config: &[u8],
@@ -250,73 +276,81 @@ fn print_within(
     n: usize,
     lent: &mut [u8],
     room: usize,
-)
+) -> io::Result<()>
     requires { (n ≤ length inputs.now) × (room ≤ length lent.old) }
 {
-    print_call(op, file, config, carried, &inputs[..n], &mut lent[..room]);
+    print_call(
+        out,
+        op,
+        file,
+        config,
+        carried,
+        &inputs[..n],
+        &mut lent[..room],
+    )
 }
 
 // Reads n bytes to the front of a buffer, or as many as there are; none if they do not fit.
-fn read_part(buffer: &mut [u8], n: usize) -> usize
-    ensures { IsPrefixLen result buffer.new }
+fn read_part<R: Read>(input: &mut R, buffer: &mut [u8], n: usize) -> io::Result<usize>
+    ensures { IfOk result (λ got. IsPrefixLen got buffer.new) }
 {
     if n > buffer.len() {
-        return 0;
+        return Ok(0);
     }
-    io::read_full(STDIN_FILENO, &mut buffer[..n])
+    console::read_full(input, &mut buffer[..n])
 }
 
-fn read_input() -> u64 {
+fn read_input<R: Read>(input: &mut R) -> io::Result<u64> {
     let mut word = [0u8; 8];
-    io::read_full(STDIN_FILENO, &mut word);
-    layout::number::le64(&word, 0)
+    console::read_full(input, &mut word)?;
+    Ok(layout::number::le64(&word, 0))
 }
 
 // Reads n inputs.
-fn read_inputs(inputs: &mut [u64], n: usize)
+fn read_inputs<R: Read>(input: &mut R, inputs: &mut [u64], n: usize) -> io::Result<()>
     requires { n ≤ length inputs.old }
 {
-    let mut i: usize = 0;
-    while i < n {
-        inputs[i] = read_input();
-        i += 1;
+    for slot in &mut inputs[..n] {
+        *slot = read_input(input)?;
     }
+    Ok(())
 }
 
 // Reads a command's name and prints it.
-fn pass_name(n: usize) {
+fn pass_name<R: Read>(input: &mut R, out: &impl Print, n: usize) -> io::Result<()> {
     let mut name = [0u8; 256];
-    let got = read_part(&mut name, n);
-    io::write_all(STDOUT_FILENO, &name[..got]);
+    let got = read_part(input, &mut name, n)?;
+    out.write_all(&name[..got])
 }
 
 // Reads what follows a header and answers it; false if it is too large to be read.
-fn answer(c: Command) -> bool {
+fn answer<R: Read>(input: &mut R, out: &impl Print, c: Command) -> io::Result<bool> {
     let size = c.file;
     let room = c.room;
     let states = c.config;
     let n = c.inputs;
     if size > MOST_BYTES {
-        return false;
+        return Ok(false);
     }
     if room > MOST_BYTES {
-        return false;
+        return Ok(false);
     }
     if states > MOST_BYTES {
-        return false;
+        return Ok(false);
     }
     if n > MOST_INPUTS {
-        return false;
+        return Ok(false);
     }
-    pass_name(c.name);
+    pass_name(input, out, c.name)?;
     let mut file = [0u8; MOST_BYTES];
     let mut config = [0u8; MOST_BYTES];
     let mut lent = [FILL; MOST_BYTES];
-    let got = read_part(&mut file, size);
-    let had = read_part(&mut config, states);
+    let got = read_part(input, &mut file, size)?;
+    let had = read_part(input, &mut config, states)?;
     let mut inputs = [0u64; MOST_INPUTS];
-    read_inputs(&mut inputs, n);
+    read_inputs(input, &mut inputs, n)?;
     print_within(
+        out,
         c.op,
         &file[..got],
         &config[..had],
@@ -325,26 +359,26 @@ fn answer(c: Command) -> bool {
         n,
         &mut lent,
         room,
-    );
-    true
+    )?;
+    Ok(true)
 }
 
 // Answers the next command; false at the end of the input.
-fn answer_next() -> bool {
+fn answer_next<R: Read>(input: &mut R, out: &impl Print) -> io::Result<bool> {
     let mut head = [0u8; 24];
-    let got = io::read_full(STDIN_FILENO, &mut head);
+    let got = console::read_full(input, &mut head)?;
     if got < 24 {
-        return false;
+        return Ok(false);
     }
-    answer(header(&head))
+    answer(input, out, header(&head))
 }
 
-fn main() {
-    let mut left = MOST_COMMANDS;
-    while left > 0 {
-        if !answer_next() {
-            return;
+fn main(rt: HostRuntime) -> io::Result<()> {
+    let mut stdin = rt.stdin();
+    for _ in 0..MOST_COMMANDS {
+        if !answer_next(&mut stdin, &rt)? {
+            return Ok(());
         }
-        left -= 1;
     }
+    Ok(())
 }

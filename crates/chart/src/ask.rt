@@ -1,9 +1,13 @@
 // What was typed: the command, the file's bytes, a configuration, sets. What is wrong is said on standard error.
-ghost use Rattle.std.specs.Prelude.{◌≡◌, ◌≤◌, length};
-ghost use Rattle.io.specs.Counts.{IsPrefixLen};
+ghost use Rattle.std.specs.Prelude.{◌≡◌, ◌≤◌, length, IfOk};
+ghost use Rattle.console.specs.Counts.{IsPrefixLen};
 
 use crate::words;
 use checks::limits;
+use console::{Console, Errors};
+use std::env::{Env, FillError};
+use std::fs::Files;
+use std::io;
 use typed::{Configuration, Read};
 
 #[derive(Clone, Copy)]
@@ -101,14 +105,17 @@ fn command_of(word: &[u8]) -> Command {
 }
 
 // A word, at the front of a buffer.
-pub fn word(i: usize, buffer: &mut [u8]) -> usize
+pub fn word(rt: &(impl Env + Errors), i: usize, buffer: &mut [u8]) -> usize
     ensures { IsPrefixLen result buffer.new }
 {
-    let n = os::arg(i, buffer);
-    if os::errno() == libc::ENAMETOOLONG {
-        words::complain(b"chart: a word is longer than 4,096 bytes.\n");
+    match rt.arg(i, buffer) {
+        Ok(n) => n,
+        Err(FillError::NotPresent) => 0,
+        Err(FillError::TooLong) => {
+            words::complain(rt, b"chart: a word is longer than 4,096 bytes.\n");
+            0
+        }
     }
-    n
 }
 
 // How many words a command has, at least.
@@ -135,20 +142,20 @@ fn is_whole(c: Command, count: usize) -> bool {
 }
 
 // Which command was typed; if there is none of this name, or its words are too few or too many, the help is printed.
-pub fn which() -> Command {
-    let mut buffer = io::buffer();
-    let n = word(1, &mut buffer);
+pub fn which(rt: &(impl Env + Errors)) -> Command {
+    let mut buffer = console::word_room();
+    let n = word(rt, 1, &mut buffer);
     let c = command_of(&buffer[..n]);
     if let Command::Other = c {
-        words::wrong(&buffer[..n], b"\" is no command.\n\n");
-        words::help(libc::STDERR_FILENO);
+        words::wrong(rt, &buffer[..n], b"\" is no command.\n\n");
+        words::help(&rt.errors());
         return c;
     }
-    if is_whole(c, os::arg_count()) {
+    if is_whole(c, console::word_count(rt)) {
         return c;
     }
-    words::wrong(&buffer[..n], b"\" has too few words, or too many.\n\n");
-    words::help(libc::STDERR_FILENO);
+    words::wrong(rt, &buffer[..n], b"\" has too few words, or too many.\n\n");
+    words::help(&rt.errors());
     Command::Other
 }
 
@@ -161,66 +168,49 @@ fn unread() -> Loaded
     }
 }
 
-// Reads until a file ends or the buffer is full.
-fn read_all(fd: i32, file: &mut [u8]) -> Loaded
-    ensures { IsPrefixLen result.count file.new }
+// Reads until a file ends or the buffer is full; how many bytes came.
+fn read_all<R: io::Read>(stream: &mut R, file: &mut [u8]) -> io::Result<usize>
+    ensures { IfOk result (λ count. IsPrefixLen count file.new) }
 {
-    let mut at: usize = 0;
-    while at < file.len() {
-        let got = libc::read(fd, &mut file[at..]);
-        if got < 0 {
-            return unread();
-        }
-        let n = io::count(got, &file[at..]);
-        if n == 0 {
-            return Loaded {
-                is_read: true,
-                count: at,
-            };
-        }
-        at += n;
-    }
-    Loaded {
-        is_read: true,
-        count: at,
-    }
+    console::read_full(stream, file)
 }
 
 // Reads the file of this name, as far as the buffer goes.
-fn read_file(path: &[u8], file: &mut [u8]) -> Loaded
-    ensures { IsPrefixLen result.count file.new }
+fn read_file(rt: &impl Files, path: &[u8], file: &mut [u8]) -> io::Result<usize>
+    ensures { IfOk result (λ count. IsPrefixLen count file.new) }
 {
-    let fd = os::open_read(path);
-    if fd < 0 {
-        return unread();
-    }
-    let l = read_all(fd, file);
-    libc::close(fd);
-    l
+    let mut stream = console::open(rt, path)?;
+    read_all(&mut stream, file)
 }
 
 // Reads the file that was named.
-pub fn load(file: &mut [u8]) -> Loaded
+pub fn load(rt: &impl Console, file: &mut [u8]) -> Loaded
     ensures { IsPrefixLen result.count file.new }
 {
-    let mut path = io::buffer();
-    let n = word(FILE, &mut path);
-    let l = read_file(&path[..n], file);
-    if !l.is_read {
-        words::failed(&path[..n]);
+    let mut path = console::word_room();
+    let n = word(rt, FILE, &mut path);
+    match read_file(rt, &path[..n], file) {
+        Ok(count) => Loaded {
+            is_read: true,
+            count,
+        },
+        Err(error) => {
+            words::failed(rt, &path[..n], &error);
+            unread()
+        }
     }
-    l
 }
 
 // The configuration that was typed; none if it was typed wrong.
-pub fn config() -> Configuration
+pub fn config(rt: &(impl Env + Errors)) -> Configuration
     ensures { IsPrefixLen result.count result.states }
 {
-    let mut buffer = io::buffer();
-    let n = word(CONFIG, &mut buffer);
+    let mut buffer = console::word_room();
+    let n = word(rt, CONFIG, &mut buffer);
     let c = typed::config(&buffer[..n]);
     if c.count == 0 {
         words::wrong(
+            rt,
             &buffer[..n],
             b"\" is no configuration. Expected: the state of each chart, 0 to 255, with dots between, as 0.1; \
               at most 64 of them.\n",
@@ -233,22 +223,22 @@ pub fn config() -> Configuration
 pub const NO_EDITION: u8 = 0;
 
 // The edition that was typed; none if it was typed wrong.
-pub fn edition() -> u8 {
-    let mut buffer = io::buffer();
-    let n = word(EDITION, &mut buffer);
+pub fn edition(rt: &(impl Env + Errors)) -> u8 {
+    let mut buffer = console::word_room();
+    let n = word(rt, EDITION, &mut buffer);
     if typed::is(&buffer[..n], b"1") {
         return limits::FIRST_EDITION;
     }
     if typed::is(&buffer[..n], b"2") {
         return limits::STAY_EDITION;
     }
-    words::wrong(&buffer[..n], b"\" is no edition. Expected: 1 or 2.\n");
+    words::wrong(rt, &buffer[..n], b"\" is no edition. Expected: 1 or 2.\n");
     NO_EDITION
 }
 
 // How many sets were typed.
-pub fn set_count() -> usize {
-    let count = os::arg_count();
+pub fn set_count(rt: &impl Env) -> usize {
+    let count = console::word_count(rt);
     if count < SETS {
         return 0;
     }
@@ -256,12 +246,13 @@ pub fn set_count() -> usize {
 }
 
 // The number that was typed as word i, of a chart or a place.
-pub fn number(i: usize) -> Read {
-    let mut buffer = io::buffer();
-    let n = word(i, &mut buffer);
+pub fn number(rt: &(impl Env + Errors), i: usize) -> Read {
+    let mut buffer = console::word_room();
+    let n = word(rt, i, &mut buffer);
     let r = typed::number(18446744073709551615, &buffer[..n]);
     if let Read::Wrong = r {
         words::wrong(
+            rt,
             &buffer[..n],
             b"\" is no number. Expected: a chart or a place of its list, counted from 0, as 2.\n",
         );
@@ -270,12 +261,13 @@ pub fn number(i: usize) -> Read {
 }
 
 // The set that was typed as word i.
-pub fn set(i: usize) -> Read {
-    let mut buffer = io::buffer();
-    let n = word(i, &mut buffer);
+pub fn set(rt: &(impl Env + Errors), i: usize) -> Read {
+    let mut buffer = console::word_room();
+    let n = word(rt, i, &mut buffer);
     let s = typed::set(&buffer[..n]);
     if let Read::Wrong = s {
         words::wrong(
+            rt,
             &buffer[..n],
             b"\" is no set. Expected: signals s0 to s63 with commas between, as s0,s3; \
               or 0x and 1 to 16 hex digits, as 0x9; or - for none.\n",
@@ -285,16 +277,14 @@ pub fn set(i: usize) -> Read {
 }
 
 // The sets that were typed; false if one was typed wrong.
-pub fn sets(inputs: &mut [u64]) -> bool
+pub fn sets(rt: &(impl Env + Errors), inputs: &mut [u64]) -> bool
     requires { length inputs.old ≤ 1024 }
 {
-    let mut i: usize = 0;
-    while i < inputs.len() {
-        let Read::Is(s) = set(SETS + i) else {
+    for (i, input) in inputs.iter_mut().enumerate() {
+        let Read::Is(s) = set(rt, SETS + i) else {
             return false;
         };
-        inputs[i] = s;
-        i += 1;
+        *input = s;
     }
     true
 }

@@ -13,6 +13,7 @@ mod words;
 ghost use Rattle.std.specs.Prelude.{◌≡◌, length};
 
 use ask::Command;
+use console::Console;
 
 // The longest file: as long as the day program's input may be (RULES 3.4).
 const MOST_BYTES: usize = 65536;
@@ -35,65 +36,65 @@ fn text_room() -> [u8; 1048577]
 }
 
 // The answer to a command on its file.
-fn answer(c: Command, file: &mut [u8]) {
+fn answer(rt: &impl Console, c: Command, file: &mut [u8]) {
     match c {
-        Command::Check => tell::check(file),
-        Command::First => tell::first(file),
-        Command::Interface => tell::interface(file),
-        Command::Plain => tell::plain(file),
-        Command::Step => tell::run(file, true),
-        Command::Run => tell::run(file, false),
-        Command::Rewrite => tell::rewrite(file),
-        Command::Clear => tell::clear(file),
-        Command::Edition => edition::change(file),
-        Command::Lacking => why::lacking(file),
-        Command::Why => why::why(file),
-        Command::Write => tell::write(file, false),
-        Command::Show => tell::write(file, true),
+        Command::Check => tell::check(rt, file),
+        Command::First => tell::first(rt, file),
+        Command::Interface => tell::interface(rt, file),
+        Command::Plain => tell::plain(rt, file),
+        Command::Step => tell::run(rt, file, true),
+        Command::Run => tell::run(rt, file, false),
+        Command::Rewrite => tell::rewrite(rt, file),
+        Command::Clear => tell::clear(rt, file),
+        Command::Edition => edition::change(rt, file),
+        Command::Lacking => why::lacking(rt, file),
+        Command::Why => why::why(rt, file),
+        Command::Write => tell::write(rt, file, false),
+        Command::Show => tell::write(rt, file, true),
         Command::Read => {}
         Command::Other => {}
     }
 }
 
 // A command on a file.
-fn on_file(c: Command) {
+fn on_file(rt: &impl Console, c: Command) {
     let mut file = file_room();
-    let l = ask::load(&mut file);
+    let l = ask::load(rt, &mut file);
     if !l.is_read {
         return;
     }
     let n = l.count;
     if n > MOST_BYTES {
-        words::complain(b"chart: the file is longer than 65,536 bytes.\n");
+        words::complain(rt, b"chart: the file is longer than 65,536 bytes.\n");
         return;
     }
-    answer(c, &mut file[..n]);
+    answer(rt, c, &mut file[..n]);
 }
 
 // The command on a text.
-fn on_text() {
+fn on_text(rt: &impl Console) {
     let mut text = text_room();
-    let l = ask::load(&mut text);
+    let l = ask::load(rt, &mut text);
     if !l.is_read {
         return;
     }
     let n = l.count;
     if n > MOST_TEXT {
-        words::complain(b"chart: the text is longer than 1,048,576 bytes.\n");
+        words::complain(rt, b"chart: the text is longer than 1,048,576 bytes.\n");
         return;
     }
-    parse::read(&text[..n]);
+    parse::read(rt, &text[..n]);
 }
 
-fn main() {
-    if os::arg_count() < 2 {
-        words::help(libc::STDOUT_FILENO);
+fn main(rt: HostRuntime) {
+    if console::word_count(&rt) < 2 {
+        words::help(&rt);
         return;
     }
-    let c = ask::which();
+    let c = ask::which(&rt);
     match c {
         Command::Other => {}
-        Command::Read => on_text(),
-        _ => on_file(c),
+        Command::Read => on_text(&rt),
+        _ => on_file(&rt, c),
     }
 }

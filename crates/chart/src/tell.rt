@@ -7,8 +7,11 @@ ghost use Rattle.stepping.specs.Step.{Checked};
 use crate::words::say;
 use crate::{ask, words};
 use checks::limits;
+use console::Console;
 use layout::body::Shape;
-use libc::STDOUT_FILENO;
+use std::fs::Files;
+use std::io;
+use std::io::Write;
 use stepping::step::Stepped;
 
 // The most sets of one run.
@@ -39,23 +42,23 @@ pub fn out_room() -> [u8; 65536]
     [0; 65536]
 }
 
-pub fn check(file: &[u8]) {
+pub fn check(out: &impl Print, file: &[u8]) {
     let r = engine::file::check(file);
     if r == limits::ACCEPTED {
-        say(b"accepted\n");
+        say(out, b"accepted\n");
     } else {
-        words::refusal(r);
+        words::refusal(out, r);
     }
 }
 
 // How many charts a file has; none if it is refused, and then the refusal is printed.
-fn charts(file: &[u8]) -> usize
+fn charts(out: &impl Print, file: &[u8]) -> usize
     ensures { result ≤ most_charts }
 {
     let o = opening::opened(file);
     let r = o.refusal;
     if r != limits::ACCEPTED {
-        words::refusal(r);
+        words::refusal(out, r);
         return 0;
     }
     let n = o.shape;
@@ -63,151 +66,147 @@ fn charts(file: &[u8]) -> usize
 }
 
 // A configuration's states, with dots between.
-fn states(config: &[u8])
+fn states(out: &impl Print, config: &[u8])
     requires { length config.now ≤ most_charts }
 {
-    let mut out = text_room();
-    let n = line::put_states(&mut out, 0, config);
-    say(&out[..n]);
-    say(b"\n");
+    let mut text = text_room();
+    let n = line::put_states(&mut text, 0, config);
+    say(out, &text[..n]);
+    say(out, b"\n");
 }
 
-pub fn first(file: &[u8]) {
-    let n = charts(file);
+pub fn first(out: &impl Print, file: &[u8]) {
+    let n = charts(out, file);
     if n == 0 {
         return;
     }
     let mut config = [0u8; layout::limits::CHARTS];
     engine::file::first(file, &mut config);
-    states(&config[..n]);
+    states(out, &config[..n]);
 }
 
 // A set as signals, to the line's end.
-fn signals(set: u64) {
-    let mut out = text_room();
-    let n = typed::show(set, &mut out);
-    say(b"  ");
-    say(&out[..n]);
-    say(b"\n");
+fn signals(out: &impl Print, set: u64) {
+    let mut text = text_room();
+    let n = typed::show(set, &mut text);
+    say(out, b"  ");
+    say(out, &text[..n]);
+    say(out, b"\n");
 }
 
-pub fn interface(file: &[u8]) {
+pub fn interface(out: &impl Print, file: &[u8]) {
     let f = engine::interface::interface(file);
     let r = f.refusal;
     if r != limits::ACCEPTED {
-        words::refusal(r);
+        words::refusal(out, r);
         return;
     }
-    say(b"in ");
-    io::print_hex(STDOUT_FILENO, f.input, 16);
-    signals(f.input);
-    say(b"out ");
-    io::print_hex(STDOUT_FILENO, f.output, 16);
-    signals(f.output);
+    say(out, b"in ");
+    console::say_hex(out, f.input);
+    signals(out, f.input);
+    say(out, b"out ");
+    console::say_hex(out, f.output);
+    signals(out, f.output);
 }
 
-pub fn plain(file: &[u8]) {
+pub fn plain(out: &impl Print, file: &[u8]) {
     let p = engine::file::plain(file);
     let r = p.refusal;
     if r != limits::ACCEPTED {
-        words::refusal(r);
+        words::refusal(out, r);
         return;
     }
     if p.plain {
-        say(b"plain\n");
+        say(out, b"plain\n");
     } else {
-        say(b"not plain\n");
+        say(out, b"not plain\n");
     }
 }
 
 // A row as the day program's line, and behind it the output as signals, or the refusal's words.
-fn row(number: u64, row: &[u8])
+fn row(out: &impl Print, number: u64, row: &[u8])
     requires { (10 ≤ length row.now) × (length row.now ≤ 26) }
 {
-    let mut out = text_room();
-    let n = line::line(number, row, &mut out);
+    let mut text = text_room();
+    let n = line::line(number, row, &mut text);
     let end = n - 1;
-    say(&out[..end]);
+    say(out, &text[..end]);
     let refusal = row[layout::row::REFUSAL];
     if refusal == limits::ACCEPTED {
-        signals(layout::number::le64(row, 0));
+        signals(out, layout::number::le64(row, 0));
     } else {
-        words::end_refused(refusal);
+        words::end_refused(out, refusal);
     }
 }
 
 // n rows of w bytes each.
-fn rows(rows: &[u8], w: usize, n: usize)
+fn rows(out: &impl Print, rows: &[u8], w: usize, n: usize)
     requires { (10 ≤ w) × (w ≤ 10 + most_charts) × ((10 + most_charts) * n ≤ length rows.now) }
 {
     let mut at: usize = 0;
-    let mut i: usize = 0;
-    while i < n {
+    for i in 0..n {
         let e = at + w;
-        row(i as u64 + 1, &rows[at..e]);
+        row(out, i as u64 + 1, &rows[at..e]);
         at = e;
-        i += 1;
     }
 }
 
 // A run of a file that was opened, with nothing carried into it. Returns what is carried after it.
-fn run_of(n: Shape, body: &[u8], config: &[u8], inputs: &[u64]) -> u64
+fn run_of(out: &impl Print, n: Shape, body: &[u8], config: &[u8], inputs: &[u64]) -> u64
     requires { Checked n body.now × (length inputs.now ≤ 1024) }
 {
     let mut space = row_room();
     let a = running::of_body(n, body, config, 0, inputs, &mut space);
     let r = a.refusal;
     if r != limits::ACCEPTED {
-        words::refusal(r);
+        words::refusal(out, r);
         return 0;
     }
-    rows(&space, layout::row::STATES + n.charts, inputs.len());
+    rows(out, &space, layout::row::STATES + n.charts, inputs.len());
     a.carried
 }
 
 // What is carried after a run, if that is something.
-fn carried(set: u64) {
+fn carried(out: &impl Print, set: u64) {
     if set != 0 {
-        say(b"carried to the next set");
-        signals(set);
+        say(out, b"carried to the next set");
+        signals(out, set);
     }
 }
 
 // What a chart did: it took the transition at a place of its own list, or none, or stayed.
-fn took(chart: usize, place: u8) {
-    say(b"chart ");
-    io::print_decimal(STDOUT_FILENO, chart as u64);
+fn took(out: &impl Print, chart: usize, place: u8) {
+    say(out, b"chart ");
+    console::say_decimal(out, chart as u64);
     if place == settling::NO_PLACE {
-        say(b" took no transition\n");
+        say(out, b" took no transition\n");
         return;
     }
     if place == settling::STAY_PLACE {
-        say(b" stayed\n");
+        say(out, b" stayed\n");
         return;
     }
-    say(b" took transition ");
-    io::print_decimal(STDOUT_FILENO, place as u64);
-    say(b"\n");
+    say(out, b" took transition ");
+    console::say_decimal(out, place as u64);
+    say(out, b"\n");
 }
 
 // What each of so many charts did, a line each.
-fn taken(charts: usize, places: [u8; layout::limits::CHARTS])
+fn taken(out: &impl Print, charts: usize, places: [u8; layout::limits::CHARTS])
     requires { charts ≤ most_charts }
 {
-    let mut c: usize = 0;
-    while c < charts {
-        took(c, places[c]);
-        c += 1;
+    for c in 0..charts {
+        took(out, c, places[c]);
     }
 }
 
 // How many choices are open.
-fn open_choices(n: u64) {
-    io::print_decimal(STDOUT_FILENO, n);
+fn open_choices(out: &impl Print, n: u64) {
+    console::say_decimal(out, n);
     if n == 1 {
-        say(b" open choice\n");
+        say(out, b" open choice\n");
     } else {
-        say(b" open choices\n");
+        say(out, b" open choices\n");
     }
 }
 
@@ -229,53 +228,60 @@ fn answer_row(s: Stepped, next: [u8; layout::limits::CHARTS]) -> [u8; layout::ro
 
 // A step of a file that was opened: its row; what each chart did, if it is given; and how many choices are open, if the
 // answer says it.
-fn step_of(n: Shape, body: &[u8], config: &[u8], input: u64)
+fn step_of(out: &impl Print, n: Shape, body: &[u8], config: &[u8], input: u64)
     requires { Checked n body.now }
 {
     let mut next = [0u8; layout::limits::CHARTS];
     let s = stepping::step::of_body(n, body, config, input, &mut next);
     let r = s.refusal;
     if (r != limits::ACCEPTED) & (r < limits::NO_STEP) {
-        words::refusal(r);
+        words::refusal(out, r);
         return;
     }
     let charts = n.charts;
     let all = answer_row(s, next);
     let w = layout::row::STATES + charts;
-    row(1, &all[..w]);
+    row(out, 1, &all[..w]);
     if r == limits::ACCEPTED {
         let places = s.places;
-        taken(charts, places);
+        taken(out, charts, places);
     }
     if s.open_choices > 0 {
-        open_choices(s.open_choices);
+        open_choices(out, s.open_choices);
     }
 }
 
 // A run of the sets that were typed, as many as there is room for, and what is left to carry; or a step.
-fn run_typed(n: Shape, body: &[u8], config: &[u8], inputs: &mut [u64], is_step: bool)
+fn run_typed(
+    rt: &impl Console,
+    n: Shape,
+    body: &[u8],
+    config: &[u8],
+    inputs: &mut [u64],
+    is_step: bool,
+)
     requires { Checked n body.now × (length inputs.old ≤ 1024) }
 {
-    if !ask::sets(inputs) {
+    if !ask::sets(rt, inputs) {
         return;
     }
     if !is_step {
-        carried(run_of(n, body, config, inputs));
+        carried(rt, run_of(rt, n, body, config, inputs));
         return;
     }
     if inputs.len() > 0 {
-        step_of(n, body, config, inputs[0]);
+        step_of(rt, n, body, config, inputs[0]);
     }
 }
 
 // The file is opened once.
-pub fn run(file: &[u8], is_step: bool) {
-    let count = ask::set_count();
+pub fn run(rt: &impl Console, file: &[u8], is_step: bool) {
+    let count = ask::set_count(rt);
     if count > MOST_SETS {
-        words::complain(b"chart: a run takes at most 1,024 sets.\n");
+        words::complain(rt, b"chart: a run takes at most 1,024 sets.\n");
         return;
     }
-    let c = ask::config();
+    let c = ask::config(rt);
     let k = c.count;
     if k == 0 {
         return;
@@ -283,7 +289,7 @@ pub fn run(file: &[u8], is_step: bool) {
     let o = opening::opened(file);
     let r = o.refusal;
     if r != limits::ACCEPTED {
-        words::refusal(r);
+        words::refusal(rt, r);
         return;
     }
     let n = o.shape;
@@ -292,6 +298,7 @@ pub fn run(file: &[u8], is_step: bool) {
     let config = c.states;
     let mut inputs = set_room();
     run_typed(
+        rt,
         n,
         &file[start..end],
         &config[..k],
@@ -301,80 +308,74 @@ pub fn run(file: &[u8], is_step: bool) {
 }
 
 // Writes a file of this name, whatever it had before.
-fn write_file(path: &[u8], bytes: &[u8]) -> bool {
-    let fd = os::open_overwrite(path);
-    if fd < 0 {
-        return false;
-    }
-    let is_written = io::write_all(fd, bytes);
-    let is_closed = libc::close(fd) == 0;
-    is_written & is_closed
+fn write_file(rt: &impl Files, path: &[u8], bytes: &[u8]) -> io::Result<()> {
+    let mut file = console::create(rt, path)?;
+    file.write_all(bytes)
 }
 
 // Writes a file of the name that was typed as word i.
-fn is_saved(i: usize, bytes: &[u8]) -> bool {
-    let mut path = io::buffer();
-    let n = ask::word(i, &mut path);
-    let is_written = write_file(&path[..n], bytes);
-    if !is_written {
-        words::failed(&path[..n]);
+fn is_saved(rt: &impl Console, i: usize, bytes: &[u8]) -> bool {
+    let mut path = console::word_room();
+    let n = ask::word(rt, i, &mut path);
+    match write_file(rt, &path[..n], bytes) {
+        Ok(()) => true,
+        Err(error) => {
+            words::failed(rt, &path[..n], &error);
+            false
+        }
     }
-    is_written
 }
 
 // The same, and says how long the file is.
-pub fn save(i: usize, bytes: &[u8]) {
-    if is_saved(i, bytes) {
-        io::print_decimal(STDOUT_FILENO, bytes.len() as u64);
-        say(b" bytes written\n");
+pub fn save(rt: &impl Console, i: usize, bytes: &[u8]) {
+    if is_saved(rt, i, bytes) {
+        console::say_decimal(rt, bytes.len() as u64);
+        say(rt, b" bytes written\n");
     }
 }
 
-pub fn rewrite(file: &[u8]) {
+pub fn rewrite(rt: &impl Console, file: &[u8]) {
     let mut out = out_room();
     let w = engine::rewriting::rewriting(file, &mut out);
     let r = w.refusal;
     if r != limits::ACCEPTED {
-        words::refusal(r);
+        words::refusal(rt, r);
         return;
     }
     let n = w.length;
-    save(ask::OUT, &out[..n]);
+    save(rt, ask::OUT, &out[..n]);
 }
 
 // Says how many transitions chart c lost, if it had more before.
-fn lost(c: usize, before: u8, after: u8) {
+fn lost(out: &impl Print, c: usize, before: u8, after: u8) {
     if after >= before {
         return;
     }
     let n = before - after;
-    say(b"chart ");
-    io::print_decimal(STDOUT_FILENO, c as u64);
-    say(b" lost ");
-    io::print_decimal(STDOUT_FILENO, n as u64);
+    say(out, b"chart ");
+    console::say_decimal(out, c as u64);
+    say(out, b" lost ");
+    console::say_decimal(out, n as u64);
     if n == 1 {
-        say(b" transition\n");
+        say(out, b" transition\n");
     } else {
-        say(b" transitions\n");
+        say(out, b" transitions\n");
     }
 }
 
 // The same of each chart, from the bodies of a file and of the cleared file.
-fn lost_in_bodies(n: Shape, body: &[u8], m: Shape, cleared: &[u8])
+fn lost_in_bodies(out: &impl Print, n: Shape, body: &[u8], m: Shape, cleared: &[u8])
     requires { Holds n body.now × Holds m cleared.now × (n.charts ≤ m.charts) }
 {
-    let charts = n.charts;
-    let mut c: usize = 0;
-    while c < charts {
+    for c in 0..n.charts {
         let h = layout::body::head_at(n, body, c);
         let k = layout::body::head_at(m, cleared, c);
-        lost(c, h.transitions, k.transitions);
-        c += 1;
+        lost(out, c, h.transitions, k.transitions);
     }
 }
 
 // The same of each chart, from the files.
-fn lost_in_charts(file: &[u8], cleared: &[u8]) {
+fn lost_in_charts(out: &impl Print, file: &[u8], cleared: &[u8]) {
     let o = opening::opened(file);
     if o.refusal != limits::ACCEPTED {
         return;
@@ -392,28 +393,28 @@ fn lost_in_charts(file: &[u8], cleared: &[u8]) {
     let end = o.end;
     let new_start = p.start;
     let new_end = p.end;
-    lost_in_bodies(n, &file[start..end], m, &cleared[new_start..new_end]);
+    lost_in_bodies(out, n, &file[start..end], m, &cleared[new_start..new_end]);
 }
 
 // Nothing is said of charts that lost none.
-pub fn clear(file: &[u8]) {
+pub fn clear(rt: &impl Console, file: &[u8]) {
     let mut out = out_room();
     let w = engine::clear::clear(file, &mut out);
     let r = w.refusal;
     if r != limits::ACCEPTED {
-        words::clearing_refusal(r);
+        words::clearing_refusal(rt, r);
         return;
     }
     let n = w.length;
-    if is_saved(ask::OUT, &out[..n]) {
-        lost_in_charts(file, &out[..n]);
+    if is_saved(rt, ask::OUT, &out[..n]) {
+        lost_in_charts(rt, file, &out[..n]);
     }
 }
 
 // The file as text, in one line or laid out.
-pub fn write(file: &[u8], laid_out: bool) {
-    let r = display::show(file, laid_out);
+pub fn write(out: &impl Print, file: &[u8], laid_out: bool) {
+    let r = display::show(out, file, laid_out);
     if r != limits::ACCEPTED {
-        words::writing_refusal(r);
+        words::writing_refusal(out, r);
     }
 }

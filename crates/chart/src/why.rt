@@ -5,95 +5,94 @@ ghost use Rattle.checks.specs.Known.{Sized, Summed};
 use crate::words::say;
 use crate::{ask, words};
 use checks::limits;
+use console::Console;
 use lacks::Lacking;
 use layout::body::Shape;
-use libc::STDOUT_FILENO;
 use signals::guard::Tested;
 use typed::Read;
 
 // A signal, by its number.
-fn signal(s: u8) {
-    say(b"s");
-    io::print_decimal(STDOUT_FILENO, s as u64);
+fn signal(out: &impl Print, s: u8) {
+    say(out, b"s");
+    console::say_decimal(out, s as u64);
 }
 
 // What the test of a guard shows.
-fn tested(t: Tested) {
+fn tested(out: &impl Print, t: Tested) {
     match t {
-        Tested::Met => say(b"met\n"),
+        Tested::Met => say(out, b"met\n"),
         Tested::Absent(s) => {
-            say(b"needs ");
-            signal(s);
-            say(b", which is not offered\n");
+            say(out, b"needs ");
+            signal(out, s);
+            say(out, b", which is not offered\n");
         }
         Tested::Present(s) => {
-            say(b"bars ");
-            signal(s);
-            say(b", which is offered\n");
+            say(out, b"bars ");
+            signal(out, s);
+            say(out, b", which is offered\n");
         }
     }
 }
 
 // The answer to a question.
-fn answer(a: Lacking) {
+fn answer(out: &impl Print, a: Lacking) {
     match a {
-        Lacking::Refused(r) => words::question_refusal(r),
-        Lacking::Shown(t) => tested(t),
+        Lacking::Refused(r) => words::question_refusal(out, r),
+        Lacking::Shown(t) => tested(out, t),
     }
 }
 
-pub fn lacking(file: &[u8]) {
-    let Read::Is(chart) = ask::number(ask::CHART) else {
+pub fn lacking(rt: &impl Console, file: &[u8]) {
+    let Read::Is(chart) = ask::number(rt, ask::CHART) else {
         return;
     };
-    let Read::Is(place) = ask::number(ask::PLACE) else {
+    let Read::Is(place) = ask::number(rt, ask::PLACE) else {
         return;
     };
-    let Read::Is(set) = ask::set(ask::OFFERED) else {
+    let Read::Is(set) = ask::set(rt, ask::OFFERED) else {
         return;
     };
-    answer(engine::lacking::lacking(file, chart as usize, place as usize, set));
+    answer(
+        rt,
+        engine::lacking::lacking(file, chart as usize, place as usize, set),
+    );
 }
 
 // One transition of a chart, at a place of its list.
-fn line(n: Shape, body: &[u8], c: usize, place: usize, set: u64)
+fn line(out: &impl Print, n: Shape, body: &[u8], c: usize, place: usize, set: u64)
     requires { Sized n body.now × Summed n body.now }
 {
-    say(b"chart ");
-    io::print_decimal(STDOUT_FILENO, c as u64);
-    say(b" transition ");
-    io::print_decimal(STDOUT_FILENO, place as u64);
-    say(b" ");
-    answer(lacks::of_body(n, body, c, place, set));
+    say(out, b"chart ");
+    console::say_decimal(out, c as u64);
+    say(out, b" transition ");
+    console::say_decimal(out, place as u64);
+    say(out, b" ");
+    answer(out, lacks::of_body(n, body, c, place, set));
 }
 
 // The transitions of chart c that leave a state, a line each.
-fn lines(n: Shape, body: &[u8], c: usize, state: u8, set: u64)
+fn lines(out: &impl Print, n: Shape, body: &[u8], c: usize, state: u8, set: u64)
     requires { Sized n body.now × Summed n body.now × (c < n.charts) }
 {
     let count = layout::body::head_at(n, body, c).transitions as usize;
-    let mut place: usize = 0;
-    while place < count {
+    for place in 0..count {
         if lacks::at_place(n, body, c, place).from == state {
-            line(n, body, c, place, set);
+            line(out, n, body, c, place, set);
         }
-        place += 1;
     }
 }
 
 // The same of all charts, in a configuration.
-fn all_lines(n: Shape, body: &[u8], config: &[u8], set: u64)
+fn all_lines(out: &impl Print, n: Shape, body: &[u8], config: &[u8], set: u64)
     requires { Sized n body.now × Summed n body.now × (n.charts ≤ length config.now) }
 {
-    let mut c: usize = 0;
-    while c < n.charts {
-        lines(n, body, c, config[c], set);
-        c += 1;
+    for c in 0..n.charts {
+        lines(out, n, body, c, config[c], set);
     }
 }
 
 // The same of a file that is in order, for a configuration of it.
-fn all_of(file: &[u8], config: &[u8], set: u64) {
+fn all_of(out: &impl Print, file: &[u8], config: &[u8], set: u64) {
     let o = opening::opened(file);
     if o.refusal != limits::ACCEPTED {
         return;
@@ -104,32 +103,35 @@ fn all_of(file: &[u8], config: &[u8], set: u64) {
     }
     let start = o.start;
     let end = o.end;
-    all_lines(n, &file[start..end], config, set);
-    say(b"under the input alone; what charts feed back to each other may change this\n");
+    all_lines(out, n, &file[start..end], config, set);
+    say(
+        out,
+        b"under the input alone; what charts feed back to each other may change this\n",
+    );
 }
 
 // Each transition that a chart could take from its present state. A run of no inputs tests the file and the
 // configuration.
-fn why_of(file: &[u8], config: &[u8], set: u64) {
+fn why_of(out: &impl Print, file: &[u8], config: &[u8], set: u64) {
     let inputs = [0u64; 0];
     let mut rows = [0u8; 0];
     let r = engine::run::run(file, config, 0, &inputs, &mut rows).refusal;
     if r != limits::ACCEPTED {
-        words::refusal(r);
+        words::refusal(out, r);
         return;
     }
-    all_of(file, config, set);
+    all_of(out, file, config, set);
 }
 
-pub fn why(file: &[u8]) {
-    let c = ask::config();
+pub fn why(rt: &impl Console, file: &[u8]) {
+    let c = ask::config(rt);
     let k = c.count;
     if k == 0 {
         return;
     }
-    let Read::Is(set) = ask::set(ask::INPUT) else {
+    let Read::Is(set) = ask::set(rt, ask::INPUT) else {
         return;
     };
     let config = c.states;
-    why_of(file, &config[..k], set);
+    why_of(rt, file, &config[..k], set);
 }

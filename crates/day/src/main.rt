@@ -13,6 +13,7 @@ ghost use Rattle.day.specs.Day.{Opened, Accepted, Body, DaySays};
 use checks::limits;
 use layout::body::Shape;
 use opening::Opening;
+use std::io;
 
 // 1 to 11, then 30; and where the body stands, behind the inputs.
 fn opened(input: &[u8]) -> Opening
@@ -139,12 +140,13 @@ fn day(input: &[u8], behind: usize, out: &mut [u8]) -> usize
     lines_for(input, out)
 }
 
-fn main() {
+fn main(rt: HostRuntime) -> io::Result<()> {
+    let mut stdin = rt.stdin();
     let mut input = [0u8; limits::MOST_INPUT];
-    let n = io::read_full(0, &mut input);
+    let n = console::read_full(&mut stdin, &mut input)?;
     let mut more = [0u8; 1];
-    let behind = io::read_full(0, &mut more);
+    let behind = console::read_full(&mut stdin, &mut more)?;
     let mut out = line_room();
     let len = day(&input[..n], behind, &mut out);
-    io::write_all(1, &out[..len]);
+    rt.write_all(&out[..len])
 }

@@ -4,7 +4,6 @@
 ghost use Rattle.std.specs.Prelude.{◌≡◌, length};
 
 use checks::limits;
-use libc::STDOUT_FILENO;
 
 // Room for the longest text. Only the length is promised, so that no proof looks at so many zeros.
 fn text_room() -> [u8; writer::MOST_TEXT]
@@ -13,8 +12,9 @@ fn text_room() -> [u8; writer::MOST_TEXT]
     [0; writer::MOST_TEXT]
 }
 
-fn say(text: &[u8]) {
-    io::write_all(STDOUT_FILENO, text);
+// What cannot be printed is let go: whether a file has a text does not depend on who reads it.
+fn say(out: &impl Print, text: &[u8]) {
+    let _ = out.write_all(text);
 }
 
 // The byte at a place; behind the last one, none of the signs.
@@ -26,17 +26,15 @@ fn byte_at(text: &[u8], i: usize) -> u8 {
 }
 
 // A line's end, and two blanks a level.
-fn next_line(level: u8) {
-    say(b"\n");
-    let mut i: u8 = 0;
-    while i < level {
-        say(b"  ");
-        i += 1;
+fn next_line(out: &impl Print, level: u8) {
+    say(out, b"\n");
+    for _ in 0..level {
+        say(out, b"  ");
     }
 }
 
 // The text, with a line's end behind the bytes that have one.
-fn lay_out(text: &[u8]) {
+fn lay_out(out: &impl Print, text: &[u8]) {
     let mut p = indent::start();
     let mut from: usize = 0;
     let mut at: usize = 0;
@@ -44,28 +42,28 @@ fn lay_out(text: &[u8]) {
         p = indent::behind(p, text[at], byte_at(text, at + 1));
         at += 1;
         if p.breaks {
-            say(&text[from..at]);
-            next_line(p.level);
+            say(out, &text[from..at]);
+            next_line(out, p.level);
             from = at;
         }
     }
-    say(&text[from..at]);
+    say(out, &text[from..at]);
 }
 
 // The text of a file, and a line's end; or why there is none.
-pub fn show(file: &[u8], laid_out: bool) -> u8 {
-    let mut out = text_room();
-    let w = writer::write(file, &mut out);
+pub fn show(out: &impl Print, file: &[u8], laid_out: bool) -> u8 {
+    let mut text = text_room();
+    let w = writer::write(file, &mut text);
     let r = w.refusal;
     if r != limits::ACCEPTED {
         return r;
     }
     let n = w.length;
     if laid_out {
-        lay_out(&out[..n]);
+        lay_out(out, &text[..n]);
     } else {
-        say(&out[..n]);
+        say(out, &text[..n]);
     }
-    say(b"\n");
+    say(out, b"\n");
     r
 }

@@ -3,6 +3,7 @@
 ghost use Rattle.std.specs.Prelude.{◌≡◌, ◌+◌, ◌*◌, ◌<◌, ◌≤◌, length};
 
 use desk::{Day, Entry};
+use std::env::Env;
 use typed::Read;
 
 // What is wrong with a line.
@@ -77,9 +78,9 @@ pub fn decimal(word: &[u8]) -> Read {
 }
 
 // The number that is typed as word i of the command.
-pub fn count(i: usize) -> Read {
-    let mut word = io::buffer();
-    let n = os::arg(i, &mut word);
+pub fn count(rt: &impl Env, i: usize) -> Read {
+    let mut word = console::word_room();
+    let n = console::word(rt, i, &mut word);
     decimal(&word[..n])
 }
 

@@ -1,9 +1,14 @@
 // The files that the words of a command name. A file is replaced whole: its new bytes go to a file beside it, which is
 // flushed and then takes its name.
-ghost use Rattle.std.specs.Prelude.{◌≡◌, ◌+◌, ◌*◌, ◌≤◌, length};
-ghost use Rattle.io.specs.Counts.{IsPrefixLen};
+ghost use Rattle.std.specs.Prelude.{◌≡◌, ◌+◌, ◌*◌, ◌≤◌, length, IfOk};
+ghost use Rattle.console.specs.Counts.{IsPrefixLen};
 
 use crate::tell;
+use console::Errors;
+use std::env::Env;
+use std::fs::{Files, OpenFile};
+use std::io;
+use std::io::{Read, Write};
 
 // Whether a file was read, and how many bytes it has.
 #[derive(Clone, Copy)]
@@ -20,36 +25,31 @@ pub struct Name {
 }
 
 // Says what is wrong with the file of word i.
-fn complain_of(i: usize, what: &[u8]) {
-    let mut path = io::buffer();
-    let n = os::arg(i, &mut path);
-    tell::complain(what);
-    tell::complain(&path[..n]);
-    tell::complain(b"\n");
+fn complain_of(rt: &(impl Env + Errors), i: usize, what: &[u8]) {
+    let mut path = console::word_room();
+    let n = console::word(rt, i, &mut path);
+    tell::complain(rt, what);
+    tell::complain(rt, &path[..n]);
+    tell::complain(rt, b"\n");
 }
 
-pub fn failed(i: usize) {
-    complain_of(i, b"post: cannot read or write ");
+pub fn failed(rt: &(impl Env + Errors), i: usize) {
+    complain_of(rt, i, b"post: cannot read or write ");
 }
 
-fn too_long(i: usize) {
-    complain_of(i, b"post: too long: ");
+fn too_long(rt: &(impl Env + Errors), i: usize) {
+    complain_of(rt, i, b"post: too long: ");
 }
 
-pub fn no_book(i: usize) {
-    complain_of(i, b"post: no book, or not a whole one: ");
+pub fn no_book(rt: &(impl Env + Errors), i: usize) {
+    complain_of(rt, i, b"post: no book, or not a whole one: ");
 }
 
 // Whether there is a file of this name.
-pub fn is_there(i: usize) -> bool {
-    let mut path = io::buffer();
-    let n = os::arg(i, &mut path);
-    let fd = os::open_read(&path[..n]);
-    if fd < 0 {
-        return false;
-    }
-    libc::close(fd);
-    true
+pub fn is_there(rt: &(impl Env + Files), i: usize) -> bool {
+    let mut path = console::word_room();
+    let n = console::word(rt, i, &mut path);
+    console::open(rt, &path[..n]).is_ok()
 }
 
 fn unread() -> Loaded
@@ -61,28 +61,30 @@ fn unread() -> Loaded
     }
 }
 
-// Reads the file of word i. One more read tells whether the first ones came to its end: it gives nothing then, and more
-// bytes or a failure otherwise.
-pub fn load(i: usize, bytes: &mut [u8]) -> Loaded
+// Reads the file of this name: how many bytes came, and how many of one byte more. That one tells whether the first
+// ones came to its end: it is not there then.
+fn read(rt: &impl Files, name: &[u8], bytes: &mut [u8]) -> io::Result<(usize, usize)>
+    ensures { IfOk result (λ came. IsPrefixLen came.0 bytes.new) }
+{
+    let mut file = console::open(rt, name)?;
+    let count = console::read_full(&mut file, bytes)?;
+    let mut more = [0u8; 1];
+    let behind = file.read(&mut more)?;
+    Ok((count, behind))
+}
+
+// Reads the file of word i.
+pub fn load(rt: &(impl Env + Files + Errors), i: usize, bytes: &mut [u8]) -> Loaded
     ensures { IsPrefixLen result.count bytes.new }
 {
-    let mut path = io::buffer();
-    let n = os::arg(i, &mut path);
-    let fd = os::open_read(&path[..n]);
-    if fd < 0 {
-        failed(i);
+    let mut path = console::word_room();
+    let n = console::word(rt, i, &mut path);
+    let Ok((count, behind)) = read(rt, &path[..n], bytes) else {
+        failed(rt, i);
         return unread();
-    }
-    let count = io::read_full(fd, bytes);
-    let mut more = [0u8; 1];
-    let rest = libc::read(fd, &mut more);
-    libc::close(fd);
-    if rest < 0 {
-        failed(i);
-        return unread();
-    }
-    if rest > 0 {
-        too_long(i);
+    };
+    if behind > 0 {
+        too_long(rt, i);
         return unread();
     }
     Loaded {
@@ -99,71 +101,66 @@ pub fn book_room() -> [u8; 2112]
 }
 
 // The name of word i with an ending; no name if it is too long.
-fn named(i: usize, ending: &[u8]) -> Name
+fn named(rt: &impl Env, i: usize, ending: &[u8]) -> Name
     ensures { IsPrefixLen result.count result.bytes }
 {
     let mut bytes = [0u8; 4096];
-    let n = os::arg(i, &mut bytes);
+    let n = console::word(rt, i, &mut bytes);
     let mut at = n;
-    let mut k: usize = 0;
-    while k < ending.len() {
+    for b in ending {
         if at >= 4096 {
             return Name { bytes, count: 0 };
         }
-        bytes[at] = ending[k];
+        bytes[at] = *b;
         at += 1;
-        k += 1;
     }
     Name { bytes, count: at }
 }
 
 // Flushes a file that was written, closes it and gives it its name.
-fn finish(fd: i32, is_written: bool, from: Name, to: Name) -> bool
+fn finish<R: Files>(rt: &R, file: R::File, from: Name, to: Name) -> io::Result<()>
     requires { IsPrefixLen from.count from.bytes × IsPrefixLen to.count to.bytes }
 {
-    let is_flushed = libc::fsync(fd) == 0;
-    let is_closed = libc::close(fd) == 0;
-    if !(is_written & is_flushed & is_closed) {
-        return false;
-    }
+    file.sync_all()?;
+    drop(file);
     let a = from.bytes;
     let b = to.bytes;
     let m = from.count;
     let n = to.count;
-    os::rename(&a[..m], &b[..n]) == 0
+    console::rename(rt, &a[..m], &b[..n])
 }
 
 // Opens a file for new bytes.
-fn open(name: Name) -> i32
+fn open<R: Files>(rt: &R, name: Name) -> io::Result<R::File>
     requires { IsPrefixLen name.count name.bytes }
 {
     let path = name.bytes;
     let n = name.count;
-    os::open_overwrite(&path[..n])
+    console::create(rt, &path[..n])
 }
 
 // Replaces the file of word i by the first n bytes of a book.
-pub fn replace(i: usize, book: &[u8], n: usize) -> bool
+pub fn replace(rt: &(impl Env + Files), i: usize, book: &[u8], n: usize) -> io::Result<()>
     requires { (n ≤ 2080) × (length book.now ≡ 2112) }
 {
-    let beside = named(i, b".new");
-    let fd = open(beside);
-    if fd < 0 {
-        return false;
-    }
-    let is_written = io::write_all(fd, &book[..n]);
-    finish(fd, is_written, beside, named(i, b""))
+    let beside = named(rt, i, b".new");
+    let mut file = open(rt, beside)?;
+    file.write_all(&book[..n])?;
+    finish(rt, file, beside, named(rt, i, b""))
 }
 
 // Writes n rows of w bytes, as lines, to the file of word i with the ending `.rows`.
-pub fn write_rows(i: usize, rows: &[u8], w: usize, n: usize) -> bool
+pub fn write_rows(
+    rt: &(impl Env + Files),
+    i: usize,
+    rows: &[u8],
+    w: usize,
+    n: usize,
+) -> io::Result<()>
     requires { (14 ≤ w) × (w ≤ 30) × (n ≤ 64) × (length rows.now ≡ 1920) }
 {
-    let beside = named(i, b".rows.new");
-    let fd = open(beside);
-    if fd < 0 {
-        return false;
-    }
-    let is_written = tell::lines(fd, rows, w, n);
-    finish(fd, is_written, beside, named(i, b".rows"))
+    let beside = named(rt, i, b".rows.new");
+    let mut file = open(rt, beside)?;
+    tell::lines(&mut file, rows, w, n)?;
+    finish(rt, file, beside, named(rt, i, b".rows"))
 }

@@ -10,8 +10,10 @@ mod tell;
 
 ghost use Rattle.std.specs.Prelude.{◌≡◌, ◌≤◌, length};
 
+use console::Console;
 use day::{Fault, Outside};
 use desk::Day;
+use std::io;
 use typed::Read;
 
 // Where the words of a command stand.
@@ -54,67 +56,76 @@ fn first_case(file: &[u8], charts: u8) -> desk::Case {
 }
 
 // Makes a book of n cases.
-fn make(file: &[u8], n: usize)
+fn make(rt: &impl Console, file: &[u8], n: usize)
     requires { n ≤ 64 }
 {
     let s = engine::file::states(file);
     if s.refusal != 0 {
-        tell::refused(b"file", s.refusal);
+        tell::refused(rt, b"file", s.refusal);
         return;
     }
     let mut book = files::book_room();
     book::fill(&mut book, first_case(file, s.charts), n);
-    if !files::replace(NEW_BOOK, &book, book::size(n)) {
-        files::failed(NEW_BOOK);
+    if files::replace(rt, NEW_BOOK, &book, book::size(n)).is_err() {
+        files::failed(rt, NEW_BOOK);
     }
 }
 
-fn new_book(file: &[u8]) {
-    if files::is_there(NEW_BOOK) {
-        tell::complain(b"post: the book is there already.\n");
+fn new_book(rt: &impl Console, file: &[u8]) {
+    if files::is_there(rt, NEW_BOOK) {
+        tell::complain(rt, b"post: the book is there already.\n");
         return;
     }
-    let Read::Is(n) = day::count(COUNT) else {
-        tell::complain(b"post: COUNT is a number from 1 to 64.\n");
+    let Read::Is(n) = day::count(rt, COUNT) else {
+        tell::complain(rt, b"post: COUNT is a number from 1 to 64.\n");
         return;
     };
     if n == 0 {
-        tell::complain(b"post: COUNT is a number from 1 to 64.\n");
+        tell::complain(rt, b"post: COUNT is a number from 1 to 64.\n");
         return;
     }
     if n > 64 {
-        tell::complain(b"post: COUNT is a number from 1 to 64.\n");
+        tell::complain(rt, b"post: COUNT is a number from 1 to 64.\n");
         return;
     }
-    make(file, n as usize);
+    make(rt, file, n as usize);
 }
 
 // The rows are written first, then the book takes its new bytes; last, the rows are printed.
-fn write(rows: &[u8], w: usize, n: usize, book: &[u8])
+fn write(rt: &impl Console, rows: &[u8], w: usize, n: usize, book: &[u8])
     requires { (14 ≤ w) × (w ≤ 30) × (n ≤ 64) × (length rows.now ≡ 1920) × (length book.now ≡ 2112) }
 {
-    if !files::write_rows(ENTRIES, rows, w, n) {
-        files::failed(ENTRIES);
+    if files::write_rows(rt, ENTRIES, rows, w, n).is_err() {
+        files::failed(rt, ENTRIES);
         return;
     }
-    if !files::replace(BOOK, book, book::size(n)) {
-        files::failed(BOOK);
+    if files::replace(rt, BOOK, book, book::size(n)).is_err() {
+        files::failed(rt, BOOK);
         return;
     }
-    tell::lines(libc::STDOUT_FILENO, rows, w, n);
+    // The day is posted: whether its rows could be printed changes nothing.
+    let _ = tell::lines(&mut io::writer(rt), rows, w, n);
 }
 
 // A day that is read, posted to a book of n cases; or its refusal, and with 61 the first entry outside the book.
-fn post_day(file: &[u8], book: &mut [u8], n: usize, d: Day, outside: Outside, number: u64)
+fn post_day(
+    rt: &impl Console,
+    file: &[u8],
+    book: &mut [u8],
+    n: usize,
+    d: Day,
+    outside: Outside,
+    number: u64,
+)
     requires { (n ≤ 64) × (length book.old ≡ 2112) }
 {
     let s = book::looked(file, book, n);
     let mut rows = row_room();
     let p = deciding::decide(s, d.outside, n, rows.len());
     if p.refusal != 0 {
-        tell::refused(b"day", p.refusal);
+        tell::refused(rt, b"day", p.refusal);
         if p.refusal == desk::NO_SUCH_CASE {
-            tell::no_such_case(outside, n as u64);
+            tell::no_such_case(rt, outside, n as u64);
         }
         return;
     }
@@ -124,7 +135,7 @@ fn post_day(file: &[u8], book: &mut [u8], n: usize, d: Day, outside: Outside, nu
     }
     book::post_cases(file, book, d, n, charts, &mut rows);
     book::put_day(book, number);
-    write(&rows, 14 + charts, n, book);
+    write(rt, &rows, 14 + charts, n, book);
 }
 
 // The number of the day: the one that it carries, which no earlier day may have had; or the next.
@@ -138,87 +149,88 @@ fn number_of(given: u64, last: u64) -> u64 {
     if given > last { given } else { 0 }
 }
 
-fn day_of(file: &[u8], book: &mut [u8], n: usize, text: &[u8])
+fn day_of(rt: &impl Console, file: &[u8], book: &mut [u8], n: usize, text: &[u8])
     requires { (n ≤ 64) × (length book.old ≡ 2112) }
 {
     let e = day::entries(text, n);
     let f = e.fault;
     let Fault::Nothing = f else {
-        tell::wrong_line(f, e.line);
+        tell::wrong_line(rt, f, e.line);
         return;
     };
     let last = book::last_day(book);
     let number = number_of(e.number, last);
     if number == 0 {
-        tell::posted_already(e.number, last);
+        tell::posted_already(rt, e.number, last);
         return;
     }
     let d = e.day;
     let outside = e.outside;
-    post_day(file, book, n, d, outside, number);
+    post_day(rt, file, book, n, d, outside, number);
 }
 
-fn read_day(file: &[u8]) {
+fn read_day(rt: &impl Console, file: &[u8]) {
     let mut book = files::book_room();
-    let b = files::load(BOOK, &mut book);
+    let b = files::load(rt, BOOK, &mut book);
     let n = book::cases(&book, b.count);
     if n == 0 {
-        files::no_book(BOOK);
+        files::no_book(rt, BOOK);
         return;
     }
     let mut text = file_room();
-    let t = files::load(ENTRIES, &mut text);
+    let t = files::load(rt, ENTRIES, &mut text);
     if !t.is_read {
         return;
     }
     let k = t.count;
-    day_of(file, &mut book, n, &text[..k]);
+    day_of(rt, file, &mut book, n, &text[..k]);
 }
 
-fn show() {
+fn show(rt: &impl Console) {
     let mut book = files::book_room();
-    let b = files::load(SHOWN, &mut book);
+    let b = files::load(rt, SHOWN, &mut book);
     let n = book::cases(&book, b.count);
     if n == 0 {
-        files::no_book(SHOWN);
+        files::no_book(rt, SHOWN);
         return;
     }
-    tell::show_book(&book, n);
+    tell::show_book(rt, &book, n);
 }
 
 // A command on a chart file.
-fn on_file(is_new: bool) {
+fn on_file(rt: &impl Console, is_new: bool) {
     let mut file = file_room();
-    let f = files::load(CHART, &mut file);
+    let f = files::load(rt, CHART, &mut file);
     if !f.is_read {
         return;
     }
     let k = f.count;
     if is_new {
-        new_book(&file[..k]);
+        new_book(rt, &file[..k]);
     } else {
-        read_day(&file[..k]);
+        read_day(rt, &file[..k]);
     }
 }
 
-fn main() {
-    let mut word = io::buffer();
-    let k = os::arg(1, &mut word);
-    if os::arg_count() == 5 {
+fn main(rt: HostRuntime) {
+    let mut word = console::word_room();
+    let k = console::word(&rt, 1, &mut word);
+    let count = console::word_count(&rt);
+    if count == 5 {
         if typed::is(&word[..k], b"new") {
-            on_file(true);
+            on_file(&rt, true);
             return;
         }
         if typed::is(&word[..k], b"day") {
-            on_file(false);
+            on_file(&rt, false);
             return;
         }
     }
-    if os::arg_count() == 3 {
+    if count == 3 {
         if typed::is(&word[..k], b"show") {
-            show();
+            show(&rt);
             return;
         }
     }
-    tell::help();
+    tell::help(&rt);
 }

@@ -1,0 +1,9 @@
+-- Each chart or token takes the place further on.
+use Rattle.std.proofs.Common.{length, ◌-◌, ◌≤◌}
+use Rattle.caret.proofs.show_faults.Given as goal
+
+abbrev pub invariant-loop-at : goal.invariant-loop-at
+invariant-loop-at g l = l.at ≤ length l.text
+
+abbrev pub decreases-loop-at : goal.decreases-loop-at
+decreases-loop-at g l = length l.text - l.at
