@@ -1,9 +1,7 @@
 -- `deciding::bad` meets its contract: a law for each return.
-use mathlib.Core.Path.{◌≡◌, refl, ◌∙◌}
+use mathlib.Core.Path.{◌≡◌, ◌∙◌}
 use mathlib.Core.Bool.{Bool, cond}
 use Prim.Native.Nat.{ℕ, ◌≤◌, ◌<◌}
-use native.Mathlib.Omega.{arith}
-use borrow.Author.Rules.{rules}
 use borrow.Author.Tests.{lt-ltb, le-ltb, eq-eqb, ne_eqb}
 use lib.ListN.{get_or}
 use Rattle.meaning.specs.Numbers.{most_charts, wrong_length, bad_state}
@@ -13,8 +11,7 @@ use Rattle.meaning.specs.Check.{not_below}
 use Rattle.desk.specs.declared.Case.{Case}
 use Rattle.desk.specs.declared.Seen.{Seen}
 use Rattle.desk.specs.Turns.{bad_of}
-use Rattle.deciding.proofs.bad.Statement.{statement}
-use Rattle.deciding.proofs.bad.Tie as tie
+use Rattle.deciding.proofs.bad.Goals as goal
 
 bad-long : (s : Seen) (c : Case) → most_charts < c.length → wrong_length ≡ bad_of s c
 unfolding bad_of
@@ -30,31 +27,20 @@ bad-states : (s : Seen) (c : Case) (t : Bool) (r : ℕ) → c.length ≤ most_ch
 unfolding bad_of same
 bad-states s c t r l n e g = g ∙ rw (le-ltb most_charts c.length l, eq-eqb c.length s.charts n, e)
 
-returns : tie.Need-returns
-returns c = bad-long _ _ c.if1.true
+pub returns-then-n-gt-CHARTS : goal.returns-then-n-gt-CHARTS
+returns-then-n-gt-CHARTS c = bad-long _ _ c.if-n-gt-CHARTS.true
 
-returns-2 : tie.Need-returns-2
-returns-2 c = bad-length _ _ c.before.before.if1.false c.if2.true
+pub returns-then-n-s : goal.returns-then-n-s
+returns-then-n-s c = bad-length _ _ c.if-n-gt-CHARTS.false c.if-n-s.true
 
-returns-3 : tie.Need-returns-3
-returns-3 c =
-    let e = c.before.before.before.before in
-    bad-states _ _ _ _ e.before.before.if1.false e.if2.false c.before.bad-state.ensures
-    (rw c.if3.true)
+pub returns-then-bad_state : goal.returns-then-bad_state
+returns-then-bad_state c =
+    bad-states _ _ _ _ c.if-n-gt-CHARTS.false c.if-n-s.false c.bad_state.ensures
+    (rw c.if-bad_state.true)
 
-returns-4 : tie.Need-returns-4
-returns-4 c =
-    let e = c.before.before.before.before in
-    bad-states _ _ _ _ e.before.before.if1.false e.if2.false c.before.bad-state.ensures (rw c.if3.false)
+pub returns : goal.returns
+returns c =
+    bad-states _ _ _ _ c.if-n-gt-CHARTS.false c.if-n-s.false c.bad_state.ensures (rw c.if-bad_state.false)
 
-pub bad_spec : {M : Type 1} → statement M
-bad_spec =
-    tie.close
-    (tie.spec
-    (λ c. search rules)
-    returns
-    (λ c. search rules)
-    returns-2
-    (λ c κs. c.before.before.before.before.if1.false)
-    returns-3
-    returns-4)
+pub bad_state-requires : goal.bad_state-requires
+bad_state-requires c = c.if-n-gt-CHARTS.false

@@ -4,8 +4,7 @@ use Prim.Native.Nat.{ℕ}
 use borrow.Author.Tests.{eq-eqb, ne_eqb}
 use Rattle.meaning.specs.Meaning.{same}
 use Rattle.desk.specs.Turns.{plan_of}
-use Rattle.deciding.proofs.planned.Statement.{statement}
-use Rattle.deciding.proofs.planned.Tie as tie
+use Rattle.deciding.proofs.planned.Goals as goal
 
 plan-on : (r n charts : ℕ) → r ≡ 0 → record { refusal = r; count = n; charts = charts } ≡ plan_of r n charts
 unfolding plan_of same
@@ -15,5 +14,8 @@ plan_off : (r n charts : ℕ) → (r ≡ 0 → ⊥) → record { refusal = r; co
 unfolding plan_of same
 plan_off r n charts h = rw (ne_eqb r 0 h)
 
-pub planned_spec : {M : Type 1} → statement M
-planned_spec = tie.close (tie.spec (λ c. plan-on _ _ _ c.if1.true) (λ c. plan_off _ _ _ c.if1.false))
+pub returns-then-r-eq-ACCEPTED : goal.returns-then-r-eq-ACCEPTED
+returns-then-r-eq-ACCEPTED c = plan-on _ _ _ c.if-r-eq-ACCEPTED.true
+
+pub returns : goal.returns
+returns c = plan_off _ _ _ c.if-r-eq-ACCEPTED.false

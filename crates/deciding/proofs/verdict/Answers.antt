@@ -12,8 +12,7 @@ use Rattle.meaning.specs.Meaning.{same}
 use Rattle.desk.specs.declared.Seen.{Seen}
 use Rattle.desk.specs.Posting.{most_cases, bad_book, no_such_case, rows_end, short_book}
 use Rattle.desk.specs.Turns.{verdict_of}
-use Rattle.deciding.proofs.verdict.Statement.{statement}
-use Rattle.deciding.proofs.verdict.Tie as tie
+use Rattle.deciding.proofs.verdict.Goals as goal
 
 module _ (s : Seen) (outside : Bool) (n room : ℕ) where
   abbrev verdict : ℕ
@@ -72,48 +71,40 @@ module _ (s : Seen) (outside : Bool) (n room : ℕ) where
 fits : (n m : ℕ) → n ≤ 64 → m < 256 → n * (14 + m) < 2 ^ 64
 fits n m h k = let e : n * (14 + m) ≤ 64 * (14 + m) = mul-le-mul_right (14 + m) h in omega (arith, e, k)
 
-returns : tie.Need-returns
-returns c = by_case _ _ _ _ c.if1.true
+pub returns-then-b-ne-ACCEPTED : goal.returns-then-b-ne-ACCEPTED
+returns-then-b-ne-ACCEPTED c = by_case _ _ _ _ c.if-b-ne-ACCEPTED.true
 
-returns-2 : tie.Need-returns-2
-returns-2 c = by-none _ _ _ _ c.before.if1.false c.if2.true
+pub returns-then-n-eq0 : goal.returns-then-n-eq0
+returns-then-n-eq0 c = by-none _ _ _ _ c.if-b-ne-ACCEPTED.false c.if-n-eq0.true
 
-returns-3 : tie.Need-returns-3
-returns-3 c = by-many _ _ _ _ c.before.before.if1.false c.before.if2.false c.if3.true
+pub returns-then-n-gt-CASES : goal.returns-then-n-gt-CASES
+returns-then-n-gt-CASES c =
+    by-many _ _ _ _ c.if-b-ne-ACCEPTED.false c.if-n-eq0.false c.if-n-gt-CASES.true
 
-returns-4 : tie.Need-returns-4
-returns-4 c =
-    by-outside _ _ _ _ c.before.before.before.if1.false c.before.before.if2.false c.before.if3.false
-    c.if4.true
+pub returns-then-outside : goal.returns-then-outside
+returns-then-outside c =
+    by-outside _ _ _ _ c.if-b-ne-ACCEPTED.false c.if-n-eq0.false c.if-n-gt-CASES.false
+    c.if-outside.true
 
-returns-5 : tie.Need-returns-5
-returns-5 c =
-    by_end _ _ _ _ c.before.before.before.before.if1.false c.before.before.before.if2.false
-    c.before.before.if3.false
-    c.before.if4.false c.if5.true
+pub returns-then-ended : goal.returns-then-ended
+returns-then-ended c =
+    by_end _ _ _ _ c.if-b-ne-ACCEPTED.false c.if-n-eq0.false
+    c.if-n-gt-CASES.false
+    c.if-outside.false c.if-ended.true
 
-mul-if6 : tie.Need-overflow-mul-if6
-mul-if6 c =
-    let s = c.before.before.before.before.before.before in
-    let h : Fits w8 s.args.s.charts = search rules in
-    record { fits = fits s.args.n s.args.s.charts c.before.before.before.if3.false h.fits }
+pub overflow_mul-n : goal.overflow_mul-n
+overflow_mul-n c =
+    let h : Fits w8 c.args.s.charts = search rules in
+    record { fits = fits c.args.n c.args.s.charts c.if-n-gt-CASES.false h.fits }
 
-returns-6 : tie.Need-returns-6
-returns-6 c =
-    let e = c.before.before in
-    by_room _ _ _ _ e.before.before.before.before.if1.false e.before.before.before.if2.false
-    e.before.before.if3.false
-    e.before.if4.false e.if5.false c.if6.true
+pub returns-then-room-n : goal.returns-then-room-n
+returns-then-room-n c =
+    by_room _ _ _ _ c.if-b-ne-ACCEPTED.false c.if-n-eq0.false
+    c.if-n-gt-CASES.false
+    c.if-outside.false c.if-ended.false c.if-room-n.true
 
-returns-7 : tie.Need-returns-7
-returns-7 c =
-    let e = c.before.before in
-    by-nothing _ _ _ _ e.before.before.before.before.if1.false e.before.before.before.if2.false
-    e.before.before.if3.false
-    e.before.if4.false e.if5.false c.if6.false
-
-pub verdict_spec : {M : Type 1} → statement M
-verdict_spec =
-    tie.close
-    (tie.spec returns returns-2 returns-3 returns-4 returns-5 (λ c. search rules) (λ c. search rules)
-    (λ c. search rules) mul-if6 returns-6 returns-7)
+pub returns : goal.returns
+returns c =
+    by-nothing _ _ _ _ c.if-b-ne-ACCEPTED.false c.if-n-eq0.false
+    c.if-n-gt-CASES.false
+    c.if-outside.false c.if-ended.false c.if-room-n.false
