@@ -121,7 +121,8 @@ some_at [] place l h = absurd (omega arith)
 some_at (t ∷ ts) zero l h = (t, (refl, h.0))
 some_at (t ∷ ts) (suc place) l h = some_at ts place (omega arith) h.1
 
-sets_fit : (f : List ℕ) → AllBytes f → refusal_of f ≡ 0 → (chart : ℕ) → Every Small ((file_of f).chart chart).transitions
+sets_fit : (f : List ℕ) → AllBytes f → refusal_of f ≡ 0 → (chart : ℕ)
+    → Every Small ((file_of f).chart chart).transitions
 unfolding file_of file_at chart_of
 sets_fit f ab e chart = smalls f (passed f e) ab chart
 
@@ -136,7 +137,8 @@ answers f ab e chart place o l = go (some_at ((file_of f).chart chart).transitio
         record {
           transition = t;
           at = at;
-          permits = ap is_met (at_place ((file_of f).chart chart) place t o at) ∙ met_permits ((file_of f).chart chart) t o;
+          permits = ap is_met (at_place ((file_of f).chart chart) place t o at)
+              ∙ met_permits ((file_of f).chart chart) t o;
           shows =
               subst (Shows t.needed t.barred (o ∪ (t.action ∩ ((file_of f).chart chart).feedback))
               (o ∪ (t.action ∩ ((file_of f).chart chart).feedback)))
