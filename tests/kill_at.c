@@ -1,4 +1,4 @@
-// kill_at N PROGRAM WORDS..: runs a program and kills it before the Nth of its calls to the system that change a file: open, write, flush, close, rename.
+// kill_at N PROGRAM WORDS..: runs a program and kills it before the Nth of its calls to the system that change a file: open, write, cut, flush, close, rename, remove.
 // Exits with 0 if it was killed there, with 1 if it ended before, with 2 if it cannot be traced.
 #include <errno.h>
 #include <signal.h>
@@ -13,16 +13,24 @@
 static int changes_a_file(unsigned long long number) {
     switch (number) {
     case SYS_write:
+    case SYS_writev:
+    case SYS_pwrite64:
+    case SYS_ftruncate:
     case SYS_openat:
     case SYS_close:
     case SYS_fsync:
+    case SYS_fdatasync:
     case SYS_renameat:
     case SYS_renameat2:
+    case SYS_unlinkat:
 #ifdef SYS_open
     case SYS_open:
 #endif
 #ifdef SYS_rename
     case SYS_rename:
+#endif
+#ifdef SYS_unlink
+    case SYS_unlink:
 #endif
         return 1;
     default:

@@ -3,14 +3,5 @@
 -- an accepted file come in their order (Records). On what is typed for an accepted file: its charts (Fits), names
 -- (Names) and numbers (Counts); and on its file, 6 and 7 (Charts), 8 (Slaves). Of two files with the same tree, 11
 -- (Inside).
-pub mod Shape
-pub mod Nodes
-pub mod Runs
-pub mod Test10
 pub mod Records
 pub mod Fits
-pub mod Names
-pub mod Counts
-pub mod Charts
-pub mod Slaves
-pub mod Inside

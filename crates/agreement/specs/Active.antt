@@ -8,7 +8,7 @@ use Rattle.signals.specs.Mask.{◌∪◌, ◌∩◌, ◌∖◌}
 use Rattle.meaning.specs.Laws.Bools.{or_elim, same→≡, and_l, and_r}
 use Rattle.meaning.specs.File.{Has, HasS}
 use Rattle.meaning.specs.Active.{active, actives}
-use Rattle.meaning.specs.Active.Laws.{active_by}
+use Rattle.meaning.proofs.Active.Laws.{active_by}
 use Rattle.meaning.specs.Laws.Above.{Above, AboveS}
 use Rattle.agreement.specs.Tree.{tree, nest, calls}
 

@@ -29,7 +29,7 @@ use Rattle.meaning.specs.Check.{leaving, transitions?, slaves?, node_of_kind?, n
 use Rattle.meaning.specs.Check.{inside?, refusal_of}
 use Rattle.meaning.specs.Rewriting.{chart_with, rewritten_chart, rewrite, leaving_in, transitions_in, no_free?, from_state?}
 use Rattle.meaning.specs.Rewriting.{in_chart?, head_for, shape_in, body_bytes, encode}
-use Rattle.meaning.specs.Rewriting.Laws.{list_most, sum_most}
+use Rattle.meaning.proofs.Rewriting.Laws.{list_most, sum_most}
 use Rattle.meaning.specs.Laws.Bools.{and_l, and_r, same_refl, same→≡, same_≢, same→≢}
 use Rattle.meaning.specs.Laws.Trees.{Ordered}
 use Rattle.meaning.specs.Laws.Names.{Rule10}

@@ -10,7 +10,7 @@ use Rattle.layout.specs.declared.record.Node.{Node}
 use Rattle.meaning.specs.File.{File}
 use Rattle.meaning.specs.Rewriting.{chart_with, rewritten_chart, rewrite, in_turn, head_for, transitions_bytes, body_bytes}
 use Rattle.meaning.specs.Rewriting.{encode}
-use Rattle.meaning.specs.Rewriting.Laws.{list_most}
+use Rattle.meaning.proofs.Rewriting.Laws.{list_most}
 use Rattle.agreement.specs.Every.{Every, every_imp}
 use Rattle.agreement.specs.Laid.{ordered_r}
 use Rattle.agreement.specs.Encoded.{node_in, trailer_for}

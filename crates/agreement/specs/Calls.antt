@@ -25,9 +25,9 @@ use Rattle.meaning.specs.Words.{AgreeUnless, Until, PlacesAgree}
 use Rattle.meaning.specs.Laws.Bools.{same_refl, same→≡}
 use Rattle.meaning.specs.Laws.Alike.{ConfigsAlike, first_refusal_alike, first_alike, step_refusal_alike}
 use Rattle.meaning.specs.Laws.Alike.{run_refusal_alike}
-use Rattle.meaning.specs.Laws.Until.{StepsAgreeUnless, same-step_until, same_rows_until, same_run_until}
-use Rattle.meaning.specs.Laws.Until.{same_carried_until}
-use Rattle.meaning.specs.Laws.Editions.{edition_left}
+use Rattle.meaning.proofs.Laws.Until.{StepsAgreeUnless, same-step_until, same_rows_until, same_run_until}
+use Rattle.meaning.proofs.Laws.Until.{same_carried_until}
+use Rattle.meaning.proofs.Laws.Editions.{edition_left}
 use Rattle.agreement.specs.Step.{Rewritten, steps-agree}
 use Rattle.agreement.specs.Taken.{taken-agree}
 use Rattle.agreement.specs.Faces.{input_is, output_is}

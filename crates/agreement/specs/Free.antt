@@ -19,7 +19,7 @@ use Rattle.meaning.specs.Meaning.{Set, ∅, guards, actions}
 use Rattle.meaning.specs.File.{File}
 use Rattle.meaning.specs.Sums.Laws.{below_suc}
 use Rattle.meaning.specs.Rewriting.{union_up_to, lacking, used, free, call, LowestLeft}
-use Rattle.meaning.specs.Rewriting.Laws.{union_in}
+use Rattle.meaning.proofs.Rewriting.Laws.{union_in}
 use Rattle.agreement.specs.Same.{Old}
 use Rattle.agreement.specs.Charts.{OldTs, OldChart}
 use Rattle.std.proofs.Math.Logic.{⊎_elim}

@@ -19,10 +19,10 @@ use Rattle.meaning.specs.Numbers.{no_place}
 use Rattle.meaning.specs.File.{Has}
 use Rattle.meaning.specs.Rewriting.{call_in, idle, called, chart_with}
 use Rattle.meaning.specs.Laws.Bools.{same→≡, same→≢, not-true}
-use Rattle.meaning.specs.Laws.Choices.{upto_cong, upd-at, upd_off, search_empty}
-use Rattle.meaning.specs.Active.Laws.{some?, active_by, ok_active}
+use Rattle.meaning.proofs.Laws.Choices.{upto_cong, upd-at, upd_off, search_empty}
+use Rattle.meaning.proofs.Active.Laws.{some?, active_by, ok_active}
 use Rattle.meaning.specs.Laws.Above.{Above}
-use Rattle.meaning.specs.Laws.Editions.{places_one}
+use Rattle.meaning.proofs.Laws.Editions.{places_one}
 use Rattle.agreement.specs.Tree.{on, tree, touch, move_r}
 use Rattle.agreement.specs.Same.{At, Rw, Rws, old-cut, ok-t, out_t, face-t, face-old}
 use Rattle.agreement.specs.Active.{active_agree, Live, live}

@@ -24,7 +24,7 @@ use Rattle.meaning.specs.Check.Nodes.{sound}
 use Rattle.meaning.specs.Check.Laws.{below, all_pass, Passed, counted, charted}
 use Rattle.meaning.specs.Numbers.{first_edition}
 use Rattle.meaning.specs.Rewriting.{used}
-use Rattle.meaning.specs.Laws.Editions.{one_stays}
+use Rattle.meaning.proofs.Laws.Editions.{one_stays}
 use Rattle.agreement.specs.Every.{Every, every-from, every_imp}
 use Rattle.agreement.specs.Encoded.{Small}
 use Rattle.agreement.specs.Free.{union_small}

@@ -11,7 +11,7 @@ use Rattle.meaning.specs.Numbers.{no_place}
 use Rattle.meaning.specs.Meaning.{same, Chart, pick, Outcome, eq_list, agree, answer, given, upto, place_of, places_from}
 use Rattle.meaning.specs.Meaning.{first_places}
 use Rattle.meaning.specs.Laws.Bools.{same_refl, same→≡, same_≢}
-use Rattle.meaning.specs.Laws.Choices.{place-own}
+use Rattle.meaning.proofs.Laws.Choices.{place-own}
 use Rattle.agreement.specs.Charts.{place}
 
 -- ── one place ──

@@ -17,7 +17,7 @@ use Rattle.meaning.specs.Meaning.{takes, stay, action_of, after, in_face_chart, 
 use Rattle.meaning.specs.Meaning.{ok, oks}
 use Rattle.meaning.specs.Rewriting.{call_in, called, idle}
 use Rattle.meaning.specs.Laws.Bools.{or_l, or_r, same_refl, same→≡, same→≢, same_≢, and_l, and_i, and_cong, not-true}
-use Rattle.meaning.specs.Laws.Editions.{ok_one, ok-one}
+use Rattle.meaning.proofs.Laws.Editions.{ok_one, ok-one}
 use Rattle.agreement.specs.Tree.{calls, on, tree, nest, touch, move_r}
 
 -- ── sets without calls ──

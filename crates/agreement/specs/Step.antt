@@ -16,8 +16,8 @@ use Rattle.meaning.specs.Numbers.{no_place, many_open}
 use Rattle.meaning.specs.Calls.{outcomes_in, found_in, many_open?, step_in}
 use Rattle.meaning.specs.Rewriting.{used, call, chart_with, nearest_slave, rewritten_chart, start, new_name, rewrite}
 use Rattle.meaning.specs.Check.Nodes.{Sound}
-use Rattle.meaning.specs.Laws.Runs.{Valid}
-use Rattle.meaning.specs.Laws.Until.{step_until, StepsAgreeUnless}
+use Rattle.meaning.proofs.Laws.Runs.{Valid}
+use Rattle.meaning.proofs.Laws.Until.{step_until, StepsAgreeUnless}
 use Rattle.meaning.specs.Laws.Trees.{above_node, all_there}
 use Rattle.meaning.specs.Laws.Names.{enc, kap, placed, joined, enc-last}
 use Rattle.agreement.specs.Every.{Every}

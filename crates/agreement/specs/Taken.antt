@@ -20,12 +20,12 @@ use Rattle.meaning.specs.Calls.{outcomes_in, found_in, step_in, places_found, pl
 use Rattle.meaning.specs.Calls.Laws.{get_or-all, places_by_lem}
 use Rattle.meaning.specs.Rewriting.{call, chart_with, idle}
 use Rattle.meaning.specs.Words.{IdleStands, PlacesAgree}
-use Rattle.meaning.specs.Laws.Choices.{place-own, length_places, get_or_places}
-use Rattle.meaning.specs.Laws.Editions.{places_one}
+use Rattle.meaning.proofs.Laws.Choices.{place-own, length_places, get_or_places}
+use Rattle.meaning.proofs.Laws.Editions.{places_one}
 use Rattle.meaning.specs.Laws.Names.{kap}
-use Rattle.meaning.specs.Laws.Runs.{Valid}
-use Rattle.meaning.specs.Laws.Demand2.{given-first}
-use Rattle.meaning.specs.Laws.Many.{Decided, found_or-many}
+use Rattle.meaning.proofs.Laws.Runs.{Valid}
+use Rattle.meaning.proofs.Laws.Demand2.{given-first}
+use Rattle.meaning.proofs.Laws.Many.{Decided, found_or-many}
 use Rattle.agreement.specs.Tree.{touch}
 use Rattle.agreement.specs.Fit.{slaves_of}
 use Rattle.agreement.specs.Charts.{nth-idle, places, places_none}

@@ -7,7 +7,7 @@ use Rattle.std.proofs.Math.Bool.{true, false}
 use Prim.Native.Nat.{ℕ, zero, suc, ◌+◌, ◌<◌}
 use Rattle.meaning.specs.Meaning.{same, upto}
 use Rattle.meaning.specs.Laws.Bools.{same→≡, same→≢}
-use Rattle.meaning.specs.Laws.Choices.{upto_cong, upto-first}
+use Rattle.meaning.proofs.Laws.Choices.{upto_cong, upto-first}
 
 module _ {A : Type 0} where
   none_left : (m k : ℕ) (f : ℕ → List A) → ((q : ℕ) → q < k → f (suc (m + q)) ≡ []) → upto (m + k) f ≡ upto m f

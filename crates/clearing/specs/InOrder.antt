@@ -38,7 +38,7 @@ use Rattle.agreement.specs.Again.{equal, there, head_zero, transition_zero, slav
 use Rattle.agreement.specs.Again.{trailer_zero, zeros-at, leaving_list}
 use Rattle.agreement.specs.Bytes.{Bytes, end, byte, all-bytes, and, nought, in_turn_lem, head_bytes_lem, transitions_bytes_lem}
 use Rattle.agreement.specs.Bytes.{node_bytes_lem, trailer-bytes}
-use Rattle.propositions.specs.Exchange.Records.{Turned, kept, slaves-turned, nodes_turned, naming_turned, inside-turned}
+use Rattle.propositions.proofs.Exchange.Records.{Turned, kept, slaves-turned, nodes_turned, naming_turned, inside-turned}
 
 pub record InOrder (R : File) : Type 0 where
   pub fits : Fits R

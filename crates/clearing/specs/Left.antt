@@ -13,7 +13,6 @@ use Rattle.meaning.specs.File.{file_at}
 use Rattle.meaning.specs.Rewriting.{head_for, in_turn, transitions_bytes}
 use Rattle.clearing.specs.declared.Left.{Left}
 use Rattle.clearing.specs.Clearing.{alive, cleared_chart}
-pub mod Laws
 
 -- how many are left; the signals that the guards named before, and name after
 unfoldable pub left_of : Set → List Transition → Left

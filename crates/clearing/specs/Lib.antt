@@ -5,15 +5,5 @@
 -- goes through it (Left), what else clearing keeps (Kept), the rewriting of a cleared file (Limits over records,
 -- Rewrites over bytes), and files cleared by computation (Examples).
 pub mod Clearing
-pub mod Dead
-pub mod Alive
-pub mod Outcomes
-pub mod Result
 pub mod InOrder
-pub mod New
-pub mod Calls
 pub mod Left
-pub mod Kept
-pub mod Limits
-pub mod Rewrites
-pub mod Examples

@@ -4,7 +4,7 @@ use Rattle.layout.specs.declared.body.Shape.{Shape}
 use Rattle.meaning.specs.Numbers.{most_charts}
 use Rattle.meaning.specs.File.{trailer, shape_of, body_of, file_of}
 use Rattle.meaning.specs.Check.{refusal_of}
-use Rattle.meaning.specs.Laws.Runs.{Leads}
+use Rattle.meaning.proofs.Laws.Runs.{Leads}
 use Rattle.meaning.specs.Calls.{laid_over}
 use Rattle.line.specs.Line.{front_of, day_refusal, day_from}
 use Rattle.opening.specs.Opening.{Stands}

@@ -16,7 +16,6 @@ use Rattle.desk.specs.declared.Seen.{Seen}
 use Rattle.desk.specs.declared.Reply.{Reply}
 use Rattle.desk.specs.declared.Plan.{Plan}
 use Rattle.desk.specs.Posting.{last_row, most_cases, width, bad_book, no_such_case, rows_end, short_book, config_of}
-pub mod Posted
 
 -- the first n bytes of a record
 abbrev pub first_bytes : ℕ → List ℕ → List ℕ

@@ -3,9 +3,6 @@
 -- those of one chart (Rising), and that the tree means the chart (Tree). All of it, and of texts (Theorems).
 pub mod Small
 pub mod Back
-pub mod Charts
 pub mod Order
 pub mod Parts
 pub mod Rising
-pub mod Tree
-pub mod Theorems

@@ -24,15 +24,15 @@ use Rattle.meaning.specs.Check.Laws.{eq_or-not}
 use Rattle.meaning.specs.Calls.{laid_over, Valid, next_in, after_step, row_of, rows_of}
 use Rattle.meaning.specs.Calls.{carried_of, run_refusal, run_bytes, run_carried}
 use Rattle.meaning.specs.Calls.Laws.{behind_is, run_open}
-use Rattle.meaning.specs.Laws.Runs.{Stand, rows_all, length-row, file-leads}
+use Rattle.meaning.proofs.Laws.Runs.{Stand, rows_all, length-row, file-leads}
 use Rattle.meaning.specs.Laws.Bools.{or_swap}
 use Rattle.desk.specs.declared.Case.{Case}
 use Rattle.desk.specs.declared.Entry.{Entry}
 use Rattle.desk.specs.Posting.{config_of, joined, book_tests, outside?, day_tests, post_refusal, answer_to, posted_row}
 use Rattle.desk.specs.Posting.{posted_case, rows_from, cases_from, post_cases, post_rows}
 use Rattle.desk.specs.Turns.{first_bytes}
-use Rattle.desk.specs.Turns.Posted.{refusal_at, config_valid, len_known, book_passes, each_passes, after-long}
-use Rattle.desk.specs.Turns.Posted.{next-bytes, Accepted, accepted}
+use Rattle.desk.proofs.Turns.Posted.{refusal_at, config_valid, len_known, book_passes, each_passes, after-long}
+use Rattle.desk.proofs.Turns.Posted.{next-bytes, Accepted, accepted}
 use Rattle.history.specs.Words.{mine, Alike, alike_none, alike_on, alike_swap, alike_join, alike_back, alike_then}
 use Rattle.history.specs.Words.{posted_at, post_days, DaysPosted, case_rows, arrived}
 

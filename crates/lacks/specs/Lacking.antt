@@ -12,7 +12,6 @@ use Rattle.meaning.specs.File.{File, file_of}
 use Rattle.meaning.specs.Check.{Test, first_of, file_tests, not_below}
 use Rattle.lacks.specs.declared.Lacking.{Lacking}
 use Rattle.lacks.specs.declared.Lacking.TheVariants.{Refused, Shown}
-pub mod Laws
 
 -- ── the test ──
 

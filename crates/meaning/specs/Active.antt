@@ -4,7 +4,6 @@ use Rattle.std.specs.Prelude.{Bool, true, false, ◌&&◌, ◌||◌, cond, List,
 use Rattle.meaning.specs.Numbers.{no_place}
 use Rattle.meaning.specs.Meaning.{Set, same, Tree, Slaves, leaf, comp, hide, dec, nil, snoc, no_move, nth, out}
 use Rattle.meaning.specs.File.{File, whole_of, Has}
-pub mod Laws
 
 -- state: of each slave, its state; before and next: of each chart, its state before and after the step
 module _ (state before next : ℕ → ℕ) where

@@ -7,19 +7,9 @@
 -- until a step is refused with a number, if their steps do (Until).
 pub mod Bools
 pub mod Guards
-pub mod Choices
 pub mod Above
 pub mod Trees
 pub mod Folds
 pub mod Faces
 pub mod Names
-pub mod Editions
-pub mod Open
 pub mod Alike
-pub mod Demand2
-pub mod Runs
-pub mod Files
-pub mod Many
-pub mod Activity
-pub mod Thirteen
-pub mod Until

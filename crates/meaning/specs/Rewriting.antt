@@ -19,7 +19,6 @@ use Rattle.meaning.specs.Meaning.{actions}
 use Rattle.meaning.specs.File.{File, trailer, whole_of, Has, file_of}
 use Rattle.meaning.specs.Check.{Test, first_of, file_tests}
 use Rattle.meaning.specs.Calls.{laid_over}
-pub mod Laws
 
 -- f 0 ∪ f 1 ∪ .. ∪ f (n - 1)
 unfoldable pub union_up_to : ℕ → (ℕ → Set) → Set

@@ -6,11 +6,4 @@
 pub mod Decimal
 pub mod Signs
 pub mod Backward
-pub mod Before
 pub mod Reads
-pub mod Fed
-pub mod Led
-pub mod Begun
-pub mod Theorems
-pub mod Write
-pub mod Examples

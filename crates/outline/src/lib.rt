@@ -106,7 +106,7 @@ fn composed(left: usize, p: Outline, bad: bool, q: Outline) -> Outline
 }
 
 // A chart that may be so deep: a part, or two with their feedback set between bars.
-#[cycle(bracketed_chart_hidden_master_pair_part_slaves)]
+#[cycle(descent)]
 fn chart(text: &[u8], at: usize, left: usize) -> Outline
     requires { at ≤ length text.now }
     ensures { ChartAt text.now at left result }
@@ -124,7 +124,7 @@ fn chart(text: &[u8], at: usize, left: usize) -> Outline
 }
 
 // A part of a composition, or a chart that is none.
-#[cycle(bracketed_chart_hidden_master_pair_part_slaves)]
+#[cycle(descent)]
 fn part(text: &[u8], at: usize, left: usize) -> Outline
     requires { at ≤ length text.now }
     ensures { PartAt text.now at left result }
@@ -158,7 +158,7 @@ fn sequential(text: &[u8], at: usize, left: usize) -> Outline
 }
 
 // A composition in round brackets, which are no level of their own: what it is a part of is.
-#[cycle(bracketed_chart_hidden_master_pair_part_slaves)]
+#[cycle(descent)]
 fn bracketed(text: &[u8], at: usize, left: usize) -> Outline
     requires { (at ≤ length text.now) × (0 < left) }
     ensures { FormedAt Bracketed text.now at left result }
@@ -175,7 +175,7 @@ fn bracketed(text: &[u8], at: usize, left: usize) -> Outline
 }
 
 // A chart in square brackets, with its hiding sets.
-#[cycle(bracketed_chart_hidden_master_pair_part_slaves)]
+#[cycle(descent)]
 fn hidden(text: &[u8], at: usize, left: usize) -> Outline
     requires { (at ≤ length text.now) × (0 < left) }
     ensures { FormedAt Hidden text.now at left result }
@@ -194,7 +194,7 @@ fn hidden(text: &[u8], at: usize, left: usize) -> Outline
 }
 
 // A master with its slaves.
-#[cycle(bracketed_chart_hidden_master_pair_part_slaves)]
+#[cycle(descent)]
 fn master(text: &[u8], at: usize, left: usize) -> Outline
     requires { (at ≤ length text.now) × (0 < left) }
     ensures { FormedAt Decomposed text.now at left result }
@@ -213,7 +213,7 @@ fn master(text: &[u8], at: usize, left: usize) -> Outline
 }
 
 // The slaves of a master with the states of a mask, and the brace behind them.
-#[cycle(bracketed_chart_hidden_master_pair_part_slaves)]
+#[cycle(descent)]
 fn slaves(text: &[u8], at: usize, mask: u64, left: usize) -> Outline
     requires { at ≤ length text.now }
     ensures { SlavesAt text.now at mask left result }
@@ -242,7 +242,7 @@ fn slaves(text: &[u8], at: usize, mask: u64, left: usize) -> Outline
 }
 
 // A slave with its state, in round brackets.
-#[cycle(bracketed_chart_hidden_master_pair_part_slaves)]
+#[cycle(descent)]
 fn pair(text: &[u8], at: usize, mask: u64, left: usize) -> Outline
     requires { at ≤ length text.now }
     ensures { PairAt text.now at mask left result }

@@ -3,4 +3,3 @@
 -- What plain means is in meaning's Plain.
 pub mod Moves
 pub mod Choices
-pub mod Sure

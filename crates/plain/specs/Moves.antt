@@ -15,7 +15,7 @@ use Rattle.layout.specs.declared.record.Transition.{Transition}
 use Rattle.meaning.specs.Sums.Laws.{or_left, or_right}
 use Rattle.meaning.specs.Meaning.{Set, ∅, same, Chart, Move, no_move, takes, stay, nth, pick}
 use Rattle.meaning.specs.Laws.Bools.{and_l, and_r, and_i, same→≡, agrees}
-use Rattle.meaning.specs.Laws.Editions.{ok_one, pick-one}
+use Rattle.meaning.proofs.Laws.Editions.{ok_one, pick-one}
 use Rattle.meaning.specs.Plain.{told_apart, doubtful, doubtful_with, any_doubtful}
 
 -- ── anyDoubtful ──

@@ -7,12 +7,8 @@ use Rattle.layout.specs.Body.{nodes_from}
 use Rattle.layout.specs.declared.body.Shape.{Shape}
 use Rattle.meaning.specs.File.{end_of, trailer, shape_of, file_of}
 use Rattle.meaning.specs.Check.{distance?}
-pub mod Trees
-pub mod Answers
-pub mod Records
 pub mod Swap
-pub mod Bytes
-pub mod Laws
+pub mod Trees
 
 -- the byte at p exchanged with the one behind it
 unfoldable pub swap_at : ℕ → List ℕ → List ℕ

@@ -6,8 +6,6 @@ use Rattle.meaning.specs.Meaning.{Set, ∅, Chart, Tree, leaf, comp, hide, dec, 
 use Rattle.meaning.specs.File.{file_of, whole_of}
 use Rattle.meaning.specs.Calls.{input_of}
 use Rattle.meaning.specs.Words.{Choice, Permitted, output_by, next_by}
-pub mod Trees
-pub mod Laws
 
 -- ── over a tree ──
 

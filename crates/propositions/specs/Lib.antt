@@ -3,4 +3,3 @@
 -- Examples has what the two do not say.
 pub mod Exchange
 pub mod FedBack
-pub mod Examples

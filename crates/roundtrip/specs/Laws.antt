@@ -6,11 +6,5 @@
 pub mod Rising
 pub mod Proper
 pub mod Like
-pub mod Back
-pub mod Accepted
-pub mod Kept
-pub mod Answers
 pub mod Bytes
 pub mod Relaid
-pub mod Again
-pub mod Written

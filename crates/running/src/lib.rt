@@ -7,7 +7,7 @@ ghost use Rattle.meaning.specs.Numbers.{most_charts};
 ghost use Rattle.meaning.specs.Sums.{one};
 ghost use Rattle.meaning.specs.File.{file_at};
 ghost use Rattle.meaning.specs.Calls.{laid_over, after_step, carried_after, row_of, rows_of, carried_of};
-ghost use Rattle.meaning.specs.Laws.Runs.{Valid};
+ghost use Rattle.meaning.proofs.Laws.Runs.{Valid};
 ghost use Rattle.stepping.specs.Step.{Checked, Prepared, tried_answer};
 ghost use Rattle.running.specs.Run.{BodyRuns};
 

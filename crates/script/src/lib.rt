@@ -54,7 +54,7 @@ fn composes(n: Shape, body: &[u8], j: usize, left: usize) -> bool
 }
 
 // Node j by itself.
-#[cycle(chart_hidden_master_pair_part_slave_slaves)]
+#[cycle(descent)]
 fn chart(n: Shape, body: &[u8], j: usize, left: usize, out: &mut [u8], at: usize) -> usize
     requires { Legible n body.now × (j < n.nodes) }
     ensures { Prints out.old at (text_by (file_at n body.now)
@@ -74,7 +74,7 @@ fn chart(n: Shape, body: &[u8], j: usize, left: usize, out: &mut [u8], at: usize
 }
 
 // Node j as a part of a composition: a composition stands in round brackets there.
-#[cycle(chart_hidden_master_pair_part_slave_slaves)]
+#[cycle(descent)]
 fn part(n: Shape, body: &[u8], j: usize, left: usize, out: &mut [u8], at: usize) -> usize
     requires { Legible n body.now × (j < n.nodes) }
     ensures { Prints out.old at (part_by (file_at n body.now)
@@ -89,7 +89,7 @@ fn part(n: Shape, body: &[u8], j: usize, left: usize, out: &mut [u8], at: usize)
 }
 
 // The two parts that a node names, with the feedback set between them.
-#[cycle(chart_hidden_master_pair_part_slave_slaves)]
+#[cycle(descent)]
 fn pair(n: Shape, body: &[u8], node: Node, left: usize, out: &mut [u8], at: usize) -> usize
     requires { Legible n body.now × (node.a < n.nodes) × (node.b < n.nodes) }
     ensures { Prints out.old at (text_by (file_at n body.now)
@@ -103,7 +103,7 @@ fn pair(n: Shape, body: &[u8], node: Node, left: usize, out: &mut [u8], at: usiz
 }
 
 // The chart that a node names, between its two hiding sets.
-#[cycle(chart_hidden_master_pair_part_slave_slaves)]
+#[cycle(descent)]
 fn hidden(n: Shape, body: &[u8], node: Node, left: usize, out: &mut [u8], at: usize) -> usize
     requires { Legible n body.now × (node.a < n.nodes) }
     ensures { Prints out.old at (text_by (file_at n body.now)
@@ -117,7 +117,7 @@ fn hidden(n: Shape, body: &[u8], node: Node, left: usize, out: &mut [u8], at: us
 }
 
 // Chart c with its slaves; without any it is a sequential chart.
-#[cycle(chart_hidden_master_pair_part_slave_slaves)]
+#[cycle(descent)]
 fn master(n: Shape, body: &[u8], c: u8, left: usize, out: &mut [u8], at: usize) -> usize
     requires { Legible n body.now × (c < n.charts) }
     ensures { Prints out.old at (text_by (file_at n body.now)
@@ -139,7 +139,7 @@ fn master(n: Shape, body: &[u8], c: u8, left: usize, out: &mut [u8], at: usize) 
 }
 
 // The slaves of a chart, in the order of their records.
-#[cycle(chart_hidden_master_pair_part_slave_slaves)]
+#[cycle(descent)]
 fn slaves(n: Shape, body: &[u8], list: Held, left: usize, out: &mut [u8]) -> usize
     requires { Legible n body.now }
     ensures { Prints out.old list.first (in_turn comma (slave_text (file_at n body.now))
@@ -157,7 +157,7 @@ fn slaves(n: Shape, body: &[u8], list: Held, left: usize, out: &mut [u8]) -> usi
 }
 
 // Slave i, if it is of the list's chart.
-#[cycle(chart_hidden_master_pair_part_slave_slaves)]
+#[cycle(descent)]
 fn slave(
     n: Shape,
     body: &[u8],

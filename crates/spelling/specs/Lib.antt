@@ -5,4 +5,3 @@ pub mod Numbers
 pub mod Typed
 pub mod Write
 pub mod Fits
-pub mod Laws

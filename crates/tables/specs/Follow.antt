@@ -19,8 +19,8 @@ use Rattle.meaning.specs.Numbers.{most_charts, no_place, stay_place}
 use Rattle.meaning.specs.Calls.Laws.{get_or-made}
 use Rattle.meaning.specs.Laws.Bools.{same_refl, same→≡, same_≢, and_i, every}
 use Rattle.meaning.specs.Laws.Guards.{met_is}
-use Rattle.meaning.specs.Laws.Editions.{stay_last, stay_place_lem}
-use Rattle.meaning.specs.Laws.Choices.{place-own, upd-at, upd_off, length-nexts, get_or-nexts, places_upd}
+use Rattle.meaning.proofs.Laws.Editions.{stay_last, stay_place_lem}
+use Rattle.meaning.proofs.Laws.Choices.{place-own, upd-at, upd_off, length-nexts, get_or-nexts, places_upd}
 use Rattle.meaning.specs.Rewriting.{union_up_to}
 use Rattle.wiring.specs.Reach.{down, up, back, offered, awake_by, Small, out_wired}
 use Rattle.wiring.specs.Permitted.{awake, awake-by, Stands, offer}

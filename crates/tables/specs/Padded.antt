@@ -10,7 +10,7 @@ use Rattle.meaning.specs.Numbers.{most_charts, no_place}
 use Rattle.meaning.specs.Meaning.{same, Outcome, eq_list, agree, given, answer, first_places}
 use Rattle.meaning.specs.Calls.{all_places}
 use Rattle.settling.specs.Hunt.{over, nothing}
-use Rattle.meaning.specs.Laws.Choices.{eq_list_refl}
+use Rattle.meaning.proofs.Laws.Choices.{eq_list_refl}
 use Rattle.settling.specs.Hunt.Laws.{head, over_first, Alike, alike_refl, alike_one, alike_sym, alike_trans}
 use Rattle.settling.specs.Hunt.Laws.{alike_fewer, alike_append, alike_answer, Among, among_alike, alike_drop}
 use Rattle.settling.specs.Hunt.Laws.{answer-over}

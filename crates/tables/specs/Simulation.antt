@@ -18,11 +18,11 @@ use Rattle.meaning.specs.Meaning.{action_of, permitted, upd, moves, places_from,
 use Rattle.meaning.specs.Meaning.{search, outcomes, answer, first_places}
 use Rattle.meaning.specs.Laws.Bools.{same_refl, same→≡, same_≢, every, and_i}
 use Rattle.meaning.specs.Numbers.{most_charts, no_place, stay_place}
-use Rattle.meaning.specs.Laws.Editions.{places_one, places_two, stay_last}
+use Rattle.meaning.proofs.Laws.Editions.{places_one, places_two, stay_last}
 use Rattle.meaning.specs.Calls.{all_places}
 use Rattle.meaning.specs.File.{File, whole_of}
 use Rattle.meaning.specs.Laws.Names.{kap}
-use Rattle.meaning.specs.Laws.Choices.{upto-first, length-nexts, length_places}
+use Rattle.meaning.proofs.Laws.Choices.{upto-first, length-nexts, length_places}
 use Rattle.meaning.specs.Rewriting.{union_up_to}
 use Rattle.wiring.specs.Reach.{down, back, offered, Small}
 use Rattle.wiring.specs.Permitted.{awake, Stands, offer}

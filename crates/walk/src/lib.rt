@@ -118,7 +118,7 @@ fn sequential(text: &[u8], from: Cursor, out: &mut [u8]) -> Cursor
 }
 
 // A chart by itself: a part, or two of them with the feedback between them.
-#[cycle(bracketed_chart_hidden_master_of_state_pair_part_slaves)]
+#[cycle(descent)]
 fn chart(text: &[u8], from: Cursor, left: usize, out: &mut [u8], list: &mut [u8]) -> Cursor
     requires { from.place ≤ length text.now }
     ensures { ChartAt text.now left from.place result.place
@@ -147,7 +147,7 @@ fn chart(text: &[u8], from: Cursor, left: usize, out: &mut [u8], list: &mut [u8]
 }
 
 // A part of a composition.
-#[cycle(bracketed_chart_hidden_master_of_state_pair_part_slaves)]
+#[cycle(descent)]
 fn part(text: &[u8], from: Cursor, left: usize, out: &mut [u8], list: &mut [u8]) -> Cursor
     requires { from.place ≤ length text.now }
     ensures { PartAt text.now left from.place result.place
@@ -166,7 +166,7 @@ fn part(text: &[u8], from: Cursor, left: usize, out: &mut [u8], list: &mut [u8])
 }
 
 // A chart between two hiding sets, either of which may be left out.
-#[cycle(bracketed_chart_hidden_master_of_state_pair_part_slaves)]
+#[cycle(descent)]
 fn hidden(text: &[u8], from: Cursor, left: usize, out: &mut [u8], list: &mut [u8]) -> Cursor
     requires { from.place ≤ length text.now }
     ensures { HiddenAt text.now left from.place result.place
@@ -198,7 +198,7 @@ fn hidden(text: &[u8], from: Cursor, left: usize, out: &mut [u8], list: &mut [u8
 }
 
 // A chart in round brackets.
-#[cycle(bracketed_chart_hidden_master_of_state_pair_part_slaves)]
+#[cycle(descent)]
 fn bracketed(text: &[u8], from: Cursor, left: usize, out: &mut [u8], list: &mut [u8]) -> Cursor
     requires { from.place ≤ length text.now }
     ensures { BracketedAt text.now left from.place result.place
@@ -220,7 +220,7 @@ fn bracketed(text: &[u8], from: Cursor, left: usize, out: &mut [u8], list: &mut 
 }
 
 // A master behind its slaves: Dec master by {slaves}.
-#[cycle(bracketed_chart_hidden_master_of_state_pair_part_slaves)]
+#[cycle(descent)]
 fn master(text: &[u8], from: Cursor, left: usize, out: &mut [u8], list: &mut [u8]) -> Cursor
     requires { from.place ≤ length text.now }
     ensures { MasterAt text.now left from.place result.place
@@ -245,7 +245,7 @@ fn master(text: &[u8], from: Cursor, left: usize, out: &mut [u8], list: &mut [u8
 }
 
 // The slaves of a master, by state, up to the brace behind them.
-#[cycle(bracketed_chart_hidden_master_of_state_pair_part_slaves)]
+#[cycle(descent)]
 fn slaves(
     text: &[u8],
     from: Cursor,
@@ -279,7 +279,7 @@ fn slaves(
 }
 
 // The slaves of one state of a master, in their order, up to the brace behind all slaves.
-#[cycle(bracketed_chart_hidden_master_of_state_pair_part_slaves)]
+#[cycle(descent)]
 fn of_state(
     text: &[u8],
     from: Cursor,
@@ -307,7 +307,7 @@ fn of_state(
 }
 
 // A slave of a master, if it is of a state.
-#[cycle(bracketed_chart_hidden_master_of_state_pair_part_slaves)]
+#[cycle(descent)]
 fn pair(
     text: &[u8],
     from: Cursor,

@@ -20,7 +20,7 @@ use Rattle.meaning.specs.Meaning.{same, upd}
 use Rattle.meaning.specs.Sums.{tally, one}
 use Rattle.meaning.specs.Sums.Laws.{below_suc, tally_cong, tally_scale, tally-le, tally_ge}
 use Rattle.meaning.specs.Laws.Bools.{and_l, and_r, and_i, or_l, or_r, same_refl, same→≡, same_≢}
-use Rattle.meaning.specs.Laws.Choices.{upd-at, upd_off, Below}
+use Rattle.meaning.proofs.Laws.Choices.{upd-at, upd_off, Below}
 use Rattle.wiring.specs.Product.{times, over, times_cong, times_pos, times-at}
 use Rattle.wiring.specs.Product.{over_cong, over_mul, over_pos, over-all}
 

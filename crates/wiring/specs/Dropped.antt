@@ -12,7 +12,7 @@ use Rattle.meaning.specs.Meaning.{Set, ∅, same, Chart, Tree, Move, no_move, ta
 use Rattle.meaning.specs.Meaning.{untriggered, permitted, moves, search}
 use Rattle.meaning.specs.Laws.Bools.{every_elim, and_l, and_r, not-true}
 use Rattle.meaning.specs.Laws.Guards.{met_wider, quiet_wider}
-use Rattle.meaning.specs.Laws.Choices.{Below, search_empty}
+use Rattle.meaning.proofs.Laws.Choices.{Below, search_empty}
 use Rattle.wiring.specs.Uncut.{own-moves}
 use Rattle.meaning.specs.Rewriting.{union_up_to}
 use Rattle.wiring.specs.Reach.{down, back, offered, fits, Small}

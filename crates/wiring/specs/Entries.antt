@@ -17,7 +17,7 @@ use Rattle.meaning.specs.Sums.Laws.{tally_cong, tally_mono}
 use Rattle.meaning.specs.Meaning.{same, Chart, Move, no_move, stay, nth, behind, pick, last_place, after, meets}
 use Rattle.meaning.specs.Open.{open_chart}
 use Rattle.meaning.specs.Laws.Bools.{same→≡, same_≢}
-use Rattle.meaning.specs.Laws.Editions.{stay_last}
+use Rattle.meaning.proofs.Laws.Editions.{stay_last}
 use Rattle.wiring.specs.Product.{times, times_cong}
 use Rattle.wiring.specs.Completions.{nested, outside_only, total_of, branch, count_by, Counts, nested_above}
 use Rattle.wiring.specs.Completions.{count_above}

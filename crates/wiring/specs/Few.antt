@@ -23,11 +23,11 @@ use Rattle.meaning.specs.Check.Nodes.{Sound}
 use Rattle.meaning.specs.Open.{open_chart, open_in}
 use Rattle.meaning.specs.Calls.{Valid, found_in, step_of, places_found, places_of}
 use Rattle.meaning.specs.Words.{Allowed}
-use Rattle.meaning.specs.Laws.Many.{few_found, refused_many}
+use Rattle.meaning.proofs.Laws.Many.{few_found, refused_many}
 use Rattle.meaning.specs.Laws.Names.{kap}
-use Rattle.meaning.specs.Laws.Editions.{one_stays}
+use Rattle.meaning.proofs.Laws.Editions.{one_stays}
 use Rattle.wiring.specs.Permitted.{Stands}
-use Rattle.meaning.specs.Laws.Choices.{nth-from}
+use Rattle.meaning.proofs.Laws.Choices.{nth-from}
 use Rattle.meaning.specs.Laws.Alike.{accepted_sound, accepted_node}
 use Rattle.wiring.specs.Stand.{stands}
 use Rattle.wiring.specs.Completions.{Counts, total_of}

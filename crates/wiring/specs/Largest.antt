@@ -14,7 +14,7 @@ use Rattle.meaning.specs.Meaning.{same, upd}
 use Rattle.meaning.specs.Sums.{tally, one}
 use Rattle.meaning.specs.Sums.Laws.{tally_cong, tally_scale, tally-le, tally_mono, tally_zero, tally-front, tally_ones}
 use Rattle.meaning.specs.Laws.Bools.{and_l, and_r, and_i, same_refl, same→≡, same_≢}
-use Rattle.meaning.specs.Laws.Choices.{upd-at}
+use Rattle.meaning.proofs.Laws.Choices.{upd-at}
 use Rattle.wiring.specs.Product.{times, times_cong, times_pos, times-le, times-part, times_factor, grow}
 use Rattle.wiring.specs.Completions.{Acts, Rules, nested, outside_only, total_of, branch, count_by, Counts, the_count}
 use Rattle.wiring.specs.Completions.{the_counts, local, completions, completions-total}

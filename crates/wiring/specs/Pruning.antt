@@ -12,7 +12,7 @@ use Rattle.signals.specs.Decide.{sets, A, B, C, ∅ₑ, ◌∪ₑ◌, ◌≐◌,
 use Rattle.meaning.specs.Meaning.{Set, ∅, same, Chart, Tree, Move, no_move, stay, nth, behind, pick, last_place, action_of}
 use Rattle.meaning.specs.Meaning.{permitted, upd, moves, upto, Outcome, outcome_of, outcome, search, meets}
 use Rattle.meaning.specs.Laws.Bools.{same_refl, same→≡, every, every_intro, every_elim, and_i, not-true}
-use Rattle.meaning.specs.Laws.Choices.{upto_cong, upd-at, upd_off, Below, search_empty}
+use Rattle.meaning.proofs.Laws.Choices.{upto_cong, upd-at, upd_off, Below, search_empty}
 use Rattle.layout.specs.declared.record.Transition.{Transition}
 use Rattle.wiring.specs.Uncut.{own-moves}
 use Rattle.wiring.specs.Reach.{Small, awake_by}

@@ -15,8 +15,8 @@ use Rattle.meaning.specs.Sums.Laws.{below_suc, tally_scale, tally-le}
 use Rattle.meaning.specs.Meaning.{Set, Chart, Tree, pick, action_of, permitted, upd, moves, search}
 use Rattle.meaning.specs.Open.{open_choices}
 use Rattle.meaning.specs.Laws.Bools.{every_elim, every_intro, and_l, and_r, and_i}
-use Rattle.meaning.specs.Laws.Choices.{upd_off, Below}
-use Rattle.meaning.specs.Laws.Open.{permitted_open, how_many-find}
+use Rattle.meaning.proofs.Laws.Choices.{upd_off, Below}
+use Rattle.meaning.proofs.Laws.Open.{permitted_open, how_many-find}
 use Rattle.wiring.specs.Reach.{Small}
 use Rattle.wiring.specs.Permitted.{Stands}
 use Rattle.wiring.specs.Dropped.{Bounds}

@@ -19,10 +19,10 @@ use Rattle.meaning.specs.Meaning.{Chart, Tree, Slaves, leaf, comp, hide, dec, ni
 use Rattle.meaning.specs.Meaning.{stay, nth, behind, pick, last_place, meets, upd, moves}
 use Rattle.meaning.specs.Open.{open_chart, open_tree, open_slaves, is_open, choices, how_many, open_choices}
 use Rattle.meaning.specs.Laws.Bools.{every}
-use Rattle.meaning.specs.Laws.Choices.{upd_off}
-use Rattle.meaning.specs.Laws.Editions.{places_one, places_two, stay_last}
-use Rattle.meaning.specs.Laws.Open.{how_many-next, how_many-last}
-pub use Rattle.meaning.specs.Active.Laws.{nth_near, nth-behind}
+use Rattle.meaning.proofs.Laws.Choices.{upd_off}
+use Rattle.meaning.proofs.Laws.Editions.{places_one, places_two, stay_last}
+use Rattle.meaning.proofs.Laws.Open.{how_many-next, how_many-last}
+pub use Rattle.meaning.proofs.Active.Laws.{nth_near, nth-behind}
 use Rattle.wiring.specs.Reach.{each, eachs, Held, Helds, Enc, Encs, awake_by}
 use Rattle.wiring.specs.Permitted.{awake, awake-by, each_every, Stands}
 use Rattle.wiring.specs.Sure.{open?}

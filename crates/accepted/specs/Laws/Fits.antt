@@ -16,8 +16,8 @@ use Rattle.agreement.specs.Encoded.{Small}
 use Rattle.agreement.specs.Passed.{ended, body_bytes_lem, smalls}
 use Rattle.spelling.specs.Typed.{sequential_of}
 use Rattle.spelling.specs.Fits.{FitsIn, Fits}
-use Rattle.spelling.specs.Laws.Sets.{set-written, optional_written}
-use Rattle.spelling.specs.Laws.Charts.{states-length, transitions_written}
+use Rattle.spelling.proofs.Laws.Sets.{set-written, optional_written}
+use Rattle.spelling.proofs.Laws.Charts.{states-length, transitions_written}
 use Rattle.faithful.specs.Faithful.{ChartIs}
 
 -- between the first m states, with sets of 64 signals

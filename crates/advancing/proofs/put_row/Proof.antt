@@ -12,7 +12,7 @@ use Rattle.meaning.specs.Sums.{one}
 use Rattle.desk.specs.declared.Reply.{Reply}
 use Rattle.desk.specs.Posting.{width}
 use Rattle.desk.specs.Turns.{row_bytes}
-use Rattle.desk.specs.Turns.Posted.{first-bytes}
+use Rattle.desk.proofs.Turns.Posted.{first-bytes}
 use Rattle.advancing.proofs.put_row.Statement.{statement}
 use Rattle.advancing.proofs.put_row.Tie as tie
 

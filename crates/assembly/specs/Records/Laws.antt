@@ -19,7 +19,7 @@ use Rattle.meaning.specs.File.{File}
 use Rattle.meaning.specs.Rewriting.{call, call_in, called, idle, idles, chart_with, nearest_slave, calls_by, rewritten_chart}
 use Rattle.meaning.specs.Rewriting.{is_of, count, start, new_name, calls_of, composed, made_by, made_for, laid, new_node}
 use Rattle.meaning.specs.Rewriting.{rewrite, in_turn, head_for, transitions_bytes, shape_in, body_bytes, encode}
-use Rattle.meaning.specs.Rewriting.Laws.{sum_most}
+use Rattle.meaning.proofs.Rewriting.Laws.{sum_most}
 use Rattle.agreement.specs.Laid.{no_node, laid-length}
 use Rattle.laying.specs.Trailer.{Small, trailer_with}
 use Rattle.laying.specs.Sequence.{turn-front, turn_cong}

@@ -31,7 +31,7 @@ use Rattle.meaning.specs.Numbers.{most_charts, most_from_state, stay_edition}
 use Rattle.meaning.specs.Meaning.{Set, same, Move, no_move, stay, nth, pick, action_of, moves}
 use Rattle.meaning.specs.File.{chart_of, file_at}
 use Rattle.meaning.specs.Laws.Bools.{same_refl, same→≡, same_≢}
-use Rattle.meaning.specs.Laws.Choices.{nth-from}
+use Rattle.meaning.proofs.Laws.Choices.{nth-from}
 use Rattle.meaning.specs.Rewriting.{union_up_to}
 use Rattle.wiring.specs.Reach.{Small, full}
 use Rattle.wiring.specs.Dropped.{join_cong}

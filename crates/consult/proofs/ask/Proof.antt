@@ -12,7 +12,7 @@ use Rattle.stepping.specs.declared.step.Stepped.{Stepped}
 use Rattle.stepping.specs.Answer.{stepped_of}
 use Rattle.desk.specs.Posting.{width}
 use Rattle.desk.specs.Turns.{reply_of}
-use Rattle.desk.specs.Turns.Posted.{first-bytes}
+use Rattle.desk.proofs.Turns.Posted.{first-bytes}
 use Rattle.consult.proofs.ask.Statement.{statement}
 use Rattle.consult.proofs.ask.Tie as tie
 

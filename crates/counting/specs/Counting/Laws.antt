@@ -39,7 +39,7 @@ use Rattle.wiring.specs.Completions.{spared}
 use Rattle.wiring.specs.Total.{rule_in}
 use Rattle.wiring.specs.Entries.{branch_at, adds_at, sum_at, total_at, Rowed, part-fits, sum-part-fits, counts_store}
 use Rattle.wiring.specs.Entries.{total-part-fits, total-at, branch-at}
-use Rattle.meaning.specs.Laws.Choices.{nth-from}
+use Rattle.meaning.proofs.Laws.Choices.{nth-from}
 use Rattle.wiring.specs.Few.{few_from, moves_from, most_moves, moves_few, file_stands, open_counted}
 use Rattle.nesting.specs.Nearest.{master_by, state_by}
 use Rattle.counting.specs.Counting.{most_count, at, Countable, factor_in, branch_in, Small, staying_in, added_in}

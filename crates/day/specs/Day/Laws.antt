@@ -22,7 +22,7 @@ use Rattle.meaning.specs.Check.Laws.{alike, first_of_here, first_of-next, first_
 use Rattle.meaning.specs.Check.Laws.{charted}
 use Rattle.meaning.specs.Calls.{made, laid_over, initials, rows_of, run_bytes}
 use Rattle.meaning.specs.Calls.Laws.{length-made, get_or-made}
-use Rattle.meaning.specs.Laws.Runs.{Leads, Valid, rows_all}
+use Rattle.meaning.proofs.Laws.Runs.{Leads, Valid, rows_all}
 use Rattle.opening.specs.Opening.{Stands}
 use Rattle.opening.specs.declared.Opening.{Opening}
 use Rattle.queries.specs.Promises.Laws.{both}

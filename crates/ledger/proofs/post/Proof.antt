@@ -62,7 +62,7 @@ use Rattle.desk.specs.declared.Seen.{Seen}
 use Rattle.desk.specs.declared.Plan.{Plan}
 use Rattle.desk.specs.Posting.{PostSays}
 use Rattle.desk.specs.Turns.{no_day, all_taken, unseen_of, all_seen, verdict_of, plan_of, turn_cases, turn_rows, Postable}
-use Rattle.desk.specs.Turns.Posted.{postable, cases_are, rows_are, refusal_is}
+use Rattle.desk.proofs.Turns.Posted.{postable, cases_are, rows_are, refusal_is}
 use Rattle.desk.specs.contracts.Case as K
 use Rattle.desk.proofs.Case.TheLaws as K'
 use Rattle.desk.specs.contracts.Entry as E

@@ -27,7 +27,7 @@ use Rattle.outline.specs.Laws.Laid.{has-below}
 use Rattle.faithful.specs.Laws.Small.{transitions_fine}
 use Rattle.faithful.specs.Laws.Back.{At, at-below, shape_for, trailer-back_is, body_back, file-back, head_is, slave_is}
 use Rattle.faithful.specs.Laws.Back.{node-there}
-use Rattle.faithful.specs.Laws.Charts.{at_head, at_more, at-fine, charts-fine}
+use Rattle.faithful.proofs.Laws.Charts.{at_head, at_more, at-fine, charts-fine}
 use Rattle.roundtrip.specs.Laws.Proper.{Tidy, tidy, AnySet}
 
 -- records in turn

@@ -15,10 +15,10 @@ use Rattle.reading.specs.Names.{name_of}
 use Rattle.reading.specs.Meant.{set_of, optional_of}
 use Rattle.forms.specs.Laws.Slaves.{Pair}
 use Rattle.spelling.specs.Typed.{sequential_of, typed_of, slaves_of}
-use Rattle.spelling.specs.Laws.Sets.{set-written}
+use Rattle.spelling.proofs.Laws.Sets.{set-written}
 use Rattle.faithful.specs.Faithful.{pairs_of, Rising, ByState, Means, a-chart, a_master, a-hiding, a_pair, MeansAll}
 use Rattle.faithful.specs.Faithful.{no_slave, one_more}
-use Rattle.faithful.specs.Laws.Charts.{mem_perm}
+use Rattle.faithful.proofs.Laws.Charts.{mem_perm}
 use Rattle.accepted.specs.Tree.{key_of}
 use Rattle.roundtrip.specs.Laws.Rising.{rising_snoc, rising_unique}
 use Rattle.roundtrip.specs.Laws.Proper.{held_pairs, NotNone, InRange, AnySet, Proper, ProperAll}

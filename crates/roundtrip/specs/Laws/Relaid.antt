@@ -18,7 +18,7 @@ use Rattle.reading.specs.Meant.{chart_node, lay_hidden, lay_both, lay_single, la
 use Rattle.forms.specs.Laws.Slaves.{Pair}
 use Rattle.outline.specs.Laws.Sorted.{Each, none, more, each_append}
 use Rattle.spelling.specs.Typed.{sequential_of, typed_of, master_of, slaves_of}
-use Rattle.spelling.specs.Laws.Sets.{set-written}
+use Rattle.spelling.proofs.Laws.Sets.{set-written}
 use Rattle.faithful.specs.Faithful.{pairs_of, ByState, Means, a-chart, a_master, a-hiding, a_pair, MeansAll}
 use Rattle.faithful.specs.Faithful.{no_slave, one_more}
 use Rattle.faithful.specs.Laws.Parts.{placed_of, by_state, by_state_lem}

@@ -20,11 +20,11 @@ use Rattle.reading.specs.Meant.{sorted_by}
 use Rattle.outline.specs.Laws.Sorted.{Each, none, more, each_append, total}
 use Rattle.roster.specs.Laws.Sorted.{sorted_perm}
 use Rattle.faithful.specs.Faithful.{Rising}
-use Rattle.faithful.specs.Laws.Charts.{mem_perm}
+use Rattle.faithful.proofs.Laws.Charts.{mem_perm}
 use Rattle.faithful.specs.Laws.Order.{sorted_level}
 use Rattle.accepted.specs.Tree.{Climbs}
 use Rattle.accepted.specs.Laws.Records.{climbs_all}
-use Rattle.accepted.specs.Laws.Slaves.{level-rising}
+use Rattle.accepted.proofs.Laws.Slaves.{level-rising}
 
 -- ── lists ──
 

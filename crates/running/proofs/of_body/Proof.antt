@@ -10,7 +10,7 @@ use Rattle.meaning.specs.Numbers.{most_charts}
 use Rattle.meaning.specs.File.{file_at}
 use Rattle.meaning.specs.Check.{first_of}
 use Rattle.meaning.specs.Calls.{laid_over, rows_of, carried_of}
-use Rattle.meaning.specs.Laws.Runs.{Valid}
+use Rattle.meaning.proofs.Laws.Runs.{Valid}
 use Rattle.cells.specs.Table.{masks_for}
 use Rattle.plan.specs.ByNode.Laws.{blank-new}
 use Rattle.stepping.specs.Step.{config_tests_in}

@@ -12,8 +12,8 @@ use Rattle.layout.specs.declared.body.Shape.{Shape}
 use Rattle.meaning.specs.Meaning.{Answer}
 use Rattle.meaning.specs.File.{chart_of, file_at}
 use Rattle.meaning.specs.Calls.{after_step, carried_after, row_of, laid_over}
-use Rattle.meaning.specs.Laws.Runs.{Valid, Stand, step_from, stand_after, rows_from, carried_from, valid-after, length-next}
-use Rattle.meaning.specs.Laws.Runs.{rows_all}
+use Rattle.meaning.proofs.Laws.Runs.{Valid, Stand, step_from, stand_after, rows_from, carried_from, valid-after, length-next}
+use Rattle.meaning.proofs.Laws.Runs.{rows_all}
 use Rattle.stepping.specs.Step.{Checked, Prepared, tried_answer}
 use Rattle.running.specs.Run.Laws.{leads, laid, laid-before, laid-after, laid-length, run_step, carry_step}
 use Rattle.running.specs.Run.Laws.{run_done, carry_done, next_row, next-at}

@@ -14,8 +14,8 @@ use Rattle.meaning.specs.File.{File, file_at, file_of}
 use Rattle.meaning.specs.Check.{Test, first_of, refusal_of}
 use Rattle.meaning.specs.Check.Laws.{first_of_++, first_of-before, first_of_here, first_of-next, first_of_[]}
 use Rattle.meaning.specs.Calls.{laid_over, row_of, rows_of, carried_of, run_refusal, run_bytes, run_carried}
-use Rattle.meaning.specs.Laws.Runs.{Leads, body-leads, Valid, Stand, step_from, stand_after, rows_from, carried_from}
-use Rattle.meaning.specs.Laws.Runs.{rows_next, carried_next}
+use Rattle.meaning.proofs.Laws.Runs.{Leads, body-leads, Valid, Stand, step_from, stand_after, rows_from, carried_from}
+use Rattle.meaning.proofs.Laws.Runs.{rows_next, carried_next}
 use Rattle.stepping.specs.Step.{config_tests_in, Checked}
 use Rattle.stepping.specs.Step.Laws.{behind_refused, behind-passed, config_passes}
 use Rattle.running.specs.Run.{run_refusal_after, run_after, carried_run, BodyRuns}

@@ -21,7 +21,7 @@ use Rattle.notation.specs.Syntax.{Sequential, Single, sequential, decomposed, hi
 use Rattle.notation.specs.Syntax.{first_slave, more_slaves}
 use Rattle.notation.specs.Reader.{Enclosure, whole, in_slave, in_hiding, in_brackets, Context, first_in, second_in}
 use Rattle.notation.specs.Reader.{first_byte}
-use Rattle.notation.specs.Laws.Before.{before_enclosure, before_context}
+use Rattle.notation.proofs.Laws.Before.{before_enclosure, before_context}
 use Rattle.scan.specs.Look.{opener, closer, around, back, back_to, look, rev}
 
 -- ── over tokens ──

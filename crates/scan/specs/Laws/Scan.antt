@@ -23,9 +23,9 @@ use Rattle.notation.specs.Reader.{guard_barred, guard_done, action_done, set_nex
 use Rattle.notation.specs.Reader.{read, close, follow, last_set, ways, final, first_byte, behind, is_digit, Position, gap}
 use Rattle.notation.specs.Reader.{inside, letter_read, number, onward, begin, step_gap, step, ending, Reading, spelt}
 use Rattle.notation.specs.Reader.{wrong_at, at_end, on_to, read_from, reader}
-use Rattle.notation.specs.Laws.Before.{before, before_enclosure}
-use Rattle.notation.specs.Laws.Led.{Led, Holds, whole_name, step_led}
-use Rattle.notation.specs.Laws.Theorems.{sound, complete, refused}
+use Rattle.notation.proofs.Laws.Before.{before, before_enclosure}
+use Rattle.notation.proofs.Laws.Led.{Led, Holds, whole_name, step_led}
+use Rattle.notation.proofs.Laws.Theorems.{sound, complete, refused}
 use Rattle.scan.specs.Look.{look, rev}
 use Rattle.scan.specs.Laws.Look.{look_over, enclosure_number, context_number, single-look, part-look, laid-look}
 use Rattle.scan.specs.Laws.Look.{rev-append}

@@ -12,7 +12,7 @@ use Rattle.std.proofs.Math.Numerals.{add-one}
 use native.Mathlib.Omega.{arith}
 use Rattle.meaning.specs.Meaning.{same, Outcome, eq_list, agree, given, answer, first_places}
 use Rattle.meaning.specs.Laws.Bools.{same_refl, same_comm, and_l, and_r}
-use Rattle.meaning.specs.Laws.Choices.{eq_list_refl}
+use Rattle.meaning.proofs.Laws.Choices.{eq_list_refl}
 use Rattle.meaning.specs.Rewriting.{in_turn}
 use Rattle.settling.specs.Hunt.{pick_found, settle_of, over, nothing, answer_in}
 use Rattle.settling.specs.declared.Found.{Found}

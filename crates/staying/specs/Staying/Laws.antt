@@ -33,7 +33,7 @@ use Rattle.tables.specs.Insertion.Laws.{keep_stay}
 use Rattle.tables.specs.Triggers.{Noted, begun, passed, noted, SameTriggers, noted_kept, noted_trips, Told, shut}
 use Rattle.tables.specs.Triggers.{listed, told_kept, told_narrowed, stayers}
 use Rattle.candidates.specs.Candidates.{Mays, read_charts, record_from}
-use Rattle.meaning.specs.Laws.Choices.{nth-from}
+use Rattle.meaning.proofs.Laws.Choices.{nth-from}
 use Rattle.candidates.specs.Candidates.Laws.{record_from_lem, counted-from, length_from}
 use Rattle.staying.specs.Staying.{Notes, Beside, Noting, Tells, quiet, Telling, Stays}
 

@@ -30,8 +30,8 @@ use Rattle.meaning.specs.Calls.{places_in, places_of, open_for, open_of, next_in
 use Rattle.meaning.specs.Calls.Laws.{behind_refused as places-refused, places_by_lem}
 use Rattle.meaning.specs.Open.{open_chart, open_in}
 use Rattle.meaning.specs.Laws.Names.{kap}
-use Rattle.meaning.specs.Laws.Open.{none_open_in}
-use Rattle.meaning.specs.Laws.Many.{first_under, many_is, few_is, step-many, step_few}
+use Rattle.meaning.proofs.Laws.Open.{none_open_in}
+use Rattle.meaning.proofs.Laws.Many.{first_under, many_is, few_is, step-many, step_few}
 use Rattle.wiring.specs.Reach.{Small, full, down}
 use Rattle.wiring.specs.Spared.{permitted-spared}
 use Rattle.wiring.specs.Few.{file_stands}

@@ -22,7 +22,7 @@ use Rattle.meaning.specs.Sums.Laws.{tally_plus, tally_mono}
 use Rattle.meaning.specs.Meaning.{Set, same, Chart, Tree, no_move, takes, nth, behind, pick, last_place, action_of}
 use Rattle.meaning.specs.Meaning.{untriggered, Outcome}
 use Rattle.meaning.specs.Laws.Bools.{same_refl, same→≡, same_≢, and_l, and_r}
-use Rattle.meaning.specs.Laws.Editions.{stay_last}
+use Rattle.meaning.proofs.Laws.Editions.{stay_last}
 use Rattle.meaning.specs.Rewriting.{union_up_to}
 use Rattle.wiring.specs.Reach.{down, back, offered}
 use Rattle.wiring.specs.Permitted.{Stands}

@@ -19,7 +19,7 @@ use Rattle.meaning.specs.Meaning.{permitted, moves, nexts, place_of, places_from
 use Rattle.meaning.specs.Meaning.{search, outcomes}
 use Rattle.meaning.specs.Laws.Bools.{same_refl, same→≡, and_cong}
 use Rattle.meaning.specs.Laws.Guards.{met-cut}
-use Rattle.meaning.specs.Laws.Choices.{upto_cong}
+use Rattle.meaning.proofs.Laws.Choices.{upto_cong}
 use Rattle.wiring.specs.Uncut.{own-moves}
 use Rattle.meaning.specs.Rewriting.{union_up_to}
 use Rattle.wiring.specs.Reach.{full, down, up, back, backs, offered, fits, awake_by, Small, out_wired}

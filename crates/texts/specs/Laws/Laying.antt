@@ -23,7 +23,7 @@ use Rattle.reading.specs.Numbers.{most_depth, named_charts}
 use Rattle.reading.specs.Names.{any, not_all?, sequential?, sequentials_of, parts?, names?, name_of}
 use Rattle.reading.specs.Meant.{all, charts_of, transitions_of, slaves_of, nodes_of, lay_chart, trailer_for, file_for}
 use Rattle.reading.specs.Read.{chart_tests, read_file}
-use Rattle.reading.specs.Laws.Read.{read_spells}
+use Rattle.reading.proofs.Laws.Read.{read_spells}
 use Rattle.reading.specs.Laws.Body.{heads_for, lines_for, slaves_for, nodes_for, length-all, length_heads, length_lines}
 use Rattle.reading.specs.Laws.Body.{length-slaves, length_nodes}
 use Rattle.roster.specs.declared.Roster.{Roster}

@@ -12,7 +12,7 @@ use Rattle.meaning.specs.Calls.{laid_over}
 use Rattle.notation.specs.Syntax.{Chart, depth}
 use Rattle.notation.specs.Grammar.{Spells}
 use Rattle.notation.specs.Reader.{Reading, spelt, wrong_at, reader}
-use Rattle.notation.specs.Laws.Theorems.{complete}
+use Rattle.notation.proofs.Laws.Theorems.{complete}
 use Rattle.reading.specs.Numbers.{most_depth, not_notation, too_deep, bad_name}
 use Rattle.reading.specs.Names.{any, names?}
 use Rattle.reading.specs.Meant.{charts_of, transitions_in, trailer_for, file_for}

@@ -16,7 +16,7 @@ use Rattle.meaning.specs.Check.Laws.{first_of-passes, call_refused, call-passed}
 use Rattle.meaning.specs.Calls.{laid_over}
 use Rattle.meaning.specs.Rewriting.{free, start, rewrite, no_free?, rewrite_tests, shape_in}
 use Rattle.meaning.specs.Rewriting.{encode, rewrite_bytes, stay_test, rewrite_refusal, rewrite_length, rewrite_out}
-use Rattle.meaning.specs.Rewriting.Laws.{list_most}
+use Rattle.meaning.proofs.Rewriting.Laws.{list_most}
 use Rattle.agreement.specs.Encoded.{length-encode}
 use Rattle.assembly.specs.Known.{Fits}
 use Rattle.transforms.specs.declared.rewriting.Rewritten.{Rewritten}

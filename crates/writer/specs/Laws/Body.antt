@@ -8,7 +8,7 @@ use Rattle.meaning.specs.Check.Laws.{passed}
 use Rattle.meaning.specs.Laws.Alike.{accepted_treed}
 use Rattle.checks.specs.Known.{Sized, Summed}
 use Rattle.spelling.specs.Write.{text_of}
-use Rattle.spelling.specs.Laws.Bound.{text_most}
+use Rattle.spelling.proofs.Laws.Bound.{text_most}
 use Rattle.writer.specs.Promises.{Readable}
 
 module _ (f : List ℕ) (n : Shape) (b : List ℕ) (en : n ≡ shape_of (trailer f)) (eb : b ≡ body_of f) where

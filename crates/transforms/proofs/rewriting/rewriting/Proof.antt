@@ -13,7 +13,7 @@ use Rattle.layout.specs.declared.body.Shape.{Shape}
 use Rattle.meaning.specs.Numbers.{stay_edition, may_stay}
 use Rattle.meaning.specs.Meaning.{same}
 use Rattle.meaning.specs.Laws.Bools.{same_≢}
-use Rattle.meaning.specs.Laws.Editions.{edition_left}
+use Rattle.meaning.proofs.Laws.Editions.{edition_left}
 use Rattle.meaning.specs.File.{trailer, shape_of, body_of, file_at, file_of}
 use Rattle.meaning.specs.Check.{refusal_of}
 use Rattle.meaning.specs.Check.Laws.{passed}

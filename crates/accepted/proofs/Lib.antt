@@ -1,0 +1,2 @@
+-- The laws of accepted.
+pub mod Laws

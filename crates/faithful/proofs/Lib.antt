@@ -1,0 +1,2 @@
+-- The laws of faithful.
+pub mod Laws

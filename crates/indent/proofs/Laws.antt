@@ -1,0 +1,3 @@
+-- The text laid out is read as the same chart (Shown); examples.
+pub mod Examples
+pub mod Shown

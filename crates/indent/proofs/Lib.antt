@@ -1,0 +1,2 @@
+-- The laws of indent.
+pub mod Laws

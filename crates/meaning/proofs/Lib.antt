@@ -1,0 +1,4 @@
+-- The laws of meaning.
+pub mod Active
+pub mod Laws
+pub mod Rewriting

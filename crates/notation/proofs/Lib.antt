@@ -1,0 +1,2 @@
+-- The laws of notation.
+pub mod Laws

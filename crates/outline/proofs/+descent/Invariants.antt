@@ -1,0 +1,38 @@
+-- A chart has parts, which may be compositions in brackets, hidden charts and masters with slaves, each of which has
+-- charts one level further in. What is left of the levels falls; where it stays, the functions stand in an order.
+use Rattle.std.proofs.Common.{◌≤◌, ◌+◌, ◌-◌, ◌*◌, List, ◌∷◌, ◌++◌, length, drop}
+use Rattle.notation.specs.Syntax.{Slaves}
+use Rattle.notation.specs.Grammar.{rbrace, sign, Tokens, of_slaves, Text}
+use Rattle.outline.specs.Laws.Slaves.{Along}
+use Rattle.outline.proofs.+descent.Given as goal
+
+abbrev pub decreases-bracketed : goal.decreases-bracketed
+decreases-bracketed l = 8 * l.left + 4
+
+abbrev pub decreases-chart : goal.decreases-chart
+decreases-chart l = 8 * l.left + 6
+
+abbrev pub decreases-hidden : goal.decreases-hidden
+decreases-hidden l = 8 * l.left + 4
+
+abbrev pub decreases-master : goal.decreases-master
+decreases-master l = 8 * l.left + 4
+
+abbrev pub decreases-pair : goal.decreases-pair
+decreases-pair l = 8 * l.left + 7
+
+abbrev pub decreases-part : goal.decreases-part
+decreases-part l = 8 * l.left + 5
+
+abbrev pub decreases-slaves : goal.decreases-slaves
+decreases-slaves l = 8 * l.left + 8
+
+-- the slaves before i are read in every text that has slaves there, and none of them is too deep
+abbrev pub invariant-slaves-loop-p : goal.invariant-slaves-loop-p
+invariant-slaves-loop-p l =
+    ((l.i ≤ length l.text) × ((l.at ≤ l.i) × (l.all.depth ≤ l.left)))
+    × ((ps : Slaves) (us : Tokens) → Text (of_slaves ps ++ (sign rbrace ∷ us)) (drop l.at l.text)
+    → Along l.text l.mask l.left l.i l.all ps us)
+
+abbrev pub decreases-slaves-loop-p : goal.decreases-slaves-loop-p
+decreases-slaves-loop-p l = length l.text - l.i

@@ -1,0 +1,2 @@
+-- The laws of roundtrip.
+pub mod Laws

@@ -1,0 +1,2 @@
+-- Laws that are proved here, apart from the definitions.
+pub mod Laws

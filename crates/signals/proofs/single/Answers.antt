@@ -1,0 +1,12 @@
+-- `signals::single` meets its contract: nothing is shifted out.
+use mathlib.Core.Path.{◌∙◌}
+use native.Mathlib.Nat.{one-mul}
+use native.Mathlib.Omega.{arith}
+use lib.Dec.{lit<}
+use lib.Pow.{shl_exact}
+use Rattle.signals.specs.Mask.{single}
+use Rattle.signals.proofs.single.Goals as goal
+
+pub returns : goal.returns
+unfolding single
+returns c = shl_exact 1 c.args.n 64 (lit< tt) (omega arith) ∙ one-mul _

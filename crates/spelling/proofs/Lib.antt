@@ -1,0 +1,2 @@
+-- The laws of spelling.
+pub mod Laws

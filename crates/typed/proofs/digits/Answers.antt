@@ -1,0 +1,54 @@
+use mathlib.Core.Path.{◌≡◌, refl, sym, ◌∙◌}
+use mathlib.Core.List.{List}
+use Prim.Native.Nat.{ℕ, ◌+◌, ◌≤◌, ◌<◌}
+use native.Mathlib.Numerals.{add-one}
+use native.Mathlib.Omega.{arith}
+use lib.ListN.{length, get_or, drop, drop_of_length-le}
+use lib.Seq.{drop-cons}
+use Rattle.typed.specs.Typed.{digit_on, digits_on}
+use Rattle.typed.specs.declared.Read.{Read}
+use Rattle.typed.specs.declared.Read.TheVariants.{Is, Wrong}
+use Rattle.typed.proofs.digits.Goals as goal
+
+module _ (base most x : ℕ) (w : List ℕ) (i : ℕ) (h : i < length w) (r : Read)
+    (e : r ≡ digit_on base most x (get_or w i 0)) where
+  read_wrong : r ≡ Wrong → digits_on base most x (drop i w) ≡ Wrong
+  unfolding digits_on
+  read_wrong p = rw (drop-cons w i 0 h, ← e, p)
+
+  read_on : (y : ℕ) → r ≡ Is y → digits_on base most x (drop i w) ≡ digits_on base most y (drop (i + 1) w)
+  unfolding digits_on
+  read_on y p = rw (add-one, drop-cons w i 0 h, ← e, p)
+
+read_all : (base most x : ℕ) (w : List ℕ) (i : ℕ) → length w ≤ i → digits_on base most x (drop i w) ≡ Is x
+unfolding digits_on
+read_all base most x w i h = rw (drop_of_length-le w h)
+
+pub returns-in_default : goal.returns-in_default
+returns-in_default c =
+    let a = c.args in
+    sym (c.loop-i.invariant ∙ read_wrong a.base a.most c.loop-i.x a.word.now c.loop-i.i c.loop-i-test.true _
+    c.digit_on.ensures c.in_default.is)
+
+pub loop-i-preserved : goal.loop-i-preserved
+loop-i-preserved c =
+    let a = c.args in
+    c.loop-i.invariant ∙ read_on a.base a.most c.loop-i.x a.word.now c.loop-i.i c.loop-i-test.true _
+    c.digit_on.ensures _ c.in-Is.is
+
+pub returns : goal.returns
+returns c =
+    let a = c.args in
+    sym (c.loop-i.invariant ∙ read_all a.base a.most c.loop-i.x a.word.now c.loop-i.i c.loop-i-test.false)
+
+pub loop-i-init : goal.loop-i-init
+loop-i-init c = refl
+
+pub bounds-word-i : goal.bounds-word-i
+bounds-word-i c = omega arith
+
+pub overflow_add-i : goal.overflow_add-i
+overflow_add-i c = omega arith
+
+pub loop-i-smaller : goal.loop-i-smaller
+loop-i-smaller c = omega arith

@@ -1,0 +1,2 @@
+-- The laws of whole.
+pub mod Laws
