@@ -13,8 +13,8 @@ use Rattle.desk.specs.declared.Reply.{Reply}
 use Rattle.desk.specs.Posting.{width}
 use Rattle.desk.specs.Turns.{row_bytes}
 use Rattle.desk.proofs.Turns.Posted.{first-bytes}
-use Rattle.advancing.proofs.put_row.Statement.{statement}
-use Rattle.advancing.proofs.put_row.Tie as tie
+use Rattle.advancing.proofs.put_row.Goals as goal
+use Rattle.advancing.proofs.put_row.Goals.{After-slice_known-1}
 
 -- a part of a lent buffer written anew: what stands before it and after it is kept
 abbrev mid : ℕ → ℕ → List ℕ → List ℕ → List ℕ
@@ -34,27 +34,11 @@ row_is row l v charts number m r x y w e g h =
     let n : length l - 4 ≡ length (drop 4 row) = rw (q, length-append, length-bytes 4 number) (omega arith) in
     rw (t, u, n, drop-length (drop 4 row), append-nil, g, h, first-bytes charts r.next (omega arith))
 
-next-long : (c : tie.After-slice-known) → length c.before.args.r.next ≡ 16
+next-long : (c : After-slice_known-1) → length c.args.r.next ≡ 16
 next-long c = search rules
 
-returns : tie.Need-returns
+pub returns : goal.returns
 returns c =
-    let p = c.before.before in
-    let q = p.before.before.before.before.before.before in
-    let s = q.before.before.before in
-    row_is s.args.row.now q.put32.new.0 p.put-fields.new.0 s.args.charts s.args.number _
-    s.args.r (next-long q.before.before) s.requires.0 s.requires.1 q.put32.ensures p.put-fields.ensures
-    p.before.mark_of.ensures
-
-pub put_row_spec : {M : Type 1} → statement M
-put_row_spec =
-    tie.close
-    (tie.spec
-    (λ c κs. search rules)
-    (λ c. search rules)
-    (λ c. search rules)
-    (λ c. search rules)
-    (λ c κs. search rules)
-    (λ c κs. search rules)
-    (λ c. search rules)
-    returns)
+    row_is c.args.row.now c.put32.new.s c.put_fields.new.row c.args.charts c.args.number _
+    c.args.r (next-long (goal.at.returns c).After-slice_known-1) c.requires.0 c.requires.1 c.put32.ensures c.put_fields.ensures
+    c.mark_of.ensures

@@ -4,7 +4,6 @@ use mathlib.Core.Bool.{cond}
 use mathlib.Core.List.{List, ◌++◌}
 use Prim.Native.Nat.{ℕ, ◌+◌, ◌-◌, ◌*◌}
 use native.Mathlib.Omega.{arith}
-use borrow.Author.Rules.{rules}
 use lib.ListN.{take, drop}
 use lib.Seq.{drop-drop}
 use Rattle.meaning.specs.Meaning.{same}
@@ -12,8 +11,7 @@ use Rattle.desk.specs.declared.Case.{Case}
 use Rattle.desk.specs.declared.Day.{Day}
 use Rattle.desk.specs.declared.Reply.{Reply}
 use Rattle.desk.specs.Turns.{reply_of, offered_to, row_bytes, turn_case, turn_row}
-use Rattle.advancing.proofs.post_one.Statement.{statement}
-use Rattle.advancing.proofs.post_one.Tie as tie
+use Rattle.advancing.proofs.post_one.Goals as goal
 
 case_is : (f : List ℕ) (c : Case) (d : Day) (k : ℕ) (r : Reply) (kept : ℕ)
     → r ≡ reply_of f c.config c.length (offered_to c d k)
@@ -33,34 +31,11 @@ rows_is f c d k charts r rows v h g =
     let x : (k * (14 + charts) + (14 + charts)) - k * (14 + charts) ≡ 14 + charts = omega arith in
     rw (x, drop-drop, g, h)
 
-returns : tie.Need-returns
+pub returns : goal.returns
 returns c =
-    let q = c.before.before.before.before in
-    let p = q.before.before.before in
-    let s = p.before.before.before.before.before.before.before in (
-      case_is s.args.file.now s.args.c s.args.d s.args.k p.ask.result _ p.ask.ensures
+    (
+      case_is c.args.file.now c.args.c c.args.d c.args.k c.ask-r.result _ c.ask-r.ensures
           c.kept.ensures,
-      rows_is s.args.file.now s.args.c s.args.d s.args.k s.args.charts p.ask.result
-          s.args.rows.now _ p.ask.ensures q.put-row.ensures,
+      rows_is c.args.file.now c.args.c c.args.d c.args.k c.args.charts c.ask-r.result
+          c.args.rows.now _ c.ask-r.ensures c.put_row.ensures,
     )
-
-pub post_one_spec : {M : Type 1} → statement M
-post_one_spec =
-    tie.close
-    (tie.spec
-    (λ c. search rules)
-    (λ c. search rules)
-    (λ c. search rules)
-    (λ c κs. search rules)
-    (λ c. search rules)
-    (λ c. search rules)
-    (λ c. search rules)
-    (λ c. search rules)
-    (λ c. search rules)
-    (λ c. search rules)
-    (λ c. search rules)
-    (λ c. search rules)
-    (λ c κs. search rules)
-    (λ c κs. search rules)
-    (λ c. search rules)
-    returns)

@@ -13,8 +13,7 @@ use Rattle.stepping.specs.Answer.{stepped_of}
 use Rattle.desk.specs.Posting.{width}
 use Rattle.desk.specs.Turns.{reply_of}
 use Rattle.desk.proofs.Turns.Posted.{first-bytes}
-use Rattle.consult.proofs.ask.Statement.{statement}
-use Rattle.consult.proofs.ask.Tie as tie
+use Rattle.consult.proofs.ask.Goals as goal
 
 reply_is : (f config : List ℕ) (n : ℕ) (i : Set) (s : Stepped) (next places : List ℕ) (choices : ℕ)
     → length config ≡ width → n ≤ width → s ≡ stepped_of (step_of f (take n config) i (length config)) places choices
@@ -23,15 +22,10 @@ reply_is : (f config : List ℕ) (n : ℕ) (i : Set) (s : Stepped) (next places 
 unfolding reply_of
 reply_is f config n i s next places choices h l e g = rw (e, g, h, first-bytes n config (omega arith))
 
-slice-aggregate-step : tie.Need-slice-aggregate-step
-slice-aggregate-step c = sym (length-take-le _ _ (search rules))
+pub slice_bounds-step-end : goal.slice_bounds-step-end
+slice_bounds-step-end c = sym (length-take-le _ _ (search rules))
 
-returns : tie.Need-returns
+pub returns : goal.returns
 returns c =
-    let s = c.before.before.before.before.before in
-    reply_is s.args.file.now s.args.t2 s.args.n s.args.offered c.before.step.result _ _ _
-    (search rules) s.requires c.before.step.ensures.0 c.before.step.ensures.1
-
-pub ask_spec : {M : Type 1} → statement M
-ask_spec =
-    tie.close (tie.spec (λ c. search rules) slice-aggregate-step (λ c. search rules) (λ c κs. search rules) returns)
+    reply_is c.args.file.now c.args.config c.args.n c.args.offered c.step-s.result _ _ _
+    (search rules) c.requires c.step-s.ensures.0 c.step-s.ensures.1
