@@ -38,7 +38,7 @@ use Rattle.agreement.specs.Again.{leaving_list}
 use Rattle.clearing.proofs.Alive.{alive_most}
 use Rattle.clearing.proofs.Result.{Clearable, slaves-cleared, nodes_cleared, naming_cleared, inside-cleared}
 use Rattle.clearing.specs.InOrder.{InOrder}
-use Rattle.clearing.proofs.Left.Laws.{no_more}
+use Rattle.clearing.proofs.LeftLaws.{no_more}
 
 -- ── lists ──
 

@@ -4,7 +4,6 @@ use mathlib.Core.Bool.{true, false}
 use mathlib.Core.List.{List}
 use Prim.Native.Nat.{ℕ, ◌+◌}
 use native.Mathlib.Omega.{arith}
-use borrow.Author.Rules.{rules}
 use Rattle.layout.specs.declared.record.Transition.{Transition}
 use Rattle.meaning.specs.Sums.{one}
 use Rattle.meaning.specs.Meaning.{same}
@@ -12,8 +11,7 @@ use Rattle.meaning.specs.Laws.Bools.{same_refl, same_≢}
 use Rattle.cells.specs.Triggers.{put_trigger}
 use Rattle.candidates.specs.Candidates.Laws.{first_byte}
 use Rattle.staying.specs.Staying.{Notes}
-use Rattle.staying.proofs.note.Statement.{statement}
-use Rattle.staying.proofs.note.Tie as tie
+use Rattle.staying.proofs.note.Goals as goal
 
 module _ (t : Transition) (q c k x : ℕ) (e : x ≡ t.from) (g : List ℕ) where
   from_elsewhere : (x ≡ q → ⊥) → Notes t q c k g g k
@@ -24,28 +22,16 @@ module _ (t : Transition) (q c k x : ℕ) (e : x ≡ t.from) (g : List ℕ) wher
   from_here h i o = let y : same t.from q ≡ true = rw (← e, h) (same_refl q) in
       record { table = rw (o, y, i); count = ap (λ b. k + one b) (sym y) }
 
-returns : tie.Need-returns
+pub returns-then-body-at : goal.returns-then-body-at
+returns-then-body-at c =
+    from_elsewhere _ c.args.state c.args.c c.args.have _ (first_byte c.args.body.now c.args.at)
+    c.args.guards.now c.if-body-at.true
+
+pub put-requires : goal.put-requires
+put-requires c =
+    (c.requires.1, c.requires.2, c.requires.4 (sym (first_byte c.args.body.now c.args.at) ∙ c.if-body-at.false))
+
+pub returns : goal.returns
 returns c =
-    let s = c.before.before.before.before in
-    from_elsewhere _ s.args.state s.args.c s.args.have _ (first_byte s.args.body.now s.args.at)
-    s.args.guards.now c.if1.true
-
-put-requires : tie.Need-put-requires
-put-requires c κs =
-    let e = c.before.before in
-    let s = e.before.before.before.before in
-    (s.requires.1, s.requires.2, s.requires.4 (sym (first_byte s.args.body.now s.args.at) ∙ e.if1.false))
-
-returns-2 : tie.Need-returns-2
-returns-2 c =
-    let p = c.before.before in
-    let t = p.before.before in
-    let e = t.before in
-    let s = e.before.before.before.before in
-    from_here _ s.args.state s.args.c s.args.have _ (first_byte s.args.body.now s.args.at)
-    s.args.guards.now e.if1.false t.read-transition.ensures p.put.ensures
-
-pub note_spec : {M : Type 1} → statement M
-note_spec =
-    tie.close (tie.spec (λ c. search rules) returns (λ c κs. search rules) put-requires (λ c. search rules)
-    (λ c. search rules) returns-2)
+    from_here _ c.args.state c.args.c c.args.have _ (first_byte c.args.body.now c.args.at)
+    c.args.guards.now c.if-body-at.false c.read_transition-r.ensures c.put.ensures
