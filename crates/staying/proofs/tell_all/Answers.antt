@@ -37,8 +37,8 @@ loop-c-preserved c = (
   omega (arith, c.loop-c-test.true),
   start-next c.args.n c.args.body.now c.loop-c.c c.loop-c.start c.head_at-head.ensures c.loop-c.invariant.1,
   c.tell.ensures.beside.size ∙ c.loop-c.invariant.2,
-  telling_next c.args.n c.args.body.now c.args.config.now c.args.t4 c.args.may.now
-      c.args.t6 c.args.masks.now c.loop-c.c c.loop-c.guards c.loop-c.stays _ c.loop-c.start _ _ _ c.loop-c.invariant.3
+  telling_next c.args.n c.args.body.now c.args.config.now c.args.low c.args.may.now
+      c.args.shuts c.args.masks.now c.loop-c.c c.loop-c.guards c.loop-c.stays _ c.loop-c.start _ _ _ c.loop-c.invariant.3
       (omega (arith, c.loop-c-test.true, c.requires.0.sized.charts)) c.loop-c.invariant.1 c.head_at-head.ensures
       c.others-others.ensures c.tell.ensures,
 )
@@ -46,8 +46,8 @@ loop-c-preserved c = (
 pub returns : goal.returns
 returns c =
     let e : c.loop-c.c ≡ c.args.n.charts = omega arith in
-    subst (λ z. Telling c.args.n c.args.body.now c.args.config.now c.args.t4 c.args.may.now
-    c.args.t6 c.args.masks.now z c.loop-c.guards c.loop-c.stays) e c.loop-c.invariant.3
+    subst (λ z. Telling c.args.n c.args.body.now c.args.config.now c.args.low c.args.may.now
+    c.args.shuts c.args.masks.now z c.loop-c.guards c.loop-c.stays) e c.loop-c.invariant.3
 
 pub head_at-head-requires : goal.head_at-head-requires
 head_at-head-requires c = (c.requires.0.sized.holds, c.loop-c-test.true)
