@@ -2,7 +2,8 @@
 // names, and standard error for bytes that need not be text.
 #![tactic(auto)]
 
-ghost use Rattle.std.specs.Prelude.{◌≡◌, length, IfOk};
+ghost use Rattle.std.specs.Prelude.{◌≡◌, ◌<◌, length, take, IfOk};
+ghost use Rattle.std.specs.Io.KnownBytes.{Consumes, IsAtEnd};
 ghost use Rattle.console.specs.Counts.{IsPrefixLen};
 
 use std::env::{Env, FillError};
@@ -30,15 +31,18 @@ pub trait Console: Files + Env + Print + Errors {}
 
 impl Console for HostRuntime {}
 
-// Reads until a buffer is full or a stream ends; how many bytes came.
+// Reads until a buffer is full or a stream ends; how many bytes came. After an error nothing is said of either.
 pub fn read_full<R: Read>(stream: &mut R, buffer: &mut [u8]) -> io::Result<usize>
-    ensures { IfOk result (λ n. IsPrefixLen n buffer.new) }
+    ensures within { IfOk result (λ n. IsPrefixLen n buffer.new) }
+    ensures bytes { IfOk result (λ n. Consumes (R.remaining stream.old) (R.remaining stream.new)
+        (take n buffer.new)) }
+    ensures ended { IfOk result (λ n. n < length buffer.new → IsAtEnd (R.remaining stream.new)) }
 {
     let mut at: usize = 0;
     while at < buffer.len() {
         let n = stream.read(&mut buffer[at..])?;
         if n == 0 {
-            break;
+            return Ok(at);
         }
         at += n;
     }
