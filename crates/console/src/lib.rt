@@ -106,3 +106,37 @@ pub fn say_decimal(out: &impl Print, n: u64) {
 pub fn say_hex(out: &impl Print, set: u64) {
     let _ = print!(out; "{set:016x}");
 }
+
+#[cfg(test)]
+mod tests {
+    use super::*;
+
+    // Gives so many bytes, one at a time, and then fails.
+    #[derive(Drop)]
+    struct Broken {
+        left: u8,
+    }
+
+    impl Read for Broken {
+        fn read(&mut self, buf: &mut [u8]) -> io::Result<usize> {
+            if self.left == 0 || buf.is_empty() {
+                return Err(io::Error::from(ErrorKind::BrokenPipe));
+            }
+            self.left -= 1;
+            buf[0] = b'x';
+            Ok(1)
+        }
+    }
+
+    #[test]
+    fn a_failure_in_mid_stream_is_no_end(rt: HostRuntime) {
+        let mut buffer = [0u8; 4];
+        assert!(rt; read_full(&mut Broken { left: 2 }, &mut buffer).is_err());
+        assert!(rt; read_full(&mut Broken { left: 4 }, &mut buffer).is_ok());
+    }
+
+    #[test]
+    fn a_name_that_is_no_text_names_no_file(rt: HostRuntime) {
+        assert!(rt; open(&rt, b"\xff").is_err());
+    }
+}
