@@ -2,7 +2,8 @@
 -- every chart moves (`live`).
 use Rattle.std.specs.Prelude.{◌≡◌, refl, Bool, true, false, ◌&&◌, ◌||◌, cond, ℕ, ◌<◌}
 use Rattle.std.proofs.lemmas.Bool.{false≢true}
-use Rattle.meaning.specs.Meaning.{Set, same, Chart, Tree, Slaves, leaf, comp, hide, dec, nil, snoc, Move, no_move, takes}
+use Rattle.meaning.specs.Meaning.{Set, same, Chart, Tree, Slaves, leaf, comp, hide, dec, nil, snoc, Move, no_move}
+use Rattle.meaning.specs.Meaning.{takes}
 use Rattle.meaning.specs.Meaning.{stay, after, in_face, out, ok_chart, ok}
 use Rattle.signals.specs.Mask.{◌∪◌, ◌∩◌, ◌∖◌}
 use Rattle.meaning.specs.Laws.Bools.{or_elim, same→≡, and_l, and_r}

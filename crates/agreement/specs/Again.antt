@@ -24,10 +24,13 @@ use Rattle.meaning.specs.Sums.{any_up_to, tally, one}
 use Rattle.meaning.specs.Sums.Laws.{any-all, any-never, tally_cong, tally-front}
 use Rattle.meaning.specs.Meaning.{same}
 use Rattle.meaning.specs.File.{File, end_of, trailer, body_of, shape_of, file_at, file_of}
-use Rattle.meaning.specs.Check.{edition?, differ, not_below, counts?, distance?, nonzero, zeros?, chart?, charts?, ends?}
-use Rattle.meaning.specs.Check.{leaving, transitions?, slaves?, node_of_kind?, nodes?, names, named, holds, held, naming?}
+use Rattle.meaning.specs.Check.{edition?, differ, not_below, counts?, distance?, nonzero, zeros?, chart?, charts?}
+use Rattle.meaning.specs.Check.{ends?}
+use Rattle.meaning.specs.Check.{leaving, transitions?, slaves?, node_of_kind?, nodes?, names, named, holds, held}
+use Rattle.meaning.specs.Check.{naming?}
 use Rattle.meaning.specs.Check.{inside?, refusal_of}
-use Rattle.meaning.specs.Rewriting.{chart_with, rewritten_chart, rewrite, leaving_in, transitions_in, no_free?, from_state?}
+use Rattle.meaning.specs.Rewriting.{chart_with, rewritten_chart, rewrite, leaving_in, transitions_in, no_free?}
+use Rattle.meaning.specs.Rewriting.{from_state?}
 use Rattle.meaning.specs.Rewriting.{in_chart?, head_for, shape_in, body_bytes, encode}
 use Rattle.meaning.proofs.Rewriting.Laws.{list_most, sum_most}
 use Rattle.meaning.specs.Laws.Bools.{and_l, and_r, same_refl, same→≡, same_≢, same→≢}
@@ -98,7 +101,8 @@ pub zeros-at : (s xs r : List ℕ) (at k m : ℕ) → drop at s ≡ xs ++ r → 
     → ((i : ℕ) → i < m → get_or xs (k + i) 0 ≡ 0)
     → nonzero s (at + k) m ≡ false
 unfolding nonzero
-zeros-at s xs r at k m e l h = any-all m (λ i. differ (get_or s (at + k + i) 0) 0) (λ i q. equal (get_or s (at + k + i) 0) 0
+zeros-at s xs r at k m e l h = any-all m (λ i. differ (get_or s (at + k + i) 0) 0)
+    (λ i q. equal (get_or s (at + k + i) 0) 0
     (ap (λ z. get_or s z 0) (let z : at + k + i ≡ at + (k + i) = omega arith in z) ∙ sym (get_or-drop at s (k + i) 0)
     ∙ ap (λ z. get_or z (k + i) 0) e
     ∙ get_or-append xs r 0 (k + i) (omega arith) ∙ h i q))

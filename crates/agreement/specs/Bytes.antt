@@ -8,7 +8,8 @@ use Rattle.layout.specs.declared.record.Head.{Head}
 use Rattle.layout.specs.declared.record.Transition.{Transition}
 use Rattle.layout.specs.declared.record.Node.{Node}
 use Rattle.meaning.specs.File.{File}
-use Rattle.meaning.specs.Rewriting.{chart_with, rewritten_chart, rewrite, in_turn, head_for, transitions_bytes, body_bytes}
+use Rattle.meaning.specs.Rewriting.{chart_with, rewritten_chart, rewrite, in_turn, head_for, transitions_bytes}
+use Rattle.meaning.specs.Rewriting.{body_bytes}
 use Rattle.meaning.specs.Rewriting.{encode}
 use Rattle.meaning.proofs.Rewriting.Laws.{list_most}
 use Rattle.agreement.specs.Every.{Every, every_imp}

@@ -16,7 +16,8 @@ use Rattle.meaning.specs.File.{end_of, trailer, body_of, shape_of, chart_of, fil
 use Rattle.meaning.specs.Numbers.{first_edition, most_nodes, many_open}
 use Rattle.meaning.specs.Check.Laws.{first_of-passes, Passed, passed, in_front_lem, counted, charted}
 use Rattle.meaning.specs.Check.{first_of, file_tests, refusal_of}
-use Rattle.meaning.specs.Calls.{first_refusal, first_bytes, input_of, output_of, step_refusal, step_in, step_of, all_places}
+use Rattle.meaning.specs.Calls.{first_refusal, first_bytes, input_of, output_of, step_refusal, step_in, step_of}
+use Rattle.meaning.specs.Calls.{all_places}
 use Rattle.meaning.specs.Calls.{places_in, places_of, run_refusal, run_bytes, run_carried}
 use Rattle.meaning.specs.Calls.Laws.{step_allowed}
 use Rattle.meaning.specs.Rewriting.{free, call, LowestLeft, no_free?, chart_with, rewritten_chart, rewrite_tests}
@@ -52,7 +53,8 @@ pub record Allowed (f : List ℕ) (room : ℕ) : Type 0 where
 pub allowed : (f : List ℕ) (room : ℕ) → rewrite_refusal f room ≡ 0 → Allowed f room
 unfolding rewrite_refusal rewrite_tests
 allowed f room e =
-    let p = in_front_lem f _ (ap first_of (sym (append_assoc (file_tests f) (stay_test f ∷ rewrite_tests (file_of f)) _)) ∙ e) in
+    let p = in_front_lem f _ (ap first_of (sym
+    (append_assoc (file_tests f) (stay_test f ∷ rewrite_tests (file_of f)) _)) ∙ e) in
     let q = first_of-passes _ (lit< tt, (lit< tt, (lit< tt, (lit< tt, (lit< tt, (lit< tt, tt)))))) p.1 in
     record {
       checked = p.0;
@@ -183,7 +185,8 @@ module _ (f : List ℕ) (ab : AllBytes f) (room : ℕ) (ok : rewrite_refusal f r
       go : (b : Bool) → same n 0 ≡ b → cond b (step_in (file_of f) config i) (refused n) ≢ refused many_open
           → cond b (step_in (file_of f') config i) (refused n) ≢ refused many_open
           → PlacesAgree (file_of f) (file_of f') config (cond b (step_in (file_of f) config i) (refused n))
-          (cond b (places_in (file_of f) config i) (all_places [])) (cond b (places_in (file_of f') config i) (all_places []))
+          (cond b (places_in (file_of f) config i) (all_places []))
+          (cond b (places_in (file_of f') config i) (all_places []))
       go true e p q =
           taken-agree (file_of f) (file_of f') rg.ready r config (step_allowed f config left (same→≡ n 0 e)).1 i p q
       go false e p q = record {

@@ -14,7 +14,8 @@ use Rattle.layout.specs.Record.{trailer_of, head_of, transition_of, slave_of, no
 use Rattle.layout.specs.Record.{transition_bytes, slave_bytes, node_bytes}
 use Rattle.layout.specs.Record.Laws.{length-trailer, length-head, length-transition, length-slave, length_node}
 use Rattle.layout.specs.Record.Laws.{trailer-back, head-back, transition-back, slave-back, node_back}
-use Rattle.layout.specs.Body.{transitions_from, slaves_from, nodes_from, size_of, head_at, transition_at, slave_at, node_at}
+use Rattle.layout.specs.Body.{transitions_from, slaves_from, nodes_from, size_of, head_at, transition_at, slave_at}
+use Rattle.layout.specs.Body.{node_at}
 use Rattle.layout.specs.Body.{start_of, from, transitions_of}
 use Rattle.layout.specs.Body.Laws.{length_from, get_or-from}
 use Rattle.layout.specs.declared.body.Shape.{Shape}
@@ -64,9 +65,11 @@ length_transitions : (ts : List Transition) → length (transitions_bytes ts) �
 unfolding transitions_bytes
 length_transitions [] = refl
 length_transitions (t ∷ ts) =
-    length-append (transition_bytes t) (transitions_bytes ts) ∙ omega (arith, length-transition t, length_transitions ts)
+    length-append (transition_bytes t) (transitions_bytes ts)
+    ∙ omega (arith, length-transition t, length_transitions ts)
 
-pub transitions_append : (a b : List Transition) → transitions_bytes (a ++ b) ≡ transitions_bytes a ++ transitions_bytes b
+pub transitions_append : (a b : List Transition)
+    → transitions_bytes (a ++ b) ≡ transitions_bytes a ++ transitions_bytes b
 unfolding transitions_bytes
 transitions_append [] b = refl
 transitions_append (t ∷ a) b = ap (λ z. transition_bytes t ++ z) (transitions_append a b)

@@ -132,7 +132,8 @@ module _ (sig state : ℕ → ℕ) where
       at c κ ss l p q = subst₂ (λ κ ss. At sig state (λ c. 0) E E' rest rested κ c ss) p q (record {
         moved = refl;
         fed = ap (λ C. C.feedback) (same-chart c l);
-        faced = ap in_face_chart (same-chart c l) ∙ face_is sig (kap c) (touch sig state (slv c)) (E c) (some_state c l);
+        faced = ap in_face_chart (same-chart c l)
+            ∙ face_is sig (kap c) (touch sig state (slv c)) (E c) (some_state c l);
         old_feedback = (old c l).old_feedback;
         old-face = old_face_chart sig (E c) (old c l);
         old_move = tt;

@@ -97,7 +97,8 @@ module _ (sig : ℕ → ℕ) (kap : ℕ → Option ℕ) (slv : ℕ → Slaves) (
     nearest_fit (dec d ss) κ f h = choose (same c d) (HasS ss c) _ _ _ (λ e. sym (ap kap (same→≡ c d e) ∙ f.1))
         (λ e. nearest-fits ss κ f.4 e) h
 
-    nearest-fits : (ss : Slaves) (κ : Option ℕ) → FitS sig kap slv N ss κ → HasS ss c ≡ true → nearest_among ss c ≡ kap c
+    nearest-fits : (ss : Slaves) (κ : Option ℕ) → FitS sig kap slv N ss κ → HasS ss c ≡ true
+        → nearest_among ss c ≡ kap c
     nearest-fits nil κ f h = absurd (false≢true h)
     nearest-fits (snoc ss i t) κ f h =
         choose (Has t c) (HasS ss c) _ _ _ (λ e. nearest_fit t (some i) f.2 e) (λ e. nearest-fits ss κ f.0 e) h

@@ -56,7 +56,8 @@ module _ (s : Set) where
               let z : length (lacking s n) ≡ i = omega arith in
               rw (get_or_at (lacking s n) n [] d i z) (omega arith, e)
 
-  pub lacking_rise : (n i j d : ℕ) → i < j → j < length (lacking s n) → get_or (lacking s n) i d < get_or (lacking s n) j d
+  pub lacking_rise : (n i j d : ℕ) → i < j → j < length (lacking s n)
+      → get_or (lacking s n) i d < get_or (lacking s n) j d
   unfolding lacking
   lacking_rise zero i j d l m = absurd (omega arith)
   lacking_rise (suc n) i j d l m = go (bit s n) m (λ h. lacking_rise n i j d l h)

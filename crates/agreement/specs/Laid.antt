@@ -1,5 +1,6 @@
 -- The nodes of the rewritten file, laid down in order. In this order: how many are made for each node, and where they
--- begin; what stands at a place; so they are nodes as Renamed asks for (`nodes_r`); each names lower ones (`ordered_r`).
+-- begin; what stands at a place; so they are nodes as Renamed asks for (`nodes_r`); each names lower ones
+-- (`ordered_r`).
 use Rattle.std.specs.Prelude.{◌≡◌, Bool, cond, ◌≢◌, List, [], ◌∷◌, ◌++◌}
 use Rattle.std.proofs.Math.Path.{refl, sym, ap, ap₂}
 use Rattle.std.proofs.Common.{◌∙◌, subst, subst₂, add-zero, zero-add}
@@ -14,7 +15,8 @@ use Rattle.meaning.specs.Meaning.{Set, ∅, same}
 use Rattle.signals.specs.Mask.{◌∪◌}
 use Rattle.layout.specs.declared.record.Node.{Node}
 use Rattle.meaning.specs.Laws.Bools.{same_refl, same→≡, same→≢}
-use Rattle.meaning.specs.Rewriting.{calls_of, count, before, start, new_name, composed, made_by, made_for, laid, new_node}
+use Rattle.meaning.specs.Rewriting.{calls_of, count, before, start, new_name, composed, made_by, made_for, laid}
+use Rattle.meaning.specs.Rewriting.{new_node}
 use Rattle.meaning.specs.Rewriting.{rewrite}
 use Rattle.meaning.specs.File.{File}
 use Rattle.meaning.specs.Laws.Trees.{Ordered}
@@ -102,7 +104,8 @@ module _ (F : File) where
   laid-at zero j q l h = absurd (omega arith)
   laid-at (suc n) j q l h = go (same j n) refl (λ m. laid-at n j q m h)
     where
-      go : (d : Bool) → same j n ≡ d → (j < n → get_or (laid F n) (start F j + q) no_node ≡ get_or (made_for F j) q no_node)
+      go : (d : Bool) → same j n ≡ d → (j < n → get_or (laid F n) (start F j + q) no_node
+          ≡ get_or (made_for F j) q no_node)
           → get_or (laid F n ++ made_for F n) (start F j + q) no_node ≡ get_or (made_for F j) q no_node
       go true e r = rw (same→≡ j n e) (ap (λ z. get_or (laid F n ++ made_for F n) (z + q) no_node) (sym (laid-length n))
           ∙ get_or-append-add (laid F n) (made_for F n) q no_node)
@@ -161,7 +164,14 @@ module _ (F : File) where
   ren_is j k s e f = ap₂ (λ k s. start F j + before F k s) e f
 
   pub comp_node : (j : ℕ) → j < F.nodes → F.kind j ≡ 1
-      → new_node F (new_name F j) ≡ record { kind = 1; a = new_name F (F.a j); b = new_name F (F.b j); x = F.x j; y = ∅ }
+      → new_node F (new_name F j) ≡ record {
+        kind = 1;
+        a = new_name F (F.a j);
+        b = new_name F (F.b j);
+        x =
+            F.x j;
+        y = ∅;
+      }
   comp_node j l e = ap (new_node F) (ren_is j 1 (count F (F.a j) F.slaves) e refl)
       ∙ at_node j 0 1 (count F (F.a j) F.slaves) l e refl (omega arith)
 
@@ -356,7 +366,8 @@ module _ (F : File) (w : Ordered F) where
   unfolding laid
   low-laid zero l = tt
   low-laid (suc n) l = low-append 0 (laid F n) (made_for F n) (low-laid n (omega arith))
-      (subst (λ z. AllLow z (made_for F n)) (sym (laid-length F n) ∙ sym (zero-add (length (laid F n)))) (low-block n l))
+      (subst (λ z. AllLow z (made_for F n)) (sym (laid-length F n) ∙ sym (zero-add (length (laid F n))))
+      (low-block n l))
 
   low_node : (p : ℕ) → p < start F F.nodes → Low p (new_node F p)
   low_node p l = subst (λ z. Low z (new_node F p)) (zero-add p)

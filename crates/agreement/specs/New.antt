@@ -18,7 +18,8 @@ use Rattle.meaning.specs.Numbers.{most_charts, most_states}
 use Rattle.meaning.specs.Meaning.{Set, ∅, same}
 use Rattle.meaning.specs.File.{File}
 use Rattle.meaning.specs.Rewriting.{free, call, call_in, called, idle, idles, chart_with, nearest_slave, is_of, touches}
-use Rattle.meaning.specs.Rewriting.{calls_by, calls_of, rewritten_chart, no_free?, count, start, new_name, composed, made_by}
+use Rattle.meaning.specs.Rewriting.{calls_by, calls_of, rewritten_chart, no_free?, count, start, new_name, composed}
+use Rattle.meaning.specs.Rewriting.{made_by}
 use Rattle.meaning.specs.Rewriting.{made_for, laid, new_node, rewrite}
 use Rattle.meaning.specs.Laws.Names.{up, find, find_some, by_slave, by_node, nearest, enc, kap}
 use Rattle.agreement.specs.Every.{Every, every_append, every_map}

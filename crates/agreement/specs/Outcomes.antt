@@ -12,8 +12,10 @@ use Rattle.std.proofs.Math.ListN.{length}
 use Rattle.signals.specs.Mask.{◌∩◌}
 use Rattle.signals.specs.Decide.{sets, A, B, ∅ₑ, ◌∪ₑ◌, ◌∩ₑ◌, ◌≐◌}
 use Rattle.layout.specs.declared.record.Transition.{Transition}
-use Rattle.meaning.specs.Meaning.{Set, same, Chart, Tree, Slaves, leaf, comp, hide, dec, nil, snoc, Move, no_move, takes}
-use Rattle.meaning.specs.Meaning.{stay, nth, behind, pick, last_place, after, in_face_chart, in_face, out, ok, permitted}
+use Rattle.meaning.specs.Meaning.{Set, same, Chart, Tree, Slaves, leaf, comp, hide, dec, nil, snoc, Move, no_move}
+use Rattle.meaning.specs.Meaning.{takes}
+use Rattle.meaning.specs.Meaning.{stay, nth, behind, pick, last_place, after, in_face_chart, in_face, out, ok}
+use Rattle.meaning.specs.Meaning.{permitted}
 use Rattle.meaning.specs.Meaning.{upd, moves, nexts, Outcome, upto, outcome_of, outcome, search, outcomes}
 use Rattle.meaning.specs.Numbers.{no_place}
 use Rattle.meaning.specs.File.{Has}
@@ -201,7 +203,8 @@ module _ (sig state : ℕ → ℕ) (inj : (i j : ℕ) → sig i ≡ sig j → i 
   unfolding permitted moves
   settled n c v ch l h = search_empty E state cfg t inp N n (suc c) (upd ch c v) (λ ch₂ b. not-true (λ k.
       h
-      (subst (λ u. some? (pick (E c) u) ≡ active_by state cfg (moves E ch₂) t true c) (b c (omega arith) ∙ upd-at ch c v)
+      (subst (λ u. some? (pick (E c) u) ≡ active_by state cfg (moves E ch₂) t true c)
+      (b c (omega arith) ∙ upd-at ch c v)
       (ok_active E state cfg (moves E ch₂) t true (inp ∩ in_face E t) c (has c l) k)
       ∙ active_agree state cfg (moves E ch₂) (moves E ch) c
       (λ d e. ap (pick (E d)) (b d (omega arith) ∙ upd_off ch c v d e)) t true above (has c l))))

@@ -8,7 +8,8 @@ use Rattle.std.proofs.Math.Option.{Option, none, some}
 use mathlib.Core.List.{List, [], ◌∷◌, ◌++◌, map, map-append}
 use Prim.Native.Nat.{ℕ, zero, suc, ◌+◌, ◌≤◌, ◌<◌}
 use Rattle.meaning.specs.Numbers.{no_place}
-use Rattle.meaning.specs.Meaning.{same, Chart, pick, Outcome, eq_list, agree, answer, given, upto, place_of, places_from}
+use Rattle.meaning.specs.Meaning.{same, Chart, pick, Outcome, eq_list, agree, answer, given, upto, place_of}
+use Rattle.meaning.specs.Meaning.{places_from}
 use Rattle.meaning.specs.Meaning.{first_places}
 use Rattle.meaning.specs.Laws.Bools.{same_refl, same→≡, same_≢}
 use Rattle.meaning.proofs.Laws.Choices.{place-own}

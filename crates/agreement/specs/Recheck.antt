@@ -17,7 +17,8 @@ use Rattle.meaning.specs.Sums.{one, tally}
 use Rattle.meaning.specs.Sums.Laws.{tally_cong, tally_zero, tally_add, tally_swap, tally-front, tally_only, tally_ge}
 use Rattle.meaning.specs.Laws.Names.{Rule10}
 use Rattle.meaning.specs.Check.{names, named, held}
-use Rattle.meaning.specs.Rewriting.{calls_of, count, before, start, new_name, composed, made_by, made_for, laid, new_node}
+use Rattle.meaning.specs.Rewriting.{calls_of, count, before, start, new_name, composed, made_by, made_for, laid}
+use Rattle.meaning.specs.Rewriting.{new_node}
 use Rattle.meaning.specs.Rewriting.{rewrite}
 use Rattle.agreement.specs.Renamed.{count_less}
 use Rattle.agreement.specs.Laid.{no_node, width_of, width, start_suc, start_mono, last-width, laid-length}

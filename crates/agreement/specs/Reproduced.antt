@@ -14,7 +14,8 @@ use Rattle.layout.specs.Le.{le, bytes, AllBytes}
 use Rattle.layout.specs.Le.Laws.{bytes_drop}
 use Rattle.layout.specs.Record.{trailer_of, head_of, transition_of, slave_of, node_of, trailer_bytes, head_bytes}
 use Rattle.layout.specs.Record.{transition_bytes, slave_bytes, node_bytes}
-use Rattle.layout.specs.Body.{transitions_from, slaves_from, nodes_from, size_of, head_at, transition_at, slave_at, node_at}
+use Rattle.layout.specs.Body.{transitions_from, slaves_from, nodes_from, size_of, head_at, transition_at, slave_at}
+use Rattle.layout.specs.Body.{node_at}
 use Rattle.layout.specs.Body.{start_of, from, transitions_of}
 use Rattle.layout.specs.Body.Laws.{length_from, get_or-from, start_of_mono}
 use Rattle.layout.specs.declared.body.Shape.{Shape}
@@ -50,7 +51,8 @@ bytes-at n k s l h = bytes_le n (drop k s) (let e = length-drop k s in omega ari
 
 take-from : (n : ℕ) (s : List ℕ) → n ≤ length s → take n s ≡ from (λ i. get_or s i 0) 0 n
 take-from n s l =
-    ext_get_or 0 (take n s) (from (λ i. get_or s i 0) 0 n) (length-take-le n s l ∙ sym (length_from (λ i. get_or s i 0) 0 n))
+    ext_get_or 0 (take n s) (from (λ i. get_or s i 0) 0 n)
+    (length-take-le n s l ∙ sym (length_from (λ i. get_or s i 0) 0 n))
     (λ i m. let m' : i < n = (let e = length-take-le n s l in omega arith) in get_or-take n s i 0 m'
     ∙ sym (get_or-from (λ i. get_or s i 0) 0 n i 0 m' ∙ ap (λ z. get_or s z 0) (let e : 0 + i ≡ i = omega arith in e)))
 
@@ -96,7 +98,8 @@ module _ (s : List ℕ) (h : AllBytes s) where
   trailer_again : length s ≡ 12 → ((i : ℕ) → i < 2 → get_or s (10 + i) 0 ≡ 0) → trailer_bytes (trailer_of s) ≡ s
   unfolding trailer_bytes trailer_of from
   trailer_again l z =
-      ap₂ ◌++◌ (ap₂ (λ a c. a ++ (get_or s 4 0 ∷ get_or s 5 0 ∷ get_or s 6 0 ∷ get_or s 7 0 ∷ c)) (bytes_le 4 s (omega arith) h)
+      ap₂ ◌++◌ (ap₂ (λ a c. a ++ (get_or s 4 0 ∷ get_or s 5 0 ∷ get_or s 6 0 ∷ get_or s 7 0 ∷ c))
+      (bytes_le 4 s (omega arith) h)
       (bytes-at 2 8 s (omega arith) h) ∙ middle)
       (back ∙ sym (take-from 2 (drop 10 s) (let e = length-drop 10 s in omega arith)))
       ∙ sym (take-add 10 2 s) ∙ take_all 12 s (omega arith)
@@ -112,7 +115,8 @@ module _ (s : List ℕ) (h : AllBytes s) where
           ∙ sym (take-add 4 6 s)
 
       back : (0 ∷ 0 ∷ []) ≡ from (λ i. get_or (drop 10 s) i 0) 0 2
-      back = λ i. sym (get_or-drop 10 s 0 0 ∙ z 0 (omega arith)) i ∷ sym (get_or-drop 10 s 1 0 ∙ z 1 (omega arith)) i ∷ []
+      back = λ i. sym (get_or-drop 10 s 0 0 ∙ z 0 (omega arith)) i
+          ∷ sym (get_or-drop 10 s 1 0 ∙ z 1 (omega arith)) i ∷ []
 
 -- ── records in turn ──
 
@@ -134,7 +138,8 @@ list_again at s f k (suc n) h = ap₂ ◌++◌
     (ap (λ z. transition_bytes (f z)) (sym (add-zero k)) ∙ h 0 (omega arith)
     ∙ ap (λ z. take 28 (drop (at + 28 * z) s)) (add-zero k))
     (list_again at s f (suc k) n
-    (λ i l. ap (λ z. transition_bytes (f z)) (let e : suc k + i ≡ k + suc i = omega arith in e) ∙ h (suc i) (omega arith)
+    (λ i l. ap (λ z. transition_bytes (f z)) (let e : suc k + i ≡ k + suc i = omega arith in e)
+    ∙ h (suc i) (omega arith)
     ∙ ap (λ z. take 28 (drop (at + 28 * z) s)) (let e : k + suc i ≡ suc k + i = omega arith in e))
     ∙ ap (take (28 * n)) (ap (λ z. drop z s) (let e : at + 28 * suc k ≡ (at + 28 * k) + 28 = omega arith in e)
     ∙ sym (drop-drop 28 (at + 28 * k) s)))
@@ -227,7 +232,8 @@ module _ (f : List ℕ) (p : Passed f) (ab : AllBytes f) (one : (trailer f).edit
       (or_right (any_up_to n.charts (λ c. nonzero b (24 * c + 3) 5)) _ (or_left _ _ (or_left _ _ zeros))) k l))
 
   runs_again : (k : ℕ) → k ≤ n.charts
-      → in_turn k (λ c. transitions_bytes (transitions_of n b c)) ≡ take (28 * start_of n b k) (drop (transitions_from n) b)
+      → in_turn k (λ c. transitions_bytes (transitions_of n b c))
+      ≡ take (28 * start_of n b k) (drop (transitions_from n) b)
   unfolding in_turn start_of transitions_of
   runs_again zero l = refl
   runs_again (suc k) l = ap₂ ◌++◌ (runs_again k (omega arith))
@@ -237,7 +243,8 @@ module _ (f : List ℕ) (p : Passed f) (ab : AllBytes f) (one : (trailer f).edit
       ∙ ap (take (28 * (head_at n b k).transitions)) (sym (drop-drop (28 * start_of n b k) (transitions_from n) b)))
       ∙ sym (take-add (28 * start_of n b k) (28 * (head_at n b k).transitions) (drop (transitions_from n) b))
       ∙ ap (λ z. take z (drop (transitions_from n) b))
-      (let e : 28 * start_of n b k + 28 * (head_at n b k).transitions ≡ 28 * (start_of n b k + (head_at n b k).transitions) =
+      (let e : 28 * start_of n b k + 28 * (head_at n b k).transitions
+      ≡ 28 * (start_of n b k + (head_at n b k).transitions) =
       omega arith in e)
 
   slaves_again : in_turn n.slaves (λ i. slave_bytes (slave_at n b i)) ≡ take (4 * n.slaves) (drop (slaves_from n) b)

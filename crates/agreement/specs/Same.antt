@@ -13,7 +13,8 @@ use Rattle.signals.specs.Decide.{sets, A, B, C, D, E as Eₑ, F as Fₑ, G as G�
 use Rattle.signals.specs.Decide.{◌⊥ₑ◌}
 use Rattle.layout.specs.declared.record.Transition.{Transition}
 use Rattle.meaning.specs.Meaning.{Set, ∅, same, Chart, Tree, Slaves, leaf, comp, hide, dec, nil, snoc, Move, no_move}
-use Rattle.meaning.specs.Meaning.{takes, stay, action_of, after, in_face_chart, in_face, in_faces, out, outs, ok_chart, meets}
+use Rattle.meaning.specs.Meaning.{takes, stay, action_of, after, in_face_chart, in_face, in_faces, out, outs, ok_chart}
+use Rattle.meaning.specs.Meaning.{meets}
 use Rattle.meaning.specs.Meaning.{ok, oks}
 use Rattle.meaning.specs.Rewriting.{call_in, called, idle}
 use Rattle.meaning.specs.Laws.Bools.{or_l, or_r, same_refl, same→≡, same→≢, same_≢, and_l, and_i, and_cong, not-true}
@@ -266,7 +267,8 @@ module _ (sig state : ℕ → ℕ) (inj : (i j : ℕ) → sig i ≡ sig j → i 
         → in_face E' (nest sig fbs ss c x) ≡ (in_face_chart (E c) ∪ in_faces E ss) ∪ (call_in sig κ ∪ calls sig ss)
     face-s nil κ r c x h = h ∙ sets (in_face_chart (E c) ∷ call_in sig κ ∷ []) [] (A ∪ₑ B ≐ (A ∪ₑ ∅ₑ) ∪ₑ (B ∪ₑ ∅ₑ)) tt
     face-s (snoc ss i t) κ r c x h = ap₂ ◌∪◌ (face-s ss κ r.0 c x h) (face-t t (some i) r.2)
-        ∙ sets (in_face_chart (E c) ∷ in_faces E ss ∷ call_in sig κ ∷ calls sig ss ∷ in_face E t ∷ single (sig i) ∷ []) []
+        ∙ sets (in_face_chart (E c) ∷ in_faces E ss ∷ call_in sig κ ∷ calls sig ss ∷ in_face E t ∷ single (sig i) ∷ [])
+        []
         (((A ∪ₑ B) ∪ₑ (C ∪ₑ D)) ∪ₑ (Eₑ ∪ₑ Fₑ) ≐ (A ∪ₑ (B ∪ₑ Eₑ)) ∪ₑ (C ∪ₑ (D ∪ₑ Fₑ))) tt
 
   -- ── outputs ──
@@ -326,7 +328,8 @@ module _ (sig state : ℕ → ℕ) (inj : (i j : ℕ) → sig i ≡ sig j → i 
     out_t (hide a x y) κ r = ap (λ z. z ∖ y) (out_t a κ r.1)
     out_t (dec c ss) κ r = ap (λ z. z ∖ calls sig ss)
         (out_s ss κ r.2 c (fbs c ∪ calls sig ss) ∙ ap (λ z. z ∪ outs M ss) (action-at κ c ss r.0))
-        ∙ sets (action_of (M c) ∷ made sig state ss (M c) ∷ outs M ss ∷ calls sig ss ∷ []) (D ⊥ₑ A ∷ D ⊥ₑ C ∷ B ⊑ D ∷ [])
+        ∙ sets (action_of (M c) ∷ made sig state ss (M c) ∷ outs M ss ∷ calls sig ss ∷ [])
+        (D ⊥ₑ A ∷ D ⊥ₑ C ∷ B ⊑ D ∷ [])
         (((A ∪ₑ B) ∪ₑ C) ∖ₑ D ≐ A ∪ₑ C) tt
         (calls-old sig ss (action_of (M c)) (action-old (M c) r.0.old_move))
         (calls-old sig ss (outs M ss) (outs_old ss κ r.2))

@@ -19,8 +19,10 @@ use Rattle.meaning.specs.Sums.Laws.{or_left, or_right, any-never, tally_cong}
 use Rattle.meaning.specs.Meaning.{Set, ∅}
 use Rattle.meaning.specs.File.{File}
 use Rattle.meaning.specs.Check.{node_of_kind?, nodes?, not_below, differ}
-use Rattle.meaning.specs.Rewriting.{union_up_to, call, call_in, called, idles, chart_with, nearest_slave, is_of, touches}
-use Rattle.meaning.specs.Rewriting.{calls_by, rewritten_chart, count, before, start, new_name, new_node, rewrite, in_turn}
+use Rattle.meaning.specs.Rewriting.{union_up_to, call, call_in, called, idles, chart_with, nearest_slave, is_of}
+use Rattle.meaning.specs.Rewriting.{touches}
+use Rattle.meaning.specs.Rewriting.{calls_by, rewritten_chart, count, before, start, new_name, new_node, rewrite}
+use Rattle.meaning.specs.Rewriting.{in_turn}
 use Rattle.meaning.specs.Rewriting.{head_for, transitions_bytes, transitions_in, shape_in, body_bytes, encode}
 use Rattle.meaning.specs.Laws.Names.{kap}
 use Rattle.agreement.specs.Encoded.{slave_in, node_in}

@@ -152,13 +152,15 @@ module _ (F : File) (rd : Ready F) where
     pub found_is : (config : List ℕ) → Valid F config → (inp : Set) → found_in F' config inp ≡ found_in F config inp
     unfolding found_in
     found_is config v inp = ap answer (outcomes_are config v inp)
-        ∙ answer-turned (kap F) (λ c. length (F.chart c).transitions) (λ c. get_or config c 0) (outcomes_in F config inp)
+        ∙ answer-turned (kap F) (λ c. length (F.chart c).transitions) (λ c. get_or config c 0)
+        (outcomes_in F config inp)
 
     -- idle transitions add open choices, so either file may have too many where the other has not
     pub steps-agree : StepsAgreeUnless many_open F F'
     unfolding step_in
     steps-agree config v inp =
-        step_until many_open (many_open? F config) (many_open? F' config) (found_in F config inp) (found_in F' config inp)
+        step_until many_open (many_open? F config) (many_open? F' config) (found_in F config inp)
+        (found_in F' config inp)
         (found_is config v inp)
 
     -- ── the places ──

@@ -154,7 +154,8 @@ module _ (F F' : File) (rd : Ready F) (rw' : Rewritten F F') (config : List ℕ)
   unfolding found_in answer permitted moves places_found
   always z c l q = go (outcomes_in F' config inp) refl (ap refusal_in (found_is F rd F' rw' config v inp) ∙ z)
     where
-      go : (os' : List Outcome) → outcomes_in F' config inp ≡ os' → refusal_in (answer (outcomes_in F' config inp)) ≡ 0 → ⊥
+      go : (os' : List Outcome) → outcomes_in F' config inp ≡ os'
+          → refusal_in (answer (outcomes_in F' config inp)) ≡ 0 → ⊥
       go [] e r = absurd (let y : ◌≡◌ {A = ℕ} 23 0 = sym (ap (λ os. refusal_in (answer os)) e) ∙ r in omega arith)
       go (x ∷ xs) e r =
           let g = given-first F'.chart F'.state cfg (whole_of F') inp F'.charts x.output x.next

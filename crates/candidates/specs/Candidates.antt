@@ -89,7 +89,8 @@ Mays n b config reads k may =
 -- sures has what all transitions from its state of each of the first k charts put out
 abbrev pub Sures : Shape → List ℕ → List ℕ → List ℕ → ℕ → List ℕ → Type 0
 Sures n b config reads k sures =
-    (c : ℕ) → c < k → get_or sures c 0 ≡ sure_of (narrow_all (get_or reads c 0) (transitions_of n b c)) (get_or config c 0)
+    (c : ℕ) → c < k → get_or sures c 0 ≡ sure_of (narrow_all (get_or reads c 0) (transitions_of n b c))
+    (get_or config c 0)
 
 -- both, and counts has how many these transitions are
 pub record PutsBy (n : Shape) (b config reads : List ℕ) (k : ℕ) (may sures counts : List ℕ) : Type 0 where
@@ -107,7 +108,8 @@ abbrev pub RaisedBy : Shape → List ℕ → List ℕ → List ℕ → ℕ → L
 RaisedBy n m s u k base lows =
     (c : ℕ) → c < most_charts
     → get_or lows c 0
-    ≡ get_or base c 0 ∪ union_up_to k (λ e. sure_at s e (sure_in (same n.edition stay_edition) (get_or u e 0)) ∩ back_at m c e)
+    ≡ get_or base c 0 ∪ union_up_to k (λ e. sure_at s e (sure_in (same n.edition stay_edition) (get_or u e 0))
+    ∩ back_at m c e)
 
 -- the first k charts have their candidates
 abbrev pub UntilChart : Shape → List ℕ → List ℕ → List ℕ → List ℕ → List ℕ → List ℕ → List ℕ → ℕ → List ℕ → List ℕ

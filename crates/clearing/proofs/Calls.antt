@@ -20,9 +20,11 @@ use Rattle.meaning.specs.Check.{refusal_of}
 use Rattle.meaning.specs.Check.Laws.{Passed, passed, first_of-next, first_of_[], first_of-passes, call-passed}
 use Rattle.meaning.specs.Check.Nodes.{Treed, treed}
 use Rattle.meaning.specs.Open.{open_in}
-use Rattle.meaning.specs.Calls.{first_bytes, input_of, output_of, step_refusal, outcomes_in, found_in, many_open?, step_in}
+use Rattle.meaning.specs.Calls.{first_bytes, input_of, output_of, step_refusal, outcomes_in, found_in, many_open?}
+use Rattle.meaning.specs.Calls.{step_in}
 use Rattle.meaning.specs.Calls.{step_of}
-use Rattle.meaning.specs.Calls.{open_for, open_of, all_places, places_found, places_in, places_of, run_refusal, run_bytes}
+use Rattle.meaning.specs.Calls.{open_for, open_of, all_places, places_found, places_in, places_of, run_refusal}
+use Rattle.meaning.specs.Calls.{run_bytes}
 use Rattle.meaning.specs.Calls.{run_carried}
 use Rattle.meaning.specs.Calls.Laws.{places_by_lem, step_open, behind_is}
 use Rattle.meaning.specs.Words.{Until}
@@ -84,7 +86,8 @@ configs_join F G H s t = record {
 -- ── places of all that are allowed ──
 
 module _ (E : ℕ → Chart) where
-  new-append : (c : ℕ) (ps qs : List ℕ) → new_places E c (ps ++ qs) ≡ new_places E c ps ++ new_places E (c + length ps) qs
+  new-append : (c : ℕ) (ps qs : List ℕ) → new_places E c (ps ++ qs)
+      ≡ new_places E c ps ++ new_places E (c + length ps) qs
   unfolding new_places
   new-append c [] qs = ap (λ z. new_places E z qs) (sym (add-zero c))
   new-append c (p ∷ ps) qs = ap (λ z. new_place (E c) p ∷ z) (new-append (suc c) ps qs

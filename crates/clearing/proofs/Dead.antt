@@ -31,7 +31,8 @@ met-alive fed o t h =
     (none_differs _ (sets (t.needed ∷ t.barred ∷ i ∷ []) (A ⊑ C ∷ B ⊥ₑ C ∷ []) (A ⊥ₑ B) tt p q))
     (none_differs _ (sets (t.barred ∷ o ∷ (t.action ∩ fed) ∷ []) (A ⊥ₑ B ∪ₑ C ∷ []) (A ⊥ₑ C) tt q))
 
-ok-alive : (K : Chart) (a : Bool) (o : Set) (s : ℕ) (m : Move) (t : Transition) → m ≡ takes t → ok_chart K a o s m ≡ true
+ok-alive : (K : Chart) (a : Bool) (o : Set) (s : ℕ) (m : Move) (t : Transition) → m ≡ takes t
+    → ok_chart K a o s m ≡ true
     → dead K.feedback t ≡ false
 unfolding ok_chart
 ok-alive K a o s m t e h = go a (ap (ok_chart K a o s) (sym e) ∙ h)
@@ -56,7 +57,8 @@ module _ (E : ℕ → Chart) (state : ℕ → ℕ) (cfg : ℕ → ℕ) (M : ℕ 
     alive_in (dec d ss) a o h there =
         or_elim (same c d) (HasS ss c) (dead (E c).feedback u ≡ false)
         (λ q. let e = same→≡ c d q in ok-alive (E c) a _ (cfg c) (M c) u takes-it
-        (ap (λ z. ok_chart (E z) a ((o ∪ ((action_of (M d) ∪ outs M ss) ∩ (E d).feedback)) ∩ in_face_chart (E d)) (cfg z)
+        (ap (λ z. ok_chart (E z) a ((o ∪ ((action_of (M d) ∪ outs M ss) ∩ (E d).feedback)) ∩ in_face_chart (E d))
+        (cfg z)
         (M z)) e ∙ and_l _ _ h))
         (λ q. alive-slave ss _ _
         (and_r (ok_chart (E d) a ((o ∪ ((action_of (M d) ∪ outs M ss) ∩ (E d).feedback)) ∩ in_face_chart (E d)) (cfg d)

@@ -4,7 +4,8 @@
 use Rattle.std.specs.Prelude.{◌≡◌, refl, true, false, cond, List, [], ◌∷◌, map, ℕ, ◌-◌, ◌^◌, ◌%◌, length}
 use Rattle.signals.specs.Mask.{bit, single}
 use Rattle.layout.specs.Le.{le, bytes}
-use Rattle.layout.specs.Record.{trailer_of, trailer_bytes, head_of, head_bytes, transition_of, transition_bytes, slave_of}
+use Rattle.layout.specs.Record.{trailer_of, trailer_bytes, head_of, head_bytes, transition_of, transition_bytes}
+use Rattle.layout.specs.Record.{slave_of}
 use Rattle.layout.specs.Record.{slave_bytes, node_of, node_bytes}
 use Rattle.layout.specs.Body.{head_at, transition_at, slave_at, node_at, start_of, from, transitions_of}
 use Rattle.layout.specs.declared.record.Transition.{Transition}
@@ -16,15 +17,18 @@ use Rattle.meaning.specs.Meaning.{after, met?, guards, in_face_chart, in_face, o
 use Rattle.meaning.specs.Meaning.{moves, nexts, place_of, places_from, outcome_of, upto, outcome, search, outcomes}
 use Rattle.meaning.specs.Meaning.{first_places}
 use Rattle.meaning.specs.File.{gather, build, tree_of, Has, trailer, body_of, shape_of, chart_of, file_at, file_of}
-use Rattle.meaning.specs.Check.{first_of, edition?, counts?, distance?, nonzero, zeros?, chart?, charts?, ends?, leaving}
-use Rattle.meaning.specs.Check.{transitions?, rising, slave?, slaves?, node_of_kind?, nodes?, names, named, held, naming?}
+use Rattle.meaning.specs.Check.{first_of, edition?, counts?, distance?, nonzero, zeros?, chart?, charts?, ends?}
+use Rattle.meaning.specs.Check.{leaving}
+use Rattle.meaning.specs.Check.{transitions?, rising, slave?, slaves?, node_of_kind?, nodes?, names, named, held}
+use Rattle.meaning.specs.Check.{naming?}
 use Rattle.meaning.specs.Check.{inside?, file_tests}
 use Rattle.meaning.specs.Open.{open_chart, open_tree, is_open, choices, how_many, open_choices}
 use Rattle.meaning.specs.Calls.{config_tests, step_refusal, many_open?, places_found, places_in, places_of}
 use Rattle.meaning.specs.Rewriting.{union_up_to, lacking, used, free, call, calls_by, call_in, called, idle, idles}
 use Rattle.meaning.specs.Rewriting.{chart_with, nearest_in, nearest_slave, rewritten_chart, start, new_name, calls_of}
 use Rattle.meaning.specs.Rewriting.{composed, made_for, laid, rewrite, leaving_in, no_free?, from_state?, in_chart?}
-use Rattle.meaning.specs.Rewriting.{rewrite_tests, in_turn, head_for, transitions_bytes, transitions_in, shape_in, body_bytes}
+use Rattle.meaning.specs.Rewriting.{rewrite_tests, in_turn, head_for, transitions_bytes, transitions_in, shape_in}
+use Rattle.meaning.specs.Rewriting.{body_bytes}
 use Rattle.meaning.specs.Rewriting.{encode, rewrite_bytes, rewrite_refusal}
 use Rattle.clearing.specs.Clearing.{dead, alive, lost, cleared_chart, clear_bytes, clear_refusal}
 
@@ -52,20 +56,20 @@ sample' =
     ∷ []
 
 sample-cleared : clear_bytes sample ≡ sample'
-unfolding le bytes trailer_of trailer_bytes head_of head_bytes transition_of transition_bytes slave_of slave_bytes node_of
-    node_bytes head_at transition_at slave_at node_at start_of from transitions_of trailer body_of shape_of chart_of file_at file_of
-    same tally guards in_turn head_for transitions_bytes shape_in body_bytes encode transitions_in dead alive lost
-    cleared_chart clear_bytes
+unfolding le bytes trailer_of trailer_bytes head_of head_bytes transition_of transition_bytes slave_of slave_bytes
+    node_of node_bytes head_at transition_at slave_at node_at start_of from transitions_of trailer body_of shape_of
+    chart_of file_at file_of same tally guards in_turn head_for transitions_bytes shape_in body_bytes encode
+    transitions_in dead alive lost cleared_chart clear_bytes
 sample-cleared = refl
 
 -- there is room in 112 bytes, and not in 111
 sample-passes : (clear_refusal sample 112 ≡ 0) × (clear_refusal sample 111 ≡ 45)
-unfolding le bytes trailer_of trailer_bytes head_of head_bytes transition_of transition_bytes slave_of slave_bytes node_of
-    node_bytes head_at transition_at slave_at node_at start_of from transitions_of trailer body_of shape_of chart_of file_at file_of
-    same gather build tree_of Has tally guards in_turn head_for transitions_bytes shape_in body_bytes encode transitions_in
-    dead alive lost cleared_chart clear_bytes clear_refusal any_up_to first_of edition? counts? distance? nonzero zeros?
-    chart? charts? ends? leaving transitions? rising slave? slaves? node_of_kind? nodes? names named held naming?
-    inside? file_tests
+unfolding le bytes trailer_of trailer_bytes head_of head_bytes transition_of transition_bytes slave_of slave_bytes
+    node_of node_bytes head_at transition_at slave_at node_at start_of from transitions_of trailer body_of shape_of
+    chart_of file_at file_of same gather build tree_of Has tally guards in_turn head_for transitions_bytes shape_in
+    body_bytes encode transitions_in dead alive lost cleared_chart clear_bytes clear_refusal any_up_to first_of edition?
+    counts? distance? nonzero zeros? chart? charts? ends? leaving transitions? rising slave? slaves? node_of_kind?
+    nodes? names named held naming? inside? file_tests
 sample-passes = (refl, refl)
 
 -- from state 0 with signal 0 the second transition is taken, now the first; from state 1 the fourth, now the second
@@ -75,12 +79,13 @@ chart0 (p ∷ ps) = p ∷ []
 
 sample_places : (chart0 (places_of sample (0 ∷ []) 1 1) ≡ 1 ∷ []) × (chart0 (places_of sample' (0 ∷ []) 1 1) ≡ 0 ∷ [])
     × (chart0 (places_of sample (1 ∷ []) 0 1) ≡ 3 ∷ []) × (chart0 (places_of sample' (1 ∷ []) 0 1) ≡ 1 ∷ [])
-unfolding le trailer_of head_of transition_of slave_of node_of head_at transition_at slave_at node_at start_of from transitions_of
-    trailer body_of shape_of chart_of file_at file_of same gather build tree_of Has tally guards any_up_to first_of edition?
-    counts? distance? nonzero zeros? chart? charts? ends? leaving transitions? rising slave? slaves? node_of_kind? nodes?
-    names named held naming? inside? file_tests config_tests step_refusal open_chart open_tree is_open choices how_many
-    open_choices many_open? places_found places_in places_of nth pick last_place action_of after guard met? in_face_chart in_face
-    out ok_chart meets ok permitted upd moves nexts place_of places_from outcome_of upto outcome search outcomes first_places
+unfolding le trailer_of head_of transition_of slave_of node_of head_at transition_at slave_at node_at start_of from
+    transitions_of trailer body_of shape_of chart_of file_at file_of same gather build tree_of Has tally guards
+    any_up_to first_of edition? counts? distance? nonzero zeros? chart? charts? ends? leaving transitions? rising slave?
+    slaves? node_of_kind? nodes? names named held naming? inside? file_tests config_tests step_refusal open_chart
+    open_tree is_open choices how_many open_choices many_open? places_found places_in places_of nth pick last_place
+    action_of after guard met? in_face_chart in_face out ok_chart meets ok permitted upd moves nexts place_of
+    places_from outcome_of upto outcome search outcomes first_places
 sample_places = (refl, refl, refl, refl)
 
 -- ── edition 2 ──
@@ -150,23 +155,23 @@ abbrev Freed : ℕ → List ℕ → ℕ → Type 0
 Freed number f room = (rewrite_refusal f room ≡ number) × (rewrite_refusal (clear_bytes f) room ≡ 0)
 
 crowded_rewrites : Freed no_free_signal full 168 × Freed many_from_state crowded 364 × Freed many_in_chart long 1932
-unfolding le bytes trailer_of trailer_bytes head_of head_bytes transition_of transition_bytes slave_of slave_bytes node_of
-    node_bytes head_at transition_at slave_at node_at start_of from transitions_of trailer body_of shape_of chart_of file_at file_of
-    same gather build tree_of Has tally guards actions in_turn head_for transitions_bytes shape_in body_bytes encode
-    transitions_in dead alive lost cleared_chart clear_bytes union_up_to lacking used free calls_by call_in called idle idles
-    chart_with nearest_in nearest_slave rewritten_chart leaving_in bit single call start new_name calls_of composed made_for
-    laid any_up_to first_of edition? counts? distance? nonzero zeros? chart? charts? ends? leaving transitions? rising
-    slave? slaves? node_of_kind? nodes? names named held naming? inside? file_tests no_free? from_state? in_chart?
-    rewrite_tests rewrite_bytes rewrite_refusal
+unfolding le bytes trailer_of trailer_bytes head_of head_bytes transition_of transition_bytes slave_of slave_bytes
+    node_of node_bytes head_at transition_at slave_at node_at start_of from transitions_of trailer body_of shape_of
+    chart_of file_at file_of same gather build tree_of Has tally guards actions in_turn head_for transitions_bytes
+    shape_in body_bytes encode transitions_in dead alive lost cleared_chart clear_bytes union_up_to lacking used free
+    calls_by call_in called idle idles chart_with nearest_in nearest_slave rewritten_chart leaving_in bit single call
+    start new_name calls_of composed made_for laid any_up_to first_of edition? counts? distance? nonzero zeros? chart?
+    charts? ends? leaving transitions? rising slave? slaves? node_of_kind? nodes? names named held naming? inside?
+    file_tests no_free? from_state? in_chart? rewrite_tests rewrite_bytes rewrite_refusal
 crowded_rewrites = ((refl, refl), (refl, refl), (refl, refl))
 
 -- what is rewritten is at its limit: one free signal for one slave; 8 transitions out of the state; 64 in the chart
 crowded_limits : (length (free (file_of (clear_bytes full))) ≡ (file_of (clear_bytes full)).slaves)
     × (leaving_in ((rewrite (file_of (clear_bytes crowded))).chart 1).transitions 0 ≡ most_from_state)
     × (length ((rewrite (file_of (clear_bytes long))).chart 1).transitions ≡ most_in_chart)
-unfolding le bytes trailer_of trailer_bytes head_of head_bytes transition_of transition_bytes slave_of slave_bytes node_of
-    node_bytes head_at transition_at slave_at node_at start_of from transitions_of trailer body_of shape_of chart_of file_at file_of
-    same gather build tree_of Has tally guards actions in_turn head_for transitions_bytes shape_in body_bytes encode
-    transitions_in dead alive lost cleared_chart clear_bytes union_up_to lacking used free calls_by call_in called idle idles
-    chart_with nearest_in nearest_slave rewritten_chart leaving_in bit single
+unfolding le bytes trailer_of trailer_bytes head_of head_bytes transition_of transition_bytes slave_of slave_bytes
+    node_of node_bytes head_at transition_at slave_at node_at start_of from transitions_of trailer body_of shape_of
+    chart_of file_at file_of same gather build tree_of Has tally guards actions in_turn head_for transitions_bytes
+    shape_in body_bytes encode transitions_in dead alive lost cleared_chart clear_bytes union_up_to lacking used free
+    calls_by call_in called idle idles chart_with nearest_in nearest_slave rewritten_chart leaving_in bit single
 crowded_limits = (refl, refl, refl)

@@ -68,7 +68,8 @@ module _ (f : Set) (fed : Set) where
       go : (b : Bool) → doubtful_with f t (alive fed us) ≡ false
           → doubtful_with f t (cond b (alive fed us) (u ∷ alive fed us)) ≡ false
       go true q = q
-      go false q = ap (λ b. b || doubtful_with f t (alive fed us)) (or_left (doubtful f t u) (doubtful_with f t us) h) ∙ q
+      go false q = ap (λ b. b || doubtful_with f t (alive fed us)) (or_left (doubtful f t u) (doubtful_with f t us) h)
+          ∙ q
 
   any-alive : (ts : List Transition) → any_doubtful f ts ≡ false → any_doubtful f (alive fed ts) ≡ false
   unfolding any_doubtful alive

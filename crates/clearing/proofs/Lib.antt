@@ -4,7 +4,7 @@ pub mod Calls
 pub mod Dead
 pub mod Examples
 pub mod Kept
-pub mod Left
+pub mod LeftLaws
 pub mod Limits
 pub mod New
 pub mod Outcomes

@@ -25,7 +25,8 @@ use Rattle.meaning.specs.Check.Laws.{first_of_here, first_of-next, first_of_[]}
 use Rattle.meaning.specs.Laws.Trees.{Ordered}
 use Rattle.meaning.proofs.Rewriting.Laws.{list_most}
 use Rattle.meaning.specs.Rewriting.{union_up_to, lacking, used, free, call, calls_by, called, idle, idles, chart_with}
-use Rattle.meaning.specs.Rewriting.{nearest_in, nearest_slave, rewritten_chart, before, count, start, rewrite, leaving_in}
+use Rattle.meaning.specs.Rewriting.{nearest_in, nearest_slave, rewritten_chart, before, count, start, rewrite}
+use Rattle.meaning.specs.Rewriting.{leaving_in}
 use Rattle.meaning.specs.Rewriting.{no_free?, from_state?, in_chart?, rewrite_tests, transitions_in, shape_in}
 use Rattle.meaning.specs.Rewriting.{encode}
 use Rattle.agreement.specs.Charts.{places, places_none}

@@ -17,7 +17,8 @@ use Rattle.layout.specs.Body.{size_of, head_at, transition_at, start_of, from, t
 use Rattle.layout.specs.Body.Laws.{length_from, get_or-from}
 use Rattle.layout.specs.declared.body.Shape.{Shape}
 use Rattle.layout.specs.declared.record.Transition.{Transition}
-use Rattle.meaning.specs.Numbers.{first_edition, most_slaves, most_nodes, most_transitions, most_in_chart, most_from_state}
+use Rattle.meaning.specs.Numbers.{first_edition, most_slaves, most_nodes, most_transitions, most_in_chart}
+use Rattle.meaning.specs.Numbers.{most_from_state}
 use Rattle.meaning.specs.Sums.{any_up_to, tally, one}
 use Rattle.meaning.specs.Sums.Laws.{or_left, or_right, any-never, tally_cong}
 use Rattle.meaning.specs.Meaning.{Set, same, guards}
@@ -37,7 +38,7 @@ use Rattle.agreement.specs.Again.{leaving_list}
 use Rattle.clearing.proofs.Alive.{alive_most}
 use Rattle.clearing.proofs.Result.{Clearable, slaves-cleared, nodes_cleared, naming_cleared, inside-cleared}
 use Rattle.clearing.specs.InOrder.{InOrder}
-use Rattle.clearing.proofs.Left.Laws.{no_more}
+use Rattle.clearing.proofs.LeftLaws.{no_more}
 
 -- ── lists ──
 
@@ -98,7 +99,8 @@ module _ (f : List ℕ) (ab : AllBytes f) (p : Passed f) (first : (trailer f).ed
   unfolding transitions_of leaving
   as_listed c s =
       tally_cong k _ (λ u. one (same (get_or ts u no_transition).from s))
-      (λ u m. ap (λ t. one (same t.from s)) (sym (get_or-from (transition_at n b) (start_of n b c) k u no_transition m)))
+      (λ u m. ap (λ t. one (same t.from s)) (sym
+      (get_or-from (transition_at n b) (start_of n b c) k u no_transition m)))
       ∙ ap (λ z. tally z (λ u. one (same (get_or ts u no_transition).from s)))
       (sym (length_from (transition_at n b) (start_of n b c) k))
       ∙ leaving_list ts s

@@ -11,7 +11,8 @@ use Rattle.signals.specs.Mask.{◌∪◌, ◌∩◌, ◌∖◌}
 use Rattle.signals.specs.Decide.{sets, A, B, C, D, ∅ₑ, ◌∪ₑ◌, ◌∖ₑ◌, ◌≐◌, ◌⊑◌}
 use Rattle.meaning.specs.Numbers.{no_place}
 use Rattle.meaning.specs.Meaning.{Set, ∅, same, Chart, Tree, Slaves, leaf, comp, hide, dec, nil, snoc, Move, no_move}
-use Rattle.meaning.specs.Meaning.{takes, stay, behind, pick, last_place, action_of, guards, actions, in_face_chart, in_face}
+use Rattle.meaning.specs.Meaning.{takes, stay, behind, pick, last_place, action_of, guards, actions, in_face_chart}
+use Rattle.meaning.specs.Meaning.{in_face}
 use Rattle.meaning.specs.Meaning.{in_faces, out_face, out_faces, out, outs, ok_chart, meets, ok, oks, permitted}
 use Rattle.meaning.specs.Meaning.{untriggered, upd, moves, place_of, places_from, Outcome, outcome_of, upto, outcome}
 use Rattle.meaning.specs.Meaning.{search, outcomes, eq_list, agree, answer, given, first_places}
@@ -67,7 +68,8 @@ module _ (E : ℕ → Chart) where
     pub out_cleared : (t : Tree) → out_face cleared t ∖ out_face E t ≡ ∅
     out_cleared (leaf c) = actions-cleared c
     out_cleared (comp p q x) =
-        within_join (out_face E p) (out_face cleared p) (out_face E q) (out_face cleared q) (out_cleared p) (out_cleared q)
+        within_join (out_face E p) (out_face cleared p) (out_face E q) (out_face cleared q) (out_cleared p)
+        (out_cleared q)
     out_cleared (hide p x y) =
         sets (out_face E p ∷ out_face cleared p ∷ y ∷ []) (B ⊑ A ∷ []) (B ∖ₑ C ⊑ A ∖ₑ C) tt (out_cleared p)
     out_cleared (dec c ss) =
@@ -147,7 +149,8 @@ module _ (E : ℕ → Chart) (state : ℕ → ℕ) (cfg : ℕ → ℕ) (M : ℕ 
     open_tree_lem (dec c ss) a =
         ap₂ ◌&&◌ (open_chart_lem (E c) a (cfg c) (M c)) (open_slaves_lem ss (λ q. a && meets (cfg c) (M c) q))
 
-    open_slaves_lem : (ss : Slaves) (f : ℕ → Bool) → open_slaves (cleared E) state cfg M ss f ≡ open_slaves E state cfg M ss f
+    open_slaves_lem : (ss : Slaves) (f : ℕ → Bool)
+        → open_slaves (cleared E) state cfg M ss f ≡ open_slaves E state cfg M ss f
     open_slaves_lem nil f = refl
     open_slaves_lem (snoc ss i t) f = ap₂ ◌&&◌ (open_slaves_lem ss f) (open_tree_lem t (f (state i)))
 

@@ -13,7 +13,8 @@ use Rattle.meaning.specs.Sums.Laws.{any_cong}
 use Rattle.meaning.specs.Meaning.{Set, ∅, Chart, Tree, comp, hide, guards, in_face, out_face, outcomes, refused, answer}
 use Rattle.meaning.specs.Meaning.{first_places}
 use Rattle.meaning.specs.File.{File, by_kind, whole, gather, build, tree_of, whole_of, Has}
-use Rattle.meaning.specs.Check.{not_below, rising, in_order_at, slave?, slaves?, node_of_kind?, nodes?, names, named, held}
+use Rattle.meaning.specs.Check.{not_below, rising, in_order_at, slave?, slaves?, node_of_kind?, nodes?, names, named}
+use Rattle.meaning.specs.Check.{held}
 use Rattle.meaning.specs.Check.{naming?, inside?}
 use Rattle.meaning.specs.Open.{open_choices, open_in}
 use Rattle.meaning.specs.Calls.{outcomes_in, found_in, many_open?, step_in, all_places, places_found}

@@ -22,23 +22,29 @@ use Rattle.meaning.specs.Sums.{tally, one}
 use Rattle.meaning.specs.Sums.Laws.{or_right, or_four, any-all, any-never, tally_cong}
 use Rattle.meaning.specs.Meaning.{same}
 use Rattle.meaning.specs.File.{File, end_of, trailer, body_of, shape_of, file_of}
-use Rattle.meaning.specs.Check.{edition?, differ, not_below, counts?, distance?, nonzero, zeros?, chart?, charts?, ends?}
-use Rattle.meaning.specs.Check.{leaving, transitions?, in_order_at, slave?, slaves?, node_of_kind?, nodes?, naming?, inside?}
+use Rattle.meaning.specs.Check.{edition?, differ, not_below, counts?, distance?, nonzero, zeros?, chart?, charts?}
+use Rattle.meaning.specs.Check.{ends?}
+use Rattle.meaning.specs.Check.{leaving, transitions?, in_order_at, slave?, slaves?, node_of_kind?, nodes?, naming?}
+use Rattle.meaning.specs.Check.{inside?}
 use Rattle.meaning.specs.Check.{refusal_of}
 use Rattle.meaning.specs.Check.Laws.{Passed, below, alike, neither, is_below}
 use Rattle.meaning.specs.Check.Nodes.{kind_at_most, kind₀, kind₁, kind₂, node_passes, treed}
-use Rattle.meaning.specs.Rewriting.{leaving_in, transitions_in, head_for, transitions_bytes, shape_in, body_bytes, encode}
+use Rattle.meaning.specs.Rewriting.{leaving_in, transitions_in, head_for, transitions_bytes, shape_in, body_bytes}
+use Rattle.meaning.specs.Rewriting.{encode}
 use Rattle.agreement.specs.Every.{Every, every-at, every_imp}
-use Rattle.agreement.specs.Encoded.{no_transition, Fits, slave_in, node_in, head_there, some_transition_there, slave_there}
+use Rattle.agreement.specs.Encoded.{no_transition, Fits, slave_in, node_in, head_there, some_transition_there}
+use Rattle.agreement.specs.Encoded.{slave_there}
 use Rattle.agreement.specs.Encoded.{node-there, head_is, start_is, transition_is, trailer_for, length-encode, end_is}
 use Rattle.agreement.specs.Encoded.{trailer_there, trailer_is, body_is, shape_is, file_is}
 use Rattle.agreement.specs.Recovered.{Reads, reads_back}
 use Rattle.agreement.specs.Passed.{passes}
 use Rattle.agreement.specs.Again.{equal, there, head_zero, transition_zero, slave_zero, node_zero}
 use Rattle.agreement.specs.Again.{trailer_zero, zeros-at, leaving_list}
-use Rattle.agreement.specs.Bytes.{Bytes, end, byte, all-bytes, and, nought, in_turn_lem, head_bytes_lem, transitions_bytes_lem}
+use Rattle.agreement.specs.Bytes.{Bytes, end, byte, all-bytes, and, nought, in_turn_lem, head_bytes_lem}
+use Rattle.agreement.specs.Bytes.{transitions_bytes_lem}
 use Rattle.agreement.specs.Bytes.{node_bytes_lem, trailer-bytes}
-use Rattle.propositions.proofs.Exchange.Records.{Turned, kept, slaves-turned, nodes_turned, naming_turned, inside-turned}
+use Rattle.propositions.proofs.Exchange.Records.{Turned, kept, slaves-turned, nodes_turned, naming_turned}
+use Rattle.propositions.proofs.Exchange.Records.{inside-turned}
 
 pub record InOrder (R : File) : Type 0 where
   pub fits : Fits R

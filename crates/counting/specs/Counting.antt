@@ -1,5 +1,6 @@
 -- The count of open choices over rows of bytes and a table: wiring's Entries, over lists. In this order: what the count
--- asks of a file (Countable); a product (`branch_in`), a chart's sum (`sum_in`) and the total (`total_in`), with what each
+-- asks of a file (Countable); a product (`branch_in`), a chart's sum (`sum_in`) and the total (`total_in`), with what
+-- each
 -- needs so as not to overflow; the table while it is filled (CountsOn, Stored, Filled); the places that begin an open
 -- choice (`begins`), and the states by which one is left out (Shuts).
 use Rattle.std.specs.Prelude.{◌≡◌, Bool, false, ◌&&◌, ◌||◌, cond, List, ℕ, ◌+◌, ◌≤◌, ◌<◌, ltb, length, get_or}

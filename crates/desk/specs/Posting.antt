@@ -1,7 +1,8 @@
 -- The posting of a day for a whole book (RULES 11). A book is one chart file and a list of case records; a day is a
 -- list of entries. In this order: limits and refusals; a case and its entries; the refusals in order; a case posted;
 -- the book posted; the call.
-use Rattle.std.specs.Prelude.{◌≡◌, Bool, true, false, cond, ◌||◌, List, [], ◌∷◌, ◌++◌, ℕ, zero, suc, ◌+◌, ◌*◌, ltb, leb, length, get_or}
+use Rattle.std.specs.Prelude.{◌≡◌, Bool, true, false, cond, ◌||◌, List, [], ◌∷◌, ◌++◌, ℕ, zero, suc, ◌+◌, ◌*◌, ltb, leb}
+use Rattle.std.specs.Prelude.{length, get_or}
 use Rattle.signals.specs.Mask.{◌∪◌}
 use Rattle.layout.specs.Le.{bytes}
 use Rattle.meaning.specs.Meaning.{Set, ∅, same, Answer}
@@ -124,7 +125,8 @@ post_cases f cases entries room =
 -- what the row buffer holds after it
 unfoldable pub post_rows : List ℕ → List Case → List Entry → List ℕ → List ℕ
 post_rows f cases entries rows =
-    cond (same (post_refusal f cases entries (length rows)) 0) (laid_over (rows_from (file_of f) 0 cases entries) rows) rows
+    cond (same (post_refusal f cases entries (length rows)) 0)
+    (laid_over (rows_from (file_of f) 0 cases entries) rows) rows
 
 -- the contract: r is the refusal, and cs and rs are what the records and the row buffer hold
 abbrev pub PostSays : List ℕ → List Case → List Entry → List ℕ → ℕ → List Case → List ℕ → Type 0

@@ -1,6 +1,7 @@
 -- What the functions of the posting compute, one entry and one case at a time, in the order of the code. No public
 -- contract uses these definitions; Turns/Posted.antt proves that together they are the posting.
-use Rattle.std.specs.Prelude.{Bool, true, false, cond, ◌||◌, List, [], ◌∷◌, ◌++◌, ℕ, zero, suc, ◌+◌, ◌*◌, ◌≤◌, ◌<◌, ltb, leb, length, get_or, set, replicate}
+use Rattle.std.specs.Prelude.{Bool, true, false, cond, ◌||◌, List, [], ◌∷◌, ◌++◌, ℕ, zero, suc, ◌+◌, ◌*◌, ◌≤◌, ◌<◌, ltb}
+use Rattle.std.specs.Prelude.{leb, length, get_or, set, replicate}
 use Rattle.signals.specs.Mask.{◌∪◌}
 use Rattle.layout.specs.Le.{bytes}
 use Rattle.meaning.specs.Numbers.{most_charts, wrong_length, bad_state}
@@ -59,7 +60,12 @@ seen_of s c = record {
 -- what the file says, before any case is looked at
 unfoldable pub unseen_of : List ℕ → Seen
 unseen_of f =
-    record { refusal = (states_of f).refusal; charts = (states_of f).charts; states = (states_of f).states; ended = false }
+    record {
+      refusal = (states_of f).refusal;
+      charts = (states_of f).charts;
+      states = (states_of f).states;
+      ended = false;
+    }
 
 unfoldable pub all_seen : Seen → List Case → Seen
 all_seen s [] = s

@@ -62,7 +62,8 @@ row_tail F c i = drop_at (bytes 4 (c.last + 1)) (row_of (answer_to F c i) (confi
 
 row-front : (F : File) (c : Case) (i : Set) → take 4 (posted_row F c i) ≡ bytes 4 (c.last + 1)
 unfolding posted_row
-row-front F c i = take_at (bytes 4 (c.last + 1)) (row_of (answer_to F c i) (config_of c)) 4 (length-bytes 4 (c.last + 1))
+row-front F c i = take_at (bytes 4 (c.last + 1)) (row_of (answer_to F c i) (config_of c)) 4
+    (length-bytes 4 (c.last + 1))
 
 module _ (f : List ℕ) (h : refusal_of f ≡ 0) where
   abbrev F : File
@@ -158,7 +159,8 @@ module _ (f : List ℕ) (cs : List Case) (es : List Entry) (rows : List ℕ)
   rows_behind =
       let n = rows_long f ok.file 0 cs es ok.book in
       ap (drop (length cs * width)) written_are
-      ∙ drop_at (rows_from (file_of f) 0 cs es) (drop (length (rows_from (file_of f) 0 cs es)) rows) (length cs * width) n
+      ∙ drop_at (rows_from (file_of f) 0 cs es) (drop (length (rows_from (file_of f) 0 cs es)) rows)
+      (length cs * width) n
       ∙ ap (λ (m : ℕ). drop m rows) n
 
   -- as many records as before
@@ -210,7 +212,8 @@ module _ (f : List ℕ) (cs : List Case) (es : List Entry) (rows : List ℕ)
         length-row r (config_of own) (file_of f).charts
         (after-long f ok.file own own-passes (own.carried ∪ joined k es) r refl) ∙ sym g in
         ap (drop 4) row_posted ∙ row_tail (file_of f) own (joined k es)
-        ∙ sym (behind_is (run_refusal f (config_of own) 1 (length row)) _ row (run_given (length row) (omega (arith, g)))
+        ∙ sym (behind_is (run_refusal f (config_of own) 1 (length row)) _ row
+        (run_given (length row) (omega (arith, g)))
         ∙ rw (append-nil (row_of r (config_of own)), n, drop-length row) (append-nil (row_of r (config_of own))))
 
     -- what is carried on
@@ -222,7 +225,8 @@ module _ (f : List ℕ) (cs : List Case) (es : List Entry) (rows : List ℕ)
         ∙ sym (behind_is (run_refusal f (config_of own) 1 room) _ _ (run_given room g))
 
     -- the new configuration is what the row ends with
-    pub config_is_run : config_of (get_or records k c) ≡ after_step (answer_to (file_of f) own (joined k es)) (config_of own)
+    pub config_is_run : config_of (get_or records k c)
+        ≡ after_step (answer_to (file_of f) own (joined k es)) (config_of own)
     config_is_run = ap config_of case_posted ∙ config_next f ok.file own own-passes (joined k es)
 
 -- ── a case alone ──
@@ -321,7 +325,8 @@ module _ (f : List ℕ) (cs : List Case) (es fs : List Entry) (p : Alike es fs) 
 module _ (f : List ℕ) (rows : List ℕ) (k : ℕ) (c : Case) where
   -- the rows of case k, day by day, are those of the run over what arrived for it, in the records' own terms
   rows_run : (days : List (List Entry)) (cs : List Case) → DaysPosted f cs days rows → k < length cs
-      → case_rows f cs days rows k ≡ rows_of (file_of f) (config_of (get_or cs k c)) (get_or cs k c).carried (arrived k days)
+      → case_rows f cs days rows k ≡ rows_of (file_of f) (config_of (get_or cs k c)) (get_or cs k c).carried
+      (arrived k days)
   unfolding DaysPosted case_rows rows_of arrived posted_case
   rows_run [] cs p l = refl
   rows_run (day ∷ days) cs p l =

@@ -52,7 +52,8 @@ DaysPosted f cases (day ∷ days) rows =
 unfoldable pub case_rows : List ℕ → List Case → List (List Entry) → List ℕ → ℕ → List ℕ
 case_rows f cases [] rows k = []
 case_rows f cases (day ∷ days) rows k =
-    drop 4 (posted_at f (post_rows f cases day rows) k) ++ case_rows f (post_cases f cases day (length rows)) days rows k
+    drop 4 (posted_at f (post_rows f cases day rows) k)
+    ++ case_rows f (post_cases f cases day (length rows)) days rows k
 
 -- what arrived for case k, day by day
 unfoldable pub arrived : ℕ → List (List Entry) → List Set

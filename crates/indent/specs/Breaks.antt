@@ -1,6 +1,7 @@
 -- A written text laid out for a person (docs/NOTATION.md 7): behind some of its signs a line ends, and the next line is
 -- indented by two blanks a level.
-use Rattle.std.specs.Prelude.{Bool, true, false, ◌&&◌, ◌||◌, not, cond, List, [], ◌∷◌, ◌++◌, ℕ, ◌+◌, ◌-◌, ◌*◌, eqb, ltb, replicate}
+use Rattle.std.specs.Prelude.{Bool, true, false, ◌&&◌, ◌||◌, not, cond, List, [], ◌∷◌, ◌++◌, ℕ, ◌+◌, ◌-◌, ◌*◌, eqb, ltb}
+use Rattle.std.specs.Prelude.{replicate}
 use Prim.Native.Char.{code}
 use Rattle.indent.specs.declared.Place.{Place}
 

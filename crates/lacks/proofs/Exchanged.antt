@@ -11,7 +11,7 @@ use Rattle.propositions.specs.Exchange.{exchange, HasComposed}
 use Rattle.propositions.proofs.Exchange.Answers.{TreesAlike}
 use Rattle.propositions.proofs.Exchange.Laws.{same_check, same_trees}
 use Rattle.lacks.specs.Lacking.{place_tests, lacking_of, lacking_in}
-use Rattle.lacks.proofs.Lacking.Laws.{refused_file, refused_chart, in_file}
+use Rattle.lacks.proofs.Laws.{refused_file, refused_chart, in_file}
 use Rattle.lacks.specs.declared.Lacking.TheVariants.{Refused}
 
 -- over records: the number of charts and the chart are all that counts

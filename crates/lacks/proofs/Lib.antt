@@ -1,3 +1,3 @@
 -- Laws that are proved here, apart from the definitions.
 pub mod Exchanged
-pub mod Lacking
+pub mod Laws

@@ -14,4 +14,5 @@ pub record Underway (f : List ℕ) (d : Day) (charts n : ℕ) (cs : List Case) (
   pub cases_left : drop i cs' ≡ drop i cs
   pub cases_done : take i cs' ++ turn_cases f d (n - i) i (drop i cs) ≡ turn_cases f d n 0 cs
   pub rows_left : drop (i * (14 + charts)) rs' ≡ drop (i * (14 + charts)) rs
-  pub rows_done : take (i * (14 + charts)) rs' ++ turn_rows f d charts (n - i) i (drop i cs) ≡ turn_rows f d charts n 0 cs
+  pub rows_done : take (i * (14 + charts)) rs' ++ turn_rows f d charts (n - i) i (drop i cs)
+      ≡ turn_rows f d charts n 0 cs

@@ -1,5 +1,6 @@
 -- The levels that the code keeps: the innermost stand in a ring of 1,024 bytes, each with the place of its bracket.
-use Rattle.std.specs.Prelude.{◌≡◌, Bool, true, false, List, [], ◌∷◌, ℕ, suc, ◌+◌, ◌-◌, ◌%◌, ◌≤◌, ◌<◌, length, take, get_or}
+use Rattle.std.specs.Prelude.{◌≡◌, Bool, true, false, List, [], ◌∷◌, ℕ, suc, ◌+◌, ◌-◌, ◌%◌, ◌≤◌, ◌<◌, length, take}
+use Rattle.std.specs.Prelude.{get_or}
 use Rattle.scan.specs.Look.{back_to, levels, rev}
 use Rattle.scan.specs.Levels.{below, on_first, fresh}
 use Rattle.levels.specs.declared.Kept.{Kept}

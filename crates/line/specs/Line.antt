@@ -1,6 +1,7 @@
 -- What the day program prints (RULES 10): numbers in digits, fields, the line of a row, the whole output. Laws are in
 -- Line/Laws.antt; the example of RULES 10.4 is in Line/Example.antt.
-use Rattle.std.specs.Prelude.{cond, List, [], ◌∷◌, ◌++◌, map, ℕ, zero, suc, ◌+◌, ◌-◌, ◌/◌, ◌%◌, ltb, length, get_or, take, drop}
+use Rattle.std.specs.Prelude.{cond, List, [], ◌∷◌, ◌++◌, map, ℕ, zero, suc, ◌+◌, ◌-◌, ◌/◌, ◌%◌, ltb, length, get_or}
+use Rattle.std.specs.Prelude.{take, drop}
 use Prim.Native.Char.{code}
 use Rattle.layout.specs.Le.{le}
 use Rattle.meaning.specs.Numbers.{most_input, input_too_long, odd_front}

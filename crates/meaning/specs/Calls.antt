@@ -1,7 +1,8 @@
 -- What the public calls answer (RULES 1.3), the rewriting aside: the first configuration, the interface, the step, the
 -- run. Each has one list of tests, in the order of RULES 3.6. A call that is refused changes no byte of a buffer (RULES
 -- 1.4).
-use Rattle.std.specs.Prelude.{◌≡◌, Bool, false, cond, List, [], ◌∷◌, ◌++◌, ℕ, zero, suc, ◌+◌, ◌-◌, ◌*◌, ◌<◌, ltb, length, get_or, take, drop, replicate}
+use Rattle.std.specs.Prelude.{◌≡◌, Bool, false, cond, List, [], ◌∷◌, ◌++◌, ℕ, zero, suc, ◌+◌, ◌-◌, ◌*◌, ◌<◌, ltb}
+use Rattle.std.specs.Prelude.{length, get_or, take, drop, replicate}
 use Rattle.signals.specs.Mask.{◌∪◌}
 use Rattle.layout.specs.Le.{bytes}
 use Rattle.meaning.specs.Numbers.{most_charts, most_open, no_place, wrong_length, bad_state, short_buffer, many_open}

@@ -1,5 +1,6 @@
 -- The file check: refusals 1 to 11 (RULES 3.2), in this order. A test is true where its refusal applies.
-use Rattle.std.specs.Prelude.{Bool, true, ◌&&◌, ◌||◌, not, cond, List, [], ◌∷◌, ℕ, zero, suc, ◌+◌, ◌*◌, ltb, length, get_or}
+use Rattle.std.specs.Prelude.{Bool, true, ◌&&◌, ◌||◌, not, cond, List, [], ◌∷◌, ℕ, zero, suc, ◌+◌, ◌*◌, ltb, length}
+use Rattle.std.specs.Prelude.{get_or}
 use Rattle.layout.specs.Body.{size_of, transitions_from, slaves_from, nodes_from, head_at, transition_at, start_of}
 use Rattle.layout.specs.declared.body.Shape.{Shape}
 use Rattle.layout.specs.declared.record.Trailer.{Trailer}

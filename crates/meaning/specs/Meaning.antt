@@ -2,7 +2,8 @@
 -- tree; moves; the test of a guard; interfaces; what a part puts out; when a choice is permitted; all choices in order;
 -- the step's answer. Laws are elsewhere: that interfaces cut nothing off and how the tree folds into masks in the crate
 -- wiring, the rewriting in agreement.
-use Rattle.std.specs.Prelude.{Bool, true, false, ◌&&◌, ◌||◌, not, cond, List, [], ◌∷◌, ◌++◌, ℕ, zero, suc, ◌-◌, eqb, length}
+use Rattle.std.specs.Prelude.{Bool, true, false, ◌&&◌, ◌||◌, not, cond, List, [], ◌∷◌, ◌++◌, ℕ, zero, suc, ◌-◌, eqb}
+use Rattle.std.specs.Prelude.{length}
 use Rattle.signals.specs.Mask.{◌∪◌, ◌∩◌, ◌∖◌}
 use Rattle.signals.specs.Guard.{guard, is_met}
 use Rattle.layout.specs.declared.record.Transition.{Transition}

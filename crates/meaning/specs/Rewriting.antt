@@ -2,7 +2,8 @@
 -- the charts; the nodes; the rewritten file; refusals 40 to 44; the file in bytes; what the call answers. That the
 -- rewritten file steps as the file does is proved in the crate agreement. Laws of the refusals are in
 -- Rewriting/Laws.antt.
-use Rattle.std.specs.Prelude.{◌≡◌, Bool, true, false, ◌&&◌, ◌||◌, cond, ◌≢◌, ◌⊎◌, List, [], ◌∷◌, ◌++◌, map, ℕ, zero, suc, ◌+◌, ◌<◌, ltb, length, get_or}
+use Rattle.std.specs.Prelude.{◌≡◌, Bool, true, false, ◌&&◌, ◌||◌, cond, ◌≢◌, ◌⊎◌, List, [], ◌∷◌, ◌++◌, map, ℕ, zero}
+use Rattle.std.specs.Prelude.{suc, ◌+◌, ◌<◌, ltb, length, get_or}
 use Rattle.std.proofs.Math.Option.{Option, none, some}
 use Rattle.signals.specs.Mask.{◌∪◌, bit, single}
 use Rattle.layout.specs.Record.{trailer_bytes, head_bytes, transition_bytes, slave_bytes, node_bytes}

@@ -57,7 +57,8 @@ module _ (E : ℕ → Chart) (state : ℕ → ℕ) (cfg : ℕ → ℕ) (t : Tree
 abbrev pub PermittedChoice : List ℕ → List ℕ → Set → (ℕ → ℕ) → Type 0
 PermittedChoice f config i ch =
     Choice (file_of f).chart (file_of f).state (λ c. get_or config c 0) (whole_of (file_of f)) i (file_of f).charts ch
-    × Permitted (file_of f).chart (file_of f).state (λ c. get_or config c 0) (whole_of (file_of f)) i (file_of f).charts ch
+    × Permitted (file_of f).chart (file_of f).state (λ c. get_or config c 0) (whole_of (file_of f)) i
+    (file_of f).charts ch
 
 -- no test of a step before 24 applies: the file is accepted, the configuration valid, the buffer long enough (RULES
 -- 3.6)

@@ -190,7 +190,8 @@ ways (guard_first m h ts p q) =
 ways (guard_next m h ts p q g) =
     read letS (λ n. guard_done m h ts p q (g ▸ needed n)) ∷ on minus (guard_barred m h ts p q (some g)) ∷ []
 ways (guard_barred m h ts p q g) = read letS (λ n. guard_done m h ts p q (g ▸? barred n)) ∷ []
-ways (guard_done m h ts p q g) = on amp (guard_next m h ts p q g) ∷ on slash (set_next (action m h ts p q (some g))) ∷ []
+ways (guard_done m h ts p q g) = on amp (guard_next m h ts p q g)
+    ∷ on slash (set_next (action m h ts p q (some g))) ∷ []
 ways (action_done m h ts p q g x) =
     on rpar (line_done m h (ts ▸? record { from = p; to = q; guard = g; action = x })) ∷ []
 ways (set_next w) = on lbrace (set_first w) ∷ []

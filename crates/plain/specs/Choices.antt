@@ -1,4 +1,5 @@
--- Trees no two transitions of whose charts are doubtful, with all their feedback in one set (PlainTree). The laws are in
+-- Trees no two transitions of whose charts are doubtful, with all their feedback in one set (PlainTree). The laws are
+-- in
 -- proofs/Choices.
 use Rattle.std.specs.Prelude.{◌≡◌, Bool, false, ◌&&◌, List, [], ◌∷◌, ℕ, zero, ◌<◌}
 use Rattle.std.proofs.Math.Path.{refl, sym, ap, fun_ext}

@@ -94,7 +94,8 @@ module _ (F : File) (s : Sound F) (j : ℕ) (l : j < F.nodes) where
             (λ i. g.down_is c p ∙ ap (λ (b : Bool). cond b (get_or r c 0 ∖ x) (get_or r c 0)) (ch c ∙ i)
             ∙ ap₂ ◌∖◌ (h.down_is c p) ex
             ∙ down₂_made F s.ordered parts j l c i e)
-            (λ o. g.down_is c p ∙ ap (λ (b : Bool). cond b (get_or r c 0 ∖ x) (get_or r c 0)) (ch c ∙ o) ∙ h.down_is c p);
+            (λ o. g.down_is c p ∙ ap (λ (b : Bool). cond b (get_or r c 0 ∖ x) (get_or r c 0)) (ch c ∙ o)
+            ∙ h.down_is c p);
         up_is = λ c p. latest-by c (λ t. up t c) (up_at m' c)
             (λ i. g.up_is c p ∙ ap (λ (b : Bool). cond b (up_at m c ∖ y) (up_at m c)) (ch c ∙ i)
             ∙ ap₂ ◌∖◌ (h.up_is c p) ey
@@ -212,7 +213,8 @@ module _ (F : File) (s : Sound F) (j : ℕ) (l : j < F.nodes) where
                 (set-by m up_cell (λ a b y. omega arith) d full (omega (arith, there)) c) (h.up_is c p)
                 (λ i. up₀_made F s.ordered parts j l c i e);
             back_is =
-                λ c k p p'. get_or-set_other m (up_cell d) (back_cell c k) full 0 (λ z. omega arith) ∙ h.back_is c k p p';
+                λ c k p p'. get_or-set_other m (up_cell d) (back_cell c k) full 0 (λ z. omega arith)
+                ∙ h.back_is c k p p';
             long = ap length g.down_is ∙ length-set r d full ∙ h.long;
           })
           g.fed,

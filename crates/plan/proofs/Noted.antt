@@ -29,7 +29,8 @@ module _ (F : File) (s : Sound F) where
     pub notes_none : (n.kind ≡ 0 → ⊥) → Notes F j l l
     notes_none k = record { noted = λ e. absurd (k (is.kind ∙ e)); stays = λ c u h. h }
 
-    pub notes_chart : n.kind ≡ 0 → F.charts ≤ most_charts → length l ≡ small_size → {x y : ℕ} → x ≡ master_by F (enc F j)
+    pub notes_chart : n.kind ≡ 0 → F.charts ≤ most_charts → length l ≡ small_size → {x y : ℕ}
+        → x ≡ master_by F (enc F j)
         → y ≡ state_by F (enc F j) → Notes F j l (put_nearest l n.a x y)
     notes_chart e₀ u v {x} {y} ex ey =
         record {
@@ -111,7 +112,8 @@ module _ (F : File) (z : F.slaves ≡ 0) where
 pub noted_none-more : (c : ℕ) (l : List ℕ) → c < most_charts → length l ≡ small_size → NotedNone c l
     → NotedNone (c + 1) (put_nearest l c 255 0)
 noted_none-more c l p n h =
-    below_more (λ (k : ℕ). (master_at (put_nearest l c 255 0) k ≡ 255) × (slave_state_at (put_nearest l c 255 0) k ≡ 0)) c
+    below_more (λ (k : ℕ). (master_at (put_nearest l c 255 0) k ≡ 255) × (slave_state_at (put_nearest l c 255 0) k ≡ 0))
+    c
     (λ k q. let g = h k q in (
       off (master_cell k) (λ e. omega arith) (λ e. omega arith) ∙ g.0,
       off (slave_state_cell k) (λ e. omega arith) (λ e. omega arith) ∙ g.1,
@@ -124,4 +126,5 @@ noted_none-more c l p n h =
   where
     off : (i : ℕ) → i ≢ master_cell c → i ≢ slave_state_cell c → get_or (put_nearest l c 255 0) i 0 ≡ get_or l i 0
     off i a b =
-        get_or-set_other (set l (master_cell c) 255) (slave_state_cell c) i 0 0 b ∙ get_or-set_other l (master_cell c) i 255 0 a
+        get_or-set_other (set l (master_cell c) 255) (slave_state_cell c) i 0 0 b
+        ∙ get_or-set_other l (master_cell c) i 255 0 a

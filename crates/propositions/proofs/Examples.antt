@@ -5,17 +5,23 @@ use Rattle.std.specs.Prelude.{◌≡◌, refl, Bool, true, false, List, [], ◌�
 use Rattle.signals.specs.Mask.{bit, single}
 use Rattle.signals.specs.Guard.{lowest_from, guard}
 use Rattle.layout.specs.Le.{le, bytes}
-use Rattle.layout.specs.Record.{trailer_of, trailer_bytes, head_of, head_bytes, transition_of, transition_bytes, slave_of}
+use Rattle.layout.specs.Record.{trailer_of, trailer_bytes, head_of, head_bytes, transition_of, transition_bytes}
+use Rattle.layout.specs.Record.{slave_of}
 use Rattle.layout.specs.Record.{slave_bytes, node_of, node_bytes}
 use Rattle.layout.specs.Body.{head_at, transition_at, slave_at, node_at, start_of, from, transitions_of}
 use Rattle.meaning.specs.Sums.{any_up_to, tally}
-use Rattle.meaning.specs.Meaning.{Answer, given, same, nth, pick, last_place, action_of, after, met?, untriggered, guards}
-use Rattle.meaning.specs.Meaning.{actions, in_face_chart, in_face, in_faces, out, outs, ok_chart, meets, ok, oks, permitted}
+use Rattle.meaning.specs.Meaning.{Answer, given, same, nth, pick, last_place, action_of, after, met?, untriggered}
+use Rattle.meaning.specs.Meaning.{guards}
+use Rattle.meaning.specs.Meaning.{actions, in_face_chart, in_face, in_faces, out, outs, ok_chart, meets, ok, oks}
+use Rattle.meaning.specs.Meaning.{permitted}
 use Rattle.meaning.specs.Meaning.{upd, moves, nexts, place_of, places_from, upto, outcome_of, outcome, search, outcomes}
 use Rattle.meaning.specs.Meaning.{eq_list, agree, answer}
-use Rattle.meaning.specs.File.{gather, build, tree_of, Has, HasS, trailer, body_of, shape_of, chart_of, file_at, file_of}
-use Rattle.meaning.specs.Check.{first_of, edition?, counts?, distance?, nonzero, zeros?, chart?, charts?, ends?, leaving}
-use Rattle.meaning.specs.Check.{transitions?, rising, slave?, slaves?, node_of_kind?, nodes?, names, named, held, naming?}
+use Rattle.meaning.specs.File.{gather, build, tree_of, Has, HasS, trailer, body_of, shape_of, chart_of, file_at}
+use Rattle.meaning.specs.File.{file_of}
+use Rattle.meaning.specs.Check.{first_of, edition?, counts?, distance?, nonzero, zeros?, chart?, charts?, ends?}
+use Rattle.meaning.specs.Check.{leaving}
+use Rattle.meaning.specs.Check.{transitions?, rising, slave?, slaves?, node_of_kind?, nodes?, names, named, held}
+use Rattle.meaning.specs.Check.{naming?}
 use Rattle.meaning.specs.Check.{inside?, file_tests, refusal_of}
 use Rattle.meaning.specs.Open.{open_chart, open_tree, is_open, choices, how_many, open_choices}
 use Rattle.meaning.specs.Calls.{config_tests, step_refusal, found_in, many_open?, step_in, step_of}
@@ -56,13 +62,14 @@ abbrev pub table : List Answer
 table = given 2 (1 ∷ 0 ∷ []) true ∷ given 0 (0 ∷ 0 ∷ []) false ∷ []
 
 pub typed_differs : (answers 1 ≡ table) × (answers 2 ≡ table) × (fed_back_of (parts 1 0 1) 2 ≡ 2)
-unfolding answers parts single le bytes trailer_of head_of transition_of slave_of node_of head_at transition_at slave_at node_at
-    start_of from transitions_of any_up_to tally same nth pick last_place action_of after lowest_from guard met? untriggered
-    guards in_face_chart in_face in_faces out outs ok_chart meets ok oks permitted upd moves nexts place_of places_from upto
-    outcome_of outcome search outcomes eq_list agree answer gather build tree_of Has HasS trailer body_of shape_of chart_of
-    file_at file_of first_of edition? counts? distance? nonzero zeros? chart? charts? ends? leaving transitions? rising
-    slave? slaves? node_of_kind? nodes? names named held naming? inside? file_tests refusal_of config_tests step_refusal
-    open_chart open_tree is_open choices how_many open_choices found_in many_open? step_in step_of
+unfolding answers parts single le bytes trailer_of head_of transition_of slave_of node_of head_at transition_at slave_at
+    node_at start_of from transitions_of any_up_to tally same nth pick last_place action_of after lowest_from guard met?
+    untriggered guards in_face_chart in_face in_faces out outs ok_chart meets ok oks permitted upd moves nexts place_of
+    places_from upto outcome_of outcome search outcomes eq_list agree answer gather build tree_of Has HasS trailer
+    body_of shape_of chart_of file_at file_of first_of edition? counts? distance? nonzero zeros? chart? charts? ends?
+    leaving transitions? rising slave? slaves? node_of_kind? nodes? names named held naming? inside? file_tests
+    refusal_of config_tests step_refusal open_chart open_tree is_open choices how_many open_choices found_in many_open?
+    step_in step_of
 typed_differs = (refl, refl, refl)
 
 -- ── the rewriting of exchanged parts ──
@@ -70,9 +77,10 @@ typed_differs = (refl, refl, refl)
 -- the file has no slaves and no front, so its rewriting is the file itself, with either order of the parts
 pub rewritten_differs : (exchange 2 (parts 1 0 1) ≡ parts 1 1 0)
     × (rewrite_bytes (parts 1 0 1) ≡ parts 1 0 1) × (rewrite_bytes (exchange 2 (parts 1 0 1)) ≡ parts 1 1 0)
-unfolding exchange swap_at parts le bytes trailer_of trailer_bytes head_of head_bytes transition_of transition_bytes slave_of
-    slave_bytes node_of node_bytes head_at transition_at slave_at node_at start_of from transitions_of trailer body_of shape_of
-    chart_of file_at file_of same gather build tree_of Has tally union_up_to lacking used free call call_in called idle idles
-    chart_with nearest_in nearest_slave calls_by rewritten_chart start new_name calls_of composed made_for laid in_turn head_for
-    transitions_bytes shape_in body_bytes encode transitions_in rewrite_bytes guards actions bit single
+unfolding exchange swap_at parts le bytes trailer_of trailer_bytes head_of head_bytes transition_of transition_bytes
+    slave_of slave_bytes node_of node_bytes head_at transition_at slave_at node_at start_of from transitions_of trailer
+    body_of shape_of chart_of file_at file_of same gather build tree_of Has tally union_up_to lacking used free call
+    call_in called idle idles chart_with nearest_in nearest_slave calls_by rewritten_chart start new_name calls_of
+    composed made_for laid in_turn head_for transitions_bytes shape_in body_bytes encode transitions_in rewrite_bytes
+    guards actions bit single
 rewritten_differs = (refl, refl, refl)

@@ -44,12 +44,15 @@ module _ (f config : List ℕ) (i : Set) (ch : ℕ → ℕ) where
 
   abbrev pub PermittedIn : Type 0
   PermittedIn =
-      Permitted (file_of f).chart (file_of f).state (λ c. get_or config c 0) (whole_of (file_of f)) i (file_of f).charts ch
+      Permitted (file_of f).chart (file_of f).state (λ c. get_or config c 0) (whole_of (file_of f)) i
+      (file_of f).charts ch
 
   abbrev pub choice_output : Set
   choice_output =
-      output_by (file_of f).chart (file_of f).state (λ c. get_or config c 0) (whole_of (file_of f)) i (file_of f).charts ch
+      output_by (file_of f).chart (file_of f).state (λ c. get_or config c 0) (whole_of (file_of f)) i
+      (file_of f).charts ch
 
   abbrev pub choice_next : List ℕ
   choice_next =
-      next_by (file_of f).chart (file_of f).state (λ c. get_or config c 0) (whole_of (file_of f)) i (file_of f).charts ch
+      next_by (file_of f).chart (file_of f).state (λ c. get_or config c 0) (whole_of (file_of f)) i
+      (file_of f).charts ch

@@ -71,7 +71,8 @@ module _ (F : File) where
   composed_text p q x = refl
 
   pub hidden_text_lem : (p : Tree) (x y : ℕ)
-      → text_by F (hide p x y) ≡ of_set (signals_of x) ++ (sign₁ lsq ++ (text_by F p ++ (sign₁ rsq ++ of_set (signals_of y))))
+      → text_by F (hide p x y) ≡ of_set (signals_of x)
+      ++ (sign₁ lsq ++ (text_by F p ++ (sign₁ rsq ++ of_set (signals_of y))))
   unfolding typed_of of_chart of_single of_optional
   hidden_text_lem p x y = refl
 
@@ -161,7 +162,8 @@ module _ (F : File) where
     held_none (suc k) h =
         rw (or_right (any_up_to k (λ i. same (F.master i) c)) _ h) (held_none k (or_left _ (same (F.master k) c) h))
 
-    pub master_none : decomposes F c ≡ false → text_by F (master_by F left c) ≡ of_sequential (sequential_of c (F.chart c))
+    pub master_none : decomposes F c ≡ false
+        → text_by F (master_by F left c) ≡ of_sequential (sequential_of c (F.chart c))
     unfolding typed_of of_chart of_single
     master_none h = rw (held_none F.slaves h)
 

@@ -189,7 +189,8 @@ module _ (m s gs y : List ℕ) (left k : ℕ) (t : Trail) (f : Found) where
   unfolding stays_at over
   shut_last h = rw (h, same_refl 0)
 
-  pub open_last : (told_at y k ≡ 0 → ⊥) → over (last m s gs y left k t) f ≡ over (below m s gs y left k (stayed m s t k)) f
+  pub open_last : (told_at y k ≡ 0 → ⊥) → over (last m s gs y left k t) f
+      ≡ over (below m s gs y left k (stayed m s t k)) f
   unfolding stays_at
   open_last h = rw (same_≢ (told_at y k) 0 h)
 

@@ -2,7 +2,8 @@
 -- of settled charts that do, and what such a search finds (`hunts_both`). A staying chart asks no guard of the others:
 -- it asks that none of its triggers holds, so `asks` does not cover it and it is tested by itself, on the bounds after
 -- the next chart's action.
-use Rattle.std.specs.Prelude.{◌≡◌, Bool, true, false, ◌&&◌, not, cond, List, [], ◌∷◌, ◌++◌, ℕ, zero, suc, ◌-◌, get_or, replicate}
+use Rattle.std.specs.Prelude.{◌≡◌, Bool, true, false, ◌&&◌, not, cond, List, [], ◌∷◌, ◌++◌, ℕ, zero, suc, ◌-◌, get_or}
+use Rattle.std.specs.Prelude.{replicate}
 use Rattle.signals.specs.Mask.{◌∪◌}
 use Rattle.signals.specs.Guard.{guard, is_met}
 use Rattle.meaning.specs.Numbers.{most_charts, no_place, stay_place}
@@ -65,7 +66,8 @@ module _ (m s g y : List ℕ) where
       (in_turn (count_at s k) (λ v. cond (fine_at m s (taken m s t k v) k && quiet_at (taken m s t k v) k)
       (hunts_both n (suc k) (taken m s t k v)) [])
       ++ cond (stays_at g y k)
-      (cond (fine_at m s (stayed m s t k) k && quiet_at (stayed m s t k) k) (hunts_both n (suc k) (stayed m s t k)) []) [])
+      (cond (fine_at m s (stayed m s t k) k && quiet_at (stayed m s t k) k) (hunts_both n (suc k) (stayed m s t k)) [])
+      [])
       (cond (fine_at m s (rested m s t k) k && quiet_at (rested m s t k) k) (hunts_both n (suc k) (rested m s t k)) [])
 
   -- the same of a beginning that is tested first

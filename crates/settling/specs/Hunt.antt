@@ -1,6 +1,7 @@
 -- What a search over tables finds: the outcomes of the choices that it does not drop, in the order of choices, folded
 -- into the first of them and whether all agree with it.
-use Rattle.std.specs.Prelude.{◌≡◌, Bool, true, false, ◌&&◌, ◌||◌, cond, List, [], ◌∷◌, ◌++◌, ℕ, zero, suc, ◌+◌, ◌-◌, ◌*◌, ◌≤◌, ◌<◌, ltb, length, get_or, replicate}
+use Rattle.std.specs.Prelude.{◌≡◌, Bool, true, false, ◌&&◌, ◌||◌, cond, List, [], ◌∷◌, ◌++◌, ℕ, zero, suc, ◌+◌, ◌-◌}
+use Rattle.std.specs.Prelude.{◌*◌, ◌≤◌, ◌<◌, ltb, length, get_or, replicate}
 use Rattle.signals.specs.Mask.{◌∪◌, ◌∩◌, within, apart}
 use Rattle.layout.specs.Row.{RowAt}
 use Rattle.meaning.specs.Numbers.{most_charts, no_step, no_place}

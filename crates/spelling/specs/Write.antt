@@ -32,7 +32,8 @@ unfoldable pub write_refusal : List ℕ → ℕ → ℕ
 write_refusal f room =
     first_of
     (file_tests f
-    ++ (stay_test f ∷ deep_test (file_of f) ∷ record { number = short_out; applies = ltb room (length (text_of f)) } ∷ []))
+    ++ (stay_test f ∷ deep_test (file_of f) ∷ record
+    { number = short_out; applies = ltb room (length (text_of f)) } ∷ []))
 
 -- the length of the text; 0 if the call is refused
 unfoldable pub write_length : List ℕ → ℕ → ℕ

@@ -1,4 +1,5 @@
--- What the step's functions ask and leave. A step of a body that passed 1 to 11 (`step_after`) is what the list of RULES
+-- What the step's functions ask and leave. A step of a body that passed 1 to 11 (`step_after`) is what the list of
+-- RULES
 -- 3.6 goes on with; the search over the tables of a wired file answers it (`Prepared`, `Finds`), with 24 before it
 -- (`Tries`).
 use Rattle.std.specs.Prelude.{◌≡◌, false, cond, List, [], ◌∷◌, ◌++◌, ℕ, ltb, length, get_or}
@@ -31,7 +32,11 @@ pub mod Laws
 unfoldable pub config_tests_in : File → List ℕ → List Test
 config_tests_in F config =
     record { number = wrong_length; applies = differ (length config) F.charts }
-    ∷ record { number = bad_state; applies = any_up_to F.charts (λ c. not_below (get_or config c 0) (F.chart c).states) }
+    ∷ record {
+      number = bad_state;
+      applies =
+          any_up_to F.charts (λ c. not_below (get_or config c 0) (F.chart c).states);
+    }
     ∷ []
 
 -- 20 to 22

@@ -1,11 +1,13 @@
 -- What the tables of a search hold for a file, a configuration and an input: the wiring, the present states, and the
 -- candidates.
-use Rattle.std.specs.Prelude.{◌≡◌, Bool, true, false, ◌&&◌, List, ◌≢◌, ℕ, zero, suc, ◌-◌, ◌≤◌, ◌<◌, length, get_or, take}
+use Rattle.std.specs.Prelude.{◌≡◌, Bool, true, false, ◌&&◌, List, ◌≢◌, ℕ, zero, suc, ◌-◌, ◌≤◌, ◌<◌, length, get_or}
+use Rattle.std.specs.Prelude.{take}
 use Rattle.std.proofs.Math.Option.{Option, none, some}
 use Rattle.signals.specs.Mask.{◌∪◌, ◌∩◌}
 use Rattle.layout.specs.declared.record.Transition.{Transition}
 use Rattle.meaning.specs.Numbers.{most_charts}
-use Rattle.meaning.specs.Meaning.{Set, Chart, Tree, no_move, takes, nth, last_place, untriggered, Answer, refused, given}
+use Rattle.meaning.specs.Meaning.{Set, Chart, Tree, no_move, takes, nth, last_place, untriggered, Answer, refused}
+use Rattle.meaning.specs.Meaning.{given}
 use Rattle.meaning.specs.Rewriting.{union_up_to}
 use Rattle.wiring.specs.Reach.{down, up, back}
 use Rattle.wiring.specs.Sure.{surely}
@@ -69,7 +71,8 @@ module _ (E : ℕ → Chart) (cfg : ℕ → ℕ) (N : ℕ) where
 module _ (E : ℕ → Chart) (cfg : ℕ → ℕ) (N : ℕ) (enc : ℕ → Option ℕ) (t : Tree) (inp : Set) where
   -- what each chart is surely offered before any is settled: of the input, and of what charts surely put out
   abbrev pub Lows : List ℕ → Type 0
-  Lows lows = (c : ℕ) → c < N → get_or lows c 0 ≡ inp ∩ down t c ∪ union_up_to N (λ e. surely enc E cfg e ∩ back E t c e)
+  Lows lows = (c : ℕ) → c < N → get_or lows c 0
+      ≡ inp ∩ down t c ∪ union_up_to N (λ e. surely enc E cfg e ∩ back E t c e)
 
 -- the answer with the states of N charts
 unfoldable pub trimmed : ℕ → Answer → Answer

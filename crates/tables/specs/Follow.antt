@@ -26,7 +26,8 @@ use Rattle.wiring.specs.Reach.{down, up, back, offered, awake_by, Small, out_wir
 use Rattle.wiring.specs.Permitted.{awake, awake-by, Stands, offer}
 use Rattle.wiring.specs.Dropped.{ahead, test, sures, low, high, passes, join_cong}
 use Rattle.wiring.specs.Pruning.{awake-below, every_cong}
-use Rattle.cells.specs.Table.{needed_at, barred_at, action_at, back_at, ahead_at, to_at, master_at, slave_state_at, state_at}
+use Rattle.cells.specs.Table.{needed_at, barred_at, action_at, back_at, ahead_at, to_at, master_at, slave_state_at}
+use Rattle.cells.specs.Table.{state_at}
 use Rattle.cells.specs.Table.{place_at}
 use Rattle.settling.specs.Trail.{Trail}
 use Rattle.settling.specs.Hunt.{is_awake, wakes, taken, idled, rested, passes_at, fine_at}
@@ -150,7 +151,8 @@ module _ (E : ℕ → Chart) (state : ℕ → ℕ) (cfg : ℕ → ℕ) (N : ℕ)
 
         chosen : ℕ → Bool
         chosen d =
-            is_awake m s t d && (same (state_at s d) (slave_state_at s k) || same (get_or t.next d 0) (slave_state_at s k))
+            is_awake m s t d && (same (state_at s d) (slave_state_at s k)
+            || same (get_or t.next d 0) (slave_state_at s k))
 
         at : (i d : ℕ) → d ≡ sc i → sc i < k → slave_state_at s k ≡ state i
             → chosen d ≡ awake_by sc state cfg Mv (awake enc sc state cfg Mv) (some i)
@@ -219,9 +221,11 @@ module _ (E : ℕ → Chart) (state : ℕ → ℕ) (cfg : ℕ → ℕ) (N : ℕ)
         longer b b' y e h = ap length e ∙ length-append b (y ∷ []) ∙ omega arith
 
         on : (b b' : List ℕ) (y : ℕ) → b' ≡ b ++ (y ∷ []) → length b ≡ k → get_or b' k 0 ≡ y
-        on b b' y e h = ap (λ z. get_or z k 0) e ∙ ap (λ z. get_or (b ++ (y ∷ [])) z 0) (sym h) ∙ get_or-append_seam b y [] 0
+        on b b' y e h = ap (λ z. get_or z k 0) e ∙ ap (λ z. get_or (b ++ (y ∷ [])) z 0) (sym h)
+            ∙ get_or-append_seam b y [] 0
 
-        off : (b b' : List ℕ) (y : ℕ) → b' ≡ b ++ (y ∷ []) → length b ≡ k → (d : ℕ) → d < k → get_or b' d 0 ≡ get_or b d 0
+        off : (b b' : List ℕ) (y : ℕ) → b' ≡ b ++ (y ∷ []) → length b ≡ k → (d : ℕ) → d < k
+            → get_or b' d 0 ≡ get_or b d 0
         off b b' y e h d p = ap (λ z. get_or z d 0) e ∙ get_or-append b (y ∷ []) 0 d (omega arith)
 
         earlier : (d : ℕ) → d < suc k → same d k ≡ false → d < k

@@ -1,6 +1,7 @@
 -- How candidates get into the tables of a search: each transition from a chart's present state, unless it fails alone
 -- or is there already; then what later charts may put out. Laws are in Insertion/Laws.antt.
-use Rattle.std.specs.Prelude.{◌≡◌, Bool, true, false, ◌&&◌, not, cond, List, ◌≢◌, ℕ, zero, suc, ◌+◌, ◌*◌, ◌-◌, ◌≤◌, ◌<◌, ltb, length, get_or, set}
+use Rattle.std.specs.Prelude.{◌≡◌, Bool, true, false, ◌&&◌, not, cond, List, ◌≢◌, ℕ, zero, suc, ◌+◌, ◌*◌, ◌-◌, ◌≤◌, ◌<◌}
+use Rattle.std.specs.Prelude.{ltb, length, get_or, set}
 use Rattle.signals.specs.Mask.{◌∪◌, ◌∩◌, bit}
 use Rattle.layout.specs.Row.{RowAt}
 use Rattle.layout.specs.declared.record.Transition.{Transition}
@@ -11,7 +12,8 @@ use Rattle.meaning.specs.Rewriting.{union_up_to}
 use Rattle.wiring.specs.Dropped.{ahead, test}
 use Rattle.wiring.specs.Sure.{sure_of, sure_in}
 use Rattle.wiring.specs.Pruning.{may_of}
-use Rattle.cells.specs.Table.{SameWiring, SameLists, block, needed_at, barred_at, action_at, back_at, ahead_at, put_masks}
+use Rattle.cells.specs.Table.{SameWiring, SameLists, block, needed_at, barred_at, action_at, back_at, ahead_at}
+use Rattle.cells.specs.Table.{put_masks}
 use Rattle.cells.specs.Table.{place_from, count_cell, small_size, to_at, count_at, master_at, state_at, put_small}
 use Rattle.settling.specs.Calm.{stays_at}
 use Rattle.tables.specs.Contents.{Listed, may_at}
@@ -102,7 +104,8 @@ module _ (E : ℕ → Chart) (cfg : ℕ → ℕ) (N : ℕ) (lows shuts : List �
   -- the move of chart c at place v is kept
   unfoldable pub keep_at : List ℕ → ℕ → ℕ → Bool
   keep_at m c v =
-      kept_by (get_or lows c 0) (back_at m c c) (others_at m N (λ e. may_of (E e).transitions (cfg e)) c) (get_or shuts c 0)
+      kept_by (get_or lows c 0) (back_at m c c) (others_at m N (λ e. may_of (E e).transitions (cfg e)) c)
+      (get_or shuts c 0)
       (E c) (cfg c)
       (pick (E c) v)
 
@@ -145,4 +148,5 @@ pub record AheadFrom (N : ℕ) (s : List ℕ) (k : ℕ) (m₀ m : List ℕ) : Ty
 
 -- a chart that stands in no slave has no candidate, and cannot stay
 unfoldable pub stuck : List ℕ → List ℕ → List ℕ → ℕ → Bool
-stuck s g y N = any_up_to N (λ c. same (count_at s c) 0 && (not (ltb (master_at s c) most_charts) && not (stays_at g y c)))
+stuck s g y N = any_up_to N (λ c. same (count_at s c) 0
+    && (not (ltb (master_at s c) most_charts) && not (stays_at g y c)))

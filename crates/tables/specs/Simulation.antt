@@ -284,7 +284,8 @@ module _ (E : ℕ → Chart) (state : ℕ → ℕ) (cfg : ℕ → ℕ) (N : ℕ)
 
           go : (x : Bool) → (E k).stays ≡ x → Candidated c
           go false q = rw
-              (now_at false q, append-nil (in_turn c (λ v. at_trail n k (taken m s t k v))), places_one (E k) q) (walk r)
+              (now_at false q, append-nil (in_turn c (λ v. at_trail n k (taken m s t k v))), places_one (E k) q)
+              (walk r)
           go true q = subst (Padded N (Place t k ch) (in_turn c (λ v. at_trail n k (taken m s t k v)) ++ stay_trail))
               (sym (one_more q))
               (padded_append N _ _ stay_trail (at_place n k ch (last_place (E k))) (walk r)
@@ -316,7 +317,8 @@ module _ (E : ℕ → Chart) (state : ℕ → ℕ) (cfg : ℕ → ℕ) (N : ℕ)
       padded_one N _ _ (output_is E state cfg N enc sc tree inp m s g₀ y st ro t ch g (sa ch))
       (ap₂ (λ (x : List ℕ) (z : ℕ). x ++ replicate (most_charts - z) 0)
       (next_is E state cfg N enc sc tree inp m s g₀ y st ro t ch g) q)
-      (λ h. ap₂ (λ (x : List ℕ) (z : ℕ). x ++ replicate (most_charts - z) no_place) (h ∙ ap (places_from E ch zero) q) q)
+      (λ h. ap₂ (λ (x : List ℕ) (z : ℕ). x ++ replicate (most_charts - z) no_place)
+      (h ∙ ap (places_from E ch zero) q) q)
   simulate (suc n) k t ch e f = go (wakes m s t k) refl (simulate n (suc k))
     where
       e' : n + suc k ≡ N

@@ -3,7 +3,8 @@
 -- is triggered (`noted_trips`), so the chart is calm by it exactly if nothing triggers it (`noted_calm`). What a search
 -- is told of a chart (Told, `told_kept`), also with less in its actions (`told_narrowed`), and that this is what it
 -- asks for (`stayers`).
-use Rattle.std.specs.Prelude.{◌≡◌, Bool, true, false, ◌&&◌, cond, List, [], ◌∷◌, ◌≢◌, ℕ, zero, suc, ◌+◌, ◌-◌, ◌≤◌, ◌<◌, length}
+use Rattle.std.specs.Prelude.{◌≡◌, Bool, true, false, ◌&&◌, cond, List, [], ◌∷◌, ◌≢◌, ℕ, zero, suc, ◌+◌, ◌-◌, ◌≤◌, ◌<◌}
+use Rattle.std.specs.Prelude.{length}
 use Rattle.std.proofs.Math.Path.{refl, sym, ap, ap₂}
 use Rattle.std.proofs.Common.{◌∙◌, subst, true≢false}
 use Rattle.std.proofs.Math.Bool.{◌||◌, not, or-false}
@@ -52,7 +53,8 @@ fires q lo hi stay = false
 any-front : (n : ℕ) (f : ℕ → Bool) → any_up_to (suc n) f ≡ (f zero || any_up_to n (λ u. f (suc u)))
 unfolding any_up_to
 any-front zero f = sym (or-false (f zero))
-any-front (suc n) f = ap (λ b. b || f (suc n)) (any-front n f) ∙ turn (f zero) (any_up_to n (λ u. f (suc u))) (f (suc n))
+any-front (suc n) f = ap (λ b. b || f (suc n)) (any-front n f)
+    ∙ turn (f zero) (any_up_to n (λ u. f (suc u))) (f (suc n))
   where
     turn : (a b c : Bool) → ((a || b) || c) ≡ (a || (b || c))
     turn true b c = refl

@@ -11,7 +11,8 @@ pub mod Laws
 -- the rewriting (RULES 9)
 abbrev pub RewritingSays : List ℕ → List ℕ → Rewritten → List ℕ → Type 0
 RewritingSays f b r c =
-    (r ≡ record { refusal = rewrite_refusal f (length b); length = rewrite_length f (length b) }) × (c ≡ rewrite_out f b)
+    (r ≡ record { refusal = rewrite_refusal f (length b); length = rewrite_length f (length b) })
+    × (c ≡ rewrite_out f b)
 
 -- clearing (RULES 12)
 abbrev pub ClearSays : List ℕ → List ℕ → Cleared → List ℕ → Type 0

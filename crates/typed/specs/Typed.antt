@@ -1,7 +1,8 @@
 -- What a person types, a configuration or a set of signals, and a set as a person reads it. A word is the bytes of its
 -- characters. Laws are in Typed/Laws.antt; that what is shown reads back as the same, in Typed/ReadBack.antt; words
 -- that are typed right and wrong, in Typed/Example.antt.
-use Rattle.std.specs.Prelude.{Bool, true, false, not, ◌&&◌, cond, List, [], ◌∷◌, ◌++◌, map, ℕ, zero, suc, ◌+◌, ◌*◌, ◌-◌, ◌^◌, ltb, leb, length, take, drop}
+use Rattle.std.specs.Prelude.{Bool, true, false, not, ◌&&◌, cond, List, [], ◌∷◌, ◌++◌, map, ℕ, zero, suc, ◌+◌, ◌*◌, ◌-◌}
+use Rattle.std.specs.Prelude.{◌^◌, ltb, leb, length, take, drop}
 use Prim.Native.Char.{code}
 use Rattle.signals.specs.Mask.{◌∪◌, bit, single}
 use Rattle.meaning.specs.Meaning.{Set, ∅, same, eq_list}
@@ -32,7 +33,8 @@ given Wrong f other = other
 
 -- one digit more behind x, in a base; the number is not to go over `most`
 unfoldable pub digit_on : ℕ → ℕ → ℕ → ℕ → Read
-digit_on base most x b = cond (ltb (value_of b) base && leb (x * base + value_of b) most) (Is (x * base + value_of b)) Wrong
+digit_on base most x b = cond (ltb (value_of b) base && leb (x * base + value_of b) most)
+    (Is (x * base + value_of b)) Wrong
 
 -- so all of a word's
 unfoldable pub digits_on : ℕ → ℕ → ℕ → List ℕ → Read

@@ -1,5 +1,6 @@
 -- Sums over a tree: of what each chart, each composition, each hiding and each slave adds (`weight`); how many nodes,
--- charts and slaves a tree has; whose slaves stand under a master (`Owned`); what its compositions feed back (`fed_in`).
+-- charts and slaves a tree has; whose slaves stand under a master (`Owned`); what its compositions feed back
+-- (`fed_in`).
 use Rattle.std.specs.Prelude.{◌≡◌, ℕ, ◌+◌}
 use Rattle.signals.specs.Mask.{◌∪◌}
 use Rattle.meaning.specs.Sums.{one}

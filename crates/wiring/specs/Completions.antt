@@ -1,6 +1,7 @@
 -- How many choices keep the rules of all charts, where the rule of a chart looks at its activity and its own place
 -- alone: counted from the highest chart down, and not one by one. It knows no transitions, and so no editions. In this
--- order: what a chart may do (Acts, Rules); the count as a table has it (`count_by`, Counts, `total_of`), which is filled
+-- order: what a chart may do (Acts, Rules); the count as a table has it (`count_by`, Counts, `total_of`), which is
+-- filled
 -- from above (`count_above`), and of which there is one (`counts_same`, `the_counts`); how many completions a beginning
 -- has, chart by chart (`completions`): that is a product over the charts that wait (`completions-front`), and so in all
 -- the total (`completions-total`); a bound (`completions_most`); the places that begin no open choice (`spared`), that

@@ -195,7 +195,8 @@ module _ (E : ℕ → Chart) (state : ℕ → ℕ) (cfg : ℕ → ℕ) (N : ℕ)
 
         exact : low ch N c ≡ all
         exact = unfold low offer offered in sets
-            ((inp ∩ down t c) ∷ union_up_to N (λ e. action_of (moves E ch e) ∩ back E t c e) ∷ sures c ∷ []) (C ⊑ B ∷ [])
+            ((inp ∩ down t c) ∷ union_up_to N (λ e. action_of (moves E ch e) ∩ back E t c e) ∷ sures c ∷ [])
+            (C ⊑ B ∷ [])
             (C ∪ₑ (A ∪ₑ B) ≐ A ∪ₑ B) tt (sures_in ch c o)
 
     -- the search may leave such a beginning out

@@ -4,7 +4,8 @@
 -- of a table are as small (`entry-fits`); all this of a file that passes 1 to 11, so that no step of edition 1 with 8
 -- charts is refused with 24 (`never_refused`): it is what is found (`as_found`); of 16 charts the number is below 2 ^
 -- 64.
-use Rattle.std.specs.Prelude.{◌≡◌, refl, Bool, false, cond, List, ◌≢◌, ℕ, suc, ◌+◌, ◌-◌, ◌^◌, ◌≤◌, ◌<◌, ltb, length, get_or}
+use Rattle.std.specs.Prelude.{◌≡◌, refl, Bool, false, cond, List, ◌≢◌, ℕ, suc, ◌+◌, ◌-◌, ◌^◌, ◌≤◌, ◌<◌, ltb, length}
+use Rattle.std.specs.Prelude.{get_or}
 use Rattle.std.proofs.Common.{sym, ◌∙◌, ap₂, true≢false, mul-one, arith, ltb-false, lit<}
 use Rattle.std.proofs.Math.Path.{ap}
 use Rattle.std.proofs.Math.Bool.{true}

@@ -73,7 +73,8 @@ module _ (N : ℕ) (enc : ℕ → Option ℕ) (sc : ℕ → ℕ) (lower : (c i :
       tally_cong (suc B) _ (λ v. B ^ n * one (all_rule true 0 v))
       (λ v l. ap₂ (λ w x. one (all_rule true k w) * x) (upd-at ch k v) (most_completions n (suc k) (upd ch k v))
       ∙ mul_comm (one (all_rule true 0 v)) (B ^ n))
-      ∙ tally_scale (suc B) (B ^ n) (λ v. one (all_rule true 0 v)) ∙ ap (λ z. B ^ n * z) all_places_lem ∙ sym (pow-suc B n)
+      ∙ tally_scale (suc B) (B ^ n) (λ v. one (all_rule true 0 v)) ∙ ap (λ z. B ^ n * z) all_places_lem
+      ∙ sym (pow-suc B n)
 
   most_total : total_of N enc most ≡ B ^ N
   most_total =

@@ -2,7 +2,8 @@
 -- order: the forms that a loop which counts up uses; equal factors, factors that are 1, factors that are not 0;
 -- products with larger factors and products as far as they are made; products from k on.
 use Rattle.std.specs.Prelude.{◌≡◌, refl, ℕ, zero, suc, ◌+◌, ◌*◌, ◌≤◌, ◌<◌}
-use Rattle.std.proofs.Common.{sym, ◌∙◌, ap, ap₂, subst, ⊎_elim, mul-one, one-mul, zero-mul, mul-zero, mul_assoc, mul_comm, zero-add, mul-pos, mul-le-mul, le_refl, eq-or-lt_of_le, add-one, arith}
+use Rattle.std.proofs.Common.{sym, ◌∙◌, ap, ap₂, subst, ⊎_elim, mul-one, one-mul, zero-mul, mul-zero, mul_assoc}
+use Rattle.std.proofs.Common.{mul_comm, zero-add, mul-pos, mul-le-mul, le_refl, eq-or-lt_of_le, add-one, arith}
 use Rattle.std.proofs.Math.Nat.{mul-mul-mul_comm}
 use Rattle.meaning.specs.Sums.Laws.{below_suc}
 

@@ -9,7 +9,8 @@ use Prim.Native.Nat.{ℕ, zero, suc, ◌+◌, ◌<◌}
 use native.Mathlib.Omega.{arith}
 use Rattle.signals.specs.Mask.{◌∪◌, Within}
 use Rattle.signals.specs.Decide.{sets, A, B, C, ∅ₑ, ◌∪ₑ◌, ◌≐◌, ◌⊑◌}
-use Rattle.meaning.specs.Meaning.{Set, ∅, same, Chart, Tree, Move, no_move, stay, nth, behind, pick, last_place, action_of}
+use Rattle.meaning.specs.Meaning.{Set, ∅, same, Chart, Tree, Move, no_move, stay, nth, behind, pick, last_place}
+use Rattle.meaning.specs.Meaning.{action_of}
 use Rattle.meaning.specs.Meaning.{permitted, upd, moves, upto, Outcome, outcome_of, outcome, search, meets}
 use Rattle.meaning.specs.Laws.Bools.{same_refl, same→≡, every, every_intro, every_elim, and_i, not-true}
 use Rattle.meaning.proofs.Laws.Choices.{upto_cong, upd-at, upd_off, Below, search_empty}
@@ -42,7 +43,8 @@ module _ (enc : ℕ → Option ℕ) (sc state cfg : ℕ → ℕ) (N : ℕ) (lowe
       → awake_in enc sc state cfg M₂ f c ≡ awake_in enc sc state cfg M f c
   unfolding awake_in
   awake_in-below zero c l h = refl
-  awake_in-below (suc f) c l h = go (enc c) refl (λ i r. awake_in-below f (sc i) (omega arith) (λ d q. h d (omega arith)))
+  awake_in-below (suc f) c l h = go (enc c) refl
+      (λ i r. awake_in-below f (sc i) (omega arith) (λ d q. h d (omega arith)))
     where
       go : (κ : Option ℕ) → enc c ≡ κ
           → ((i : ℕ) → sc i < c → awake_in enc sc state cfg M₂ f (sc i) ≡ awake_in enc sc state cfg M f (sc i))

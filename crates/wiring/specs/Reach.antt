@@ -160,7 +160,8 @@ join_less : (N : ℕ) (act y : ℕ → Set) (x : Set)
 unfolding union_up_to
 join_less zero act y x = sets (x ∷ []) [] (∅ₑ ≐ ∅ₑ ∖ₑ A) tt
 join_less (suc k) act y x = ap (λ j. j ∪ act k ∩ (y k ∖ x)) (join_less k act y x)
-    ∙ sets (union_up_to k (λ e. act e ∩ y e) ∷ act k ∷ y k ∷ x ∷ []) [] (A ∖ₑ D ∪ₑ B ∩ₑ (C ∖ₑ D) ≐ (A ∪ₑ B ∩ₑ C) ∖ₑ D) tt
+    ∙ sets (union_up_to k (λ e. act e ∩ y e) ∷ act k ∷ y k ∷ x ∷ []) []
+    (A ∖ₑ D ∪ₑ B ∩ₑ (C ∖ₑ D) ≐ (A ∪ₑ B ∩ₑ C) ∖ₑ D) tt
 
 join_none : (N : ℕ) (act y : ℕ → Set) → ((e : ℕ) → e < N → y e ≡ ∅) → union_up_to N (λ e. act e ∩ y e) ≡ ∅
 unfolding union_up_to
@@ -450,7 +451,8 @@ module _ (E : ℕ → Chart) (state : ℕ → ℕ) (cfg : ℕ → ℕ) (M : ℕ 
     wireds nil d f z sm h k e = refl
     wireds (snoc ss i t) d f z sm h k e = ap₂ ◌&&◌
         (wireds ss d f z sm h.0 k.0 e
-        ∙ sym (eachs_cong ss (rule_at z (downs (snoc ss i t)) (backs E (snoc ss i t))) (rule_at z (downs ss) (backs E ss))
+        ∙ sym (eachs_cong ss (rule_at z (downs (snoc ss i t)) (backs E (snoc ss i t)))
+        (rule_at z (downs ss) (backs E ss))
         (λ c m. ap_fits c _ _
         (fst_part N (λ e. action_of (M e)) z (downs ss c) (down t c) (backs E ss c) (back E t c)
         (down_off t c (apart_r (Has t c) (HasS ss c) (h.2 c) m))

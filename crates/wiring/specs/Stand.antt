@@ -12,7 +12,8 @@ use Rattle.meaning.specs.Laws.Bools.{or_elim, or_l, same_refl, same→≡, and_i
 use Rattle.meaning.specs.File.{Has, HasS, File, whole, gather, tree_of}
 use Rattle.meaning.specs.Laws.Above.{Above, AboveS}
 use Rattle.meaning.specs.Laws.Trees.{Ordered, Placed, Rule11, tree₀, tree₁, tree₂, all_there, above_node}
-use Rattle.meaning.specs.Laws.Names.{Rule10, by_slave, by_node, enc, kap, find, at_most, by-slave, by_node_lem, names_a₁}
+use Rattle.meaning.specs.Laws.Names.{Rule10, by_slave, by_node, enc, kap, find, at_most, by-slave, by_node_lem}
+use Rattle.meaning.specs.Laws.Names.{names_a₁}
 use Rattle.meaning.specs.Laws.Names.{names_b₁, names_a₂, hold_one, placed, joined, enc-last}
 use Rattle.meaning.specs.Sums.{one}
 use Rattle.meaning.specs.Sums.Laws.{tally_ge}

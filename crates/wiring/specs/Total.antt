@@ -121,7 +121,12 @@ reach_pick C s (suc k) h = near (dec_lt k (length C.transitions))
 
     far : length C.transitions ≤ k → (b : Bool) → C.stays ≡ b
         → (w : ℕ) × (w ≤ last_place C) × (pick C w ≡ pick C (suc k))
-    far l true e = (last_place C, omega arith, stay_last C e ∙ sym (pick-behind C k l ∙ ap (λ b. cond b stay no_move) e))
+    far l true e = (
+      last_place C,
+      omega arith,
+      stay_last C e
+          ∙ sym (pick-behind C k l ∙ ap (λ b. cond b stay no_move) e),
+    )
     far l false e =
         absurd (false≢true (sym (none_shut C s (pick C (suc k)) (pick-behind C k l ∙ ap (λ b. cond b stay no_move) e))
         ∙ h))
@@ -321,4 +326,5 @@ module _ (E : ℕ → Chart) (state : ℕ → ℕ) (cfg : ℕ → ℕ) (N : ℕ)
       → open_choices E state cfg t N ≡ total_of N enc count
   open_total count cs =
       open_all
-      ∙ completions-total N (last_of E) enc sc (rule_of E cfg) hits (act_of E cfg state enc sc) ac ru count cs (λ c. zero)
+      ∙ completions-total N (last_of E) enc sc (rule_of E cfg) hits (act_of E cfg state enc sc) ac ru count cs
+      (λ c. zero)

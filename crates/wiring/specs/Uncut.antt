@@ -6,8 +6,10 @@ use Rattle.std.proofs.Common.{sym, ◌∙◌, ap, ap₂}
 use Rattle.std.proofs.Math.Bool.{true}
 use Rattle.signals.specs.Mask.{◌∪◌, ◌∩◌, ◌∖◌}
 use Rattle.signals.specs.Decide.{sets, A, B, C, D, ◌∪ₑ◌, ◌∩ₑ◌, ◌∖ₑ◌, ◌≐◌, ◌⊑◌}
-use Rattle.meaning.specs.Meaning.{Set, same, Chart, Tree, Slaves, leaf, comp, hide, dec, nil, snoc, Move, no_move, takes}
-use Rattle.meaning.specs.Meaning.{stay, nth, behind, pick, moves, guards, action_of, in_face_chart, in_face, in_faces, out}
+use Rattle.meaning.specs.Meaning.{Set, same, Chart, Tree, Slaves, leaf, comp, hide, dec, nil, snoc, Move, no_move}
+use Rattle.meaning.specs.Meaning.{takes}
+use Rattle.meaning.specs.Meaning.{stay, nth, behind, pick, moves, guards, action_of, in_face_chart, in_face, in_faces}
+use Rattle.meaning.specs.Meaning.{out}
 use Rattle.meaning.specs.Meaning.{outs, ok_chart, meets, ok, oks, permitted}
 use Rattle.layout.specs.declared.record.Transition.{Transition}
 use Rattle.meaning.specs.Laws.Guards.{met-cut, quiet-cut}
@@ -123,7 +125,8 @@ module _ (E : ℕ → Chart) (state : ℕ → ℕ) (cfg : ℕ → ℕ) (M : ℕ 
     cuts (snoc ss i t) f z = ap₂ ◌&&◌
         (vias ss f (z ∩ (in_faces E ss ∪ in_face E t)) z (cuts ss f (z ∩ (in_faces E ss ∪ in_face E t))) (cuts ss f z)
         (cut_fst z (in_faces E ss) (in_face E t)))
-        (via t (f (state i)) (z ∩ (in_faces E ss ∪ in_face E t)) z (cut t (f (state i)) (z ∩ (in_faces E ss ∪ in_face E t)))
+        (via t (f (state i)) (z ∩ (in_faces E ss ∪ in_face E t)) z
+        (cut t (f (state i)) (z ∩ (in_faces E ss ∪ in_face E t)))
         (cut t (f (state i)) z)
         (cut_snd z (in_faces E ss) (in_face E t)))
 

@@ -75,7 +75,8 @@ module _ (n m : Shape) (b d : List ℕ) (as_many : n.charts ≡ m.charts)
         ∙ ap (λ l. get_or l i z) lines
         ∙ get_or-from (transition_at m d) (start_of m d c) (head_at m d c).transitions i z (subst (i <◌) count h)
 
-    ends_same : any_up_to (head_at n b c).transitions (ends? n b c) ≡ any_up_to (head_at m d c).transitions (ends? m d c)
+    ends_same : any_up_to (head_at n b c).transitions (ends? n b c)
+        ≡ any_up_to (head_at m d c).transitions (ends? m d c)
     unfolding ends?
     ends_same =
         any_cong (head_at n b c).transitions (ends? n b c) (ends? m d c)

@@ -27,7 +27,8 @@ use Rattle.whole.proofs.Laws.Whole.{whole_nodes, whole-charts, whole-slaves}
 use Rattle.notation.specs.Syntax.{Chart}
 use Rattle.reading.specs.Names.{any, names?}
 use Rattle.reading.specs.Meant.{gathered, transitions_in, charts_of, nodes_of, slaves_of, transitions_of, trailer_for}
-use Rattle.outline.specs.Tree.{nodes_in_single, nodes_in, nodes_in_slaves, slaves_in_single, slaves_in, slaves_in_slaves}
+use Rattle.outline.specs.Tree.{nodes_in_single, nodes_in, nodes_in_slaves, slaves_in_single, slaves_in}
+use Rattle.outline.specs.Tree.{slaves_in_slaves}
 use Rattle.outline.specs.Laws.Filed.{nodes_filed, slaves-filed}
 use Rattle.roster.specs.Laws.Sorted.{length_perm, any_perm, gathered_perm}
 use Rattle.spelling.specs.Typed.{typed_of, master_of}

@@ -14,12 +14,14 @@ use Rattle.meaning.specs.Meaning.{Slaves as Held}
 use Rattle.meaning.specs.Laws.Bools.{same_refl}
 use Rattle.meaning.specs.File.{File, whole_of}
 use Rattle.meaning.specs.Check.Nodes.{Sound}
-use Rattle.whole.specs.Weigh.{weight, weights, of_charts, of_slaves, charts_sum, times_chart, times_slave, Owned, OwnedBy}
+use Rattle.whole.specs.Weigh.{weight, weights, of_charts, of_slaves, charts_sum, times_chart, times_slave, Owned}
+use Rattle.whole.specs.Weigh.{OwnedBy}
 use Rattle.whole.proofs.Laws.Whole.{whole-chart, whole_no_chart, whole_no_slave, whole_master}
 use Rattle.notation.specs.Syntax.{Sequential, Chart}
 use Rattle.reading.specs.Numbers.{named_charts}
 use Rattle.reading.specs.Names.{members_of, any, has, twice?, not_all?, optional?, sequential?, sequentials_in}
-use Rattle.reading.specs.Names.{sequentials_of, sequentials_of_slaves, single_parts?, parts?, slave_parts?, name_of, names?}
+use Rattle.reading.specs.Names.{sequentials_of, sequentials_of_slaves, single_parts?, parts?, slave_parts?, name_of}
+use Rattle.reading.specs.Names.{names?}
 use Rattle.reading.specs.Laws.Lists.{any_of}
 use Rattle.outline.specs.Laws.Sorted.{total, total-append}
 use Rattle.spelling.specs.Typed.{sequential_of, typed_of, master_of, slaves_of}

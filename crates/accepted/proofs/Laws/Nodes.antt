@@ -15,10 +15,12 @@ use Rattle.agreement.specs.Again.{equal}
 use Rattle.notation.specs.Syntax.{Sequential, Single, sequential, decomposed, hidden, Chart, single, composed, Slaves}
 use Rattle.notation.specs.Syntax.{first_slave, more_slaves}
 use Rattle.reading.specs.Numbers.{named_states}
-use Rattle.reading.specs.Names.{set?, optional?, sequential?, name_of, sequentials_in, sequentials_of, sequentials_of_slaves}
+use Rattle.reading.specs.Names.{set?, optional?, sequential?, name_of, sequentials_in, sequentials_of}
+use Rattle.reading.specs.Names.{sequentials_of_slaves}
 use Rattle.reading.specs.Names.{names?}
 use Rattle.reading.specs.Meant.{sorted_by, optional_of, set_of, Laid, last_of, Placed, lay_slaves, with_node, beside}
-use Rattle.reading.specs.Meant.{lay_hidden, lay_both, lay_single, lay_chart, placed, charts_of, nodes_of, body_for, trailer_for}
+use Rattle.reading.specs.Meant.{lay_hidden, lay_both, lay_single, lay_chart, placed, charts_of, nodes_of, body_for}
+use Rattle.reading.specs.Meant.{trailer_for}
 use Rattle.outline.specs.Tree.{lacking, refused_single?, refused?, refused_slaves?}
 use Rattle.outline.specs.Laws.Sorted.{Each, none, more, each_append, each_sorted}
 use Rattle.outline.specs.Laws.Laid.{nodes_some, laid}

@@ -1,6 +1,7 @@
 -- What the nodes and slaves of a chart name and hold, wherever they stand: `chart-whole`. That each node but the last
 -- is named once is a sum: the numbers named, with those below the part, are all below its last (`under`).
-use Rattle.std.specs.Prelude.{◌≡◌, refl, Bool, true, false, ◌||◌, List, [], ◌∷◌, ◌++◌, map, ◌⊎◌, ℕ, suc, ◌+◌, ◌-◌, ◌<◌, ltb, eqb, length}
+use Rattle.std.specs.Prelude.{◌≡◌, refl, Bool, true, false, ◌||◌, List, [], ◌∷◌, ◌++◌, map, ◌⊎◌, ℕ, suc, ◌+◌, ◌-◌, ◌<◌}
+use Rattle.std.specs.Prelude.{ltb, eqb, length}
 use Rattle.std.proofs.Common.{sym, ap, ◌∙◌, subst, append_assoc, inl, inr, arith, lt-ltb, le-ltb, length-append}
 use Rattle.std.proofs.Math.Option.{Option}
 use Rattle.std.proofs.Math.Decide.{dec_lt}
@@ -14,7 +15,8 @@ use Rattle.notation.specs.Syntax.{Signals, Sequential, Single, sequential, decom
 use Rattle.notation.specs.Syntax.{composed, Slaves, first_slave, more_slaves}
 use Rattle.reading.specs.Numbers.{named_states}
 use Rattle.reading.specs.Names.{set?, optional?, sequential?, name_of, sequentials_in, sequentials_of}
-use Rattle.reading.specs.Meant.{set_of, optional_of, Laid, last_of, lay_slaves, with_node, beside, chart_node, lay_hidden}
+use Rattle.reading.specs.Meant.{set_of, optional_of, Laid, last_of, lay_slaves, with_node, beside, chart_node}
+use Rattle.reading.specs.Meant.{lay_hidden}
 use Rattle.reading.specs.Meant.{lay_both, lay_single, lay_chart}
 use Rattle.forms.specs.Laws.Slaves.{Pair}
 use Rattle.outline.specs.Tree.{lacking, refused_single?, refused?, refused_slaves?}
@@ -335,9 +337,11 @@ master_case : (u : Sequential) (ps : Slaves) → Each (λ r. r.state < named_sta
     → Each (λ r. Right r.chart) (pairs_of ps) → Right (single (decomposed u ps))
 unfolding lay_single sequentials_in total
 master_case u ps b e k =
-    subst (λ l. Whole (λ c. times_of c (single (decomposed u ps))) k (with_node (lay_slaves (name_of u) l k) (chart_node u)))
+    subst (λ l. Whole (λ c. times_of c (single (decomposed u ps))) k
+    (with_node (lay_slaves (name_of u) l k) (chart_node u)))
     (sym (by_state_lem ps))
-    (whole_is (λ c. one (eqb (name_of u) c) + times_all c (by_state ps)) (λ c. times_of c (single (decomposed u ps))) k _
+    (whole_is (λ c. one (eqb (name_of u) c) + times_all c (by_state ps))
+    (λ c. times_of c (single (decomposed u ps))) k _
     (λ c. ap (one (eqb (name_of u) c) +◌) (state_times c ps b))
     (with_master u (λ c. times_all c (by_state ps)) k _
     (slaves-whole (name_of u) (by_state ps) (each_sorted (λ r. r.state) named_states (pairs_of ps) e) k)))

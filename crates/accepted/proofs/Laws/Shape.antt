@@ -79,7 +79,11 @@ module _ (t : Chart) where
 
   long_enough : 12 ≤ length (file_for t)
   unfolding file_for
-  long_enough = omega (arith, length-append (body_for t) (trailer_bytes (trailer_for t)), length-trailer (trailer_for t))
+  long_enough = omega (
+    arith,
+    length-append (body_for t) (trailer_bytes (trailer_for t)),
+    length-trailer (trailer_for t),
+  )
 
   first_edition_lem : edition? (trailer_for t) ≡ false
   unfolding edition? trailer_for

@@ -29,7 +29,8 @@ use Rattle.whole.specs.Weigh.{weight, weights, of_slaves}
 use Rattle.whole.proofs.Laws.Whole.{slaves-sum}
 use Rattle.notation.specs.Syntax.{Chart}
 use Rattle.reading.specs.Numbers.{named_charts, named_states}
-use Rattle.reading.specs.Meant.{with_key, sorted_by, Placed, lay_slaves, with_node, beside, lay_hidden, lay_both, lay_single}
+use Rattle.reading.specs.Meant.{with_key, sorted_by, Placed, lay_slaves, with_node, beside, lay_hidden, lay_both}
+use Rattle.reading.specs.Meant.{lay_single}
 use Rattle.reading.specs.Meant.{lay_chart, placed, slaves_of, body_for, trailer_for}
 use Rattle.outline.specs.Laws.Sorted.{Each, none, more, each_of, each_append, total, total-append, each_with}
 use Rattle.outline.specs.Laws.Sorted.{each_sorted}

@@ -16,8 +16,10 @@ use Rattle.layout.specs.declared.record.Node.{Node}
 use Rattle.meaning.specs.Numbers.{first_edition, most_charts}
 use Rattle.meaning.specs.Meaning.{Set}
 use Rattle.meaning.specs.File.{File}
-use Rattle.meaning.specs.Rewriting.{call, call_in, called, idle, idles, chart_with, nearest_slave, calls_by, rewritten_chart}
-use Rattle.meaning.specs.Rewriting.{is_of, count, start, new_name, calls_of, composed, made_by, made_for, laid, new_node}
+use Rattle.meaning.specs.Rewriting.{call, call_in, called, idle, idles, chart_with, nearest_slave, calls_by}
+use Rattle.meaning.specs.Rewriting.{rewritten_chart}
+use Rattle.meaning.specs.Rewriting.{is_of, count, start, new_name, calls_of, composed, made_by, made_for, laid}
+use Rattle.meaning.specs.Rewriting.{new_node}
 use Rattle.meaning.specs.Rewriting.{rewrite, in_turn, head_for, transitions_bytes, shape_in, body_bytes, encode}
 use Rattle.meaning.proofs.Rewriting.Laws.{sum_most}
 use Rattle.agreement.specs.Laid.{no_node, laid-length}
@@ -33,7 +35,8 @@ use Rattle.assembly.specs.Records.{master_bytes, held_bytes}
 
 module _ (sig : ℕ → ℕ) where
   idles-bytes : (i b n : ℕ)
-      → transitions_bytes (idles sig (some i) b n) ≡ in_turn n (λ s. transition_bytes (idle_with (single (sig i)) (b + s)))
+      → transitions_bytes (idles sig (some i) b n)
+      ≡ in_turn n (λ s. transition_bytes (idle_with (single (sig i)) (b + s)))
   unfolding idles transitions_bytes in_turn idle idle_with
   idles-bytes i b zero = refl
   idles-bytes i b (suc n) =
@@ -51,10 +54,12 @@ module _ (sig : ℕ → ℕ) where
   idles-with (some i) m =
       idles-bytes i 0 m
       ∙ turn_cong _ _ m (λ k l. ap (λ (s : ℕ). transition_bytes (idle_with (single (sig i)) s)) (zero-add k))
-      ∙ ap (λ (k : ℕ). in_turn k (λ s. transition_bytes (idle_with (call_in sig (some i)) s))) (sym (count_some sig i m))
+      ∙ ap (λ (k : ℕ). in_turn k (λ s. transition_bytes (idle_with (call_in sig (some i)) s)))
+      (sym (count_some sig i m))
 
 own-bytes : (g : Transition → Transition) (f : ℕ → Transition) (k n : ℕ) (r : List Transition)
-    → transitions_bytes (map g (from f k n) ++ r) ≡ in_turn n (λ i. transition_bytes (g (f (k + i)))) ++ transitions_bytes r
+    → transitions_bytes (map g (from f k n) ++ r)
+    ≡ in_turn n (λ i. transition_bytes (g (f (k + i)))) ++ transitions_bytes r
 unfolding from transitions_bytes in_turn
 own-bytes g f k zero r = refl
 own-bytes g f k (suc n) r =
@@ -67,7 +72,8 @@ own-bytes g f k (suc n) r =
     ∙ ap (λ (l : List ℕ). l ++ transitions_bytes r) (sym (turn-front (λ i. transition_bytes (g (f (k + i)))) n))
 
 -- the own transitions are n from k on
-pub chart-bytes : (F : File) (c : ℕ) (κ : Set) → κ ≡ call_in (call F) (nearest_slave F c) → (f : ℕ → Transition) (k n : ℕ)
+pub chart-bytes : (F : File) (c : ℕ) (κ : Set) → κ ≡ call_in (call F) (nearest_slave F c)
+    → (f : ℕ → Transition) (k n : ℕ)
     → (F.chart c).transitions ≡ from f k n
     → transitions_bytes (rewritten_chart F c).transitions
     ≡ in_turn n (λ i. transition_bytes (called_with κ (calls_by F c (f (k + i))) (f (k + i))))

@@ -5,7 +5,8 @@
 -- actions have no signal from 64 on (actions-small).
 use Rattle.std.specs.Prelude.{◌≡◌, Bool, ◌≢◌, length, set, drop}
 use Rattle.std.proofs.Math.Path.{refl, sym, ap, ap₂, subst, fun_ext}
-use Rattle.std.proofs.Common.{◌∙◌, pow-suc, mod-eq_of_lt, add-one, lit<, length-set, get_or-set_same, get_or-set_other, get_or-drop}
+use Rattle.std.proofs.Common.{◌∙◌, pow-suc, mod-eq_of_lt, add-one, lit<, length-set, get_or-set_same, get_or-set_other}
+use Rattle.std.proofs.Common.{get_or-drop}
 use Rattle.std.proofs.Math.Bool.{true, false, cond}
 use Rattle.std.proofs.lemmas.Bool.{false≢true}
 use mathlib.Core.List.{List, [], ◌∷◌}
@@ -40,7 +41,8 @@ use Rattle.wiring.specs.Pruning.{may_of, behind_empty}
 use Rattle.cells.specs.Table.{back_at, put_masks, Row, count_cell, state_cell, put_small, Tables}
 use Rattle.tables.specs.Narrowing.{narrow, narrow_all}
 use Rattle.tables.specs.Narrowing.Laws.{length-narrowed, narrow-from}
-use Rattle.tables.specs.Insertion.{Filling, considered, listing, lasts_by, is_again, put, pick_filling, others_at, sure_at}
+use Rattle.tables.specs.Insertion.{Filling, considered, listing, lasts_by, is_again, put, pick_filling, others_at}
+use Rattle.tables.specs.Insertion.{sure_at}
 use Rattle.tables.specs.Insertion.{Raised, Until, AheadFrom}
 use Rattle.tables.specs.Insertion.Laws.{wiring_trans, length_masks, length-small, leave_room, count_few, until_next}
 use Rattle.tables.specs.Insertion.Laws.{chosen, chosen-ahead, raised-same}
@@ -338,7 +340,8 @@ module _ (n : Shape) (b config reads : List ℕ) where
   puts_by-next c may sures counts start head v h l es eh e =
       record {
         mays = mays_next c may v.may start head h.mays (rw h.may-long l) es eh e.may;
-        sure = fill_more (λ d. sure_of (narrow_all (get_or reads d 0) (transitions_of n b d)) (get_or config d 0)) sures c
+        sure = fill_more (λ d. sure_of (narrow_all (get_or reads d 0) (transitions_of n b d)) (get_or config d 0)) sures
+            c
             v.sure h.sure (e.sure ∙ ap (λ ts. sure_of ts (get_or config c 0)) (read_list c start head es eh))
             (rw h.sures-long l);
         many = fill_more (λ d. leaves d (start_of n b d) (head_at n b d)) counts c v.count h.many
@@ -363,7 +366,8 @@ module _ (n : Shape) (m s u base : List ℕ) where
       → Row lows' (λ d. get_or lows d 0 ∪ sure_at s k x ∩ back_at m d k) → RaisedBy n m s u (k + 1) base lows'
   unfolding union_up_to
   raised-by-next k x lows lows' h e f c l = rw (add-one k)
-      (f c l ∙ sets (get_or lows c 0 ∷ get_or base c 0 ∷ union_up_to k put ∷ (sure_at s k x ∩ back_at m c k) ∷ put k ∷ [])
+      (f c l ∙ sets (get_or lows c 0 ∷ get_or base c 0 ∷ union_up_to k put ∷ (sure_at s k x ∩ back_at m c k)
+      ∷ put k ∷ [])
       (A ≐ B ∪ₑ C ∷ D ≐ Eₑ ∷ []) (A ∪ₑ D ≐ B ∪ₑ (C ∪ₑ Eₑ)) tt (h c l) (ap (λ z. sure_at s k z ∩ back_at m c k) e))
     where
       put : ℕ → Set
@@ -407,9 +411,11 @@ module _ (n : Shape) (b config reads : List ℕ) where
       made p = listing c (get_or config c 0) (get_or lows c 0) own others (get_or shuts c 0)
           (from_start n b (get_or reads c 0) (start_of n b c)) p (filling m s 0)
 
-      long : length (narrow_all (get_or reads c 0) (fromOn (transition_at n b) (start_of n b c) (head_at n b c).transitions))
+      long : length (narrow_all (get_or reads c 0)
+          (fromOn (transition_at n b) (start_of n b c) (head_at n b c).transitions))
           ≡ (head_at n b c).transitions
-      long = length-narrowed (get_or reads c 0) (fromOn (transition_at n b) (start_of n b c) (head_at n b c).transitions)
+      long = length-narrowed (get_or reads c 0)
+          (fromOn (transition_at n b) (start_of n b c) (head_at n b c).transitions)
           ∙ length_from (transition_at n b) (start_of n b c) (head_at n b c).transitions
 
 -- tables that have room for N charts have room for fewer
@@ -444,7 +450,8 @@ stated_next config c s₀ s h l =
     go d r true e =
         rw (same→≡ d c e) (get_or-set_same s (state_cell c) (get_or config c 0) 0 (let k = h.small in omega arith))
     go d r false e = let z : d ≢ c = λ w. false≢true (sym e ∙ rw w (same_refl c)) in
-        get_or-set_other s (state_cell c) (state_cell d) (get_or config c 0) 0 (λ w. omega arith) ∙ h.states d (omega arith)
+        get_or-set_other s (state_cell c) (state_cell d) (get_or config c 0) 0 (λ w. omega arith)
+        ∙ h.states d (omega arith)
 
 -- ── all of it ──
 

@@ -1,7 +1,8 @@
 -- Laws of the walks: a table as it is filled (`Table`); of the walk of 7, that its table counts (`Counts`), and that
 -- what it asks of a transition is `bad_at` (`next?`).
 use Rattle.std.specs.Prelude.{◌≡◌, true, false, not, cond, List, ℕ, suc, ◌+◌, ◌≤◌, ◌<◌, ltb, get_or, set, replicate}
-use Rattle.std.proofs.Common.{sym, ap, ◌∙◌, add-one, arith, lt-ltb, le-ltb, ltb-true, ltb-false, length-set, get_or-set_same, get_or-set_other}
+use Rattle.std.proofs.Common.{sym, ap, ◌∙◌, add-one, arith, lt-ltb, le-ltb, ltb-true, ltb-false, length-set}
+use Rattle.std.proofs.Common.{get_or-set_same, get_or-set_other}
 use Rattle.std.proofs.Math.Logic.{⊎_elim}
 use Rattle.std.proofs.lemmas.List.{length-replicate, get_or-replicate}
 use Rattle.layout.specs.Body.{head_at}

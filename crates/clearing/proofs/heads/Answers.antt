@@ -10,7 +10,7 @@ use Rattle.layout.specs.Put.Laws.{put-length}
 use Rattle.checks.specs.Known.Laws.{in_all, start-next}
 use Rattle.laying.specs.Sequence.{put_is, put-start, put_next, put-done, room_record}
 use Rattle.clearing.specs.Left.{left_of}
-use Rattle.clearing.proofs.Left.Laws.{left_most, head-cleared}
+use Rattle.clearing.proofs.LeftLaws.{left_most, head-cleared}
 use Rattle.clearing.proofs.heads.Goals as goal
 use Rattle.clearing.proofs.heads.Goals.{After-head_at-h, After-of_list-l, In-loop-c}
 use Rattle.clearing.proofs.heads.Invariants.{written}

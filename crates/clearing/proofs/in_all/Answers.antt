@@ -10,7 +10,7 @@ use Rattle.meaning.specs.Rewriting.{transitions_in}
 use Rattle.checks.specs.Known.Laws.{in_all, start-next}
 use Rattle.clearing.specs.Clearing.{cleared_chart}
 use Rattle.clearing.specs.Left.{left_of}
-use Rattle.clearing.proofs.Left.Laws.{left_most, count-cleared}
+use Rattle.clearing.proofs.LeftLaws.{left_most, count-cleared}
 use Rattle.clearing.proofs.in_all.Goals as goal
 use Rattle.clearing.proofs.in_all.Goals.{After-head_at-h, After-of_list-l}
 

@@ -3,7 +3,7 @@ use mathlib.Core.Path.{sym, ◌∙◌}
 use native.Mathlib.Omega.{arith}
 use Rattle.layout.specs.Put.Laws.{put-none, put-length}
 use Rattle.laying.specs.Sequence.{put_is}
-use Rattle.clearing.proofs.Left.Laws.{bytes-dead, bytes_left, room_left}
+use Rattle.clearing.proofs.LeftLaws.{bytes-dead, bytes_left, room_left}
 use Rattle.clearing.proofs.keep.Goals as goal
 use Rattle.clearing.proofs.keep.Goals.{After-slice_known-2-1}
 

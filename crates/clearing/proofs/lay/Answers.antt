@@ -18,7 +18,7 @@ use Rattle.meaning.specs.Rewriting.{head_for, in_turn, transitions_bytes, shape_
 use Rattle.laying.specs.Trailer.{trailer_with}
 use Rattle.laying.specs.Sequence.{put_one, put_is, room_last}
 use Rattle.clearing.specs.Clearing.{cleared_chart, clear}
-use Rattle.clearing.proofs.Left.Laws.{shape_small}
+use Rattle.clearing.proofs.LeftLaws.{shape_small}
 use Rattle.clearing.proofs.lay.Goals as goal
 
 -- m is the cleared file's shape

@@ -7,7 +7,7 @@ use Rattle.layout.specs.Body.{transition_at}
 use Rattle.layout.specs.declared.record.Transition.{Transition}
 use Rattle.clearing.specs.declared.Left.{Left}
 use Rattle.clearing.specs.Left.{left_of}
-use Rattle.clearing.proofs.Left.Laws.{left_to, left-none, left-count, left_was, left_still, left_most}
+use Rattle.clearing.proofs.LeftLaws.{left_to, left-none, left-count, left_was, left_still, left_most}
 use Rattle.clearing.proofs.of_list.Goals as goal
 use Rattle.clearing.proofs.of_list.Goals.{After-of_one-one}
 

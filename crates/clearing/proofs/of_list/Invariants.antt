@@ -2,7 +2,7 @@
 use mathlib.Core.Path.{◌≡◌}
 use Prim.Native.Nat.{◌-◌, ◌≤◌}
 use Rattle.layout.specs.Body.{transition_at}
-use Rattle.clearing.proofs.Left.Laws.{left_to}
+use Rattle.clearing.proofs.LeftLaws.{left_to}
 use Rattle.clearing.proofs.of_list.Given as goal
 
 abbrev pub invariant-loop-k : goal.invariant-loop-k

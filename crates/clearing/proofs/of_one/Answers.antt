@@ -1,6 +1,6 @@
 -- `of_one` meets its contract: of a dead transition nothing is left, of another all of it.
 use mathlib.Core.Path.{sym, ◌∙◌}
-use Rattle.clearing.proofs.Left.Laws.{one-dead, one_left}
+use Rattle.clearing.proofs.LeftLaws.{one-dead, one_left}
 use Rattle.clearing.proofs.of_one.Goals as goal
 
 pub returns-then-is_dead : goal.returns-then-is_dead

@@ -8,7 +8,7 @@ use Rattle.meaning.specs.Rewriting.{in_turn, transitions_bytes}
 use Rattle.checks.specs.Known.Laws.{in_all, start-next}
 use Rattle.laying.specs.Sequence.{put_is, put-start, put_next, put-done, room_turn}
 use Rattle.clearing.specs.Left.{kept_bytes}
-use Rattle.clearing.proofs.Left.Laws.{kept_turn, list_cleared}
+use Rattle.clearing.proofs.LeftLaws.{kept_turn, list_cleared}
 use Rattle.clearing.proofs.transitions.Goals as goal
 use Rattle.clearing.proofs.transitions.Goals.{After-head_at-h}
 use Rattle.clearing.proofs.transitions.Invariants.{written}

@@ -304,7 +304,8 @@ module _ (n : Shape) (b config m s : List ℕ) (w : Countable n b config m s) wh
   -- nine for each chart is small
   small_power : (x : ℕ) → x ≤ most_moves ^ (file_at n b).charts → x ≤ most_count
   small_power x h =
-      let k = pow-le-pow_right {n = most_moves} (lit< tt) few in let e : most_moves ^ most_charts ≤ most_count = lit≤ tt in
+      let k = pow-le-pow_right {n = most_moves} (lit< tt) few in let e : most_moves ^ most_charts
+      ≤ most_count = lit≤ tt in
       omega arith
 
   -- where chart k's transitions start, from where the next chart's do

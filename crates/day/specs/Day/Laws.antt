@@ -3,7 +3,8 @@
 -- it, and that it is the output for all of the input.
 use Rattle.std.specs.Prelude.{◌≡◌, refl, ℕ, zero, suc, ◌+◌, ◌*◌, ◌-◌, ◌/◌, ◌%◌, ◌≤◌, ◌<◌, get_or, take, drop}
 use Rattle.std.proofs.Math.Path.{sym, ap}
-use Rattle.std.proofs.Common.{◌∙◌, suc-mul, mul-le-mul_right, add-one, arith, length-append, length-take, length-drop, take-append-drop, take_at, take_all, drop_at, drop-drop, length-take-le}
+use Rattle.std.proofs.Common.{◌∙◌, suc-mul, mul-le-mul_right, add-one, arith, length-append, length-take, length-drop}
+use Rattle.std.proofs.Common.{take-append-drop, take_at, take_all, drop_at, drop-drop, length-take-le}
 use Rattle.std.proofs.Math.Bool.{not}
 use mathlib.Core.List.{List, [], ◌∷◌, ◌++◌, append_assoc}
 use Rattle.std.proofs.Math.Decide.{dec_lt}
@@ -18,7 +19,8 @@ use Rattle.meaning.specs.Meaning.{∅, same}
 use Rattle.meaning.specs.File.{trailer, shape_of, body_of, chart_of, file_at, file_of}
 use Rattle.meaning.specs.Check.{Test, first_of, file_tests, refusal_of, differ, distance?}
 use Rattle.meaning.specs.Sums.Laws.{or_left, any-all}
-use Rattle.meaning.specs.Check.Laws.{alike, first_of_here, first_of-next, first_of_[], call_refused, call-passed, passed}
+use Rattle.meaning.specs.Check.Laws.{alike, first_of_here, first_of-next, first_of_[], call_refused, call-passed}
+use Rattle.meaning.specs.Check.Laws.{passed}
 use Rattle.meaning.specs.Check.Laws.{charted}
 use Rattle.meaning.specs.Calls.{made, laid_over, initials, rows_of, run_bytes}
 use Rattle.meaning.specs.Calls.Laws.{length-made, get_or-made}
@@ -29,7 +31,8 @@ use Rattle.queries.specs.Promises.Laws.{both}
 use Rattle.stepping.specs.Step.{config_tests_in}
 use Rattle.stepping.specs.Step.Laws.{checked}
 use Rattle.running.specs.Run.Laws.{leads, bytes-passed, after_rows}
-use Rattle.line.specs.Line.{line_of, file_refused, front_of, day_refusal, inputs_of, lines_of, day_lines, day_of, day_from}
+use Rattle.line.specs.Line.{line_of, file_refused, front_of, day_refusal, inputs_of, lines_of, day_lines, day_of}
+use Rattle.line.specs.Line.{day_from}
 use Rattle.day.specs.Day.{Accepted, Body, DaySays}
 
 -- ── a text laid over the front of the bytes from `at` up to e ──
@@ -91,7 +94,8 @@ module _ (f : List ℕ) where
   behind-length : length f ≤ 65536 → day_refusal f ≡ first_of (file_tests f ++ (odd-front ∷ []))
   unfolding day_refusal
   behind-length h =
-      first_of-next (record { number = input_too_long; applies = ltb most_input (length f) }) _ (le-ltb most_input (length f) h)
+      first_of-next (record { number = input_too_long; applies = ltb most_input (length f) }) _
+      (le-ltb most_input (length f) h)
 
   module _ (h : length f ≤ 65536) where
     pub by-file : (r : ℕ) → r ≡ refusal_of f → (r ≡ 0 → ⊥) → r ≡ day_refusal f

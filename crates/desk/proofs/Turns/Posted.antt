@@ -3,7 +3,8 @@
 -- (`verdict_is`); what posting asks (`postable`); the whole (`cases_are`, `rows_are`).
 use Rattle.std.specs.Prelude.{◌≡◌, Bool, true, false, ◌||◌, ◌⊎◌, leb, eqb, take, drop, set}
 use Rattle.std.proofs.Math.Path.{refl, sym, ap₂}
-use Rattle.std.proofs.Common.{ap, ◌∙◌, arith, lit<, length-set, length-append, get_or-set_same, get_or-set_other, take_at, take-suc}
+use Rattle.std.proofs.Common.{ap, ◌∙◌, arith, lit<, length-set, length-append, get_or-set_same, get_or-set_other}
+use Rattle.std.proofs.Common.{take_at, take-suc}
 use Rattle.std.proofs.Math.Bool.{cond, or_assoc, or-false}
 use Rattle.std.proofs.Math.Logic.{inl, inr}
 use mathlib.Core.List.{List, [], ◌∷◌, ◌++◌, append_assoc, append-nil}
@@ -82,7 +83,8 @@ sets-joined n d (e ∷ es) k h l =
       )
     ]
 
-pub sets-of-day : (n : ℕ) (es : List Entry) (k : ℕ) → k < most_cases → get_or (all_taken n no_day es).sets k 0 ≡ joined k es
+pub sets-of-day : (n : ℕ) (es : List Entry) (k : ℕ) → k < most_cases
+    → get_or (all_taken n no_day es).sets k 0 ≡ joined k es
 unfolding no_day
 sets-of-day n es k l =
     sets-joined n no_day es k (length-replicate {A = ℕ} most_cases 0) l
@@ -189,7 +191,8 @@ module _ (f : List ℕ) (h : refusal_of f ≡ 0) where
   pub config_valid : (config : List ℕ) → refusal_at f config ≡ 0 → Valid F config
   config_valid config z =
       (call_allowed f config []
-      (ap first_of (append-nil (file_tests f ++ config_tests f config)) ∙ call-passed f (config_tests f config) h ∙ z)).1
+      (ap first_of (append-nil (file_tests f ++ config_tests f config))
+      ∙ call-passed f (config_tests f config) h ∙ z)).1
 
   -- it has a byte for each chart
   pub len_known : (c : Case) → refusal_at f (config_of c) ≡ 0 → c.length ≡ F.charts
@@ -382,7 +385,8 @@ module _ (f : List ℕ) (cs : List Case) (es : List Entry) (room : ℕ) where
           (first_of (book_tests f cs))
           ≡ first_of (book_tests f cs ++ day_tests f cs es room)
       behind h (inr z) =
-          rw (ne_eqb (first_of (book_tests f cs)) 0 z) (sym (first_of-before (book_tests f cs) (day_tests f cs es room) z))
+          rw (ne_eqb (first_of (book_tests f cs)) 0 z)
+          (sym (first_of-before (book_tests f cs) (day_tests f cs es room) z))
       behind h (inl z) = rw (
         eq-eqb (first_of (book_tests f cs)) 0 z,
         book_through f cs (day_tests f cs es room) z,

@@ -22,7 +22,8 @@ use Rattle.agreement.specs.Encoded.{slave_in, node_in}
 use Rattle.notation.specs.Syntax.{Signals, Sequential, Single, sequential, decomposed, hidden, Chart, single}
 use Rattle.notation.specs.Syntax.{composed, Slaves, first_slave, more_slaves}
 use Rattle.reading.specs.Numbers.{named_charts, named_states}
-use Rattle.reading.specs.Names.{set?, optional?, sequential?, name_of, sequentials_in, sequentials_of, sequentials_of_slaves}
+use Rattle.reading.specs.Names.{set?, optional?, sequential?, name_of, sequentials_in, sequentials_of}
+use Rattle.reading.specs.Names.{sequentials_of_slaves}
 use Rattle.reading.specs.Meant.{with_key, sorted_by, set_of, optional_of, Laid, last_of, lay_slaves, with_node, beside}
 use Rattle.reading.specs.Meant.{chart_node, lay_hidden, lay_both, lay_single, lay_chart}
 use Rattle.lists.specs.Laws.States.{length_snoc}
@@ -150,7 +151,8 @@ module _ (F : File) (N : List Node) (S : List Slave) (reads : Reads F N S) where
     means : MeansAll F c ss l
 
   holds : (j : ℕ) (s : Sequential) (rs : List Slave) (l : List Pair) → At N j (chart_node s)
-      → with_key chart_of (name_of s) S ≡ rs → NotFalling state_of rs → Each (λ r. r.state < named_states) rs → Matches rs l
+      → with_key chart_of (name_of s) S ≡ rs → NotFalling state_of rs → Each (λ r. r.state < named_states) rs
+      → Matches rs l
       → Holds j (name_of s) rs l
   unfolding gather
   holds j s rs l m e r b g =
@@ -193,7 +195,8 @@ module _ (F : File) (N : List Node) (S : List Slave) (reads : Reads F N S) where
       (a-hiding x t y (tree_of F a) h)
 
   joins : (j a b : ℕ) (t : Chart) (x : Signals) (u : Chart) → set? x ≡ false
-      → At N j (record { kind = 1; a = a; b = b; x = set_of x; y = ∅ }) → Means F (tree_of F a) t → Means F (tree_of F b) u
+      → At N j (record { kind = 1; a = a; b = b; x = set_of x; y = ∅ }) → Means F (tree_of F a) t
+      → Means F (tree_of F b) u
       → Means F (tree_of F j) (composed t x u)
   joins j a b t x u f m h g =
       let r : Node = record { kind = 1; a = a; b = b; x = set_of x; y = ∅ } in
@@ -251,12 +254,14 @@ module _ (F : File) (N : List Node) (S : List Slave) (reads : Reads F N S) where
   abbrev Sole : (ℕ → ℕ) → List Slave → Type 0
   Sole f l = (c : ℕ) → 0 < f c → with_key chart_of c S ≡ with_key chart_of c l
 
-  sole_first : (c : ℕ) (l m : List Slave) → with_key chart_of c S ≡ with_key chart_of c (l ++ m) → with_key chart_of c m ≡ []
+  sole_first : (c : ℕ) (l m : List Slave) → with_key chart_of c S ≡ with_key chart_of c (l ++ m)
+      → with_key chart_of c m ≡ []
       → with_key chart_of c S ≡ with_key chart_of c l
   sole_first c l m e f =
       e ∙ key_append chart_of c l m ∙ ap (with_key chart_of c l ++◌) f ∙ append-nil (with_key chart_of c l)
 
-  sole_then : (c : ℕ) (l m : List Slave) → with_key chart_of c S ≡ with_key chart_of c (l ++ m) → with_key chart_of c l ≡ []
+  sole_then : (c : ℕ) (l m : List Slave) → with_key chart_of c S ≡ with_key chart_of c (l ++ m)
+      → with_key chart_of c l ≡ []
       → with_key chart_of c S ≡ with_key chart_of c m
   sole_then c l m e f = e ∙ key_append chart_of c l m ∙ ap (◌++ with_key chart_of c m) f
 
@@ -264,7 +269,8 @@ module _ (F : File) (N : List Node) (S : List Slave) (reads : Reads F N S) where
 
   abbrev Right : Chart → Type 0
   Right t =
-      (k : ℕ) → Once (λ c. times_of c t) → Here k (lay_chart t k).nodes → Sole (λ c. times_of c t) (lay_chart t k).slaves
+      (k : ℕ) → Once (λ c. times_of c t) → Here k (lay_chart t k).nodes
+      → Sole (λ c. times_of c t) (lay_chart t k).slaves
       → Means F (tree_of F (last_of k (lay_chart t k))) t
 
   -- the slaves of the master m, one after another
@@ -319,7 +325,8 @@ module _ (F : File) (N : List Node) (S : List Slave) (reads : Reads F N S) where
       → Here k (with_node (lay_slaves (name_of s) (map placed_of (by_state ps)) k) (chart_node s)).nodes
       → Sole (λ c. one (eqb (name_of s) c) + times_in c (sequentials_of_slaves ps))
       (with_node (lay_slaves (name_of s) (map placed_of (by_state ps)) k) (chart_node s)).slaves
-      → Means F (tree_of F (last_of k (with_node (lay_slaves (name_of s) (map placed_of (by_state ps)) k) (chart_node s))))
+      → Means F (tree_of F (last_of k (with_node (lay_slaves (name_of s) (map placed_of (by_state ps)) k)
+      (chart_node s))))
       (single (decomposed s ps))
   unfolding with_node
   master_case s ps k e f r o h z =
@@ -370,7 +377,8 @@ module _ (F : File) (N : List Node) (S : List Slave) (reads : Reads F N S) where
   pair_case : (a : Chart) (x : Signals) (b : Chart) → Right a → set? x ≡ false → Right b → Right (composed a x b)
   unfolding lay_both with_node beside lay_chart sequentials_of
   pair_case a x b f e g k o h s =
-      joins (last_of k (lay_chart (composed a x b) k)) (last_of k p) (last_of j q) a x b e (here_last k (beside p q) n h)
+      joins (last_of k (lay_chart (composed a x b) k)) (last_of k p) (last_of j q) a x b e
+      (here_last k (beside p q) n h)
       (f k (λ c. let w = o c in let y = times c in omega arith) (here_first k p.nodes q.nodes both)
       (λ c i. sole_first c p.slaves q.slaves (s c (let y = times c in omega arith))
       (chart-none c b (let w = o c in let y = times c in omega arith) j)))
@@ -425,7 +433,8 @@ module _ (F : File) (N : List Node) (S : List Slave) (reads : Reads F N S) where
         Here k (with_node (lay_slaves (name_of s) l k) (chart_node s)).nodes
         → Sole (λ c. one (eqb (name_of s) c) + times_in c (sequentials_of_slaves ps))
         (with_node (lay_slaves (name_of s) l k) (chart_node s)).slaves
-        → Means F (tree_of F (last_of k (with_node (lay_slaves (name_of s) l k) (chart_node s)))) (single (decomposed s ps)))
+        → Means F (tree_of F (last_of k (with_node (lay_slaves (name_of s) l k) (chart_node s))))
+        (single (decomposed s ps)))
         (sym (by_state_lem ps)) (master_case s ps k f g (slaves_mean (lacking s) ps g) o) h z
     single_means (hidden x t y) e k o h z =
         let f = or_right (optional? x) (refused? t || optional? y) e in

@@ -129,7 +129,8 @@ module _ (t : Chart) where
       )
 
   pub transition_is : (i : ℕ) (u : Transition) → At (transitions_of t) i u
-      → ((transition_for u).needed < 256 ^ 8) × ((transition_for u).barred < 256 ^ 8) × ((transition_for u).action < 256 ^ 8)
+      → ((transition_for u).needed < 256 ^ 8) × ((transition_for u).barred < 256 ^ 8)
+      × ((transition_for u).action < 256 ^ 8)
       → transition_at shape_for b i ≡ transition_for u
   unfolding transition_at
   transition_is i u m f =

@@ -96,7 +96,8 @@ once_typed (s ∷ l) e c = go (eqb (name_of s) c) refl (once_typed l (or_right (
   where
     go : (b : Bool) → eqb (name_of s) c ≡ b → times_in c l ≤ 1 → one b + times_in c l ≤ 1
     go true q i =
-        let z = lacks-times c l (subst (λ k. has (map name_of l) k ≡ false) (eqb-true (name_of s) c q) (or_left _ _ e)) in
+        let z = lacks-times c l (subst (λ k. has (map name_of l) k ≡ false) (eqb-true (name_of s) c q) (or_left _ _ e))
+        in
         omega arith
     go false q i = omega arith
 

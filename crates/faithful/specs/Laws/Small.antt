@@ -13,7 +13,8 @@ use Rattle.notation.specs.Syntax.{Signals, Literal, needed, barred, Transition, 
 use Rattle.reading.specs.Numbers.{named_signals, named_states}
 use Rattle.reading.specs.Names.{members_of, members_or, first, any, has, not_all?, signals?, set?, optional?, signal_of}
 use Rattle.reading.specs.Names.{transition?, sequential?}
-use Rattle.reading.specs.Meant.{mask_of, set_of, optional_of, needed_in, barred_in, transition_for, transitions_in, head_for}
+use Rattle.reading.specs.Meant.{mask_of, set_of, optional_of, needed_in, barred_in, transition_for, transitions_in}
+use Rattle.reading.specs.Meant.{head_for}
 
 -- ── sets ──
 
@@ -52,7 +53,8 @@ barred_fine (barred n ∷ gs) e =
     ∙ barred_fine gs (or_right (not_below n named_signals) _ e)
 
 pub transition-small : (states : List ℕ) (u : Transition) → transition? states u ≡ false
-    → ((transition_for u).needed < 256 ^ 8) × ((transition_for u).barred < 256 ^ 8) × ((transition_for u).action < 256 ^ 8)
+    → ((transition_for u).needed < 256 ^ 8) × ((transition_for u).barred < 256 ^ 8)
+    × ((transition_for u).action < 256 ^ 8)
 unfolding transition? transition_for
 transition-small states u e =
     let gs = members_or u.guard in

@@ -64,7 +64,8 @@ module _ (g : Guard) (done : List Literal) (m : Means g done) (n v : ℕ) (j : J
   unfolding signals?
   bad_more mask q l z =
       joins-bad mask g.bad n v j e q ∙ ap (◌|| not_below n named_signals) m.is_bad
-      ∙ sym (ap (any (λ k. not_below k named_signals)) (signals_snoc done l ∙ ap (λ k. map signal_of done ++ (k ∷ [])) z)
+      ∙ sym (ap (any (λ k. not_below k named_signals))
+      (signals_snoc done l ∙ ap (λ k. map signal_of done ++ (k ∷ [])) z)
       ∙ any_snoc (λ k. not_below k named_signals) (map signal_of done) n)
 
   pub means_needed : Joins g.needed g.bad v j → r.bad ≡ j.bad → r.needed ≡ j.mask → r.barred ≡ g.barred
@@ -154,14 +155,17 @@ unfoldable pub more_literals : List Literal → Tokens
 more_literals [] = []
 more_literals (l ∷ ls) = sign amp ∷ (of_literal l ++ more_literals ls)
 
-more_snoc : (a : List Literal) (l : Literal) → more_literals (a ++ (l ∷ [])) ≡ more_literals a ++ (sign amp ∷ of_literal l)
+more_snoc : (a : List Literal) (l : Literal)
+    → more_literals (a ++ (l ∷ [])) ≡ more_literals a ++ (sign amp ∷ of_literal l)
 unfolding more_literals
 more_snoc [] l = ap (sign amp ∷◌) (append-nil (of_literal l))
 more_snoc (m ∷ a) l =
     ap (sign amp ∷◌)
-    (ap (of_literal m ++◌) (more_snoc a l) ∙ sym (append_assoc (of_literal m) (more_literals a) (sign amp ∷ of_literal l)))
+    (ap (of_literal m ++◌) (more_snoc a l) ∙ sym
+    (append_assoc (of_literal m) (more_literals a) (sign amp ∷ of_literal l)))
 
-literals_cons : (ls : OneOrMore Literal) → of_literals ls ≡ of_literal (first_literal ls) ++ more_literals (rest_literals ls)
+literals_cons : (ls : OneOrMore Literal)
+    → of_literals ls ≡ of_literal (first_literal ls) ++ more_literals (rest_literals ls)
 unfolding of_literals first_literal rest_literals
 literals_cons (one l) = unfold more_literals in sym (append-nil (of_literal l))
 literals_cons (ls ▸ l) =

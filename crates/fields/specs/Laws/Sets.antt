@@ -11,7 +11,8 @@ use Rattle.signals.specs.Decide.{sets, A, B, C, ◌∪ₑ◌, ∅ₑ, ◌≐◌}
 use Rattle.meaning.specs.Check.{not_below}
 use Rattle.meaning.specs.Sums.Laws.{or_left, or_right}
 use Rattle.notation.specs.Syntax.{OneOrMore, one, ◌▸◌, Signals}
-use Rattle.notation.specs.Grammar.{comma, rbrace, lbrace, letS, letter, sign, sign_bytes, Tokens, of_names, of_set, Text}
+use Rattle.notation.specs.Grammar.{comma, rbrace, lbrace, letS, letter, sign, sign_bytes, Tokens, of_names, of_set}
+use Rattle.notation.specs.Grammar.{Text}
 use Rattle.notation.specs.Reader.{first_byte}
 use Rattle.reading.specs.Numbers.{named_signals}
 use Rattle.reading.specs.Names.{members_of, members_or, any, signals?}

@@ -67,7 +67,8 @@ module _ (w : List ℕ) (at : ℕ) (r : SignalSet) where
   optional_none p l em eb ex =
       record { within = omega (arith, l, ex); onward = omega (arith, ex); gives = go }
     where
-      go : (x : Option Signals) (ts : Tokens) → NoBrace ts → Text (of_optional x ++ ts) (drop at w) → GivesExtra w r x ts
+      go : (x : Option Signals) (ts : Tokens) → NoBrace ts → Text (of_optional x ++ ts) (drop at w)
+          → GivesExtra w r x ts
       go none ts n t =
           record { goes_on = subst (λ e. Text ts (drop e w)) (sym ex) t; is_bad = eb; is_mask = λ e. em }
       go (some x) ts n t = absurd (p (next-seen (of_set x ++ ts) t ∙ set_next x ts))
@@ -76,7 +77,8 @@ module _ (w : List ℕ) (at : ℕ) (r : SignalSet) where
   unfolding of_optional optional? optional_of set?
   optional_some p s = record { within = s.within; onward = s.onward; gives = go }
     where
-      go : (x : Option Signals) (ts : Tokens) → NoBrace ts → Text (of_optional x ++ ts) (drop at w) → GivesExtra w r x ts
+      go : (x : Option Signals) (ts : Tokens) → NoBrace ts → Text (of_optional x ++ ts) (drop at w)
+          → GivesExtra w r x ts
       go none ts n t = absurd (n (sym (next-seen ts t) ∙ p))
       go (some x) ts n t =
           let g = s.gives x ts t in record { goes_on = g.goes_on; is_bad = g.is_bad; is_mask = g.is_mask }

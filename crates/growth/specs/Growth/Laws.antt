@@ -22,7 +22,8 @@ use Rattle.meaning.specs.Meaning.{Set, same, Chart}
 use Rattle.meaning.specs.File.{File, file_at, chart_of}
 use Rattle.meaning.specs.Check.Laws.{eq_or-not}
 use Rattle.meaning.specs.Laws.Bools.{same_refl, same_≢}
-use Rattle.meaning.specs.Rewriting.{call, call_in, called, idle, idles, chart_with, nearest_slave, calls_by, rewritten_chart}
+use Rattle.meaning.specs.Rewriting.{call, call_in, called, idle, idles, chart_with, nearest_slave, calls_by}
+use Rattle.meaning.specs.Rewriting.{rewritten_chart}
 use Rattle.meaning.specs.Rewriting.{is_of, count, before_last, start, leaving_in}
 use Rattle.agreement.specs.Charts.{places, places_none}
 use Rattle.agreement.specs.Laid.{start_suc}

@@ -1,6 +1,7 @@
 -- Bytes of names and words are passed without a break (`Passes`), so breaks stand behind signs of one byte alone. A
 -- text laid out has the same tokens (`text_shown`) and spells the same chart (`shown_spells`).
-use Rattle.std.specs.Prelude.{◌≡◌, refl, Bool, true, false, cond, List, [], ◌∷◌, ◌++◌, ℕ, zero, suc, ◌+◌, ◌*◌, ◌/◌, ◌%◌, ◌<◌, replicate}
+use Rattle.std.specs.Prelude.{◌≡◌, refl, Bool, true, false, cond, List, [], ◌∷◌, ◌++◌, ℕ, zero, suc, ◌+◌, ◌*◌, ◌/◌, ◌%◌}
+use Rattle.std.specs.Prelude.{◌<◌, replicate}
 use Rattle.std.proofs.Common.{ap, ◌∙◌, append_assoc, arith, ne_eqb, lt-ltb}
 use Prim.Native.Char.{code}
 use Rattle.line.specs.Line.{digit, digits, width, decimal}

@@ -16,7 +16,7 @@ use Rattle.meaning.specs.Meaning.{Set, no_move, takes, nth}
 use Rattle.meaning.specs.File.{chart_of, file_at}
 use Rattle.meaning.proofs.Laws.Choices.{nth-from}
 use Rattle.lacks.specs.Lacking.{test_of, lacking_in}
-use Rattle.lacks.proofs.Lacking.Laws.{no_chart, no_place, both_there, in_refused, in_shown, at_place}
+use Rattle.lacks.proofs.Laws.{no_chart, no_place, both_there, in_refused, in_shown, at_place}
 use Rattle.lacks.specs.declared.Lacking.TheVariants.{Refused, Shown}
 use Rattle.lacks.proofs.of_body.Goals as goal
 

@@ -1,8 +1,11 @@
 -- Laws of numbers in little-endian order, in this order: the number of bytes; the bytes of a number; a number read
 -- back; a run of stores; both as code reads and writes them, a number as two halves; what is written in a slice is read
 -- there again.
-use Rattle.std.specs.Prelude.{◌≡◌, refl, List, [], ◌∷◌, ◌++◌, ℕ, zero, suc, ◌+◌, ◌*◌, ◌/◌, ◌%◌, ◌^◌, ◌≤◌, ◌<◌, length, get_or, drop, take, set}
-use Rattle.std.proofs.Common.{sym, ap, ap₂, ◌∙◌, append_assoc, zero-mul, mul_assoc, pow-suc, mul-one, zero-add, add-zero, suc-add, add-mul, div-one, mod-lt, mod-eq_of_lt, arith, add-one, lit<, drop-cons, drop-drop, drop_at, get_or-drop, length-take-le}
+use Rattle.std.specs.Prelude.{◌≡◌, refl, List, [], ◌∷◌, ◌++◌, ℕ, zero, suc, ◌+◌, ◌*◌, ◌/◌, ◌%◌, ◌^◌, ◌≤◌, ◌<◌, length}
+use Rattle.std.specs.Prelude.{get_or, drop, take, set}
+use Rattle.std.proofs.Common.{sym, ap, ap₂, ◌∙◌, append_assoc, zero-mul, mul_assoc, pow-suc, mul-one, zero-add}
+use Rattle.std.proofs.Common.{add-zero, suc-add, add-mul, div-one, mod-lt, mod-eq_of_lt, arith, add-one, lit<}
+use Rattle.std.proofs.Common.{drop-cons, drop-drop, drop_at, get_or-drop, length-take-le}
 use Rattle.std.proofs.Math.Nat.{mod-one, div-div-eq-div-mul, pow-succ', one-le-pow, suc_inj}
 use Rattle.std.proofs.Math.Arith.{mod-mul, digits_mod, digits_div}
 use Rattle.std.proofs.lemmas.List.Edits.{sets, sets-eq}

@@ -1,7 +1,8 @@
 -- The posting, case by case: it starts (`started`), a case more is posted (`stepped`), and then all are (`finished`).
 use Rattle.std.specs.Prelude.{◌≡◌, refl, ℕ, suc, ◌+◌, ◌-◌, ◌*◌, ◌≤◌, ◌<◌, get_or, set}
 use Rattle.std.proofs.Math.Path.{sym, ap}
-use Rattle.std.proofs.Common.{◌∙◌, suc-mul, mul-le-mul_right, le_trans, length-append, length-drop, take-append-drop, take_at, drop_at, drop-drop, take-suc-set, get_or-drop}
+use Rattle.std.proofs.Common.{◌∙◌, suc-mul, mul-le-mul_right, le_trans, length-append, length-drop, take-append-drop}
+use Rattle.std.proofs.Common.{take_at, drop_at, drop-drop, take-suc-set, get_or-drop}
 use mathlib.Core.List.{List, [], ◌∷◌, ◌++◌, append_assoc, append-nil}
 use Rattle.std.proofs.Math.Numerals.{add-one}
 use native.Mathlib.Omega.{arith}
@@ -43,7 +44,8 @@ module _ (f : List ℕ) (d : Day) (charts n : ℕ) (cs : List Case) (rs : List �
       pub same_case : get_or cs i c₀ ≡ get_or cs' i c₀
       same_case =
           let z : i + 0 ≡ i = omega arith in
-          let a : (xs : List Case) → get_or xs i c₀ ≡ get_or (drop i xs) 0 c₀ = λ xs. sym (rw z at (get_or-drop i xs 0 c₀)) in
+          let a : (xs : List Case) → get_or xs i c₀ ≡ get_or (drop i xs) 0 c₀ =
+          λ xs. sym (rw z at (get_or-drop i xs 0 c₀)) in
           a cs ∙ ap (λ (xs : List Case). get_or xs 0 c₀) (sym u.cases_left) ∙ sym (a cs')
 
       pub room_for : i * w + w ≤ length rs'
@@ -115,7 +117,8 @@ module _ (f : List ℕ) (d : Day) (charts n : ℕ) (cs : List Case) (rs : List �
                 let t : take ((i + 1) * w) zs ≡ take (i * w) rs' ++ row =
                 rw halves (take_at (take (i * w) rs' ++ row) (drop (i * w + w) rs') ((i + 1) * w) front) in
                 let q : turn_rows f d charts (n - i) i (drop i cs)
-                ≡ turn_row charts f (get_or cs i c₀) d i ++ turn_rows f d charts (n - (i + 1)) (i + 1) (drop (i + 1) cs) =
+                ≡ turn_row charts f (get_or cs i c₀) d i
+                ++ turn_rows f d charts (n - (i + 1)) (i + 1) (drop (i + 1) cs) =
                 rw (fewer, drop-cons cs i c₀ there, add-one) in
                 rw (t, append_assoc, ← same_case) (rw q at u.rows_done)
 

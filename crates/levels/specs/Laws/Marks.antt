@@ -123,7 +123,8 @@ module _ (text ring places : List ℕ) (end held floor : ℕ) (ls : List ℕ) (h
   where
     -- the oldest level of a full ring stands below the place of the next one's bracket
     pub spill_under : held ≡ 1024 → (f : ℕ) → Around text f (below 1023 ls)
-        → (levels_at text floor ≡ levels_at text (get_or places end 0)) × Under text f (get_or ring end 0) (get_or places end 0)
+        → (levels_at text floor ≡ levels_at text (get_or places end 0))
+        × Under text f (get_or ring end 0) (get_or places end 0)
     spill_under e f g =
         let y = h.kept.inside in
         let z : slot_of end 1023 ≡ end = omega arith in

@@ -185,7 +185,8 @@ module _ (text ring places : List ℕ) (end held floor : ℕ) (ls : List ℕ) (h
             let e = h.kept.inside in
             let w = h.placed.long in
             subst (λ x. Around text x (below 0 ls))
-            (sym (ap (λ i. get_or (set places end at) i 0) (let z : slot_of ((end + 1) % 1024) 0 ≡ end = omega arith in z)
+            (sym (ap (λ i. get_or (set places end at) i 0)
+            (let z : slot_of ((end + 1) % 1024) 0 ≡ end = omega arith in z)
             ∙ get_or-set_same places end at 0 (omega arith)))
             (around-none text at ls g)
         bracket (suc j) l =

@@ -8,9 +8,12 @@ use Rattle.signals.specs.Guard.{guard}
 use Rattle.meaning.specs.Meaning.{same, nth, pick, last_place, met?, action_of, after, guards, in_face_chart, in_face}
 use Rattle.meaning.specs.Meaning.{in_faces, out, outs, ok_chart, meets, ok, oks, permitted, upd, moves, nexts, place_of}
 use Rattle.meaning.specs.Meaning.{places_from, upto, outcome_of, outcome, search, outcomes, eq_list, agree, answer}
-use Rattle.meaning.specs.File.{gather, build, tree_of, Has, HasS, trailer, body_of, shape_of, chart_of, file_at, file_of}
-use Rattle.meaning.specs.Check.{first_of, edition?, counts?, distance?, nonzero, zeros?, chart?, charts?, ends?, leaving}
-use Rattle.meaning.specs.Check.{transitions?, rising, slave?, slaves?, node_of_kind?, nodes?, names, named, held, naming?}
+use Rattle.meaning.specs.File.{gather, build, tree_of, Has, HasS, trailer, body_of, shape_of, chart_of, file_at}
+use Rattle.meaning.specs.File.{file_of}
+use Rattle.meaning.specs.Check.{first_of, edition?, counts?, distance?, nonzero, zeros?, chart?, charts?, ends?}
+use Rattle.meaning.specs.Check.{leaving}
+use Rattle.meaning.specs.Check.{transitions?, rising, slave?, slaves?, node_of_kind?, nodes?, names, named, held}
+use Rattle.meaning.specs.Check.{naming?}
 use Rattle.meaning.specs.Check.{inside?, file_tests, refusal_of}
 use Rattle.meaning.specs.Open.{open_chart, open_tree, is_open, choices, how_many, open_choices}
 use Rattle.meaning.specs.Calls.{made, initials, found_in, many_open?, step_in, row_of, rows_of}
@@ -57,14 +60,15 @@ pub printed : outputs ≡ ascii "1 0000000000000002 1 y\n2 refused 23\n3 0000000
     ∷ ascii "file refused 3\n"
     ∷ ascii "file refused 1\n"
     ∷ []
-unfolding outputs case chart le bytes trailer_of head_of transition_of slave_of node_of head_at transition_at slave_at node_at
-    start_of from transitions_of any_up_to tally same nth pick last_place action_of after guard met? guards in_face_chart in_face
-    in_faces out outs ok_chart meets ok oks permitted upd moves nexts place_of places_from upto outcome_of outcome search
-    outcomes eq_list agree answer gather build tree_of Has HasS trailer body_of shape_of chart_of file_at file_of first_of
-    edition? counts? distance? nonzero zeros? chart? charts? ends? leaving transitions? rising slave? slaves?
-    node_of_kind? nodes? names named held naming? inside? file_tests refusal_of made initials open_chart open_tree is_open
-    choices how_many open_choices found_in many_open? step_in row_of rows_of digit digits width_to width decimal behind joined
-    fields dotted letter row_fields line_of file_refused front_of day_refusal inputs_of lines_of day_lines day_of
+unfolding outputs case chart le bytes trailer_of head_of transition_of slave_of node_of head_at transition_at slave_at
+    node_at start_of from transitions_of any_up_to tally same nth pick last_place action_of after guard met? guards
+    in_face_chart in_face in_faces out outs ok_chart meets ok oks permitted upd moves nexts place_of places_from upto
+    outcome_of outcome search outcomes eq_list agree answer gather build tree_of Has HasS trailer body_of shape_of
+    chart_of file_at file_of first_of edition? counts? distance? nonzero zeros? chart? charts? ends? leaving
+    transitions? rising slave? slaves? node_of_kind? nodes? names named held naming? inside? file_tests refusal_of made
+    initials open_chart open_tree is_open choices how_many open_choices found_in many_open? step_in row_of rows_of digit
+    digits width_to width decimal behind joined fields dotted letter row_fields line_of file_refused front_of
+    day_refusal inputs_of lines_of day_lines day_of
 printed = refl
 
 -- 31 comes first: these bytes have no chart

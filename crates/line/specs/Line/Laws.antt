@@ -1,7 +1,9 @@
 -- Laws of lines, in this order: digits; how many digits a number has; states one after another; a line in its parts;
 -- the line of a row that a run writes; how long a line is.
-use Rattle.std.specs.Prelude.{◌≡◌, refl, Bool, true, false, cond, List, [], ◌∷◌, ◌++◌, map, ◌⊎◌, ℕ, zero, suc, ◌+◌, ◌*◌, ◌/◌, ◌^◌, ◌≤◌, ◌<◌, length, get_or, drop}
-use Rattle.std.proofs.Common.{ap, append_assoc, append-nil, inl, inr, ⊎_elim, pow-suc, add-one, arith, lt-ltb, le-ltb, eq-eqb, ne_eqb, length-append, length-drop, drop-cons}
+use Rattle.std.specs.Prelude.{◌≡◌, refl, Bool, true, false, cond, List, [], ◌∷◌, ◌++◌, map, ◌⊎◌, ℕ, zero, suc, ◌+◌, ◌*◌}
+use Rattle.std.specs.Prelude.{◌/◌, ◌^◌, ◌≤◌, ◌<◌, length, get_or, drop}
+use Rattle.std.proofs.Common.{ap, append_assoc, append-nil, inl, inr, ⊎_elim, pow-suc, add-one, arith, lt-ltb, le-ltb}
+use Rattle.std.proofs.Common.{eq-eqb, ne_eqb, length-append, length-drop, drop-cons}
 use Prim.Native.Char.{code}
 use Rattle.std.proofs.Math.Decide.{dec_lt}
 use Rattle.layout.specs.Le.{le, bytes, AllBytes}

@@ -6,7 +6,8 @@ use Rattle.std.proofs.Math.Option.{Option, none, some}
 use Rattle.notation.specs.Syntax.{OneOrMore, one, ◌▸◌, Signals, Sequential, Single, sequential, decomposed, hidden}
 use Rattle.notation.specs.Syntax.{Chart, single, composed, Slaves, first_slave, more_slaves}
 use Rattle.notation.specs.Grammar.{lpar, rpar, lbrace, rbrace, lsq, rsq, comma, bar, wordDec, wordBy, letQ, letS}
-use Rattle.notation.specs.Grammar.{sign, name, Tokens, of_names, of_set, of_optional, of_heading, of_sequential, of_single}
+use Rattle.notation.specs.Grammar.{sign, name, Tokens, of_names, of_set, of_optional, of_heading, of_sequential}
+use Rattle.notation.specs.Grammar.{of_single}
 use Rattle.notation.specs.Grammar.{of_chart, of_part, of_slaves}
 use Rattle.reading.specs.Names.{sequentials_in, sequentials_of, sequentials_of_slaves}
 use Rattle.lists.specs.Found.{named?, begins?, Found, nothing, passed, found}
@@ -119,7 +120,8 @@ both_text a x b us = of_part a ++ (sign bar ∷ (of_set x ++ (sign bar ∷ (of_p
 abbrev pub pair_text : ℕ → Chart → Tokens → Tokens
 pair_text q t us = sign lpar ∷ name letQ q ∷ sign comma ∷ (of_chart t ++ (sign rpar ∷ us))
 
-pub master_text_lem : (s : Sequential) (ps : Slaves) (us : Tokens) → of_single (decomposed s ps) ++ us ≡ master_text s ps us
+pub master_text_lem : (s : Sequential) (ps : Slaves) (us : Tokens)
+    → of_single (decomposed s ps) ++ us ≡ master_text s ps us
 unfolding of_single
 master_text_lem s ps us =
     ap (sign wordDec ∷◌)
@@ -158,7 +160,8 @@ pub pairs_text_lem : (ps : Slaves) (q : ℕ) (t : Chart) (us : Tokens)
     → of_slaves (more_slaves ps q t) ++ us ≡ of_slaves ps ++ (sign comma ∷ pair_text q t us)
 unfolding of_slaves
 pairs_text_lem ps q t us =
-    append_assoc (of_slaves ps) (sign comma ∷ sign lpar ∷ name letQ q ∷ sign comma ∷ (of_chart t ++ (sign rpar ∷ []))) us
+    append_assoc (of_slaves ps) (sign comma ∷ sign lpar ∷ name letQ q ∷ sign comma ∷ (of_chart t ++ (sign rpar ∷ [])))
+    us
     ∙ ap (λ u. of_slaves ps ++ (sign comma ∷ sign lpar ∷ name letQ q ∷ sign comma ∷ u))
     (append_assoc (of_chart t) (sign rpar ∷ []) us)
 

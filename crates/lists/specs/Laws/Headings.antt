@@ -1,5 +1,6 @@
 -- A heading is read if its parts are read one after another: `heading_right`.
-use Rattle.std.specs.Prelude.{◌≡◌, refl, Bool, true, false, ◌||◌, not, cond, List, [], ◌∷◌, ◌++◌, ℕ, ◌≤◌, ◌<◌, ltb, eqb, drop}
+use Rattle.std.specs.Prelude.{◌≡◌, refl, Bool, true, false, ◌||◌, not, cond, List, [], ◌∷◌, ◌++◌, ℕ, ◌≤◌, ◌<◌, ltb, eqb}
+use Rattle.std.specs.Prelude.{drop}
 use Rattle.std.proofs.Common.{sym, ap, ◌∙◌, true≢false, append_assoc, lt-ltb, le-ltb, eqb-true, eq-eqb}
 use Rattle.std.proofs.Math.Path.{subst}
 use Rattle.std.proofs.lemmas.Bool.{false≢true}
@@ -29,7 +30,8 @@ use Rattle.lists.specs.Laws.States.{cap_in, first-is}
 -- ── the initial state ──
 
 -- the first state of a list that is not refused is in range
-pub first_in_lem : (ks : OneOrMore ℕ) → not_all? named_states (members_of ks) ≡ false → not_below (first ks) named_states ≡ false
+pub first_in_lem : (ks : OneOrMore ℕ) → not_all? named_states (members_of ks) ≡ false
+    → not_below (first ks) named_states ≡ false
 unfolding not_all? any
 first_in_lem ks e =
     let a = or_left (any (λ n. not_below n named_states) (members_of ks))

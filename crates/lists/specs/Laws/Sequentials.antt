@@ -1,6 +1,7 @@
 -- A sequential chart is read if its parts are read one after another: the extra set (`extra-..`), all of them
 -- (`sequential_right`).
-use Rattle.std.specs.Prelude.{◌≡◌, refl, Bool, true, false, ◌||◌, not, List, [], ◌∷◌, ◌++◌, ℕ, ◌≤◌, eqb, length, drop, get_or}
+use Rattle.std.specs.Prelude.{◌≡◌, refl, Bool, true, false, ◌||◌, not, List, [], ◌∷◌, ◌++◌, ℕ, ◌≤◌, eqb, length, drop}
+use Rattle.std.specs.Prelude.{get_or}
 use Rattle.std.proofs.Common.{sym, ap, ap₂, ◌∙◌, true≢false, append_assoc, arith, eqb-true}
 use Rattle.std.proofs.Math.Path.{subst}
 use Rattle.std.proofs.lemmas.Bool.{false≢true, not-false}

@@ -1,6 +1,7 @@
 -- A token is told by its first byte: a name (`token_name`) or a sign (`token_sign`); whether it begins a sequential
 -- chart (`begins_bracket`, `begins-other`); and whether there is one (`text_end`, `text_some`).
-use Rattle.std.specs.Prelude.{◌≡◌, Bool, true, false, cond, List, [], ◌∷◌, ◌++◌, ℕ, suc, ◌+◌, ◌≤◌, ◌<◌, eqb, length, drop, get_or}
+use Rattle.std.specs.Prelude.{◌≡◌, Bool, true, false, cond, List, [], ◌∷◌, ◌++◌, ℕ, suc, ◌+◌, ◌≤◌, ◌<◌, eqb, length}
+use Rattle.std.specs.Prelude.{drop, get_or}
 use Rattle.std.proofs.Math.Path.{refl}
 use Rattle.std.proofs.Common.{sym, ap, ◌∙◌, subst, true≢false, arith, length-drop}
 use Rattle.std.proofs.lemmas.Bool.{false≢true}

@@ -15,7 +15,8 @@ use Rattle.notation.specs.Grammar.{lpar, comma, lbrace, rbrace, sign, sign_bytes
 use Rattle.notation.specs.Grammar.{of_transition_list, of_transitions, Text}
 use Rattle.notation.specs.Reader.{first_byte}
 use Rattle.reading.specs.Numbers.{named_states}
-use Rattle.reading.specs.Names.{members_of, members_or, any, has, not_all?, twice?, left_out?, signals?, set?, signal_of}
+use Rattle.reading.specs.Names.{members_of, members_or, any, has, not_all?, twice?, left_out?, signals?, set?}
+use Rattle.reading.specs.Names.{signal_of}
 use Rattle.reading.specs.Names.{transition?}
 use Rattle.reading.specs.Meant.{mask_of}
 use Rattle.tokens.specs.Tokens.{cap, after_blanks, BehindSign}
@@ -170,7 +171,8 @@ module _ (w : List ℕ) (mask : ℕ) (ts : OneOrMore Transition) (us : Tokens) w
         go [] a t = absurd (let z = peek_sign rbrace t in omega arith)
         go (k ∷ rest) a t =
             let u = behind-right w i comma j t o.behind in
-            let v = subst (λ u. Text u (drop j w)) (append_assoc (of_transition k) (more_of rest) (sign rbrace ∷ us)) u in
+            let v = subst (λ u. Text u (drop j w)) (append_assoc (of_transition k) (more_of rest) (sign rbrace ∷ us)) u
+            in
             let q = f.gives k (more_of rest ++ (sign rbrace ∷ us)) v in
             record {
               done = g.done ++ (k ∷ []);

@@ -94,7 +94,8 @@ eq_list_refl (x ∷ xs) = rw (same_refl x) (eq_list_refl xs)
 
 -- what is left of two lists, from i on, as a loop compares them: one more is equal, one is not, none is left
 module _ (a b : List ℕ) (i : ℕ) (p : i < length a) (q : i < length b) where
-  pub eq_list-more : get_or a i 0 ≡ get_or b i 0 → eq_list (drop i a) (drop i b) ≡ eq_list (drop (i + 1) a) (drop (i + 1) b)
+  pub eq_list-more : get_or a i 0 ≡ get_or b i 0
+      → eq_list (drop i a) (drop i b) ≡ eq_list (drop (i + 1) a) (drop (i + 1) b)
   unfolding eq_list
   eq_list-more e = rw (add-one, drop-cons a i 0 p, drop-cons b i 0 q, e, same_refl)
 

@@ -99,7 +99,8 @@ module _ (f : List ℕ) where
     unfolding places_of places_in places_found
     places_outside =
         behind_cong (step_refusal f config room) _ _ _
-        (λ e. ap (λ os. cond (many_open? (file_of f) config) (all_places []) (all_places (first_places os))) (all-outside e))
+        (λ e. ap (λ os. cond (many_open? (file_of f) config) (all_places []) (all_places (first_places os)))
+        (all-outside e))
 
     pub open_outside : open_of f config i room ≡ open_of f config j room
     unfolding open_of
@@ -207,7 +208,8 @@ module _ (f config : List ℕ) (carried : Set) (inputs : List Set) (rows : List 
       long : length left ≡ length rows
       long = rw (left_is, length-append, length-drop, all_rows) (omega (arith, room))
 
-  row_there : (k : ℕ) → k < length inputs → row_at f left k ≡ row_of (step_from F (at k) (get_or inputs k 0)) (at k).config
+  row_there : (k : ℕ) → k < length inputs → row_at f left k
+      ≡ row_of (step_from F (at k) (get_or inputs k 0)) (at k).config
   row_there k l =
       let e = row_ends k (length inputs) w l in
       let q = length-drop (k * w) (rows_from F start inputs) in
@@ -222,7 +224,8 @@ module _ (f config : List ℕ) (carried : Set) (inputs : List Set) (rows : List 
   config_there : (k : ℕ) → k ≤ length inputs → config_at f config left k ≡ (at k).config
   unfolding stand_at
   config_there zero l = refl
-  config_there (suc k) l = ap (drop 10) (row_there k l) ∙ row_tail (step_from F (at k) (get_or inputs k 0)) (at k).config
+  config_there (suc k) l = ap (drop 10) (row_there k l)
+      ∙ row_tail (step_from F (at k) (get_or inputs k 0)) (at k).config
 
   -- it is valid
   pub run_valid : (k : ℕ) → k ≤ length inputs → Valid F (config_at f config left k)

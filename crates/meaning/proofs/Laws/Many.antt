@@ -125,14 +125,16 @@ module _ (f config : List ℕ) (i : Set) (room : ℕ) where
   pub many_refused : Allowed f config room → most_open < open_in F config → step_of f config i room ≡ refused many_open
   many_refused h l = in_order h ∙ step-many F config i l
 
-  pub refused_many : step_of f config i room ≡ refused many_open → Allowed f config room × (most_open < open_in F config)
+  pub refused_many : step_of f config i room ≡ refused many_open
+      → Allowed f config room × (most_open < open_in F config)
   refused_many e =
       let h = behind_tests many_open (lit< tt) e in (h.0, many_only F config i h.1)
 
   -- where no more are open
   module _ (h : Allowed f config room) (l : open_in F config ≤ most_open) where
     -- answer and places are what is found
-    pub few_found : (step_of f config i room ≡ found_in F config i) × (places_of f config i room ≡ places_found F config i)
+    pub few_found : (step_of f config i room ≡ found_in F config i)
+        × (places_of f config i room ≡ places_found F config i)
     unfolding places_of
     few_found = (
       in_order h ∙ step_few F config i l,

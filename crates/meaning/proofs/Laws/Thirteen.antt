@@ -201,13 +201,13 @@ table =
 
 pub thirteen : answers 1 ≡ table
 unfolding answers table single le bytes trailer_of head_of transition_of slave_of node_of trailer_bytes head_bytes
-    transition_bytes slave_bytes node_bytes head_at transition_at slave_at node_at start_of from transitions_of any_up_to tally
-    same nth pick last_place action_of after lowest_from guard met? untriggered guards in_face_chart in_face in_faces out outs
-    ok_chart meets ok oks permitted upd moves nexts place_of places_from upto outcome_of outcome search outcomes eq_list
-    agree answer gather build tree_of Has HasS trailer body_of shape_of chart_of file_at file_of first_of edition? counts?
-    distance? nonzero zeros? chart? charts? ends? leaving transitions? rising slave? slaves? node_of_kind? nodes? names
-    named held naming? inside? file_tests refusal_of config_tests step_refusal open_chart open_tree is_open choices how_many
-    open_choices found_in many_open? step_in step_of
+    transition_bytes slave_bytes node_bytes head_at transition_at slave_at node_at start_of from transitions_of
+    any_up_to tally same nth pick last_place action_of after lowest_from guard met? untriggered guards in_face_chart
+    in_face in_faces out outs ok_chart meets ok oks permitted upd moves nexts place_of places_from upto outcome_of
+    outcome search outcomes eq_list agree answer gather build tree_of Has HasS trailer body_of shape_of chart_of file_at
+    file_of first_of edition? counts? distance? nonzero zeros? chart? charts? ends? leaving transitions? rising slave?
+    slaves? node_of_kind? nodes? names named held naming? inside? file_tests refusal_of config_tests step_refusal
+    open_chart open_tree is_open choices how_many open_choices found_in many_open? step_in step_of
 thirteen = refl
 
 -- the same charts in edition 2, where a chart may stay (RULES 5.7)
@@ -235,13 +235,13 @@ table₂ =
 
 pub second : answers 2 ≡ table₂
 unfolding answers table₂ single le bytes trailer_of head_of transition_of slave_of node_of trailer_bytes head_bytes
-    transition_bytes slave_bytes node_bytes head_at transition_at slave_at node_at start_of from transitions_of any_up_to tally
-    same nth pick last_place action_of after lowest_from guard met? untriggered guards in_face_chart in_face in_faces out outs
-    ok_chart meets ok oks permitted upd moves nexts place_of places_from upto outcome_of outcome search outcomes eq_list
-    agree answer gather build tree_of Has HasS trailer body_of shape_of chart_of file_at file_of first_of edition? counts?
-    distance? nonzero zeros? chart? charts? ends? leaving transitions? rising slave? slaves? node_of_kind? nodes? names
-    named held naming? inside? file_tests refusal_of config_tests step_refusal open_chart open_tree is_open choices how_many
-    open_choices found_in many_open? step_in step_of
+    transition_bytes slave_bytes node_bytes head_at transition_at slave_at node_at start_of from transitions_of
+    any_up_to tally same nth pick last_place action_of after lowest_from guard met? untriggered guards in_face_chart
+    in_face in_faces out outs ok_chart meets ok oks permitted upd moves nexts place_of places_from upto outcome_of
+    outcome search outcomes eq_list agree answer gather build tree_of Has HasS trailer body_of shape_of chart_of file_at
+    file_of first_of edition? counts? distance? nonzero zeros? chart? charts? ends? leaving transitions? rising slave?
+    slaves? node_of_kind? nodes? names named held naming? inside? file_tests refusal_of config_tests step_refusal
+    open_chart open_tree is_open choices how_many open_choices found_in many_open? step_in step_of
 second = refl
 
 -- P2 in edition 2: the first chart takes its transition 0, the second stays
@@ -250,12 +250,12 @@ unfolding P set
 places₂ = places_of (P 2 [] []) (0 ∷ 0 ∷ []) (set (0 ∷ [])) 2
 
 pub stayed : places₂ ≡ 0 ∷ stay_place ∷ replicate (most_charts - 2) no_place
-unfolding places₂ single le bytes trailer_of head_of transition_of slave_of node_of trailer_bytes head_bytes transition_bytes
-    slave_bytes node_bytes head_at transition_at slave_at node_at start_of from transitions_of any_up_to tally same nth pick
-    last_place action_of after lowest_from guard met? untriggered guards in_face_chart in_face in_faces out outs ok_chart meets
-    ok oks permitted upd moves nexts place_of places_from upto outcome_of outcome search outcomes eq_list agree answer
-    gather build tree_of Has HasS trailer body_of shape_of chart_of file_at file_of first_of edition? counts? distance? nonzero
-    zeros? chart? charts? ends? leaving transitions? rising slave? slaves? node_of_kind? nodes? names named held naming?
-    inside? file_tests refusal_of config_tests step_refusal open_chart open_tree is_open choices how_many open_choices
-    first_places many_open? places_found places_in places_of
+unfolding places₂ single le bytes trailer_of head_of transition_of slave_of node_of trailer_bytes head_bytes
+    transition_bytes slave_bytes node_bytes head_at transition_at slave_at node_at start_of from transitions_of
+    any_up_to tally same nth pick last_place action_of after lowest_from guard met? untriggered guards in_face_chart
+    in_face in_faces out outs ok_chart meets ok oks permitted upd moves nexts place_of places_from upto outcome_of
+    outcome search outcomes eq_list agree answer gather build tree_of Has HasS trailer body_of shape_of chart_of file_at
+    file_of first_of edition? counts? distance? nonzero zeros? chart? charts? ends? leaving transitions? rising slave?
+    slaves? node_of_kind? nodes? names named held naming? inside? file_tests refusal_of config_tests step_refusal
+    open_chart open_tree is_open choices how_many open_choices first_places many_open? places_found places_in places_of
 stayed = refl

@@ -83,7 +83,8 @@ module _ (r : ℕ) (F F' : File) (leads : Leads F) (agree : StepsAgreeUnless r F
   step-at : (k : ℕ) → stand_at F' s inputs k ≡ stand_at F s inputs k
       → step_from F (stand_at F s inputs k) (get_or inputs k 0) ≢ refused r
       → step_from F' (stand_at F' s inputs k) (get_or inputs k 0) ≢ refused r
-      → step_from F' (stand_at F' s inputs k) (get_or inputs k 0) ≡ step_from F (stand_at F s inputs k) (get_or inputs k 0)
+      → step_from F' (stand_at F' s inputs k) (get_or inputs k 0)
+      ≡ step_from F (stand_at F s inputs k) (get_or inputs k 0)
   step-at k e p q =
       let t = stand_at F s inputs k in
       let moved = ap (λ u. step_from F' u (get_or inputs k 0)) e in
@@ -154,7 +155,8 @@ module _ (r : ℕ) (F F' : File) (leads : Leads F) (agree : StepsAgreeWhere r F 
     (v : Valid F s.config) where
   step_where : (k : ℕ) → stand_at F' s inputs k ≡ stand_at F s inputs k
       → step_from F (stand_at F s inputs k) (get_or inputs k 0) ≢ refused r
-      → step_from F' (stand_at F' s inputs k) (get_or inputs k 0) ≡ step_from F (stand_at F s inputs k) (get_or inputs k 0)
+      → step_from F' (stand_at F' s inputs k) (get_or inputs k 0)
+      ≡ step_from F (stand_at F s inputs k) (get_or inputs k 0)
   step_where k e p =
       let t = stand_at F s inputs k in
       ap (λ u. step_from F' u (get_or inputs k 0)) e
@@ -194,35 +196,36 @@ module _ (f f' : List ℕ) (config : List ℕ) where
 
   -- `run`, with the same set carried, the same inputs and the same buffer
   module _ (carried : Set) (inputs : List Set) (rows : List ℕ)
-      (e : run_refusal f' config (length inputs) (length rows) ≡ run_refusal f config (length inputs) (length rows)) where
-    abbrev start : Stand
-    start = record { config = config; carried = carried }
+      (e : run_refusal f' config (length inputs) (length rows) ≡ run_refusal f config (length inputs) (length rows))
+    where
+      abbrev start : Stand
+      start = record { config = config; carried = carried }
 
-    abbrev passes : Type 0
-    passes = run_refusal f config (length inputs) (length rows) ≡ 0
+      abbrev passes : Type 0
+      passes = run_refusal f config (length inputs) (length rows) ≡ 0
 
-    -- some part of the buffer, g
-    rows_behind : (g : List ℕ → List ℕ)
-        → (passes → g (laid_over (rows_from (file_of f') start inputs) rows)
-        ≡ g (laid_over (rows_from (file_of f) start inputs) rows))
-        → g (run_bytes f' config carried inputs rows) ≡ g (run_bytes f config carried inputs rows)
-    unfolding run_bytes
-    rows_behind g h =
-        ap (λ m. g (cond (same m 0) (laid_over (rows_from (file_of f') start inputs) rows) rows)) e
-        ∙ go (same (run_refusal f config (length inputs) (length rows)) 0) refl
-      where
-        go : (x : Bool) → same (run_refusal f config (length inputs) (length rows)) 0 ≡ x
-            → g (cond x (laid_over (rows_from (file_of f') start inputs) rows) rows)
-            ≡ g (cond x (laid_over (rows_from (file_of f) start inputs) rows) rows)
-        go true z = h (same→≡ _ 0 z)
-        go false z = refl
+      -- some part of the buffer, g
+      rows_behind : (g : List ℕ → List ℕ)
+          → (passes → g (laid_over (rows_from (file_of f') start inputs) rows)
+          ≡ g (laid_over (rows_from (file_of f) start inputs) rows))
+          → g (run_bytes f' config carried inputs rows) ≡ g (run_bytes f config carried inputs rows)
+      unfolding run_bytes
+      rows_behind g h =
+          ap (λ m. g (cond (same m 0) (laid_over (rows_from (file_of f') start inputs) rows) rows)) e
+          ∙ go (same (run_refusal f config (length inputs) (length rows)) 0) refl
+        where
+          go : (x : Bool) → same (run_refusal f config (length inputs) (length rows)) 0 ≡ x
+              → g (cond x (laid_over (rows_from (file_of f') start inputs) rows) rows)
+              ≡ g (cond x (laid_over (rows_from (file_of f) start inputs) rows) rows)
+          go true z = h (same→≡ _ 0 z)
+          go false z = refl
 
-    carried_behind : (passes → carried_from (file_of f') start inputs ≡ carried_from (file_of f) start inputs)
-        → run_carried f' config carried inputs (length rows) ≡ run_carried f config carried inputs (length rows)
-    unfolding run_carried
-    carried_behind h =
-        ap (λ m. cond (same m 0) (carried_from (file_of f') start inputs) ∅) e
-        ∙ behind_cong (run_refusal f config (length inputs) (length rows)) _ _ ∅ h
+      carried_behind : (passes → carried_from (file_of f') start inputs ≡ carried_from (file_of f) start inputs)
+          → run_carried f' config carried inputs (length rows) ≡ run_carried f config carried inputs (length rows)
+      unfolding run_carried
+      carried_behind h =
+          ap (λ m. cond (same m 0) (carried_from (file_of f') start inputs) ∅) e
+          ∙ behind_cong (run_refusal f config (length inputs) (length rows)) _ _ ∅ h
 
 -- how far a run comes, by where it stands
 far : (r : ℕ) (f config : List ℕ) (carried : Set) (inputs : List Set) (rows : List ℕ)
@@ -240,40 +243,41 @@ module _ (r : ℕ) (f f' : List ℕ) (agree : StepsAgreeUnless r (file_of f) (fi
       step-behind f f' config i room e (AgreeUnless r) (λ v. agree config v i) (λ p q. refl)
 
   module _ (carried : Set) (inputs : List Set) (rows : List ℕ)
-      (e : run_refusal f' config (length inputs) (length rows) ≡ run_refusal f config (length inputs) (length rows)) where
-    -- the first k rows
-    pub same_rows_until : (k : ℕ) → k ≤ length inputs → Until r f config carried inputs rows k
-        → Until r f' config carried inputs rows k
-        → take (k * (10 + (file_of f).charts)) (run_bytes f' config carried inputs rows)
-        ≡ take (k * (10 + (file_of f).charts)) (run_bytes f config carried inputs rows)
-    same_rows_until k l b b' =
-        rows_behind f f' config carried inputs rows e (take (k * (10 + (file_of f).charts))) (λ z.
-        let h = run_allowed f config (length inputs) (length rows) z in
-        rows_until r (file_of f) (file_of f') (file-leads f h.0) agree _ inputs h.1 k l
-        (far r f config carried inputs rows z k l b) (far r f' config carried inputs rows (e ∙ z) k l b') _ _)
+      (e : run_refusal f' config (length inputs) (length rows) ≡ run_refusal f config (length inputs) (length rows))
+    where
+      -- the first k rows
+      pub same_rows_until : (k : ℕ) → k ≤ length inputs → Until r f config carried inputs rows k
+          → Until r f' config carried inputs rows k
+          → take (k * (10 + (file_of f).charts)) (run_bytes f' config carried inputs rows)
+          ≡ take (k * (10 + (file_of f).charts)) (run_bytes f config carried inputs rows)
+      same_rows_until k l b b' =
+          rows_behind f f' config carried inputs rows e (take (k * (10 + (file_of f).charts))) (λ z.
+          let h = run_allowed f config (length inputs) (length rows) z in
+          rows_until r (file_of f) (file_of f') (file-leads f h.0) agree _ inputs h.1 k l
+          (far r f config carried inputs rows z k l b) (far r f' config carried inputs rows (e ∙ z) k l b') _ _)
 
-    -- the whole buffer
-    pub same_run_until : Until r f config carried inputs rows (length inputs)
-        → Until r f' config carried inputs rows (length inputs)
-        → run_bytes f' config carried inputs rows ≡ run_bytes f config carried inputs rows
-    same_run_until b b' =
-        rows_behind f f' config carried inputs rows e (λ xs. xs) (λ z.
-        let h = run_allowed f config (length inputs) (length rows) z in
-        ap (λ xs. laid_over xs rows) (run_until r (file_of f) (file_of f') (file-leads f h.0) agree _ inputs h.1
-        (far r f config carried inputs rows z (length inputs) (omega arith) b)
-        (far r f' config carried inputs rows (e ∙ z) (length inputs) (omega arith) b')))
+      -- the whole buffer
+      pub same_run_until : Until r f config carried inputs rows (length inputs)
+          → Until r f' config carried inputs rows (length inputs)
+          → run_bytes f' config carried inputs rows ≡ run_bytes f config carried inputs rows
+      same_run_until b b' =
+          rows_behind f f' config carried inputs rows e (λ xs. xs) (λ z.
+          let h = run_allowed f config (length inputs) (length rows) z in
+          ap (λ xs. laid_over xs rows) (run_until r (file_of f) (file_of f') (file-leads f h.0) agree _ inputs h.1
+          (far r f config carried inputs rows z (length inputs) (omega arith) b)
+          (far r f' config carried inputs rows (e ∙ z) (length inputs) (omega arith) b')))
 
-    -- what it returns as carried
-    pub same_carried_until : Until r f config carried inputs rows (length inputs)
-        → Until r f' config carried inputs rows (length inputs)
-        → run_carried f' config carried inputs (length rows) ≡ run_carried f config carried inputs (length rows)
-    same_carried_until b b' =
-        carried_behind f f' config carried inputs rows e (λ z.
-        let h = run_allowed f config (length inputs) (length rows) z in
-        let h' = run_allowed f' config (length inputs) (length rows) (e ∙ z) in
-        carried_until r (file_of f) (file_of f') (file-leads f h.0) agree _ inputs h.1 (file-leads f' h'.0)
-        (far r f config carried inputs rows z (length inputs) (omega arith) b)
-        (far r f' config carried inputs rows (e ∙ z) (length inputs) (omega arith) b'))
+      -- what it returns as carried
+      pub same_carried_until : Until r f config carried inputs rows (length inputs)
+          → Until r f' config carried inputs rows (length inputs)
+          → run_carried f' config carried inputs (length rows) ≡ run_carried f config carried inputs (length rows)
+      same_carried_until b b' =
+          carried_behind f f' config carried inputs rows e (λ z.
+          let h = run_allowed f config (length inputs) (length rows) z in
+          let h' = run_allowed f' config (length inputs) (length rows) (e ∙ z) in
+          carried_until r (file_of f) (file_of f') (file-leads f h.0) agree _ inputs h.1 (file-leads f' h'.0)
+          (far r f config carried inputs rows z (length inputs) (omega arith) b)
+          (far r f' config carried inputs rows (e ∙ z) (length inputs) (omega arith) b'))
 
 -- each step of f that is not refused with r is that of f' too
 module _ (r : ℕ) (f f' : List ℕ) (agree : StepsAgreeWhere r (file_of f) (file_of f')) (config : List ℕ) where
@@ -283,46 +287,48 @@ module _ (r : ℕ) (f f' : List ℕ) (agree : StepsAgreeWhere r (file_of f) (fil
       step-behind f f' config i room e (λ a b. a ≢ refused r → b ≡ a) (λ v. agree config v i) (λ p. refl)
 
   module _ (carried : Set) (inputs : List Set) (rows : List ℕ)
-      (e : run_refusal f' config (length inputs) (length rows) ≡ run_refusal f config (length inputs) (length rows)) where
-    abbrev begin : Stand
-    begin = record { config = config; carried = carried }
+      (e : run_refusal f' config (length inputs) (length rows) ≡ run_refusal f config (length inputs) (length rows))
+    where
+      abbrev begin : Stand
+      begin = record { config = config; carried = carried }
 
-    far_too : (z : run_refusal f config (length inputs) (length rows) ≡ 0) (k : ℕ) → k ≤ length inputs
-        → Until r f config carried inputs rows k → Far r (file_of f') begin inputs k
-    far_too z k l b =
-        let h = run_allowed f config (length inputs) (length rows) z in
-        far_where r (file_of f) (file_of f') (file-leads f h.0) agree begin inputs h.1 k
-        (far r f config carried inputs rows z k l b)
+      far_too : (z : run_refusal f config (length inputs) (length rows) ≡ 0) (k : ℕ) → k ≤ length inputs
+          → Until r f config carried inputs rows k → Far r (file_of f') begin inputs k
+      far_too z k l b =
+          let h = run_allowed f config (length inputs) (length rows) z in
+          far_where r (file_of f) (file_of f') (file-leads f h.0) agree begin inputs h.1 k
+          (far r f config carried inputs rows z k l b)
 
-    -- the first k rows
-    pub same_rows_where : (k : ℕ) → k ≤ length inputs → Until r f config carried inputs rows k
-        → take (k * (10 + (file_of f).charts)) (run_bytes f' config carried inputs rows)
-        ≡ take (k * (10 + (file_of f).charts)) (run_bytes f config carried inputs rows)
-    same_rows_where k l b =
-        rows_behind f f' config carried inputs rows e (take (k * (10 + (file_of f).charts))) (λ z.
-        let h = run_allowed f config (length inputs) (length rows) z in
-        rows_until r (file_of f) (file_of f') (file-leads f h.0) (agree_unless r (file_of f) (file_of f') agree) begin
-        inputs h.1 k l (far r f config carried inputs rows z k l b) (far_too z k l b) _ _)
+      -- the first k rows
+      pub same_rows_where : (k : ℕ) → k ≤ length inputs → Until r f config carried inputs rows k
+          → take (k * (10 + (file_of f).charts)) (run_bytes f' config carried inputs rows)
+          ≡ take (k * (10 + (file_of f).charts)) (run_bytes f config carried inputs rows)
+      same_rows_where k l b =
+          rows_behind f f' config carried inputs rows e (take (k * (10 + (file_of f).charts))) (λ z.
+          let h = run_allowed f config (length inputs) (length rows) z in
+          rows_until r (file_of f) (file_of f') (file-leads f h.0) (agree_unless r (file_of f) (file_of f') agree) begin
+          inputs h.1 k l (far r f config carried inputs rows z k l b) (far_too z k l b) _ _)
 
-    -- the whole buffer
-    pub same_run_where : Until r f config carried inputs rows (length inputs)
-        → run_bytes f' config carried inputs rows ≡ run_bytes f config carried inputs rows
-    same_run_where b =
-        rows_behind f f' config carried inputs rows e (λ xs. xs) (λ z.
-        let h = run_allowed f config (length inputs) (length rows) z in
-        ap (λ xs. laid_over xs rows) (run_until r (file_of f) (file_of f') (file-leads f h.0)
-        (agree_unless r (file_of f) (file_of f') agree) begin inputs h.1
-        (far r f config carried inputs rows z (length inputs) (omega arith) b)
-        (far_too z (length inputs) (omega arith) b)))
+      -- the whole buffer
+      pub same_run_where : Until r f config carried inputs rows (length inputs)
+          → run_bytes f' config carried inputs rows ≡ run_bytes f config carried inputs rows
+      same_run_where b =
+          rows_behind f f' config carried inputs rows e (λ xs. xs) (λ z.
+          let h = run_allowed f config (length inputs) (length rows) z in
+          ap (λ xs. laid_over xs rows) (run_until r (file_of f) (file_of f') (file-leads f h.0)
+          (agree_unless r (file_of f) (file_of f') agree) begin inputs h.1
+          (far r f config carried inputs rows z (length inputs) (omega arith) b)
+          (far_too z (length inputs) (omega arith) b)))
 
-    -- what it returns as carried
-    pub same_carried_where : Until r f config carried inputs rows (length inputs)
-        → run_carried f' config carried inputs (length rows) ≡ run_carried f config carried inputs (length rows)
-    same_carried_where b =
-        carried_behind f f' config carried inputs rows e (λ z.
-        let h = run_allowed f config (length inputs) (length rows) z in
-        let h' = run_allowed f' config (length inputs) (length rows) (e ∙ z) in
-        carried_until r (file_of f) (file_of f') (file-leads f h.0) (agree_unless r (file_of f) (file_of f') agree) begin
-        inputs h.1 (file-leads f' h'.0)
-        (far r f config carried inputs rows z (length inputs) (omega arith) b)
-        (far_too z (length inputs) (omega arith) b))
+      -- what it returns as carried
+      pub same_carried_where : Until r f config carried inputs rows (length inputs)
+          → run_carried f' config carried inputs (length rows) ≡ run_carried f config carried inputs (length rows)
+      same_carried_where b =
+          carried_behind f f' config carried inputs rows e (λ z.
+          let h = run_allowed f config (length inputs) (length rows) z in
+          let h' = run_allowed f' config (length inputs) (length rows) (e ∙ z) in
+          carried_until r (file_of f) (file_of f') (file-leads f h.0)
+          (agree_unless r (file_of f) (file_of f') agree) begin
+          inputs h.1 (file-leads f' h'.0)
+          (far r f config carried inputs rows z (length inputs) (omega arith) b)
+          (far_too z (length inputs) (omega arith) b))

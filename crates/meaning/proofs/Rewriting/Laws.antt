@@ -32,7 +32,8 @@ pub union_more : (k : ℕ) (f : ℕ → Set) → union_up_to k f ∪ f k ≡ uni
 unfolding union_up_to
 union_more k f = rw add-one
 
-pub union_taken : (k : ℕ) (f : ℕ → Set) {all v : Set} → all ≡ union_up_to k f → v ≡ f k → all ∪ v ≡ union_up_to (k + 1) f
+pub union_taken : (k : ℕ) (f : ℕ → Set) {all v : Set} → all ≡ union_up_to k f → v ≡ f k
+    → all ∪ v ≡ union_up_to (k + 1) f
 union_taken k f h e = ap₂ ◌∪◌ h e ∙ union_more k f
 
 pub union_left : (k : ℕ) (f : ℕ → Set) {all : Set} → all ≡ union_up_to k f → f k ≡ ∅ → all ≡ union_up_to (k + 1) f

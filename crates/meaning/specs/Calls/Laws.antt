@@ -1,12 +1,14 @@
 -- Laws of what calls answer. In this order: of `made`, its length, an entry of it, equal entries, and one entry more
 -- stored over a buffer; a place among all (`get_or-all`); that a step is what is found unless too many choices are open
--- (`step_by`, `places_by_lem`, `given_found`); that all places of a refused step are 255 (`in_refused`, `of_refused`); what
+-- (`step_by`, `places_by_lem`, `given_found`); that all places of a refused step are 255 (`in_refused`, `of_refused`);
+-- what
 -- a step and a run that are not refused have (`step_allowed`, `run_allowed`), and that with it they are not
 -- (`step_open`, `run_open`); answers behind tests (`behind_cong`, `behind_is`); what a step that is given has
 -- (`answered`).
 use Rattle.std.proofs.Math.Path.{◌≡◌, refl, ap}
 use Rattle.std.proofs.Common.{sym, ap₂, ◌∙◌, add-one, arith, lt-ltb, le-ltb, ltb-false, lit<, length-append, drop-cons}
-use Rattle.std.specs.Prelude.{Bool, true, ℕ, zero, suc, ◌+◌, ◌-◌, ◌*◌, ◌≤◌, ◌<◌, ltb, length, get_or, drop, replicate, set}
+use Rattle.std.specs.Prelude.{Bool, true, ℕ, zero, suc, ◌+◌, ◌-◌, ◌*◌, ◌≤◌, ◌<◌, ltb, length, get_or, drop, replicate}
+use Rattle.std.specs.Prelude.{set}
 use Rattle.std.proofs.Math.Bool.{false, not, cond}
 use mathlib.Core.List.{List, [], ◌∷◌, ◌++◌, append_assoc}
 use Rattle.std.proofs.Math.Decide.{dec_lt}
@@ -48,8 +50,12 @@ pub made_store : (b : List ℕ) (f : ℕ → ℕ) (i : ℕ) → i < length b
     → set (made i f ++ drop i b) i (f i) ≡ made (i + 1) f ++ drop (i + 1) b
 unfolding made
 made_store b f i h =
-    rw
-    (drop-cons b i 0, set_at (made i f) (get_or b i 0) (drop (suc i) b) (f i) i (length-made i f), add-one, append_assoc)
+    rw (
+      drop-cons b i 0,
+      set_at (made i f) (get_or b i 0) (drop (suc i) b) (f i) i (length-made i f),
+      add-one,
+      append_assoc,
+    )
 
 -- ── places ──
 
@@ -71,7 +77,8 @@ get_or-all ps c = get_or-behind ps (most_charts - length ps) c no_place
 
 module _ (F : File) (config : List ℕ) (i : Set) where
   -- whether too many choices are open decides answer and places
-  pub step_by : (b : Bool) → many_open? F config ≡ b → step_in F config i ≡ cond b (refused many_open) (found_in F config i)
+  pub step_by : (b : Bool) → many_open? F config ≡ b
+      → step_in F config i ≡ cond b (refused many_open) (found_in F config i)
   unfolding step_in
   step_by b e = ap (λ z. cond z (refused many_open) (found_in F config i)) e
 
@@ -144,7 +151,8 @@ module _ (f config : List ℕ) where
 
   -- a call whose tests are 1 to 11, 20, 21 and some more
   module _ (us : List Test) where
-    tests : first_of (file_tests f ++ config_tests f config ++ us) ≡ first_of (file_tests f ++ (config_tests f config ++ us))
+    tests : first_of (file_tests f ++ config_tests f config ++ us)
+        ≡ first_of (file_tests f ++ (config_tests f config ++ us))
     tests = ap first_of (append_assoc (file_tests f) (config_tests f config) us)
 
     pub call_open : refusal_of f ≡ 0 → Valid (file_of f) config
@@ -180,7 +188,8 @@ module _ (f config : List ℕ) where
   unfolding step_refusal
   step_allowed room e = let q = call_allowed _ e in (q.0, q.1, room_left short_buffer (lit< tt) _ room q.2)
 
-  pub run_open : (inputs room : ℕ) → refusal_of f ≡ 0 → Valid (file_of f) config → inputs * (10 + (file_of f).charts) ≤ room
+  pub run_open : (inputs room : ℕ) → refusal_of f ≡ 0 → Valid (file_of f) config
+      → inputs * (10 + (file_of f).charts) ≤ room
       → run_refusal f config inputs room ≡ 0
   unfolding run_refusal
   run_open inputs room h v l = call_open _ h v ∙ room_open short_rows (lit< tt) _ room l

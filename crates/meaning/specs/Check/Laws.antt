@@ -1,5 +1,6 @@
 -- Laws of the file check, grouped under what they speak of: a test that is false; the first refusal that applies
--- (`first_of`); what a file that is not refused meets (`refusal_of`); what 3 gives (`counts?`); what 6 gives (`charts?`);
+-- (`first_of`); what a file that is not refused meets (`refusal_of`); what 3 gives (`counts?`); what 6 gives
+-- (`charts?`);
 -- that more than 8 transitions from a state are found as a walk goes, and that transitions lead to states of their
 -- chart (`transitions?`). Those of 8 to 11 are in Check/Nodes.antt.
 use Rattle.std.specs.Prelude.{◌≡◌, Bool, true, ◌||◌, not, ◌⊎◌, ℕ, zero, suc, ◌+◌, ◌≤◌, ◌<◌, eqb, length}
@@ -180,7 +181,8 @@ call_refused f us h = first_of-before (file_tests f) us h
 pub call-passed : (f : List ℕ) (us : List Test) → refusal_of f ≡ 0 → first_of (file_tests f ++ us) ≡ first_of us
 call-passed f us h = first_of_++ (file_tests f) us (file-passes f h)
 
-pub in_front_lem : (f : List ℕ) (us : List Test) → first_of (file_tests f ++ us) ≡ 0 → (refusal_of f ≡ 0) × (first_of us ≡ 0)
+pub in_front_lem : (f : List ℕ) (us : List Test) → first_of (file_tests f ++ us) ≡ 0
+    → (refusal_of f ≡ 0) × (first_of us ≡ 0)
 unfolding refusal_of
 in_front_lem f us e = let p = front (file_tests f) us (numbered f) e in (all_pass (file_tests f) p.0, p.1)
 

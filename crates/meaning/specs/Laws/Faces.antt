@@ -38,7 +38,8 @@ module _ (f : ℕ → Transition) (s : ℕ) where
   unfolding guards from
   guards_none = refl
 
-  pub guards_more : (k : ℕ) → guards (from f s (k + 1)) ≡ guards (from f s k) ∪ ((f (s + k)).needed ∪ (f (s + k)).barred)
+  pub guards_more : (k : ℕ) → guards (from f s (k + 1))
+      ≡ guards (from f s k) ∪ ((f (s + k)).needed ∪ (f (s + k)).barred)
   guards_more k =
       ap (λ i. guards (from f s i)) (add-one k)
       ∙ guards-joined (from f s (suc k))

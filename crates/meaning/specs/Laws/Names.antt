@@ -119,7 +119,8 @@ module _ (F : File) (w : Ordered F) (r : Rule10 F) where
           let b : one (same (F.node i) j) ≡ 1 = ap one (ap (λ z. same z j) e ∙ same_refl j) in
           let c = at_most j l in absurd (omega arith)
 
-  pub by_node_lem : (k j : ℕ) → j < F.nodes → k < F.nodes → 0 < names F k j → (by_slave F j ≡ none) × (by_node F j ≡ some k)
+  pub by_node_lem : (k j : ℕ) → j < F.nodes → k < F.nodes → 0 < names F k j
+      → (by_slave F j ≡ none) × (by_node F j ≡ some k)
   unfolding named
   by_node_lem k j l m p = (
     find_none F.slaves (λ i. same (F.node i) j) (λ i n. no_slave i n (same (F.node i) j) refl),

@@ -1,9 +1,11 @@
--- Laws of `any_up_to` and `tally`, grouped under each: first the forms that a loop which counts up uses, none passed, one
+-- Laws of `any_up_to` and `tally`, grouped under each: first the forms that a loop which counts up uses, none passed,
+-- one
 -- more passed, one found, all passed; then, of sums, those of the same, of nothing, of ones, of sums, in another order,
 -- from the front, of one place only, of fewer, of no more than so much each, of two places, of multiples, of no more at
 -- each place.
 use Rattle.std.specs.Prelude.{◌≡◌, refl, Bool, true, false, ◌||◌, ◌≢◌, ◌⊎◌, ℕ, zero, suc, ◌+◌, ◌*◌, ◌≤◌, ◌<◌}
-use Rattle.std.proofs.Common.{sym, ◌∙◌, ap, ap₂, inl, inr, ⊎_elim, le_refl, eq-or-lt_of_le, mul-suc, mul-add, add-one, arith}
+use Rattle.std.proofs.Common.{sym, ◌∙◌, ap, ap₂, inl, inr, ⊎_elim, le_refl, eq-or-lt_of_le, mul-suc, mul-add, add-one}
+use Rattle.std.proofs.Common.{arith}
 use Rattle.std.proofs.lemmas.Bool.{false≢true}
 use Rattle.meaning.specs.Sums.{any_up_to, tally}
 use Rattle.meaning.specs.Laws.Bools.{or_r}

@@ -1,4 +1,5 @@
--- Laws of the walk of 10: what one more slave or node adds to a count, and how large it can grow (`named_by`, `held_by`);
+-- Laws of the walk of 10: what one more slave or node adds to a count, and how large it can grow (`named_by`,
+-- `held_by`);
 -- the node that holds a chart which is held once (`holder_in`); that a byte holds each count, and one more node in the
 -- tables (`Walked`); that 10 may be asked of the tables (`naming?`).
 use Rattle.std.specs.Prelude.{◌≡◌, Bool, ◌&&◌, ◌||◌, cond, List, get_or, set, replicate}
@@ -97,7 +98,8 @@ module _ (F : File) where
     holder_no zero h = refl
     holder_no (suc k) h = go (holds F k c) h (holder_no k)
       where
-        go : (b : Bool) → one b + held_by F k c ≡ 0 → (held_by F k c ≡ 0 → any_up_to k (λ j. holds F j c && q j) ≡ false)
+        go : (b : Bool) → one b + held_by F k c ≡ 0
+            → (held_by F k c ≡ 0 → any_up_to k (λ j. holds F j c && q j) ≡ false)
             → (any_up_to k (λ j. holds F j c && q j) || (b && q k)) ≡ false
         go true h r = absurd (omega arith)
         go false h r = rw (r (omega arith))

@@ -85,7 +85,8 @@ before (dec_brace g s) = sign wordBy ∷ put_sequential s (sign wordDec ∷ befo
 before (pair_open g s ps) = before_pair s ps (before_context g)
 before (pair_state g s ps) = sign lpar ∷ before_pair s ps (before_context g)
 before (pair_comma g s ps q) = name letQ q ∷ sign lpar ∷ before_pair s ps (before_context g)
-before (pair_done g s ps) = put_slaves ps (sign lbrace ∷ sign wordBy ∷ put_sequential s (sign wordDec ∷ before_context g))
+before (pair_done g s ps) = put_slaves ps
+    (sign lbrace ∷ sign wordBy ∷ put_sequential s (sign wordDec ∷ before_context g))
 before (named m c) = name letC c ∷ sign lpar ∷ before_role m
 before (states_open m c) = sign comma ∷ name letC c ∷ sign lpar ∷ before_role m
 before (states_next m c qs) = before_state m c qs
@@ -216,7 +217,10 @@ ways-right (lines_next m h ts) = (refl, tt)
 ways-right (line_done m h ts) = (refl, (refl, tt))
 ways-right (lines_done m h ts) =
     (refl, (sequential_end-right m (record { heading = h; transitions = ts; extra = none }), tt))
-ways-right (extra_done m h ts x) = (sequential_end-right m (record { heading = h; transitions = ts; extra = some x }), tt)
+ways-right (extra_done m h ts x) = (
+  sequential_end-right m (record { heading = h; transitions = ts; extra = some x }),
+  tt,
+)
 ways-right (from_next m h ts) = ((λ n. refl), tt)
 ways-right (from_done m h ts p) = (refl, tt)
 ways-right (to_next m h ts p) = ((λ n. refl), tt)

@@ -85,7 +85,8 @@ mutual
   context_begins (first_in h) s = enclosure_begins h (single s)
   context_begins (second_in a x h) s = enclosure_begins h (composed a x (single s))
 
-  box_viable : (g : Context) (a : Chart) (x : Signals) (b : Chart) → Viable (put_part (composed a x b) (before_context g))
+  box_viable : (g : Context) (a : Chart) (x : Signals) (b : Chart)
+      → Viable (put_part (composed a x b) (before_context g))
   box_viable (first_in h) a x b =
       via (via (via (via (least_via (enclosure_begins h (composed (composed a x b) none least))))))
   box_viable (second_in c y h) a x b = enclosure_begins h (composed c y (composed a x b))
@@ -175,7 +176,8 @@ from_viable m h ts p = via (via (via (next_viable m h ts p 0)))
 
 state_is_viable : (p : State) → Viable (before p)
 unfolding before put_single before_pair before_enclosure before_role before_slot before_state before_states before_lines
-    before_line before_guard before_literal put_names put_set put_optional put_literal put_literals put_guard put_transitions
+    before_line before_guard before_literal put_names put_set put_optional put_literal put_literals put_guard
+    put_transitions
 state_is_viable (part g) = part_viable g
 state_is_viable (opened g) = part_viable (first_in (in_brackets g))
 state_is_viable (ended g s) = context_begins g s

@@ -53,6 +53,6 @@ places =
     ∷ some 42 ∷ some 40 ∷ some 43 ∷ some 3 ∷ some 5 ∷ some 24 ∷ some 3 ∷ some 1 ∷ some 0 ∷ []
 
 pub examples : map (λ w. place_in (reader w)) texts ≡ places
-unfolding texts places letter blank reader read_from at_end on_to step step_gap begin onward behind first_byte is_digit ending
-    final ways last_set follow close set_end sequential_end add_slave ◌▸?◌
+unfolding texts places letter blank reader read_from at_end on_to step step_gap begin onward behind first_byte is_digit
+    ending final ways last_set follow close set_end sequential_end add_slave ◌▸?◌
 examples = refl

@@ -158,7 +158,8 @@ transition-onto t r =
     onto-append (of_guard t.guard) _ _
     ∙ rw (guard-onto t.guard, onto-append (of_set t.action), set-onto t.action)
 
-transition_list_onto : (ts : OneOrMore Transition) (r : Tokens) → onto (of_transition_list ts) r ≡ put_transition_list ts r
+transition_list_onto : (ts : OneOrMore Transition) (r : Tokens)
+    → onto (of_transition_list ts) r ≡ put_transition_list ts r
 unfolding of_transition_list put_transition_list onto
 transition_list_onto (one t) r = transition-onto t r
 transition_list_onto (ts ▸ t) r = onto-append (of_transition_list ts) (sign₁ comma ++ of_transition t) r

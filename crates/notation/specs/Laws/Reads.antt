@@ -33,7 +33,8 @@ pub data Reads : Tokens → State → Type 0 where
 
 -- ── sets ──
 
-set_more_lem : (w : Slot) (ns : OneOrMore ℕ) {r : Tokens} → Reads r (set_first w) → Reads (put_names letS ns r) (set_more w ns)
+set_more_lem : (w : Slot) (ns : OneOrMore ℕ) {r : Tokens} → Reads r (set_first w)
+    → Reads (put_names letS ns r) (set_more w ns)
 unfolding put_names take ways first_byte letter
 set_more_lem w (one n) h = next h refl
 set_more_lem w (ns ▸ n) h = next (next (set_more_lem w ns h) refl) refl
@@ -149,7 +150,8 @@ skip g (decomposed s ps) ws k e = refl
 skip g (hidden x t none) ws k e = rw e
 skip g (hidden x t (some y)) ws k e = refl
 
-bar_taken : (h : Enclosure) (a : Chart) → take (ways (part_end (first_in h) a)) (sign bar) ≡ some (set_next (between h a))
+bar_taken : (h : Enclosure) (a : Chart) → take (ways (part_end (first_in h) a)) (sign bar)
+    ≡ some (set_next (between h a))
 unfolding part_end ways take first_byte follow
 bar_taken h (single s) = skip (first_in h) s _ bar refl
 bar_taken h (composed a x b) = refl

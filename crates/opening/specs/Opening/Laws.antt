@@ -29,7 +29,8 @@ module _ (f : List ℕ) (t : Trailer) (is : t ≡ trailer f) (long : 12 ≤ leng
   unfolding refusal_of file_tests distance?
   tests = first_of-next _ _ (le-ltb (length f) 12 long) ∙ rw is
 
-  pub refused_trailer : (first_of (trailer_tests t (end_of f)) ≡ 0 → ⊥) → refusal_of f ≡ first_of (trailer_tests t (end_of f))
+  pub refused_trailer : (first_of (trailer_tests t (end_of f)) ≡ 0 → ⊥)
+      → refusal_of f ≡ first_of (trailer_tests t (end_of f))
   refused_trailer h = tests ∙ first_of-before (trailer_tests t (end_of f)) _ h
 
   module _ (h : first_of (trailer_tests t (end_of f)) ≡ 0) where

@@ -1,6 +1,6 @@
 -- A chart has parts, which may be compositions in brackets, hidden charts and masters with slaves, each of which has
 -- charts one level further in. What is left of the levels falls; where it stays, the functions stand in an order.
-use Rattle.std.proofs.Common.{◌≤◌, ◌+◌, ◌-◌, ◌*◌, List, ◌∷◌, ◌++◌, length, drop}
+use Rattle.std.proofs.Common.{◌≤◌, ◌+◌, ◌-◌, ◌*◌, ◌∷◌, ◌++◌, length, drop}
 use Rattle.notation.specs.Syntax.{Slaves}
 use Rattle.notation.specs.Grammar.{rbrace, sign, Tokens, of_slaves, Text}
 use Rattle.outline.specs.Laws.Slaves.{Along}

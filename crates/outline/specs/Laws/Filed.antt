@@ -14,7 +14,8 @@ use Rattle.notation.specs.Syntax.{first_slave, more_slaves}
 use Rattle.reading.specs.Numbers.{named_charts, named_states}
 use Rattle.reading.specs.Names.{any, set?, optional?, not_all?, twice?, left_out?, sequential?, sequentials_in}
 use Rattle.reading.specs.Names.{sequentials_of, sequentials_of_slaves, parts?, name_of, names?}
-use Rattle.reading.specs.Meant.{sorted_by, Placed, lay_slaves, with_node, beside, lay_hidden, lay_both, lay_single, lay_chart}
+use Rattle.reading.specs.Meant.{sorted_by, Placed, lay_slaves, with_node, beside, lay_hidden, lay_both, lay_single}
+use Rattle.reading.specs.Meant.{lay_chart}
 use Rattle.reading.specs.Meant.{placed, nodes_of, slaves_of}
 use Rattle.outline.specs.Tree.{lacking, refused_single?, refused?, refused_slaves?, nodes_in, slaves_in}
 use Rattle.outline.specs.Laws.Trees.{refused_is}
@@ -69,7 +70,8 @@ mutual
       let g = or_right (sequential? s) (refused_slaves? (lacking s) ps) e in
       let c = ltb-true (name_of s) named_charts
       (not-false (ltb (name_of s) named_charts) (or_left (unnamed s) (any unnamed (sequentials_of_slaves ps)) n)) in
-      let l = owned (lacking s) (has-below s f) ps g (or_right (unnamed s) (any unnamed (sequentials_of_slaves ps)) n) in
+      let l = owned (lacking s) (has-below s f) ps g
+      (or_right (unnamed s) (any unnamed (sequentials_of_slaves ps)) n) in
       slaves_fit (name_of s) c (sorted_by (λ p. p.at) named_states (placed ps))
       (each_sorted (λ p. p.at) named_states (placed ps) l) k
   single-fits (hidden x t y) e n k =
@@ -80,7 +82,8 @@ mutual
   chart-fits (single s) e n k = single-fits s e n k
   chart-fits (composed a x b) e n k =
       each_append
-      (chart-fits a (or_left (refused? a) (set? x || refused? b) e) (any_left (sequentials_of a) (sequentials_of b) n) k)
+      (chart-fits a (or_left (refused? a) (set? x || refused? b) e)
+      (any_left (sequentials_of a) (sequentials_of b) n) k)
       (chart-fits b (or_right (set? x) (refused? b) (or_right (refused? a) (set? x || refused? b) e))
       (any-right (sequentials_of a) (sequentials_of b) n) (k + length (lay_chart a k).nodes))
 
@@ -113,7 +116,8 @@ module _ (t : Chart) (e : names? t ≡ false) where
   unfolding names?
   not_refused =
       refused_is t
-      ∙ or_right (not_all? named_charts (map name_of (sequentials_of t))) (any sequential? (sequentials_of t) || parts? t) e
+      ∙ or_right (not_all? named_charts (map name_of (sequentials_of t)))
+      (any sequential? (sequentials_of t) || parts? t) e
 
   all_named : any unnamed (sequentials_of t) ≡ false
   unfolding names? not_all?

@@ -2,7 +2,8 @@
 -- (`composes-..`), a part of one (`part-..`), each form of a part (`sequential_right`, `bracketed_right`,
 -- `hidden_right`, `decomposed_right`), a slave with its state (`pair_right`), and a text (`text_right`).
 use Rattle.std.proofs.Math.Path.{◌≡◌, sym, ap, ap₂, subst}
-use Rattle.std.specs.Prelude.{refl, Bool, true, false, ◌||◌, not, cond, List, [], ◌∷◌, ◌++◌, ℕ, suc, ◌+◌, ◌-◌, ◌≤◌, ◌<◌, ltb, drop, get_or}
+use Rattle.std.specs.Prelude.{refl, Bool, true, false, ◌||◌, not, cond, List, [], ◌∷◌, ◌++◌, ℕ, suc, ◌+◌, ◌-◌, ◌≤◌, ◌<◌}
+use Rattle.std.specs.Prelude.{ltb, drop, get_or}
 use Rattle.std.proofs.Common.{◌∙◌, true≢false, append-nil, arith}
 use Rattle.std.proofs.Math.Decide.{dec_lt}
 use borrow.Author.Tests.{lt-ltb, le-ltb, ltb-true}

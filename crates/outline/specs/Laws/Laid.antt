@@ -9,7 +9,8 @@ use Rattle.meaning.specs.Sums.Laws.{or_left, or_right}
 use Rattle.notation.specs.Syntax.{Sequential, Single, sequential, decomposed, hidden, Chart, single, composed, Slaves}
 use Rattle.notation.specs.Syntax.{first_slave, more_slaves}
 use Rattle.reading.specs.Numbers.{named_states}
-use Rattle.reading.specs.Names.{members_of, any, has, set?, optional?, not_all?, twice?, left_out?, sequential?, name_of}
+use Rattle.reading.specs.Names.{members_of, any, has, set?, optional?, not_all?, twice?, left_out?, sequential?}
+use Rattle.reading.specs.Names.{name_of}
 use Rattle.reading.specs.Meant.{sorted_by, Laid, Placed, lay_slaves, with_node, beside, lay_hidden, lay_both}
 use Rattle.reading.specs.Meant.{lay_single, lay_chart, placed}
 use Rattle.lists.specs.Laws.States.{any_at}

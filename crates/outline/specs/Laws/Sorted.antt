@@ -81,7 +81,8 @@ module _ {A : Type 0} (key : A → ℕ) where
       ∙ total_plus (λ a. cond (ltb (key a) n) (f a) 0) (λ a. cond (eqb (key a) n) (f a) 0)
       (λ a. cond (ltb (key a) (suc n)) (f a) 0) (λ a. next_limit (key a) n (f a)) l
 
-  pub total_sorted : (f : A → ℕ) (n : ℕ) (l : List A) → Each (λ a. key a < n) l → total f (sorted_by key n l) ≡ total f l
+  pub total_sorted : (f : A → ℕ) (n : ℕ) (l : List A) → Each (λ a. key a < n) l
+      → total f (sorted_by key n l) ≡ total f l
   unfolding total
   total_sorted f n l e = total-below f n l ∙ go l e
     where

@@ -15,7 +15,8 @@ use Rattle.notation.specs.Syntax.{OneOrMore, one, ◌▸◌, Literal, needed, ba
 use Rattle.notation.specs.Grammar.{Tokens, Sign, Letter, letS, comma, amp, lbrace, rbrace, sign₁, name₁, of_names}
 use Rattle.notation.specs.Grammar.{of_set, of_literal, of_literals, of_guard, of_transition, of_transition_list}
 use Rattle.notation.specs.Grammar.{rpar, of_transitions, of_heading, of_extra, of_sequential}
-use Rattle.spelling.specs.Typed.{followed, listed, from_all, signals_of, or_left_out, transition_of, others, sequential_of}
+use Rattle.spelling.specs.Typed.{followed, listed, from_all, signals_of, or_left_out, transition_of, others}
+use Rattle.spelling.specs.Typed.{sequential_of}
 use Rattle.printing.specs.Separated.{behind_each, in_turn}
 use Rattle.printing.specs.Forms.{heading_of}
 use Rattle.printing.specs.Laws.Separated.{Solid}

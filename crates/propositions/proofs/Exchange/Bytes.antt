@@ -13,7 +13,8 @@ use Rattle.std.proofs.Math.Dec.{ltb}
 use Rattle.std.proofs.Math.ListN.{get_or, take, length-drop}
 use Rattle.std.proofs.Math.Seq.{get_or-drop, length-take-le}
 use Rattle.layout.specs.Record.{trailer_of, node_of}
-use Rattle.layout.specs.Body.{transitions_from, slaves_from, nodes_from, size_of, head_at, transition_at, slave_at, node_at}
+use Rattle.layout.specs.Body.{transitions_from, slaves_from, nodes_from, size_of, head_at, transition_at, slave_at}
+use Rattle.layout.specs.Body.{node_at}
 use Rattle.layout.specs.Body.{start_of, from, transitions_of}
 use Rattle.layout.specs.Body.Laws.{start_of_mono}
 use Rattle.layout.specs.declared.body.Shape.{Shape}
@@ -22,7 +23,8 @@ use Rattle.meaning.specs.Sums.{any_up_to, one}
 use Rattle.meaning.specs.Sums.Laws.{or_left, or_right, any_cong, tally_cong}
 use Rattle.meaning.specs.Meaning.{same}
 use Rattle.meaning.specs.File.{File, end_of, trailer, body_of, shape_of, chart_of, file_at, file_of}
-use Rattle.meaning.specs.Check.{Test, first_of, not_below, differ, edition?, counts?, distance?, nonzero, zeros?, chart?}
+use Rattle.meaning.specs.Check.{Test, first_of, not_below, differ, edition?, counts?, distance?, nonzero, zeros?}
+use Rattle.meaning.specs.Check.{chart?}
 use Rattle.meaning.specs.Check.{charts?, in_chart, ends?, leaving, transitions?, file_tests, refusal_of}
 use Rattle.meaning.specs.Check.Laws.{alike, summed, eq_or-not}
 use Rattle.meaning.specs.Check.Nodes.{treed}
@@ -252,7 +254,8 @@ module _ (j : ℕ) (f : List ℕ) (h : HasComposed j f) where
   file-same : file_at (shape_of (trailer f')) (body_of f') ≡ file_at n (swap_at (parts_in n j) (body_of f))
   file-same = ap₂ (λ t b. file_at (shape_of t) b) trailer-same body_same
 
-  turns_at : charts? n (body_of f) ≡ false → Turned (file_at n (body_of f)) (file_at (shape_of (trailer f')) (body_of f'))
+  turns_at : charts? n (body_of f) ≡ false
+      → Turned (file_at n (body_of f)) (file_at (shape_of (trailer f')) (body_of f'))
   turns_at six = subst (λ G. Turned (file_at n (body_of f)) G) (sym file-same)
       (file-turns n (body_of f) j body-size node-there six kind_one)
 
@@ -260,7 +263,8 @@ module _ (j : ℕ) (f : List ℕ) (h : HasComposed j f) where
   unfolding file_of file_at
   kind_same k = ap (λ G. G.kind k) file-same
       ∙ ⊎_elim
-      (λ e. subst (λ z. (node_at n (swap_at (parts_in n j) (body_of f)) z).kind ≡ (node_at n (body_of f) z).kind) (sym e)
+      (λ e. subst (λ z. (node_at n (swap_at (parts_in n j) (body_of f)) z).kind ≡ (node_at n (body_of f) z).kind)
+      (sym e)
       (ap (λ d. d.kind) (node_turns n (body_of f) j body-size node-there)))
       (λ e. ap (λ d. d.kind) (node_same n (body_of f) j body-size node-there k e))
       (eq_or-not k j)

@@ -11,7 +11,8 @@ use Rattle.meaning.specs.File.{file_of}
 use Rattle.meaning.specs.Check.{refusal_of}
 use Rattle.meaning.specs.Check.Laws.{passed}
 use Rattle.meaning.specs.Open.{open_in}
-use Rattle.meaning.specs.Calls.{first_refusal, first_bytes, input_of, output_of, step_of, open_of, places_of, run_refusal}
+use Rattle.meaning.specs.Calls.{first_refusal, first_bytes, input_of, output_of, step_of, open_of, places_of}
+use Rattle.meaning.specs.Calls.{run_refusal}
 use Rattle.meaning.specs.Calls.{run_bytes, run_carried}
 use Rattle.meaning.specs.Plain.{plain_of}
 use Rattle.meaning.specs.Laws.Alike.{accepted_treed, accepted_node}

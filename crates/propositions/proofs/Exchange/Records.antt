@@ -11,7 +11,8 @@ use Rattle.meaning.specs.Sums.{any_up_to, tally, one}
 use Rattle.meaning.specs.Sums.Laws.{any_cong, tally_cong}
 use Rattle.meaning.specs.Meaning.{∅, same, Tree, Slaves, comp, hide, snoc}
 use Rattle.meaning.specs.File.{File, by_kind, whole, gather, build, tree_of, whole_of, Has, HasS}
-use Rattle.meaning.specs.Check.{not_below, differ, rising, in_order_at, slave?, slaves?, node_of_kind?, nodes?, holds, held}
+use Rattle.meaning.specs.Check.{not_below, differ, rising, in_order_at, slave?, slaves?, node_of_kind?, nodes?, holds}
+use Rattle.meaning.specs.Check.{held}
 use Rattle.meaning.specs.Check.{names, named, naming?, inside?}
 use Rattle.meaning.specs.Check.Laws.{below}
 use Rattle.meaning.specs.Check.Nodes.{Treed}

@@ -9,8 +9,10 @@ use Prim.Native.Nat.{ℕ, zero, suc, ◌+◌, ◌<◌}
 use Rattle.signals.specs.Mask.{◌∪◌, ◌∩◌, ◌∖◌}
 use Rattle.signals.specs.Decide.{sets, A, B, ◌∪ₑ◌, ◌≐◌}
 use Rattle.meaning.specs.Meaning.{Set, Chart, Tree, Slaves, leaf, comp, hide, dec, nil, snoc, Move, pick, last_place}
-use Rattle.meaning.specs.Meaning.{action_of, after, in_face_chart, in_face, in_faces, actions, out_face, out_faces, out, outs}
-use Rattle.meaning.specs.Meaning.{ok_chart, meets, ok, oks, permitted, upd, moves, nexts, place_of, places_from, outcome_of}
+use Rattle.meaning.specs.Meaning.{action_of, after, in_face_chart, in_face, in_faces, actions, out_face, out_faces, out}
+use Rattle.meaning.specs.Meaning.{outs}
+use Rattle.meaning.specs.Meaning.{ok_chart, meets, ok, oks, permitted, upd, moves, nexts, place_of, places_from}
+use Rattle.meaning.specs.Meaning.{outcome_of}
 use Rattle.meaning.specs.Meaning.{upto, outcome, search, outcomes}
 use Rattle.meaning.specs.Open.{open_chart, open_tree, open_slaves, is_open, choices, how_many, open_choices}
 use Rattle.propositions.specs.Exchange.Trees.{Exchanged, Slaved, chart, parts, turned, inside, master, none, more}
@@ -92,7 +94,8 @@ module _ (E E' : ℕ → Chart) (s s' : ℕ → ℕ) where
             (ok E s cfg M p a ((o ∪ ((out M p ∪ out M q) ∩ x)) ∩ in_face E p))
         ok-exchanged (inside {x = x} r) a o = ok-exchanged r a (o ∖ x)
         ok-exchanged (master {c} {ss} {ss'} e r) a o =
-            ap (λ z. ok_chart (E' c) a ((o ∪ ((action_of (M' c) ∪ outs M' ss') ∩ (E' c).feedback)) ∩ in_face_chart (E' c))
+            ap (λ z. ok_chart (E' c) a ((o ∪ ((action_of (M' c) ∪ outs M' ss') ∩ (E' c).feedback))
+            ∩ in_face_chart (E' c))
             (cfg c) (M' c) && z)
             (oks_exchanged r (λ q. a && meets (cfg c) (M' c) q)
             (o ∪ ((action_of (M' c) ∪ outs M' ss') ∩ (E' c).feedback)))
@@ -187,7 +190,8 @@ module _ (E E' : ℕ → Chart) (s s' : ℕ → ℕ) where
         ap₂ (λ C g. upto (last_place C) g) (cs c (omega arith))
         (fun_ext (λ v. choices-exchanged n (suc c) (upd ch c v) (omega arith)))
 
-    pub open_exchanged : {t t' : Tree} → Exchanged E E' s s' t t' → open_choices E' s' cfg t' N ≡ open_choices E s cfg t N
+    pub open_exchanged : {t t' : Tree} → Exchanged E E' s s' t t'
+        → open_choices E' s' cfg t' N ≡ open_choices E s cfg t N
     unfolding open_choices is_open
     open_exchanged r =
         ap₂ how_many (fun_ext (λ ch. opens-exchanged (moves E ch) (moves E' ch) (moved ch) cfg r true))

@@ -5,7 +5,8 @@ use Rattle.std.proofs.Math.Path.{ap}
 use Rattle.std.proofs.Math.Bool.{true}
 use Rattle.signals.specs.Mask.{◌∪◌, ◌∩◌, ◌∖◌}
 use Rattle.signals.specs.Decide.{sets, A, B, C, ∅ₑ, ◌∪ₑ◌, ◌∩ₑ◌, ◌≐◌}
-use Rattle.meaning.specs.Meaning.{Set, ∅, Chart, Tree, leaf, comp, hide, dec, Move, no_move, takes, stay, same, action_of}
+use Rattle.meaning.specs.Meaning.{Set, ∅, Chart, Tree, leaf, comp, hide, dec, Move, no_move, takes, stay, same}
+use Rattle.meaning.specs.Meaning.{action_of}
 use Rattle.meaning.specs.Meaning.{meets, untriggered, met?, in_face_chart, in_face, out, ok_chart, ok, oks, permitted}
 use Rattle.propositions.specs.FedBack.{feedback_of, joined_in}
 

@@ -71,7 +71,8 @@ unfolding le
 le-agrees zero s t h = refl
 le-agrees (suc n) s t h = le_cons n s
     ∙ ap₂ (λ x y. x + y * 256) (h 0 (omega arith))
-    (le-agrees n (drop 1 s) (drop 1 t) (λ i l. get_or-drop 1 s i 0 ∙ h (1 + i) (omega arith) ∙ sym (get_or-drop 1 t i 0)))
+    (le-agrees n (drop 1 s) (drop 1 t) (λ i l. get_or-drop 1 s i 0 ∙ h (1 + i) (omega arith)
+    ∙ sym (get_or-drop 1 t i 0)))
     ∙ sym (le_cons n t)
 
 module _ (s t : List ℕ) where

@@ -8,8 +8,10 @@ use Prim.Native.Nat.{ℕ, zero, suc, ◌+◌, ◌<◌}
 use Rattle.signals.specs.Mask.{◌∪◌, ◌∩◌, ◌∖◌}
 use Rattle.signals.specs.Decide.{sets, A, B, ◌∪ₑ◌, ◌≐◌}
 use Rattle.meaning.specs.Meaning.{Set, Chart, Tree, Slaves, leaf, comp, hide, dec, nil, snoc, Move, pick, last_place}
-use Rattle.meaning.specs.Meaning.{action_of, after, in_face_chart, in_face, in_faces, actions, out_face, out_faces, out, outs}
-use Rattle.meaning.specs.Meaning.{ok_chart, meets, ok, oks, permitted, upd, moves, nexts, place_of, places_from, outcome_of}
+use Rattle.meaning.specs.Meaning.{action_of, after, in_face_chart, in_face, in_faces, actions, out_face, out_faces, out}
+use Rattle.meaning.specs.Meaning.{outs}
+use Rattle.meaning.specs.Meaning.{ok_chart, meets, ok, oks, permitted, upd, moves, nexts, place_of, places_from}
+use Rattle.meaning.specs.Meaning.{outcome_of}
 use Rattle.meaning.specs.Meaning.{upto, outcome, search, outcomes}
 use Rattle.meaning.specs.Open.{open_chart, open_tree, open_slaves, is_open, choices, how_many, open_choices}
 

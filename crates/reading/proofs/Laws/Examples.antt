@@ -12,9 +12,12 @@ use Rattle.layout.specs.declared.record.Slave.{Slave}
 use Rattle.layout.specs.declared.record.Node.{Node}
 use Rattle.meaning.specs.Sums.{any_up_to, tally}
 use Rattle.meaning.specs.Meaning.{same}
-use Rattle.meaning.specs.File.{gather, build, tree_of, Has, HasS, trailer, body_of, shape_of, chart_of, file_at, file_of}
-use Rattle.meaning.specs.Check.{first_of, edition?, counts?, distance?, nonzero, zeros?, chart?, charts?, ends?, leaving}
-use Rattle.meaning.specs.Check.{transitions?, rising, slave?, slaves?, node_of_kind?, nodes?, names, named, held, naming?}
+use Rattle.meaning.specs.File.{gather, build, tree_of, Has, HasS, trailer, body_of, shape_of, chart_of, file_at}
+use Rattle.meaning.specs.File.{file_of}
+use Rattle.meaning.specs.Check.{first_of, edition?, counts?, distance?, nonzero, zeros?, chart?, charts?, ends?}
+use Rattle.meaning.specs.Check.{leaving}
+use Rattle.meaning.specs.Check.{transitions?, rising, slave?, slaves?, node_of_kind?, nodes?, names, named, held}
+use Rattle.meaning.specs.Check.{naming?}
 use Rattle.meaning.specs.Check.{inside?, file_tests}
 use Rattle.line.specs.Ascii.{ascii}
 use Rattle.notation.specs.Syntax.{depth}
@@ -83,7 +86,8 @@ concat f [] = []
 concat f (a ∷ as') = f a ++ concat f as'
 
 abbrev body : List Head → List Transition → List Slave → List Node → List ℕ
-body hs ts ss ns = concat head_bytes hs ++ (concat transition_bytes ts ++ (concat slave_bytes ss ++ concat node_bytes ns))
+body hs ts ss ns = concat head_bytes hs ++ (concat transition_bytes ts
+    ++ (concat slave_bytes ss ++ concat node_bytes ns))
 
 abbrev file : List Head → List Transition → List Slave → List Node → List ℕ
 file hs ts ss ns =
@@ -129,12 +133,11 @@ files =
 
 -- each text means the file of its chart
 pub meant : map read_file texts ≡ files
-unfolding texts files letter blank reader read_from at_end on_to step step_gap begin onward behind first_byte is_digit ending
-    final ways last_set follow close set_end sequential_end add_slave ◌▸?◌ members_of members_or sequentials_in with_key
-    sorted_by all gathered mask_of optional_of needed_in barred_in transition_for head_for lay_slaves with_node beside
-    lay_hidden lay_both
-    lay_single body_for trailer_for file_for file_in read_file single trailer_bytes head_bytes transition_bytes slave_bytes
-    node_bytes bytes
+unfolding texts files letter blank reader read_from at_end on_to step step_gap begin onward behind first_byte is_digit
+    ending final ways last_set follow close set_end sequential_end add_slave ◌▸?◌ members_of members_or sequentials_in
+    with_key sorted_by all gathered mask_of optional_of needed_in barred_in transition_for head_for lay_slaves with_node
+    beside lay_hidden lay_both lay_single body_for trailer_for file_for file_in read_file single trailer_bytes
+    head_bytes transition_bytes slave_bytes node_bytes bytes
 meant = refl
 
 -- ── refusals ──
@@ -191,24 +194,26 @@ refused_texts =
 pub accepted : map (λ w. read_refusal w 1000) texts ≡ 0 ∷ 0 ∷ 0 ∷ 0 ∷ 0 ∷ 0 ∷ 0 ∷ 0 ∷ 0 ∷ 0 ∷ 0 ∷ 0 ∷ []
 unfolding texts letter blank reader read_from at_end on_to step step_gap begin onward behind first_byte is_digit ending
     final ways last_set follow close set_end sequential_end add_slave ◌▸?◌ members_of members_or first any has twice?
-    lacks_before left_out? not_all? signals? set? optional? signal_of transition? sequential? sequentials_in parts? badNames?
-    depth with_key sorted_by all gathered mask_of optional_of needed_in barred_in transition_for head_for lay_slaves with_node
-    beside lay_hidden lay_both lay_single body_for trailer_for file_for chart_tests refusal_in read_refusal single trailer_bytes
-    head_bytes transition_bytes slave_bytes node_bytes bytes le trailer_of head_of transition_of slave_of node_of head_at
-    transition_at slave_at node_at start_of from transitions_of any_up_to tally same gather build tree_of Has trailer body_of
-    shape_of chart_of file_at file_of first_of edition? counts? distance? nonzero zeros? chart? charts? ends? leaving
-    transitions? rising slave? slaves? node_of_kind? nodes? names named held naming? inside? file_tests
+    lacks_before left_out? not_all? signals? set? optional? signal_of transition? sequential? sequentials_in parts?
+    badNames? depth with_key sorted_by all gathered mask_of optional_of needed_in barred_in transition_for head_for
+    lay_slaves with_node beside lay_hidden lay_both lay_single body_for trailer_for file_for chart_tests refusal_in
+    read_refusal single trailer_bytes head_bytes transition_bytes slave_bytes node_bytes bytes le trailer_of head_of
+    transition_of slave_of node_of head_at transition_at slave_at node_at start_of from transitions_of any_up_to tally
+    same gather build tree_of Has trailer body_of shape_of chart_of file_at file_of first_of edition? counts? distance?
+    nonzero zeros? chart? charts? ends? leaving transitions? rising slave? slaves? node_of_kind? nodes? names named held
+    naming? inside? file_tests
 accepted = refl
 
 pub refusals : map (λ w. read_refusal w 55) refused_texts
     ≡ 50 ∷ 50 ∷ 51 ∷ 45 ∷ 52 ∷ 52 ∷ 52 ∷ 52 ∷ 52 ∷ 52 ∷ 52 ∷ 52 ∷ 52 ∷ 52 ∷ 52 ∷ 6 ∷ 7 ∷ 8 ∷ 11 ∷ 45 ∷ []
-unfolding refused_texts letter blank reader read_from at_end on_to step step_gap begin onward behind first_byte is_digit ending
-    final ways last_set follow close set_end sequential_end add_slave ◌▸?◌ members_of members_or first any has twice?
-    lacks_before left_out? not_all? signals? set? optional? signal_of transition? sequential? sequentials_in parts? badNames?
-    depth with_key sorted_by all gathered mask_of optional_of needed_in barred_in transition_for head_for lay_slaves with_node
-    beside lay_hidden lay_both lay_single body_for trailer_for file_for chart_tests refusal_in read_refusal single trailer_bytes
-    head_bytes transition_bytes slave_bytes node_bytes bytes le trailer_of head_of transition_of slave_of node_of head_at
-    transition_at slave_at node_at start_of from transitions_of any_up_to tally same gather build tree_of Has trailer body_of
-    shape_of chart_of file_at file_of first_of edition? counts? distance? nonzero zeros? chart? charts? ends? leaving
-    transitions? rising slave? slaves? node_of_kind? nodes? names named held naming? inside? file_tests
+unfolding refused_texts letter blank reader read_from at_end on_to step step_gap begin onward behind first_byte is_digit
+    ending final ways last_set follow close set_end sequential_end add_slave ◌▸?◌ members_of members_or first any has
+    twice? lacks_before left_out? not_all? signals? set? optional? signal_of transition? sequential? sequentials_in
+    parts? badNames? depth with_key sorted_by all gathered mask_of optional_of needed_in barred_in transition_for
+    head_for lay_slaves with_node beside lay_hidden lay_both lay_single body_for trailer_for file_for chart_tests
+    refusal_in read_refusal single trailer_bytes head_bytes transition_bytes slave_bytes node_bytes bytes le trailer_of
+    head_of transition_of slave_of node_of head_at transition_at slave_at node_at start_of from transitions_of any_up_to
+    tally same gather build tree_of Has trailer body_of shape_of chart_of file_at file_of first_of edition? counts?
+    distance? nonzero zeros? chart? charts? ends? leaving transitions? rising slave? slaves? node_of_kind? nodes? names
+    named held naming? inside? file_tests
 refusals = refl

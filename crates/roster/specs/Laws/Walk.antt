@@ -3,7 +3,8 @@
 -- and 52 by number (`none_refused`).
 use Rattle.std.specs.Prelude.{◌≡◌, refl, Bool, true, false, ℕ, suc, ◌+◌, ◌≤◌, ◌<◌, ltb, eqb, length, drop, get_or, set}
 use Rattle.std.proofs.Math.Path.{sym, ap, ap₂}
-use Rattle.std.proofs.Common.{◌∙◌, subst, true≢false, add-one, arith, lt-ltb, le-ltb, eq-eqb, get_or-set_same, get_or-set_other}
+use Rattle.std.proofs.Common.{◌∙◌, subst, true≢false, add-one, arith, lt-ltb, le-ltb, eq-eqb, get_or-set_same}
+use Rattle.std.proofs.Common.{get_or-set_other}
 use Rattle.std.proofs.Math.Bool.{◌||◌}
 use mathlib.Core.List.{List, [], ◌∷◌, ◌++◌, map, append-nil, append_assoc, Permᴰ}
 use Rattle.std.proofs.Math.Decide.{dec_lt}

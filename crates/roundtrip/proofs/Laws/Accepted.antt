@@ -41,7 +41,8 @@ module _ (f : List ℕ) (bytes : AllBytes f) (ok : refusal_of f ≡ 0) (first : 
   inside-right : inside? (file_at (shape_for t) (body_for t)) ≡ false
   inside-right =
       let s = body_same f bytes ok first in
-      inside-same F (file_at (shape_for t) (body_for t)) (accepted_sound f ok) (accepted_node f ok) (accepted_treed f ok)
+      inside-same F (file_at (shape_for t) (body_for t)) (accepted_sound f ok) (accepted_node f ok)
+      (accepted_treed f ok)
       (treed_right f bytes ok first) (nodes_many f bytes ok first) s.charts s.slaves s.master
       s.tree
       ∙ (passed f ok).inside

@@ -19,7 +19,8 @@ use Rattle.meaning.specs.Check.Laws.{passed, counted}
 use Rattle.agreement.specs.Calls.{regular}
 use Rattle.notation.specs.Syntax.{Sequential, Chart}
 use Rattle.reading.specs.Names.{name_of, names?}
-use Rattle.reading.specs.Meant.{all, gathered, transition_for, transitions_in, head_for, charts_of, lay_chart, slaves_of}
+use Rattle.reading.specs.Meant.{all, gathered, transition_for, transitions_in, head_for, charts_of, lay_chart}
+use Rattle.reading.specs.Meant.{slaves_of}
 use Rattle.reading.specs.Meant.{set_of, optional_of, nodes_of, transitions_of, body_for, trailer_for, file_for}
 use Rattle.reading.specs.Laws.Body.{heads_for, lines_for, slaves_for, nodes_for, body_for_lem}
 use Rattle.reading.specs.Laws.Lists.{all_append}
@@ -102,7 +103,8 @@ lines_map (s ∷ l) =
 
 -- ── the file ──
 
-module _ (t : Chart) (n : names? t ≡ false) (c : counts? (trailer_for t) ≡ false) (p : refusal_of (file_for t) ≡ 0) where
+module _ (t : Chart) (n : names? t ≡ false) (c : counts? (trailer_for t) ≡ false)
+    (p : refusal_of (file_for t) ≡ 0) where
   abbrev f : List ℕ
   f = file_for t
 
@@ -183,7 +185,8 @@ module _ (t : Chart) (n : names? t ≡ false) (c : counts? (trailer_for t) ≡ f
   last : trailer_for u ≡ trailer_for t
   unfolding trailer_for
   last =
-      ap₂ (λ b w. trailer_with (length b) w (length (slaves_of u)) (length (nodes_of u)) (length (transitions_of u))) body
+      ap₂ (λ b w. trailer_with (length b) w (length (slaves_of u)) (length (nodes_of u)) (length (transitions_of u)))
+      body
       (sym (length-map (charts_of u) written_for) ∙ ap length written ∙ length-map (charts_of t) written_for)
       ∙ ap₂
       (λ l k. trailer_with (length (body_for t)) (length (charts_of t)) (length (filed l.slaves)) (length l.nodes) k)

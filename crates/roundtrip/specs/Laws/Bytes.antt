@@ -15,7 +15,8 @@ use Rattle.meaning.specs.Check.{not_below, differ, counts?, charts?, node_of_kin
 use Rattle.meaning.specs.Check.Laws.{Counted, alike, below, passed, counted, charted}
 use Rattle.meaning.specs.Check.Nodes.{node_passes}
 use Rattle.meaning.specs.File.{File, shape_of, file_at, file_of}
-use Rattle.agreement.specs.Bytes.{Bytes, end, byte, all-bytes, and, nought, head_bytes_lem, transition-bytes, node_bytes_lem}
+use Rattle.agreement.specs.Bytes.{Bytes, end, byte, all-bytes, and, nought, head_bytes_lem, transition-bytes}
+use Rattle.agreement.specs.Bytes.{node_bytes_lem}
 use Rattle.agreement.specs.Bytes.{trailer-bytes}
 use Rattle.notation.specs.Syntax.{Transition, Sequential, Chart}
 use Rattle.reading.specs.Names.{members_of, has, any, transition?, sequential?, names?}
@@ -84,7 +85,8 @@ parts-small F (suc (suc (suc k))) j c l h = absurd (true≢false h)
 
 -- ── the file ──
 
-module _ (t : Chart) (n : names? t ≡ false) (c : counts? (trailer_for t) ≡ false) (p : refusal_of (file_for t) ≡ 0) where
+module _ (t : Chart) (n : names? t ≡ false) (c : counts? (trailer_for t) ≡ false)
+    (p : refusal_of (file_for t) ≡ 0) where
   abbrev counts : Counted (trailer_for t)
   counts = counted (trailer_for t) c
 
@@ -110,7 +112,8 @@ module _ (t : Chart) (n : names? t ≡ false) (c : counts? (trailer_for t) ≡ f
       at i s m =
           let h = charted (shape_for t) (body_for t) right i (at-below (charts_of t) i s m) in
           let a = h.states in let b = h.initial in let d = h.transitions in
-          subst (λ r. Bytes (head_bytes r)) (head_is t i s m (at-fine sequential? (charts_of t) i s (charts-fine t n) m))
+          subst (λ r. Bytes (head_bytes r)) (head_is t i s m
+          (at-fine sequential? (charts_of t) i s (charts-fine t n) m))
           (head_bytes_lem _ (omega arith) (omega arith) (omega arith))
 
   lines : Bytes (lines_for t)
@@ -140,7 +143,9 @@ module _ (t : Chart) (n : names? t ≡ false) (c : counts? (trailer_for t) ≡ f
           let x = counts.charts in let y = counts.nodes in
           let q = parts-small B (B.kind j) j (omega arith) (omega arith)
           (node_passes B (subst (λ F. nodes? F ≡ false) back (passed (file_for t) p).nodes) j l) in
-          let a = ap (λ w. (node_of w).kind) d in let b = ap (λ w. (node_of w).a) d in let e = ap (λ w. (node_of w).b) d in
+          let a = ap (λ w. (node_of w).kind) d in
+          let b = ap (λ w. (node_of w).a) d in
+          let e = ap (λ w. (node_of w).b) d in
           let f = q.0 in let g = q.1 in let h = q.2 in
           node_bytes_lem r (omega arith) (omega arith) (omega arith)
 

@@ -142,7 +142,8 @@ module _ (F : File) (states : (i : ℕ) → i < F.slaves → F.state i < named_s
       let p = pairs_held F ss (F.state i) (typed_of F t) in
       lay_master_lem s (slaves_of F ss (F.state i) (typed_of F t)) (held_pairs F (snoc ss i t)) k
       (ap (sorted_by (λ r. r.state) named_states) p
-      ∙ sorted_rising (λ r. r.state) named_states (held_pairs F (snoc ss i t)) (held_pairs F (snoc ss i t)) (Permᴰ.refl _)
+      ∙ sorted_rising (λ r. r.state) named_states (held_pairs F (snoc ss i t)) (held_pairs F (snoc ss i t))
+      (Permᴰ.refl _)
       (held_rises F InRange c (snoc ss i t) h) (held_below c (snoc ss i t) h))
 
   means_below : (c : ℕ) (ss : Held) → ProperAll F InRange c ss → (l : List Pair) → MeansAll F c ss l

@@ -2,7 +2,9 @@
 -- states of their charts; a row laid over a part of a buffer; one row more, and the last.
 use Rattle.std.specs.Prelude.{◌≡◌, ℕ, ◌+◌, ◌*◌, ◌-◌, ◌/◌, ◌≤◌, ◌<◌, ltb, length, get_or, drop}
 use Rattle.std.proofs.Math.Path.{sym}
-use Rattle.std.proofs.Common.{◌∙◌, le_trans, suc-mul, mul-le-mul_right, le-div_iff_mul-le, div-lt_iff_lt-mul, add-one, arith, length-append, length-drop, take-append-drop, take_at, drop_at, length-take-le, drop-drop}
+use Rattle.std.proofs.Common.{◌∙◌, le_trans, suc-mul, mul-le-mul_right, le-div_iff_mul-le, div-lt_iff_lt-mul, add-one}
+use Rattle.std.proofs.Common.{arith, length-append, length-drop, take-append-drop, take_at, drop_at, length-take-le}
+use Rattle.std.proofs.Common.{drop-drop}
 use mathlib.Core.List.{List, [], ◌∷◌, ◌++◌, append_assoc, append-nil}
 use borrow.Author.Tests.{ne_eqb, lt-ltb, le-ltb}
 use Rattle.std.proofs.Math.ListN.{take}

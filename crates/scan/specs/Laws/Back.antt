@@ -1,5 +1,6 @@
 -- Laws of one byte back, a case for each kind of byte; and the bytes before a place, last first.
-use Rattle.std.specs.Prelude.{◌≡◌, refl, Bool, true, false, List, [], ◌∷◌, ℕ, zero, suc, ◌+◌, ◌-◌, ◌<◌, eqb, length, take, get_or}
+use Rattle.std.specs.Prelude.{◌≡◌, refl, Bool, true, false, List, [], ◌∷◌, ℕ, zero, suc, ◌+◌, ◌-◌, ◌<◌, eqb, length}
+use Rattle.std.specs.Prelude.{take, get_or}
 use Rattle.std.proofs.Common.{ap, add-one, arith, take-suc}
 use borrow.Author.Tests.{eq-eqb, ne_eqb}
 use Rattle.notation.specs.Grammar.{blank}

@@ -1,6 +1,7 @@
 -- Looking back finds what encloses the part that has just ended: over tokens (`single-look`, `part-look`), and over
 -- bytes as over tokens (`laid-look`).
-use Rattle.std.specs.Prelude.{◌≡◌, Bool, ◌||◌, cond, List, [], ◌∷◌, ◌++◌, ℕ, zero, suc, ◌+◌, ◌-◌, ◌/◌, ◌%◌, ◌≤◌, ◌<◌, eqb, ltb}
+use Rattle.std.specs.Prelude.{◌≡◌, Bool, ◌||◌, cond, List, [], ◌∷◌, ◌++◌, ℕ, zero, suc, ◌+◌, ◌-◌, ◌/◌, ◌%◌, ◌≤◌, ◌<◌}
+use Rattle.std.specs.Prelude.{eqb, ltb}
 use Rattle.std.proofs.Math.Path.{refl, fun_ext}
 use Rattle.std.proofs.Common.{sym, ap, ◌∙◌}
 use Rattle.std.proofs.Math.Bool.{true, false}
@@ -15,7 +16,8 @@ use Rattle.line.specs.Line.{decimal}
 use Rattle.notation.specs.Laws.Decimal.{decimal-one, decimal-more}
 use Rattle.notation.specs.Laws.Backward.{Laid, nothing, space, token, put_names, put_set, put_optional, put_literal}
 use Rattle.notation.specs.Laws.Backward.{put_literals, put_guard, put_transition, put_transition_list, put_transitions}
-use Rattle.notation.specs.Laws.Backward.{put_heading, put_extra, put_sequential, put_single, put_chart, put_part, put_slaves}
+use Rattle.notation.specs.Laws.Backward.{put_heading, put_extra, put_sequential, put_single, put_chart, put_part}
+use Rattle.notation.specs.Laws.Backward.{put_slaves}
 use Rattle.notation.specs.Syntax.{OneOrMore, one, ◌▸◌, Signals, Literal, needed, barred, Transition, Heading}
 use Rattle.notation.specs.Syntax.{Sequential, Single, sequential, decomposed, hidden, Chart, single, composed, Slaves}
 use Rattle.notation.specs.Syntax.{first_slave, more_slaves}
@@ -207,7 +209,8 @@ enclosure_look (in_brackets g) s = refl
 
 context_look : (g : Context) → look_over (before_context g) 0 0 false ≡ context_number g
 unfolding look_over back_to around opener closer blank first_byte letter before_enclosure context_number
-context_look (first_in h) = enclosure_look h 0 ∙ (let z : enclosure_number h + 0 ≡ enclosure_number h = omega arith in z)
+context_look (first_in h) = enclosure_look h 0
+    ∙ (let z : enclosure_number h + 0 ≡ enclosure_number h = omega arith in z)
 context_look (second_in a x h) = (set-over x {r = sign bar ∷ put_part a (before_enclosure h)}).pass 1 false
     ∙ (part-over a {r = before_enclosure h}).pass 1 false ∙ enclosure_look h 1
 

@@ -13,14 +13,19 @@ use Rattle.notation.specs.Grammar.{letter, blank, Spells, Sign, lpar, rpar, lbra
 use Rattle.notation.specs.Grammar.{slash, amp, minus, wordDec, wordBy, Letter, letC, letQ, letS, FirstWrong}
 use Rattle.notation.specs.Laws.Backward.{nothing}
 use Rattle.notation.specs.Syntax.{Single, sequential, decomposed, hidden, Chart, single, composed}
-use Rattle.notation.specs.Reader.{Enclosure, whole, in_slave, in_hiding, in_brackets, Context, first_in, second_in, Role}
+use Rattle.notation.specs.Reader.{Enclosure, whole, in_slave, in_hiding, in_brackets, Context, first_in, second_in}
+use Rattle.notation.specs.Reader.{Role}
 use Rattle.notation.specs.Reader.{alone, master, Slot, feedback, action, extra, between, hide_x, hide_y, State, part}
 use Rattle.notation.specs.Reader.{opened, ended, boxed, joined, with_x, dec_of, dec_open, dec_by, dec_brace, pair_open}
-use Rattle.notation.specs.Reader.{pair_state, pair_comma, pair_done, named, states_open, states_next, states_more, states_done}
+use Rattle.notation.specs.Reader.{pair_state, pair_comma, pair_done, named, states_open, states_next, states_more}
+use Rattle.notation.specs.Reader.{states_done}
 use Rattle.notation.specs.Reader.{initial_next, initial_done, head_done, lines_open, lines_first, lines_next, line_done}
-use Rattle.notation.specs.Reader.{lines_done, extra_done, from_next, from_done, to_next, to_done, guard_first, guard_next}
-use Rattle.notation.specs.Reader.{guard_barred, guard_done, action_done, set_next, set_first, set_more, set_comma, Way, on}
-use Rattle.notation.specs.Reader.{read, close, follow, last_set, ways, final, first_byte, behind, is_digit, Position, gap}
+use Rattle.notation.specs.Reader.{lines_done, extra_done, from_next, from_done, to_next, to_done, guard_first}
+use Rattle.notation.specs.Reader.{guard_next}
+use Rattle.notation.specs.Reader.{guard_barred, guard_done, action_done, set_next, set_first, set_more, set_comma, Way}
+use Rattle.notation.specs.Reader.{on}
+use Rattle.notation.specs.Reader.{read, close, follow, last_set, ways, final, first_byte, behind, is_digit, Position}
+use Rattle.notation.specs.Reader.{gap}
 use Rattle.notation.specs.Reader.{inside, letter_read, number, onward, begin, step_gap, step, ending, Reading, spelt}
 use Rattle.notation.specs.Reader.{wrong_at, at_end, on_to, read_from, reader}
 use Rattle.notation.proofs.Laws.Before.{before, before_enclosure}

@@ -3,12 +3,15 @@ use Rattle.std.specs.Prelude.{◌≡◌, refl, Bool, true, false, List, [], ◌�
 use Rattle.std.proofs.Math.Option.{none, some}
 use Rattle.notation.specs.Grammar.{letter}
 use Rattle.notation.specs.Syntax.{Single, sequential, decomposed, hidden}
-use Rattle.notation.specs.Reader.{whole, in_slave, in_hiding, in_brackets, first_in, second_in, Role, alone, master, Slot}
+use Rattle.notation.specs.Reader.{whole, in_slave, in_hiding, in_brackets, first_in, second_in, Role, alone, master}
+use Rattle.notation.specs.Reader.{Slot}
 use Rattle.notation.specs.Reader.{feedback, action, extra, between, hide_x, hide_y, State, part, opened, ended, boxed}
-use Rattle.notation.specs.Reader.{joined, with_x, dec_of, dec_open, dec_by, dec_brace, pair_open, pair_state, pair_comma}
+use Rattle.notation.specs.Reader.{joined, with_x, dec_of, dec_open, dec_by, dec_brace, pair_open, pair_state}
+use Rattle.notation.specs.Reader.{pair_comma}
 use Rattle.notation.specs.Reader.{pair_done, named, states_open, states_next, states_more, states_done, initial_next}
 use Rattle.notation.specs.Reader.{initial_done, head_done, lines_open, lines_first, lines_next, line_done, lines_done}
-use Rattle.notation.specs.Reader.{extra_done, from_next, from_done, to_next, to_done, guard_first, guard_next, guard_barred}
+use Rattle.notation.specs.Reader.{extra_done, from_next, from_done, to_next, to_done, guard_first, guard_next}
+use Rattle.notation.specs.Reader.{guard_barred}
 use Rattle.notation.specs.Reader.{guard_done, action_done, set_next, set_first, set_more, set_comma, Way, on, read}
 use Rattle.notation.specs.Reader.{sequential_end, set_end, close, follow, last_set, ways, first_byte}
 use Rattle.scan.specs.Laws.Look.{enclosure_number, context_number}
@@ -141,8 +144,9 @@ way_rows m [] = []
 way_rows m (a ∷ ws) = way_row m a ∷ way_rows m ws
 
 pub table-right : (p : State) → rows_from (full p) table ≡ way_rows (full p) (ways p)
-unfolding rows_from keep_if way_rows way_row full refine mode enclosing role_number slot_number end_number enclosure_number
-    context_number table rows_of numbers ways first_byte letter last_set follow close sequential_end set_end
+unfolding rows_from keep_if way_rows way_row full refine mode enclosing role_number slot_number end_number
+    enclosure_number context_number table rows_of numbers ways first_byte letter last_set follow close sequential_end
+    set_end
 table-right (part g) = refl
 table-right (opened g) = refl
 table-right (ended (first_in whole) (sequential s)) = refl

@@ -293,14 +293,14 @@ loop-v-preserved t c =
     × Held c.if-fits.best c.if-fits.shown =
     elim c.if-fits.branch [
       | then-fits+else-disagree w ↦
-        let one = goes m s gs y a.charts a.left some c.requires.4 f a.trail.now a.moves.now
-        c.loop-v.trail c.loop-v.moves c.loop-v.v a.output c.loop-v.invariant.1 c.requires.3 _ _ _ _ _ _ _ _ _ refl
-        (sym w.if-fits.true ∙ fits)
-        w.take.ensures w.shown_by-more.ensures w.hunt-then-fits.ensures in (
-          subst₂ (λ (x y : List ℕ). Keeps k a.trail.now a.moves.now x y) (sym w.trail-is) (sym w.moves-is) one.0,
-          ap₂ found_in w.best-is w.shown-is ∙ one.1,
-          subst₂ Held (sym w.best-is) (sym w.shown-is) w.hunt-then-fits.ensures.held,
-        )
+          let one = goes m s gs y a.charts a.left some c.requires.4 f a.trail.now a.moves.now
+          c.loop-v.trail c.loop-v.moves c.loop-v.v a.output c.loop-v.invariant.1 c.requires.3 _ _ _ _ _ _ _ _ _ refl
+          (sym w.if-fits.true ∙ fits)
+          w.take.ensures w.shown_by-more.ensures w.hunt-then-fits.ensures in (
+            subst₂ (λ (x y : List ℕ). Keeps k a.trail.now a.moves.now x y) (sym w.trail-is) (sym w.moves-is) one.0,
+            ap₂ found_in w.best-is w.shown-is ∙ one.1,
+            subst₂ Held (sym w.best-is) (sym w.shown-is) w.hunt-then-fits.ensures.held,
+          )
       | else-fits w ↦ (
         subst₂ (λ (x y : List ℕ). Keeps k a.trail.now a.moves.now x y) (sym w.trail-is) (sym w.moves-is)
             c.loop-v.invariant.1,

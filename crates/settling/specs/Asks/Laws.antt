@@ -198,9 +198,11 @@ module _ (m s w b : List ℕ) (k o : ℕ) (few : k < most_charts) (can : Passes 
         (offered_is k few) (next-ahead k))
         (every_cong k _ _
         (λ d l. may_eq (get_or-before k (needed_in w) (needed_at m k v) d l ∙ get_or-made k (needed_in w) d l)
-        (get_or-before k (barred_in w) (barred_at m k v) d l ∙ get_or-made k (barred_in w) d l) (offered_is d (omega arith))
+        (get_or-before k (barred_in w) (barred_at m k v) d l ∙ get_or-made k (barred_in w) d l)
+        (offered_is d (omega arith))
         (next-ahead d))
-        ∙ asked (needed_in w) (barred_in w) (low_in w k) (ahead_at m (k + 1)) (λ d. back_at m d k) (ahead_at m k) action k can
+        ∙ asked (needed_in w) (barred_in w) (low_in w k) (ahead_at m (k + 1)) (λ d. back_at m d k) (ahead_at m k)
+        action k can
         cover)
 
   -- it is inactive: nothing is to be in its action
@@ -208,7 +210,8 @@ module _ (m s w b : List ℕ) (k o : ℕ) (few : k < most_charts) (can : Passes 
   unfolding fine_at every passes_at idled trail_in asks_of
   fine-rested =
       ap₂ ◌&&◌
-      (may_eq {l = get_or (made most_charts (low_in w k)) k 0} {h = ahead_at m (suc k) k} (get_or-last k (needed_in w) 0)
+      (may_eq {l = get_or (made most_charts (low_in w k)) k 0} {h = ahead_at m (suc k) k}
+      (get_or-last k (needed_in w) 0)
       (get_or-last k (barred_in w) 0) refl refl
       ∙ and_i
       (eq-eqb _ _ (sets (get_or (made most_charts (low_in w k)) k 0 ∷ ahead_at m (suc k) k ∷ []) [] (∅ₑ ⊑ A ∪ₑ B) tt))
@@ -217,7 +220,8 @@ module _ (m s w b : List ℕ) (k o : ℕ) (few : k < most_charts) (can : Passes 
       (λ d l. may_eq (get_or-before k (needed_in w) 0 d l ∙ get_or-made k (needed_in w) d l)
       (get_or-before k (barred_in w) 0 d l ∙ get_or-made k (barred_in w) d l)
       (get_or-made most_charts (low_in w k) d (omega arith)) (next-ahead d))
-      ∙ asked-none (needed_in w) (barred_in w) (low_in w k) (ahead_at m (k + 1)) (λ d. back_at m d k) (ahead_at m k) k can
+      ∙ asked-none (needed_in w) (barred_in w) (low_in w k) (ahead_at m (k + 1)) (λ d. back_at m d k)
+      (ahead_at m k) k can
       cover)
 
 -- every chart up to k can still be met, where the charts below k + 1 are settled

@@ -111,7 +111,8 @@ module _ (m s : List ℕ) {N : ℕ} where
         h.rest (h.low d (omega arith)))
 
     tested_match : (n k : ℕ) {u u' : Trail} → Matches N u u' → k < N
-        → hunts_both m s g y n (suc k) u ≡ hunts_both m s g y n (suc k) u' → tested m s g y n k u ≡ tested m s g y n k u'
+        → hunts_both m s g y n (suc k) u ≡ hunts_both m s g y n (suc k) u'
+        → tested m s g y n k u ≡ tested m s g y n k u'
     unfolding quiet_at
     tested_match n k e l r = ap₂ (λ (z : Bool) (os : List Outcome). cond z os [])
         (ap₂ ◌&&◌ (fine_match e k l) (calm_match e (suc k) (omega arith))) r

@@ -2,7 +2,8 @@
 -- (`Keeps`); one chart more (`take_in`, `idle_in`); no chart yet.
 use Rattle.std.specs.Prelude.{◌≡◌, List, [], ◌∷◌, ◌++◌, ◌≢◌, ℕ, suc, ◌+◌, ◌-◌, ◌*◌, ◌≤◌, ◌<◌, length, set, replicate}
 use Rattle.std.proofs.Math.Path.{refl, sym, ap}
-use Rattle.std.proofs.Common.{ap₂, ◌∙◌, append_assoc, add-zero, add-one, arith, length-set, length-append, get_or-append-add, get_or-set_same, get_or-set_other, lt-length-set, ext_get_or}
+use Rattle.std.proofs.Common.{ap₂, ◌∙◌, append_assoc, add-zero, add-one, arith, length-set, length-append}
+use Rattle.std.proofs.Common.{get_or-append-add, get_or-set_same, get_or-set_other, lt-length-set, ext_get_or}
 use Rattle.std.proofs.Math.ListN.{get_or, get_or-append}
 use Rattle.std.proofs.lemmas.List.{length-replicate, get_or-replicate, set_at}
 use Rattle.std.proofs.Math.Seq.{get_or-append_seam}
@@ -12,7 +13,8 @@ use Rattle.meaning.specs.Numbers.{most_charts}
 use Rattle.meaning.specs.Calls.{made}
 use Rattle.meaning.specs.Calls.Laws.{length-made, get_or-made, made_cong}
 use Rattle.cells.specs.Table.{needed_at, barred_at, action_at, back_at, up_at, to_at, state_at, place_at}
-use Rattle.cells.specs.Trail.{low_cell, needs_cell, bars_cell, next_cell, awake_cell, taken_cell, low_in, needed_in, barred_in}
+use Rattle.cells.specs.Trail.{low_cell, needs_cell, bars_cell, next_cell, awake_cell, taken_cell, low_in, needed_in}
+use Rattle.cells.specs.Trail.{barred_in}
 use Rattle.cells.specs.Trail.{next_in, awake_in, place_in, column_in, put_asked, put_move, Room}
 use Rattle.settling.specs.Trail.{Trail, bare, Matches, beginning, trail_in, Same, Keeps, Lowers}
 use Rattle.settling.specs.Hunt.{taken, idled}
@@ -146,7 +148,8 @@ module _ {k : ℕ} {w b w' b' : List ℕ} (h : Keeps k w b w' b') where
   module _ (N : ℕ) (few : N ≤ most_charts) where
     taken_in : (m s : List ℕ) (v o : ℕ)
         → ((c : ℕ) → c < N → low_in w' (k + 1) c ≡ low_in w k c ∪ action_at m k v ∩ back_at m c k) →
-        needed_in w' k ≡ needed_at m k v → barred_in w' k ≡ barred_at m k v → next_in b' k ≡ to_at s k v → awake_in b' k ≡ 1
+        needed_in w' k ≡ needed_at m k v → barred_in w' k ≡ barred_at m k v → next_in b' k ≡ to_at s k v
+        → awake_in b' k ≡ 1
         → place_in b' k ≡ place_at s k v →
         Matches N (trail_in w' b' (k + 1) (o ∪ action_at m k v ∩ up_at m k)) (taken m s (trail_in w b k o) k v)
     unfolding trail_in taken
@@ -206,12 +209,14 @@ module _ (m w b w' : List ℕ) (N k n r x z t a : ℕ) (room : Room (k + 1) w b)
 
   goes : next_in moved k ≡ x
   goes = let q = room.small in
-      get_or-set_other (set (set b (next_cell k) x) (awake_cell k) z) (taken_cell k) (next_cell k) t 0 (λ e. omega arith)
+      get_or-set_other (set (set b (next_cell k) x) (awake_cell k) z) (taken_cell k) (next_cell k) t 0
+      (λ e. omega arith)
       ∙ first-written b (next_cell k) (awake_cell k) x z (λ e. omega arith) (omega arith)
 
   wakes : awake_in moved k ≡ z
   wakes = let q = room.small in
-      get_or-set_other (set (set b (next_cell k) x) (awake_cell k) z) (taken_cell k) (awake_cell k) t 0 (λ e. omega arith)
+      get_or-set_other (set (set b (next_cell k) x) (awake_cell k) z) (taken_cell k) (awake_cell k) t 0
+      (λ e. omega arith)
       ∙ second-written b (next_cell k) (awake_cell k) x z (λ e. omega arith) (omega arith)
 
   takes : place_in moved k ≡ t
@@ -234,30 +239,32 @@ module _ (m w b w' : List ℕ) (N k n r x z t a : ℕ) (room : Room (k + 1) w b)
 
 -- chart k takes its candidate v
 module _ (m s w b w' : List ℕ) (N k v : ℕ) (room : Room (k + 1) w b) (few : N ≤ most_charts)
-    (one : k < most_charts) (h : Lowers m (action_at m k v) N k (put_asked w k (needed_at m k v) (barred_at m k v)) w') where
-  pub take_in : (o : ℕ) →
-      Matches N (trail_in w' (put_move b k (to_at s k v) 1 (place_at s k v)) (k + 1) (o ∪ action_at m k v ∩ up_at m k))
-      (taken m s (trail_in w b k o) k v)
-  take_in o =
-      taken_in (written_keeps m w b w' N k n r x 1 t a room few one h) N few m s v o
-      (rows m w b w' N k n r x 1 t a room few one h) (needs m w b w' N k n r x 1 t a room few one h)
-      (bars m w b w' N k n r x 1 t a room few one h) (goes m w b w' N k n r x 1 t a room few one h)
-      (wakes m w b w' N k n r x 1 t a room few one h) (takes m w b w' N k n r x 1 t a room few one h)
-    where
-      n : ℕ
-      n = needed_at m k v
+    (one : k < most_charts) (h : Lowers m (action_at m k v) N k (put_asked w k (needed_at m k v) (barred_at m k v)) w')
+  where
+    pub take_in : (o : ℕ) →
+        Matches N (trail_in w' (put_move b k (to_at s k v) 1 (place_at s k v)) (k + 1)
+        (o ∪ action_at m k v ∩ up_at m k))
+        (taken m s (trail_in w b k o) k v)
+    take_in o =
+        taken_in (written_keeps m w b w' N k n r x 1 t a room few one h) N few m s v o
+        (rows m w b w' N k n r x 1 t a room few one h) (needs m w b w' N k n r x 1 t a room few one h)
+        (bars m w b w' N k n r x 1 t a room few one h) (goes m w b w' N k n r x 1 t a room few one h)
+        (wakes m w b w' N k n r x 1 t a room few one h) (takes m w b w' N k n r x 1 t a room few one h)
+      where
+        n : ℕ
+        n = needed_at m k v
 
-      r : ℕ
-      r = barred_at m k v
+        r : ℕ
+        r = barred_at m k v
 
-      x : ℕ
-      x = to_at s k v
+        x : ℕ
+        x = to_at s k v
 
-      t : ℕ
-      t = place_at s k v
+        t : ℕ
+        t = place_at s k v
 
-      a : ℕ
-      a = action_at m k v
+        a : ℕ
+        a = action_at m k v
 
 -- chart k takes no transition: z is 1 if it is active, and t stands for its place
 module _ (m s w b w' : List ℕ) (N k z t : ℕ) (room : Room (k + 1) w b) (few : N ≤ most_charts)

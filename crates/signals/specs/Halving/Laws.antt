@@ -1,7 +1,8 @@
 -- Passing over signals keeps what is known of the rest (`halved`, `kept`), and the search by halves ends at the lowest
 -- signal (`led`).
 use Rattle.std.specs.Prelude.{◌≡◌, refl, false, ◌&&◌, ℕ, zero, suc, ◌+◌, ◌-◌, ◌*◌, ◌/◌, ◌%◌, ◌^◌, ◌<◌, eqb}
-use Rattle.std.proofs.Common.{sym, ap, ◌∙◌, suc-le-suc, zero-le, add-zero, div-add-mod', mod-lt, mul_assoc, mod-eq_of_lt, div-one, arith, pow-add, eq-eqb}
+use Rattle.std.proofs.Common.{sym, ap, ◌∙◌, suc-le-suc, zero-le, add-zero, div-add-mod', mod-lt, mul_assoc}
+use Rattle.std.proofs.Common.{mod-eq_of_lt, div-one, arith, pow-add, eq-eqb}
 use Rattle.std.proofs.Math.Bool.{and-true}
 use Rattle.std.proofs.Math.Nat.{div-div-eq-div-mul, mul-mod_left}
 use Rattle.std.proofs.Math.Decide.{dec_lt}

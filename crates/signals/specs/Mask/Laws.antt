@@ -2,7 +2,8 @@
 -- are equal; the set of one signal; sets below a limit; inclusion signal by signal; removal as code may write it.
 -- Identities of sets are proved by `sets` of Decide.antt.
 use Rattle.std.specs.Prelude.{◌≡◌, refl, Bool, true, false, not, ◌&&◌, ◌||◌, eqb}
-use Rattle.std.proofs.Common.{sym, ap, ap₂, ◌∙◌, true≢false, mod-lt, le_of_suc-le-suc, not-suc-le-zero, div-add-mod', div-one, pow-suc, mul-div_cancel, lt_of_lt_of_le, lit<, eqb-true, eq-eqb, arith, pow_mono}
+use Rattle.std.proofs.Common.{sym, ap, ap₂, ◌∙◌, true≢false, mod-lt, le_of_suc-le-suc, not-suc-le-zero, div-add-mod'}
+use Rattle.std.proofs.Common.{div-one, pow-suc, mul-div_cancel, lt_of_lt_of_le, lit<, eqb-true, eq-eqb, arith, pow_mono}
 use Rattle.std.specs.Bool.{beq}
 use Rattle.std.proofs.lemmas.Bool.{false≢true}
 use Prim.Native.Nat.{ℕ, zero, suc, ◌+◌, ◌*◌, ◌/◌, ◌%◌, ◌^◌, ◌≤◌, ◌<◌, zero-le, suc-le-suc, min, max}

@@ -1,4 +1,5 @@
--- The text of an accepted file has no more than `most_text` bytes. In this order: the text of a tree weighs no more than
+-- The text of an accepted file has no more than `most_text` bytes. In this order: the text of a tree weighs no more
+-- than
 -- its parts do (`text_weighs`); what the parts of an accepted file weigh; all of it (`text_most`).
 use Rattle.std.specs.Prelude.{◌≡◌, not, List, [], ◌∷◌, ◌++◌, map, length}
 use Rattle.std.proofs.Math.Path.{refl}
@@ -20,7 +21,8 @@ use Rattle.meaning.specs.Check.Laws.{below, passed, counted, charted, summed}
 use Rattle.meaning.specs.Laws.Alike.{accepted_node, accepted_sound}
 use Rattle.notation.specs.Syntax.{Chart, single, composed}
 use Rattle.notation.specs.Grammar.{lpar, rpar, lbrace, rbrace, lsq, rsq, comma, bar, wordBy, letQ, sign₁, name₁}
-use Rattle.notation.specs.Grammar.{of_set, of_optional, of_transition, of_sequential, of_single, of_chart, of_part, of_slaves}
+use Rattle.notation.specs.Grammar.{of_set, of_optional, of_transition, of_sequential, of_single, of_chart, of_part}
+use Rattle.notation.specs.Grammar.{of_slaves}
 use Rattle.notation.specs.Grammar.{sign_bytes, bytes_of, write}
 use Rattle.whole.specs.Weigh.{Weights, weight, weights}
 use Rattle.whole.proofs.Laws.Double.{of_kind}
@@ -65,13 +67,15 @@ module _ (F : File) where
     text_weighs (leaf c) = le_refl _
     text_weighs (comp p q x) =
         let a = typed_of F p in let b = typed_of F q in let hp = text_weighs p in let hq = text_weighs q in
-        let e = size_++ (of_part a) (sign₁ bar ++ (of_set (signals_of x) ++ (sign₁ bar ++ (of_part b ++ sign₁ rpar)))) in
+        let e = size_++ (of_part a) (sign₁ bar ++ (of_set (signals_of x) ++ (sign₁ bar ++ (of_part b ++ sign₁ rpar))))
+        in
         let g = size_++ (of_set (signals_of x)) (sign₁ bar ++ (of_part b ++ sign₁ rpar)) in
         let r = size_++ (of_part b) (sign₁ rpar) in omega arith
     text_weighs (hide p x y) =
         let h = text_weighs p in let l = part-more (typed_of F p) in
         let e =
-        size_++ (of_set (signals_of x)) (sign₁ lsq ++ (of_chart (typed_of F p) ++ (sign₁ rsq ++ of_set (signals_of y)))) in
+        size_++ (of_set (signals_of x)) (sign₁ lsq ++ (of_chart (typed_of F p) ++ (sign₁ rsq ++ of_set (signals_of y))))
+        in
         let g = size_++ (of_chart (typed_of F p)) (sign₁ rsq ++ of_set (signals_of y)) in omega arith
     text_weighs (dec c ss) = master_weighs c ss
 

@@ -19,7 +19,8 @@ use Rattle.notation.specs.Syntax.{one}
 use Rattle.reading.specs.Numbers.{named_states}
 use Rattle.reading.specs.Names.{members_of, first, any, has, twice?, not_all?, signals?}
 use Rattle.reading.specs.Names.{signal_of, transition?, sequential?, name_of}
-use Rattle.reading.specs.Meant.{mask_of, set_of, optional_of, needed_in, barred_in, transition_for, transitions_in, head_for}
+use Rattle.reading.specs.Meant.{mask_of, set_of, optional_of, needed_in, barred_in, transition_for, transitions_in}
+use Rattle.reading.specs.Meant.{head_for}
 use Rattle.spelling.specs.Typed.{from_all, if_so, signals_of, or_left_out, literals, transition_of, others, states_of}
 use Rattle.spelling.specs.Typed.{sequential_of}
 use Rattle.spelling.specs.Fits.{FitsIn, Fits}

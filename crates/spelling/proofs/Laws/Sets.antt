@@ -84,7 +84,8 @@ module _ (x y : Set) where
   unfolding literals members needed_in
   needed_members =
       from_each needed_in refl needed_append most_signals (said_of x y)
-      ∙ from_cong most_signals (λ n. needed_in (said_of x y n)) (λ n. if_so (bit x n) n) (λ n l. go (bit x n) (bit y n) n)
+      ∙ from_cong most_signals (λ n. needed_in (said_of x y n)) (λ n. if_so (bit x n) n)
+      (λ n l. go (bit x n) (bit y n) n)
     where
       go : (a b : Bool) (n : ℕ) → needed_in (if_so a (needed n) ++ if_so b (barred n)) ≡ if_so a n
       go true true n = refl
@@ -96,7 +97,8 @@ module _ (x y : Set) where
   unfolding literals members barred_in
   barred_members =
       from_each barred_in refl barred_append most_signals (said_of x y)
-      ∙ from_cong most_signals (λ n. barred_in (said_of x y n)) (λ n. if_so (bit y n) n) (λ n l. go (bit x n) (bit y n) n)
+      ∙ from_cong most_signals (λ n. barred_in (said_of x y n)) (λ n. if_so (bit y n) n)
+      (λ n l. go (bit x n) (bit y n) n)
     where
       go : (a b : Bool) (n : ℕ) → barred_in (if_so a (needed n) ++ if_so b (barred n)) ≡ if_so b n
       go true true n = refl

@@ -20,7 +20,8 @@ use Rattle.line.specs.Line.Laws.{width-le, length-decimal}
 use Rattle.notation.specs.Syntax.{OneOrMore, one, ◌▸◌, Literal, needed, barred, Transition}
 use Rattle.notation.specs.Grammar.{rpar, rbrace, comma, slash, amp}
 use Rattle.notation.specs.Grammar.{Letter, letC, letQ, letS, name, Tokens, sign₁, name₁}
-use Rattle.notation.specs.Grammar.{of_names, of_set, of_literal, of_literals, of_guard, of_transition, of_transition_list}
+use Rattle.notation.specs.Grammar.{of_names, of_set, of_literal, of_literals, of_guard, of_transition}
+use Rattle.notation.specs.Grammar.{of_transition_list}
 use Rattle.notation.specs.Grammar.{of_transitions}
 use Rattle.notation.specs.Grammar.{of_heading, of_extra, of_sequential, sign_bytes, bytes_of, bytes_of_all}
 use Rattle.whole.proofs.Laws.Double.{pick}
@@ -198,7 +199,8 @@ transitions_most (t ∷ l) =
 -- ── a sequential chart ──
 
 -- state q, left out or counted
-left_out : (b : Bool) (q : ℕ) → sum_of (name_next letQ) (cond b [] (q ∷ [])) + name_next letQ q * once b ≡ name_next letQ q
+left_out : (b : Bool) (q : ℕ) → sum_of (name_next letQ) (cond b [] (q ∷ [])) + name_next letQ q * once b
+    ≡ name_next letQ q
 unfolding sum_of
 left_out true q = omega arith
 left_out false q = omega arith

@@ -2,7 +2,8 @@
 -- it (beside_none, beside-put), a chart's records one behind the other (records-few, noting-from), one transition more
 -- (noting-none, noting-next, noting-room, noting-few), what a search is told of a chart (tells-shut, tells-open), of
 -- all charts (telling-none, telling-next), and that this is as the search asks for (stays-told, stays-none).
-use Rattle.std.specs.Prelude.{◌≡◌, refl, Bool, true, ◌&&◌, not, cond, List, ◌≢◌, ℕ, suc, ◌+◌, ◌*◌, ◌≤◌, ◌<◌, set, replicate}
+use Rattle.std.specs.Prelude.{◌≡◌, refl, Bool, true, ◌&&◌, not, cond, List, ◌≢◌, ℕ, suc, ◌+◌, ◌*◌, ◌≤◌, ◌<◌, set}
+use Rattle.std.specs.Prelude.{replicate}
 use Rattle.std.proofs.Common.{sym, ◌∙◌, ap, ap₂, add-one}
 use Rattle.std.proofs.Math.Path.{subst, fun_ext}
 use Rattle.std.proofs.Math.Bool.{false, false≢true}
@@ -231,7 +232,8 @@ module _ (n : Shape) (b config lows may shuts m : List ℕ) where
       off d e = get_or-set_other y c d k 0 (apart? d e)
 
       go : (d : ℕ) → d < c + 1 → (x : Bool) → same d c ≡ x → Told g' d (fromOn (transition_at n b) (start_of n b d)
-          (head_at n b d).transitions) (get_or config d 0) (quiet n b config lows may shuts m d) (get_or (set y c k) d 0)
+          (head_at n b d).transitions) (get_or config d 0) (quiet n b config lows may shuts m d)
+          (get_or (set y c k) d 0)
       go d r true e = rw (same→≡ d c e, at, ← eo, ← es, ← eh) t.told
       go d r false e = let w = apart? d e in rw (off d e)
           (told_kept g g' d _ (get_or config d 0) _ (get_or y d 0) (h.few d (omega arith))

@@ -72,7 +72,8 @@ pub behind_refused : (f config : List ℕ) (t : Test) → (refusal_of f ≡ 0 �
 behind_refused f config t h = behind f config t ∙ call_refused f _ h
 
 pub behind-passed : (f config : List ℕ) (t : Test) → refusal_of f ≡ 0
-    → first_of (file_tests f ++ config_tests f config ++ (t ∷ [])) ≡ first_of (config_tests_in (file_of f) config ++ (t ∷ []))
+    → first_of (file_tests f ++ config_tests f config ++ (t ∷ []))
+    ≡ first_of (config_tests_in (file_of f) config ++ (t ∷ []))
 behind-passed f config t h = behind f config t ∙ call-passed f _ h
 
 pub step_refused : (f config : List ℕ) (i : Set) (room : ℕ) → (refusal_of f ≡ 0 → ⊥)
@@ -116,7 +117,8 @@ module _ (F : File) (config : List ℕ) where
   unfolding config_tests_in
   config_long h = alike _ _ (config_passes h).0
 
-  config_valid : first_of (config_tests_in F config) ≡ 0 → (c : ℕ) → c < F.charts → get_or config c 0 < (F.chart c).states
+  config_valid : first_of (config_tests_in F config) ≡ 0 → (c : ℕ) → c < F.charts
+      → get_or config c 0 < (F.chart c).states
   unfolding config_tests_in
   config_valid h c l = below _ _ (any-never F.charts _ (config_passes h).1.0 c l)
 
@@ -131,7 +133,10 @@ module _ (F : File) (config : List ℕ) where
     pub after_config : (first_of (config_tests_in F config) ≡ 0 → ⊥)
         → step_after F config i room ≡ refused (first_of (config_tests_in F config))
     unfolding step_after refusal_after same
-    after_config h = rw (first_of-before (config_tests_in F config) _ h, ne_eqb (first_of (config_tests_in F config)) 0 h)
+    after_config h = rw (
+      first_of-before (config_tests_in F config) _ h,
+      ne_eqb (first_of (config_tests_in F config)) 0 h,
+    )
 
     pub after_room : first_of (config_tests_in F config) ≡ 0 → room < F.charts
         → step_after F config i room ≡ refused short_buffer
@@ -215,7 +220,8 @@ valid_config n b config h c l = below _ _ (any-never n.charts _ h c l)
 -- ── the tables after candidates are chosen ──
 
 -- what is read: all signals have it, and so has what the wiring says
-pub read_all : (n : Shape) (b config : List ℕ) → n.charts ≤ most_charts → AllRead n b config (replicate most_charts full)
+pub read_all : (n : Shape) (b config : List ℕ) → n.charts ≤ most_charts
+    → AllRead n b config (replicate most_charts full)
 read_all n b config few =
     reads_all (file_at n b).chart (λ c. get_or config c 0) n.charts (whole_of (file_at n b))
     (λ c. get_or (replicate most_charts full) c 0) (λ k l. get_or-replicate most_charts k full 0 (omega arith))

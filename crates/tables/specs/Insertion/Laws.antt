@@ -31,8 +31,10 @@ use Rattle.wiring.specs.Pruning.{may_of}
 use Rattle.wiring.specs.Filter.{lasts}
 use Rattle.wiring.specs.Sure.{sure_of, sure_in, surely, outside}
 use Rattle.cells.specs.Table.{SameWiring, SameLists, block, up_cell, back_cell, ahead_cell, needed_cell, barred_cell}
-use Rattle.cells.specs.Table.{action_cell, masks_for, needed_at, barred_at, action_at, back_at, ahead_at, put_masks, count_from}
-use Rattle.cells.specs.Table.{master_from, state_from, place_from, to_cell, count_cell, master_cell, state_cell, place_cell}
+use Rattle.cells.specs.Table.{action_cell, masks_for, needed_at, barred_at, action_at, back_at, ahead_at, put_masks}
+use Rattle.cells.specs.Table.{count_from}
+use Rattle.cells.specs.Table.{master_from, state_from, place_from, to_cell, count_cell, master_cell, state_cell}
+use Rattle.cells.specs.Table.{place_cell}
 use Rattle.cells.specs.Table.{Covered, small_size, to_at, count_at, master_at, state_at, place_at, put_small}
 use Rattle.settling.specs.Trail.{Trail}
 use Rattle.meaning.specs.Rewriting.{in_turn}
@@ -340,7 +342,8 @@ Backs m m₁ = (c d : ℕ) → c < most_charts → d < most_charts → back_at m
 
 module _ (E : ℕ → Chart) (cfg : ℕ → ℕ) (N : ℕ) (lows shuts m₀ s₀ : List ℕ) (few : N ≤ most_charts) where
   -- the wiring of chart c is the same in tables that agree on it
-  others_same : (m m₁ : List ℕ) (may : ℕ → Set) (c : ℕ) → c < N → Backs m m₁ → others_at m N may c ≡ others_at m₁ N may c
+  others_same : (m m₁ : List ℕ) (may : ℕ → Set) (c : ℕ) → c < N → Backs m m₁
+      → others_at m N may c ≡ others_at m₁ N may c
   unfolding others_at
   others_same m m₁ may c l h =
       join_cong N _ _ (λ e r. ap (λ z. cond (same e c) 0 (may e) ∩ z) (h c e (omega arith) (omega arith)))
@@ -490,7 +493,8 @@ module _ (N : ℕ) (few : N ≤ most_charts) (s m₀ : List ℕ) where
         masks = a.long;
       }
 
-  may-same : (m : List ℕ) (c : ℕ) → c < N → count_at s c ≤ most_from_state → SameLists m₀ m → may_at m s c ≡ may_at m₀ s c
+  may-same : (m : List ℕ) (c : ℕ) → c < N → count_at s c ≤ most_from_state → SameLists m₀ m
+      → may_at m s c ≡ may_at m₀ s c
   unfolding may_at
   may-same m c l f h = join_cong (count_at s c) _ _ (λ v r. h.action c v (omega arith) (omega arith))
 
@@ -586,7 +590,8 @@ join_apart (suc N) c a f b l = go (same c N) refl (join_apart N c a f b)
     go : (x : Bool) → same c N ≡ x → (c < N → union_up_to N (with-own a) ≡ a ∩ b c ∪ union_up_to N (with-own 0))
         → union_up_to N (with-own a) ∪ with-own a N ≡ a ∩ b c ∪ (union_up_to N (with-own 0) ∪ with-own 0 N)
     go true x r = let e = same→≡ c N x in
-        sets (union_up_to N (with-own a) ∷ union_up_to N (with-own 0) ∷ with-own a N ∷ with-own 0 N ∷ (a ∩ b c) ∷ b c ∷ [])
+        sets (union_up_to N (with-own a) ∷ union_up_to N (with-own 0) ∷ with-own a N ∷ with-own 0 N ∷ (a ∩ b c)
+        ∷ b c ∷ [])
         (A ≐ B ∷ C ≐ Eₑ ∷ D ≐ ∅ₑ ∩ₑ Fₑ ∷ []) (A ∪ₑ C ≐ Eₑ ∪ₑ (B ∪ₑ D)) tt
         (join_cong N (with-own a) (with-own 0) (λ i l. elsewhere a 0 i (λ y. omega arith))) (ap (with-own a) (sym e)
         ∙ here a) (ap (with-own 0) (sym e) ∙ here 0)
@@ -744,7 +749,8 @@ pub hunts_stuck : (m s g y : List ℕ) (N : ℕ) (t : Trail) → N ≤ most_char
     → hunts_both m s g y N 0 t ≡ []
 unfolding stuck
 hunts_stuck m s g y N t few h =
-    let u = any-one N (λ c. same (count_at s c) 0 && (not (ltb (master_at s c) most_charts) && not (stays_at g y c))) h in
+    let u = any-one N (λ c. same (count_at s c) 0 && (not (ltb (master_at s c) most_charts) && not (stays_at g y c))) h
+    in
     let l = u.1 in
     let r = and_r (same (count_at s u.0) 0) _ u.2 in
     let o =

@@ -14,7 +14,8 @@ use Rattle.signals.specs.Decide.{sets, A, B, C, D, E as Eₑ, F as Fₑ, ∅ₑ,
 use Rattle.layout.specs.Body.{from as fromOn}
 use Rattle.layout.specs.declared.record.Transition.{Transition}
 use Rattle.meaning.specs.Meaning.{Set, ∅, same, Chart, Tree, Slaves, leaf, comp, hide, dec, nil, snoc, Move, no_move}
-use Rattle.meaning.specs.Meaning.{takes, stay, nth, behind, pick, last_place, action_of, after, met?, untriggered, meets}
+use Rattle.meaning.specs.Meaning.{takes, stay, nth, behind, pick, last_place, action_of, after, met?, untriggered}
+use Rattle.meaning.specs.Meaning.{meets}
 use Rattle.meaning.specs.Meaning.{permitted, moves, nexts, place_of, places_from, upd, out, upto, outcome_of, outcome}
 use Rattle.meaning.specs.Meaning.{search, outcomes}
 use Rattle.meaning.specs.Laws.Bools.{same_refl, same→≡, and_cong}
@@ -265,7 +266,8 @@ module _ (E : ℕ → Chart) (state : ℕ → ℕ) (cfg : ℕ → ℕ) (N : ℕ)
       at e m = rw (acts_narrowed ch e, back-narrowed r E t c e)
           (sets (action_of (moves E ch e) ∷ r e ∷ back E t c e ∷ a ∷ read_of E cfg N t e ∷ full ∷ [])
           (A ∩ₑ Fₑ ≐ A ∷ C ∩ₑ D ⊑ Eₑ ∷ Eₑ ∩ₑ Fₑ ⊑ B ∷ []) (A ∩ₑ B ∩ₑ C ∩ₑ D ≐ A ∩ₑ C ∩ₑ D) tt (sa ch e)
-          (unfold read_of in sets ((back E t c e ∩ a) ∷ up t e ∷ union_up_to N (asks e) ∷ []) (A ⊑ C ∷ []) (A ⊑ B ∪ₑ C) tt
+          (unfold read_of in sets ((back E t c e ∩ a) ∷ up t e ∷ union_up_to N (asks e) ∷ []) (A ⊑ C ∷ [])
+          (A ⊑ B ∪ₑ C) tt
           (join_at N (asks e) c l)) (rd e m))
 
   ruled-narrowed : (ch : ℕ → ℕ) (c : ℕ) → c < N

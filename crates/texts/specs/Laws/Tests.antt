@@ -16,7 +16,8 @@ use Rattle.notation.proofs.Laws.Theorems.{complete}
 use Rattle.reading.specs.Numbers.{most_depth, not_notation, too_deep, bad_name}
 use Rattle.reading.specs.Names.{any, names?}
 use Rattle.reading.specs.Meant.{charts_of, transitions_in, trailer_for, file_for}
-use Rattle.reading.specs.Read.{chart_tests, refusal_in, read_refusal, place_in, read_place, file_in, read_file, read_length}
+use Rattle.reading.specs.Read.{chart_tests, refusal_in, read_refusal, place_in, read_place, file_in, read_file}
+use Rattle.reading.specs.Read.{read_length}
 use Rattle.reading.specs.Read.{read_out}
 use Rattle.texts.specs.declared.FileRead.{FileRead}
 use Rattle.texts.specs.Promises.{ReadSays, tested, written, deliver_tests, Delivers, ReadsChart}

@@ -34,7 +34,8 @@ module _ (f : List ℕ) where
   refusal_is : refusal_of f ≡ 0 → (trailer f).edition ≢ stay_edition → (room : ℕ)
       → clear_refusal f room ≡ clear_after (file_of f) room
   unfolding clear_refusal clear_after clear_bytes
-  refusal_is h one room = call-passed f _ h ∙ first_of-next (stay_test f) _ (same_≢ (trailer f).edition stay_edition one)
+  refusal_is h one room = call-passed f _ h
+      ∙ first_of-next (stay_test f) _ (same_≢ (trailer f).edition stay_edition one)
 
   module _ (buffer : List ℕ) where
     -- a file that is refused leaves the buffer as it was

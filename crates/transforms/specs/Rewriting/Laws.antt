@@ -37,7 +37,8 @@ module _ (f : List ℕ) where
   file_refused_lem h room = behind room ∙ call_refused f _ h
 
   -- 46
-  pub stay_refused : refusal_of f ≡ 0 → (trailer f).edition ≡ stay_edition → (room : ℕ) → rewrite_refusal f room ≡ may_stay
+  pub stay_refused : refusal_of f ≡ 0 → (trailer f).edition ≡ stay_edition → (room : ℕ)
+      → rewrite_refusal f room ≡ may_stay
   stay_refused h two room =
       behind room ∙ call-passed f _ h ∙ first_of_here (stay_test f) _ (rw two (same_refl stay_edition))
 

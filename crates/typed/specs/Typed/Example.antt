@@ -35,8 +35,8 @@ configs_right = refl
 
 -- 64 states are as many as can be typed
 pub configs_long : map (λ (n : ℕ). length (config_of (dotted (replicate n 1)))) (64 ∷ 65 ∷ []) ≡ (64 ∷ 0 ∷ [])
-unfolding config_of states_on same between value_of digit_on digits_on begun number_of in_front split digit digits width_to
-    width decimal behind joined dotted
+unfolding config_of states_on same between value_of digit_on digits_on begun number_of in_front split digit digits
+    width_to width decimal behind joined dotted
 configs_long = refl
 
 -- no word; a state over 255; a zero in front; a dot at the end, at the beginning, twice; a letter; a comma

@@ -1,7 +1,8 @@
 -- What is shown reads back as the same: a set as signals (`shown_reads`), a configuration with dots (`dotted_reads`).
 -- In this order: each signal and each state by itself; parts that are joined split again; the signals of a set joined
 -- are the set; the two theorems.
-use Rattle.std.specs.Prelude.{◌≡◌, Bool, true, false, not, ◌&&◌, ◌||◌, cond, ℕ, zero, suc, ◌+◌, ◌^◌, ◌≤◌, ◌<◌, eqb, length}
+use Rattle.std.specs.Prelude.{◌≡◌, Bool, true, false, not, ◌&&◌, ◌||◌, cond, ℕ, zero, suc, ◌+◌, ◌^◌, ◌≤◌, ◌<◌, eqb}
+use Rattle.std.specs.Prelude.{length}
 use Rattle.std.proofs.Math.Path.{refl}
 use Rattle.std.proofs.Common.{sym, ap, ◌∙◌, ⊎_elim, arith, lt-ltb, eq-eqb, ne_eqb, eqb-true, length-append}
 use Rattle.std.proofs.lemmas.Bool.{false≢true, not-false, not-true, eqb-false}
@@ -58,8 +59,8 @@ module _ (read : List ℕ → Read) (show : ℕ → List ℕ) (separator most : 
   clears = and_r (says (read (show n)) n) _ is_right
 
 signals_right : any_up_to 64 (λ n. not (right signal_of shown_signal comma n)) ≡ false
-unfolding any_up_to right says clear same between value_of digit_on digits_on begun number_of signal_of shown_signal digit
-    digits width_to width decimal
+unfolding any_up_to right says clear same between value_of digit_on digits_on begun number_of signal_of shown_signal
+    digit digits width_to width decimal
 signals_right = refl
 
 states-right : any_up_to 256 (λ n. not (right (number_of 255) decimal dot n)) ≡ false

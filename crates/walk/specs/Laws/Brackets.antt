@@ -1,7 +1,8 @@
 -- The tokens of a chart close exactly what they open, so that behind them stands the bracket that closes what stood
 -- before them: bytes one by one (`closing-..`), tokens (`goes-..`), each form (`even-..`), and the bracket behind even
 -- tokens (`close_par`, `close_brace`).
-use Rattle.std.specs.Prelude.{◌≡◌, refl, Bool, ◌||◌, ◌&&◌, List, [], ◌∷◌, ◌++◌, ℕ, suc, ◌+◌, ◌-◌, ◌≤◌, ◌<◌, eqb, length, drop, get_or}
+use Rattle.std.specs.Prelude.{◌≡◌, refl, Bool, ◌||◌, ◌&&◌, List, [], ◌∷◌, ◌++◌, ℕ, suc, ◌+◌, ◌-◌, ◌≤◌, ◌<◌, eqb, length}
+use Rattle.std.specs.Prelude.{drop, get_or}
 use Rattle.std.proofs.Math.Path.{sym, ap}
 use Rattle.std.proofs.Common.{◌∙◌, subst, append_assoc, add-one, eqb-true, ne_eqb, drop_of_length-le}
 use Rattle.std.proofs.Math.Bool.{true, false, cond}
@@ -13,7 +14,8 @@ use Rattle.notation.specs.Syntax.{Sequential, Single, sequential, decomposed, hi
 use Rattle.notation.specs.Syntax.{Slaves, first_slave, more_slaves}
 use Rattle.notation.specs.Grammar.{Sign, lpar, rpar, lbrace, rbrace, lsq, rsq, comma, bar, slash, amp, minus, wordDec}
 use Rattle.notation.specs.Grammar.{wordBy, Letter, letC, letQ, letS, sign, name, Tokens, sign₁, name₁, of_names}
-use Rattle.notation.specs.Grammar.{of_set, of_optional, of_literal, of_literals, of_guard, of_transition, of_transition_list}
+use Rattle.notation.specs.Grammar.{of_set, of_optional, of_literal, of_literals, of_guard, of_transition}
+use Rattle.notation.specs.Grammar.{of_transition_list}
 use Rattle.notation.specs.Grammar.{of_transitions, of_heading, of_extra, of_sequential, of_single, of_chart, of_part}
 use Rattle.notation.specs.Grammar.{of_slaves}
 use Rattle.notation.specs.Grammar.{sign_bytes, letter, bytes_of, blank, Text, token_then}

@@ -1,7 +1,8 @@
 -- Laws of what is laid down, and of what is written: parts beside each other (`laid-..`, `slaves-..`), room for them
 -- (`fits-..`) and that they are written (`adds-..`).
 use Rattle.std.specs.Prelude.{◌≡◌, refl, List, [], ◌∷◌, ◌++◌, ℕ, ◌+◌, length}
-use Rattle.std.proofs.Common.{sym, ap, ap₂, ◌∙◌, subst, append_assoc, append-nil, add-zero, add_assoc, arith, length-append}
+use Rattle.std.proofs.Common.{sym, ap, ap₂, ◌∙◌, subst, append_assoc, append-nil, add-zero, add_assoc, arith}
+use Rattle.std.proofs.Common.{length-append}
 use Rattle.layout.specs.Record.{slave_bytes, node_bytes}
 use Rattle.layout.specs.declared.record.Node.{Node}
 use Rattle.layout.specs.Put.{Room}

@@ -388,10 +388,12 @@ module _ (w : List ℕ) (left c i j k l m n o : ℕ) (r : Drawn) (a b d : Sheet)
               unfold sign_bytes in
               behind-right w k lbrace l (behind-right w r.next wordBy k read.goes_on s.behind) u.behind
 
-          fits : Fits a (beside (lay_slaves c (sorted_by at_of named_states (placed ps)) a.node) (one_node (chart_node t)))
+          fits : Fits a (beside (lay_slaves c (sorted_by at_of named_states (placed ps)) a.node)
+              (one_node (chart_node t)))
           fits =
               fits_is (master-is t ps a.node
-              ∙ ap (λ g. beside (lay_slaves g (sorted_by at_of named_states (placed ps)) a.node) (one_node (chart_node t)))
+              ∙ ap (λ g. beside (lay_slaves g (sorted_by at_of named_states (placed ps)) a.node)
+              (one_node (chart_node t)))
               (sym named)) f
 
           slaves : Text (sign rbrace ∷ ts) (drop m w)
@@ -407,5 +409,6 @@ module _ (w : List ℕ) (left c i j k l m n o : ℕ) (r : Drawn) (a b d : Sheet)
           whole : Adds a d (lay_single (decomposed t ps) a.node)
           whole =
               adds_is (master-is t ps a.node
-              ∙ ap (λ g. beside (lay_slaves g (sorted_by at_of named_states (placed ps)) a.node) (one_node (chart_node t)))
+              ∙ ap (λ g. beside (lay_slaves g (sorted_by at_of named_states (placed ps)) a.node)
+              (one_node (chart_node t)))
               (sym named)) (adds_then slaves.1 end.1)

@@ -12,8 +12,10 @@ use Rattle.notation.specs.Syntax.{Sequential, Single, sequential, decomposed, hi
 use Rattle.notation.specs.Syntax.{first_slave, more_slaves}
 use Rattle.notation.specs.Grammar.{of_chart, Text}
 use Rattle.reading.specs.Numbers.{most_depth, named_charts}
-use Rattle.reading.specs.Names.{members_of, any, twice?, left_out?, not_all?, set?, optional?, sequential?, sequentials_in}
-use Rattle.reading.specs.Names.{sequentials_of, sequentials_of_slaves, single_parts?, parts?, slave_parts?, name_of, names?}
+use Rattle.reading.specs.Names.{members_of, any, twice?, left_out?, not_all?, set?, optional?, sequential?}
+use Rattle.reading.specs.Names.{sequentials_in}
+use Rattle.reading.specs.Names.{sequentials_of, sequentials_of_slaves, single_parts?, parts?, slave_parts?, name_of}
+use Rattle.reading.specs.Names.{names?}
 use Rattle.reading.specs.Names.{has}
 use Rattle.reading.specs.Meant.{all, lay_chart, slaves_of}
 use Rattle.forms.specs.Laws.Bytes.{calm-end}

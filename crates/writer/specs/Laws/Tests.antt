@@ -33,7 +33,8 @@ module _ (f : List ℕ) where
   refusal_is : refusal_of f ≡ 0 → (trailer f).edition ≢ stay_edition → (room : ℕ)
       → write_refusal f room ≡ write_after (file_of f) room
   unfolding write_refusal write_after text_of
-  refusal_is h one room = call-passed f _ h ∙ first_of-next (stay_test f) _ (same_≢ (trailer f).edition stay_edition one)
+  refusal_is h one room = call-passed f _ h
+      ∙ first_of-next (stay_test f) _ (same_≢ (trailer f).edition stay_edition one)
 
   module _ (b : List ℕ) where
     pub says_refused : (r : ℕ) (s : Written) → r ≡ refusal_of f → (r ≡ 0 → ⊥) → s ≡ record { refusal = r; length = 0 }

@@ -10,7 +10,7 @@ use Rattle.meaning.specs.File.{trailer, shape_of, body_of, file_at, file_of}
 use Rattle.meaning.specs.Check.{refusal_of}
 use Rattle.opening.specs.Opening.{Stands}
 use Rattle.lacks.specs.Lacking.{lacking_of, lacking_in}
-use Rattle.lacks.proofs.Lacking.Laws.{refused_file, in_file}
+use Rattle.lacks.proofs.Laws.{refused_file, in_file}
 use Rattle.lacks.specs.declared.Lacking.TheVariants.{Refused}
 use Rattle.queries.proofs.lacking.lacking.Statement.{statement}
 use Rattle.queries.proofs.lacking.lacking.Tie as tie

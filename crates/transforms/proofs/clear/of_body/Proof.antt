@@ -8,7 +8,7 @@ use Rattle.meaning.specs.File.{File, file_at}
 use Rattle.meaning.specs.Rewriting.{encode}
 use Rattle.laying.specs.Trailer.{Small}
 use Rattle.clearing.specs.Clearing.{clear}
-use Rattle.clearing.proofs.Left.Laws.{shape_small}
+use Rattle.clearing.proofs.LeftLaws.{shape_small}
 use Rattle.transforms.specs.Clearing.Laws.{body-short, body-laid, cleared-size}
 use Rattle.transforms.proofs.clear.of_body.Statement.{statement}
 use Rattle.transforms.proofs.clear.of_body.Tie as tie
