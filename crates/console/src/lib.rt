@@ -2,7 +2,8 @@
 // names, and standard error for bytes that need not be text.
 #![tactic(auto)]
 
-ghost use Rattle.std.specs.Prelude.{◌≡◌, length, IfOk};
+ghost use Rattle.std.specs.Prelude.{◌≡◌, ◌<◌, length, take, IfOk};
+ghost use Rattle.std.specs.Io.KnownBytes.{Consumes, IsAtEnd};
 ghost use Rattle.console.specs.Counts.{IsPrefixLen};
 
 use std::env::{Env, FillError};
@@ -30,15 +31,18 @@ pub trait Console: Files + Env + Print + Errors {}
 
 impl Console for HostRuntime {}
 
-// Reads until a buffer is full or a stream ends; how many bytes came.
+// Reads until a buffer is full or a stream ends; how many bytes came. After an error nothing is said of either.
 pub fn read_full<R: Read>(stream: &mut R, buffer: &mut [u8]) -> io::Result<usize>
-    ensures { IfOk result (λ n. IsPrefixLen n buffer.new) }
+    ensures within { IfOk result (λ n. IsPrefixLen n buffer.new) }
+    ensures bytes { IfOk result (λ n. Consumes (R.remaining stream.old) (R.remaining stream.new)
+        (take n buffer.new)) }
+    ensures ended { IfOk result (λ n. n < length buffer.new → IsAtEnd (R.remaining stream.new)) }
 {
     let mut at: usize = 0;
     while at < buffer.len() {
         let n = stream.read(&mut buffer[at..])?;
         if n == 0 {
-            break;
+            return Ok(at);
         }
         at += n;
     }
@@ -101,4 +105,38 @@ pub fn say_decimal(out: &impl Print, n: u64) {
 // Prints a set in sixteen hex digits.
 pub fn say_hex(out: &impl Print, set: u64) {
     let _ = print!(out; "{set:016x}");
+}
+
+#[cfg(test)]
+mod tests {
+    use super::*;
+
+    // Gives so many bytes, one at a time, and then fails.
+    #[derive(Drop)]
+    struct Broken {
+        left: u8,
+    }
+
+    impl Read for Broken {
+        fn read(&mut self, buf: &mut [u8]) -> io::Result<usize> {
+            if self.left == 0 || buf.is_empty() {
+                return Err(io::Error::from(ErrorKind::BrokenPipe));
+            }
+            self.left -= 1;
+            buf[0] = b'x';
+            Ok(1)
+        }
+    }
+
+    #[test]
+    fn a_failure_in_mid_stream_is_no_end(rt: HostRuntime) {
+        let mut buffer = [0u8; 4];
+        assert!(rt; read_full(&mut Broken { left: 2 }, &mut buffer).is_err());
+        assert!(rt; read_full(&mut Broken { left: 4 }, &mut buffer).is_ok());
+    }
+
+    #[test]
+    fn a_name_that_is_no_text_names_no_file(rt: HostRuntime) {
+        assert!(rt; open(&rt, b"\xff").is_err());
+    }
 }
