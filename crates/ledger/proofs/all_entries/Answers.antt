@@ -19,7 +19,8 @@ pub loop-i-preserved : goal.loop-i-preserved
 loop-i-preserved c = (
   omega arith,
   rw c.take_one-d.ensures
-      (sym (taken_next c.args.n c.loop-i.d c.args.entries.now c.loop-i.i _ c.loop-i-test.true) ∙ c.loop-i.invariant.1),
+      (sym (taken_next c.args.n c.loop-i.d c.args.entries.now c.loop-i.i _ c.loop-i-test.true)
+      ∙ c.loop-i.invariant.1),
 )
 
 pub returns : goal.returns
