@@ -1,5 +1,5 @@
 // The posting of a day for a whole book (RULES 11): cases of one chart file, a row for each. Here are the functions
-// over slices of records, which are proved by hand; what is done with one record is in deciding and advancing.
+// over slices of records; what is done with one record is in deciding and advancing.
 #![tactic(auto)]
 
 ghost use Rattle.std.specs.Prelude.{◌≡◌, length};

@@ -40,5 +40,6 @@ next-long c = search rules
 pub returns : goal.returns
 returns c =
     row_is c.args.row.now c.put32.new.s c.put_fields.new.row c.args.charts c.args.number _
-    c.args.r (next-long (goal.at.returns c).After-slice_known-1) c.requires.0 c.requires.1 c.put32.ensures c.put_fields.ensures
+    c.args.r (next-long (goal.at.returns c).After-slice_known-1) c.requires.0 c.requires.1 c.put32.ensures
+    c.put_fields.ensures
     c.mark_of.ensures
