@@ -4,14 +4,12 @@ use mathlib.Core.Path.{◌≡◌, refl}
 use mathlib.Core.List.{List}
 use Prim.Native.Nat.{ℕ, ◌+◌, ◌-◌, ◌<◌}
 use native.Mathlib.Omega.{arith}
-use borrow.Author.Rules.{rules}
 use lib.ListN.{take}
 use Rattle.meaning.specs.Calls.{after_step, carried_after}
 use Rattle.stepping.specs.Step.{tried_answer, tried_refusal}
 use Rattle.stepping.specs.Step.Laws.{tried_refused, tried-given}
 use Rattle.stepping.specs.declared.step.Tried.{Tried}
-use Rattle.running.proofs.after.Statement.{statement}
-use Rattle.running.proofs.after.Tie as tie
+use Rattle.running.proofs.after.Goals as goal
 
 module _ (t : Tried) (s d : List ℕ) (i x n r : ℕ) (k : r ≡ tried_refusal t) where
   abbrev Leads : Type 0
@@ -26,26 +24,18 @@ module _ (t : Tried) (s d : List ℕ) (i x n r : ℕ) (k : r ≡ tried_refusal t
 fewer : (left rest : ℕ) → 0 < left → rest ≡ left - 1 → rest + 1 ≡ left
 fewer left rest l e = omega (arith, e)
 
-returns : tie.Need-returns
-returns c =
-    let k = c.before in
-    let s = k.before.before.before.before in
-    let a = s.args in (
-      fewer a.left _ s.requires c.present.ensures.2,
-      λ n. keeps a.t a.states _ a.offered _ n _ k.before.refusal-of.ensures k.if1.true
+pub returns-then-refusal_of-ne-ACCEPTED : goal.returns-then-refusal_of-ne-ACCEPTED
+returns-then-refusal_of-ne-ACCEPTED c =
+    let a = c.args in (
+      fewer a.left _ c.requires c.present.ensures.2,
+      λ n. keeps a.t a.states _ a.offered _ n _ c.refusal_of.ensures c.if-refusal_of-ne-ACCEPTED.true
           c.present.ensures.0 c.present.ensures.1,
     )
 
-returns-2 : tie.Need-returns-2
-returns-2 c =
-    let k = c.before in
-    let s = k.before.before.before.before in
-    let a = s.args in (
-      fewer a.left _ s.requires c.present2.ensures.2,
-      λ n. gives a.t a.states _ a.offered _ n _ k.before.refusal-of.ensures k.if1.false
-          c.present2.ensures.0 c.present2.ensures.1,
+pub returns : goal.returns
+returns c =
+    let a = c.args in (
+      fewer a.left _ c.requires c.present-2.ensures.2,
+      λ n. gives a.t a.states _ a.offered _ n _ c.refusal_of.ensures c.if-refusal_of-ne-ACCEPTED.false
+          c.present-2.ensures.0 c.present-2.ensures.1,
     )
-
-pub after_spec : {M : Type 1} → statement M
-after_spec = tie.close (tie.spec (λ c. search rules) (λ c κs. search rules) (λ c κs. search rules) returns
-    (λ c κs. search rules) returns-2)

@@ -11,8 +11,8 @@ use Rattle.layout.specs.Le.{bytes}
 use Rattle.layout.specs.Le.Laws.{length-bytes}
 use Rattle.meaning.specs.Calls.{laid_over}
 use Rattle.running.specs.Run.Laws.{laid}
-use Rattle.running.proofs.put_fields.Statement.{statement}
-use Rattle.running.proofs.put_fields.Tie as tie
+use Rattle.running.proofs.put_fields.Goals as goal
+use Rattle.running.proofs.put_fields.Goals.{After-slice_known-2-1, After-slice_known-3-1}
 
 -- states laid over all that stands behind ten bytes
 laid-states : (l front rest states v : List ℕ) (k : ℕ) → l ≡ front ++ rest → length front ≡ 10 → length rest ≡ k
@@ -63,44 +63,37 @@ module _ (row : List ℕ) (x m r k : ℕ) (wide : length row ≡ 10 + k) (l : Li
       ∙ append_assoc (bytes 8 x) (m ∷ r ∷ []) (take k s)
 
 -- the row after its ten first bytes
-long : (c : tie.After-slice-known2)
-    → length (set (set c.before.before.put64.new.0 8 c.before.before.before.before.before.args.mark) 9
-    c.before.before.before.before.before.args.refusal)
-    ≡ 10 + c.before.before.before.before.before.args.charts
+long : (c : After-slice_known-2-1)
+    → length (set (set c.put64.new.s 8 c.args.mark) 9
+    c.args.refusal)
+    ≡ 10 + c.args.charts
 long c =
-    let s = c.before.before.before.before.before in
-    begun-length s.args.row.now s.args.output _ _ _ s.requires.1 _ c.before.before.put64.ensures
+    begun-length c.args.row.now c.args.output _ _ _ c.requires.1 _ c.put64.ensures
 
-put-states-requires : tie.Need-put-states-requires
-put-states-requires c κs =
-    let h = long c.before in
-    (c.before.before.before.before.before.before.requires.0, rw (length-take, length-drop) (omega arith))
+pub put_states-requires : goal.put_states-requires
+put_states-requires c =
+    let h = long (goal.at.put_states-requires c).After-slice_known-2-1 in
+    (c.requires.0, rw (length-take, length-drop) (omega arith))
 
-returns : tie.Need-returns
-returns c =
-    let p = c.before.before.before.before.before.before in
-    let s = p.before.before.before in
-    whole _ _ _ _ _ s.requires.1 _ p.put64.ensures _ _ (search rules) c.before.before.put-states.ensures
+pub returns : goal.returns
+returns c = whole _ _ _ _ _ c.requires.1 _ c.put64.ensures _ _ (search rules) c.put_states.ensures
 
-same_length : tie.Need-same-length
-same_length c =
-    let s = c.before.before.before.before.before.before.before.before.before in
-    ap length (returns c) ∙ rw (
+pub shape_of-row : goal.shape_of-row
+shape_of-row c =
+    ap length (returns (goal.at.shape_of-row c).After-slice_known-3-1) ∙ rw (
       length-append,
-      length-bytes 8 s.args.output,
-      length-take-le s.args.charts s.args.states (search rules),
-    ) (omega (arith, s.requires.1))
+      length-bytes 8 c.args.output,
+      length-take-le c.args.charts c.args.states (search rules),
+    ) (omega (arith, c.requires.1))
 
-pub put_fields_spec : {M : Type 1} → statement M
-put_fields_spec =
-    tie.close
-    (tie.spec
-    (λ c κs. search rules)
-    (λ c. search rules)
-    (λ c. let h = simp length-set at (long c) in simp length-set (omega arith))
-    (λ c. omega (arith, long c))
-    (λ c. omega (arith, long c))
-    (λ c. search rules)
-    put-states-requires
-    same_length
-    returns)
+pub bounds-row-9 : goal.bounds-row-9
+bounds-row-9 c =
+    let h = simp length-set at (long (goal.at.bounds-row-9 c).After-slice_known-2-1) in simp length-set (omega arith)
+
+pub slice_bounds-put_states-count : goal.slice_bounds-put_states-count
+slice_bounds-put_states-count c =
+    omega (arith, long (goal.at.slice_bounds-put_states-count c).After-slice_known-2-1)
+
+pub slice_bounds-put_states-start : goal.slice_bounds-put_states-start
+slice_bounds-put_states-start c =
+    omega (arith, long (goal.at.slice_bounds-put_states-start c).After-slice_known-2-1)

@@ -2,7 +2,6 @@
 use mathlib.Core.Path.{◌≡◌}
 use mathlib.Core.List.{List, ◌∷◌, ◌++◌}
 use Prim.Native.Nat.{ℕ}
-use borrow.Author.Rules.{rules}
 use lib.ListN.{take}
 use Rattle.layout.specs.Le.{bytes}
 use Rattle.meaning.specs.Sums.{one}
@@ -10,8 +9,7 @@ use Rattle.meaning.specs.Calls.{row_of}
 use Rattle.stepping.specs.Step.{tried_answer, tried_refusal}
 use Rattle.stepping.specs.Step.Laws.{tried-given, tried_refused}
 use Rattle.stepping.specs.declared.step.Tried.{Tried}
-use Rattle.running.proofs.put_row.Statement.{statement}
-use Rattle.running.proofs.put_row.Tie as tie
+use Rattle.running.proofs.put_row.Goals as goal
 
 module _ (row : List ℕ) (t : Tried) (s : List ℕ) (n r : ℕ) (q : r ≡ tried_refusal t) where
   of-given : (m : ℕ) → r ≡ 0 → m ≡ one t.found.agree
@@ -23,29 +21,12 @@ module _ (row : List ℕ) (t : Tried) (s : List ℕ) (n r : ℕ) (q : r ≡ trie
   unfolding row_of
   of_refused h p = rw (tried_refused n t (λ z. h (rw q z)), ← q) p
 
-returns : tie.Need-returns
-returns c =
-    let p = c.before.before in
-    let k = p.before.before.before.before.before in
-    of-given _ k.before.before.before.args.t _ _ _ k.before.refusal-of.ensures _ k.if1.true
-    p.before.mark.ensures p.put-fields.ensures
+pub returns-then-refusal-eq-ACCEPTED : goal.returns-then-refusal-eq-ACCEPTED
+returns-then-refusal-eq-ACCEPTED c =
+    of-given _ c.args.t _ _ _ c.refusal_of-refusal.ensures _ c.if-refusal-eq-ACCEPTED.true
+    c.mark.ensures c.put_fields.ensures
 
-returns-2 : tie.Need-returns-2
-returns-2 c =
-    let p = c.before.before in
-    let k = p.before.before in
-    of_refused _ k.before.before.before.args.t _ _ _ k.before.refusal-of.ensures k.if1.false
-    p.put-fields2.ensures
-
-pub put_row_spec : {M : Type 1} → statement M
-put_row_spec =
-    tie.close
-    (tie.spec
-    (λ c κs. search rules)
-    (λ c κs. search rules)
-    (λ c κs. search rules)
-    (λ c κs. search rules)
-    (λ c. search rules)
-    returns
-    (λ c. search rules)
-    returns-2)
+pub returns-else-refusal-eq-ACCEPTED : goal.returns-else-refusal-eq-ACCEPTED
+returns-else-refusal-eq-ACCEPTED c =
+    of_refused _ c.args.t _ _ _ c.refusal_of-refusal.ensures c.if-refusal-eq-ACCEPTED.false
+    c.put_fields-else-refusal-eq-ACCEPTED.ensures

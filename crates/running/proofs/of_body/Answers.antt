@@ -17,8 +17,7 @@ use Rattle.stepping.specs.Step.{config_tests_in}
 use Rattle.stepping.specs.Step.Laws.{config-is}
 use Rattle.running.specs.Run.{BodyRuns}
 use Rattle.running.specs.Run.Laws.{Refuses, after_config, after_room, after_rows, room, no_room}
-use Rattle.running.proofs.of_body.Statement.{statement}
-use Rattle.running.proofs.of_body.Tie as tie
+use Rattle.running.proofs.of_body.Goals as goal
 
 module _ (n : Shape) (b config : List ℕ) (carried : ℕ) (inputs rows : List ℕ) (r : ℕ)
     (e : r ≡ first_of (config_tests_in (file_at n b) config)) where
@@ -55,70 +54,42 @@ module _ (n : Shape) (b config : List ℕ) (carried : ℕ) (inputs rows : List �
           after_rows (file_at n b) config carried inputs rows (sym e ∙ z)
           (room (length inputs) (10 + n.charts) (length rows) (omega arith) l) rows' c q.0 q.1
 
-returns : tie.Need-returns
-returns c = let d = c.before in
-    by_config _ _ _ _ _ _ _ d.before.config-refusal.ensures d.if1.true _ c.refused.ensures
+pub returns-then-r-ne-ACCEPTED : goal.returns-then-r-ne-ACCEPTED
+returns-then-r-ne-ACCEPTED c =
+    by_config _ _ _ _ _ _ _ c.config_refusal-r.ensures c.if-r-ne-ACCEPTED.true _ c.refused.ensures
 
-returns-2 : tie.Need-returns-2
-returns-2 c =
-    let e = c.before.before.before in
-    by_room _ _ _ _ _ _ _ e.before.config-refusal.ensures e.if1.false c.before.if2.true _
-    c.refused2.ensures
+pub returns-then-rows-n : goal.returns-then-rows-n
+returns-then-rows-n c =
+    by_room _ _ _ _ _ _ _ c.config_refusal-r.ensures c.if-r-ne-ACCEPTED.false c.if-rows-n.true _
+    c.refused-then-rows-n.ensures
 
-states-of-requires : tie.Need-states-of-requires
-states-of-requires c κs =
-    let e = c.before.before in
-    let s = e.before.before.before.before.before.before in
+pub states_of-start-requires : goal.states_of-start-requires
+states_of-start-requires c =
     omega (
       arith,
-      s.requires.sized.charts,
-      long _ _ _ s.args.carried s.args.inputs.now s.args.rows.now _ e.before.config-refusal.ensures
-          e.if1.false,
+      c.requires.sized.charts,
+      long _ _ _ c.args.carried c.args.inputs.now c.args.rows.now _ c.config_refusal-r.ensures
+          c.if-r-ne-ACCEPTED.false,
     )
 
-put-rows-requires : tie.Need-put-rows-requires
-put-rows-requires c κs =
-    let w = c.before.before.before.before.before in
-    let t = w.before.before.before in
-    let e = t.before.before.before in
-    let s = e.before.before.before.before.before.before in
-    let a = s.args in
-    let r = e.before.config-refusal.ensures in (
-      s.requires,
-      rw (begins _ _ _ a.carried a.inputs.now a.rows.now _ r e.if1.false _ t.states-of.ensures)
-          (valid _ _ _ a.carried a.inputs.now a.rows.now _ r e.if1.false),
+pub put_rows-left-requires : goal.put_rows-left-requires
+put_rows-left-requires c =
+    let a = c.args in
+    let r = c.config_refusal-r.ensures in (
+      c.requires,
+      rw (begins _ _ _ a.carried a.inputs.now a.rows.now _ r c.if-r-ne-ACCEPTED.false _ c.states_of-start.ensures)
+          (valid _ _ _ a.carried a.inputs.now a.rows.now _ r c.if-r-ne-ACCEPTED.false),
       record {
-        wired = w.wired.ensures;
-        tabled = record { masks = omega (arith, s.requires.sized.charts, w.wired.auto.1.1.0); small = search rules };
+        wired = c.wired-down.ensures;
+        tabled = record { masks = omega (arith, c.requires.sized.charts, c.wired-down.auto.masks); small = search rules };
       },
-      room _ _ _ (omega arith) t.before.if2.false,
+      room _ _ _ (omega arith) c.if-rows-n.false,
     )
 
-returns-3 : tie.Need-returns-3
-returns-3 c =
-    let p = c.before.before.before.before in
-    let t = p.before.before.before.before.before.before.before.before.before in
-    let e = t.before.before.before in
-    by_rows _ _ _ _ _ _ _ e.before.config-refusal.ensures e.if1.false _ t.states-of.ensures
-    t.before.if2.false _ _ p.put-rows.ensures
+pub returns : goal.returns
+returns c =
+    by_rows _ _ _ _ _ _ _ c.config_refusal-r.ensures c.if-r-ne-ACCEPTED.false _ c.states_of-start.ensures
+    c.if-rows-n.false _ _ c.put_rows-left.ensures
 
-pub of_body_spec : {M : Type 1} → statement M
-of_body_spec =
-    tie.close
-    (tie.spec
-    (λ c κs. search rules)
-    (λ c κs. search rules)
-    returns
-    (λ c. search rules)
-    (λ c. search rules)
-    (λ c κs. search rules)
-    returns-2
-    states-of-requires
-    (λ c. search rules)
-    (λ c. search rules)
-    (λ c κs. (search rules, search rules, blank-new (masks_for most_charts), search rules))
-    (λ c. search rules)
-    (λ c. search rules)
-    put-rows-requires
-    (λ c. search rules)
-    returns-3)
+pub wired-down-requires : goal.wired-down-requires
+wired-down-requires c = (search rules, search rules, blank-new (masks_for most_charts), search rules)
