@@ -23,20 +23,12 @@ use Rattle.meaning.proofs.Laws.Runs.{rows_all}
 use Rattle.stepping.specs.Step.{Checked, tried_answer}
 use Rattle.running.specs.Run.Laws.{leads, laid, laid-before, laid-after, laid-length, run_step, carry_step}
 use Rattle.running.specs.Run.Laws.{run_done, carry_done, next_row, next-at}
+use Rattle.running.proofs.put_rows.Invariants.{So-far, stand}
 use Rattle.running.proofs.put_rows.Goals as goal
 use Rattle.running.proofs.put_rows.Goals.{After-slice_known-3-1, In-loop-left}
 
 module _ (n : Shape) (b inputs : List ℕ) (start : Stand) (rows₀ : List ℕ) where
-  -- i inputs were taken: their rows stand before `at`, and they led to the stand t
-  pub record So-far (rows : List ℕ) (t : Stand) (at i : ℕ) : Type 0 where
-    pub place : at ≡ i * (10 + n.charts)
-    pub long : length rows ≡ length rows₀
-    pub valid : Valid (file_at n b) t.config
-    pub before : take at rows ++ rows_from (file_at n b) t (drop i inputs) ≡ rows_from (file_at n b) start inputs
-    pub behind : drop at rows ≡ drop at rows₀
-    pub carried : carried_from (file_at n b) t (drop i inputs) ≡ carried_from (file_at n b) start inputs
-
-  module _ (k : Checked n b) (rows : List ℕ) (t : Stand) (at i : ℕ) (s : So-far rows t at i) where
+  module _ (k : Checked n b) (rows : List ℕ) (t : Stand) (at i : ℕ) (s : So-far n b inputs start rows₀ rows t at i) where
     module _ (l : i < length inputs) (room : at + (10 + n.charts) ≤ length rows) (row : List ℕ) (u : Stand)
         (r : Answer)
         (e : r ≡ step_from (file_at n b) t (get_or inputs i 0)) (p : row ≡ row_of r t.config)
@@ -47,7 +39,7 @@ module _ (n : Shape) (b inputs : List ℕ) (start : Stand) (rows₀ : List ℕ) 
           (omega arith)
 
       -- one input more
-      pub turn : So-far (laid rows row at (at + (10 + n.charts))) u (at + (10 + n.charts)) (i + 1)
+      pub turn : So-far n b inputs start rows₀ (laid rows row at (at + (10 + n.charts))) u (at + (10 + n.charts)) (i + 1)
       turn =
           let w = 10 + n.charts in
           record {
@@ -71,10 +63,6 @@ module _ (n : Shape) (b inputs : List ℕ) (start : Stand) (rows₀ : List ℕ) 
           (rows_all (file_at n b) (leads n b k) start inputs v ∙ rw (← e) (sym s.place)) s.before s.behind,
       carry_done (file_at n b) inputs start t i e s.carried,
     )
-
--- where the code stands
-abbrev stand : Shape → List ℕ → ℕ → Stand
-stand n states held = record { config = take n.charts states; carried = held }
 
 -- where a step leads
 lands : (n : Shape) (states d : List ℕ) (held x i : ℕ) (r : Answer)
