@@ -3,7 +3,6 @@ use mathlib.Core.Path.{◌≡◌, sym, ◌∙◌}
 use mathlib.Core.List.{List}
 use Prim.Native.Nat.{ℕ, ◌<◌}
 use native.Mathlib.Omega.{arith}
-use borrow.Author.Rules.{rules}
 use lib.ListN.{length}
 use Rattle.layout.specs.declared.body.Shape.{Shape}
 use Rattle.meaning.specs.Numbers.{many_open}
@@ -18,8 +17,8 @@ use Rattle.stepping.specs.Step.{BodySteps}
 use Rattle.stepping.specs.Step.Laws.{step_refused, step-passed, places_passed, open_passed, file-under, checked}
 use Rattle.stepping.specs.Step.Laws.{file_is, refuses, says_none}
 use Rattle.stepping.specs.declared.step.Stepped.{Stepped}
-use Rattle.engine.proofs.step.step.Statement.{statement}
-use Rattle.engine.proofs.step.step.Tie as tie
+use Rattle.engine.proofs.step.step.Goals as goal
+use Rattle.engine.proofs.step.step.Goals.{Else-r-ne-ACCEPTED}
 
 by-file : (f config : List ℕ) (i : Set) (room r : ℕ) → r ≡ refusal_of f → (r ≡ 0 → ⊥)
     → step_of f config i room ≡ refused r
@@ -44,45 +43,37 @@ module _ (f : List ℕ) (h : refusal_of f ≡ 0) (n : Shape) (en : n ≡ shape_o
       ) q
 
 -- a file that is not refused, and its body
-accepted : (c : tie.Else1) → refusal_of c.before.before.before.before.before.args.file.now ≡ 0
-accepted c = sym c.before.opened.ensures.refusal ∙ c.if1.false
+accepted : (c : Else-r-ne-ACCEPTED) → refusal_of c.args.file.now ≡ 0
+accepted c = sym c.opened-o.ensures.refusal ∙ c.if-r-ne-ACCEPTED.false
 
-stands : (c : tie.Else1)
-    → Stands c.before.before.before.before.before.args.file.now c.before.opened.result
-stands c = c.before.opened.ensures.stands c.if1.false
+stands : (c : Else-r-ne-ACCEPTED)
+    → Stands c.args.file.now c.opened-o.result
+stands c = c.opened-o.ensures.stands c.if-r-ne-ACCEPTED.false
 
-returns : tie.Need-returns
+pub returns-then-r-ne-ACCEPTED : goal.returns-then-r-ne-ACCEPTED
 unfolding open_of
-returns c =
-    let o = c.before.before in
-    let q = by-file _ _ _ _ _ o.opened.ensures.refusal c.before.if1.true in
-    refuses _ _ _ _ _ _ _ q (of_refused _ _ _ _ _ q) (says_none _ _ (by-under _ _ o.opened.ensures.refusal))
+returns-then-r-ne-ACCEPTED c =
+    let q = by-file _ _ _ _ _ c.opened-o.ensures.refusal c.if-r-ne-ACCEPTED.true in
+    refuses _ _ _ _ _ _ _ q (of_refused _ _ _ _ _ q) (says_none _ _ (by-under _ _ c.opened-o.ensures.refusal))
     c.refused.ensures
 
-of-body-requires : tie.Need-of-body-requires
-of-body-requires c κs =
-    let e = c.before.before.before in
-    let w = stands e in
-    checked _ _ _ (accepted e) w.shape w.body (rw w.body w.sized) (rw w.body w.summed)
+pub of_body-requires : goal.of_body-requires
+of_body-requires c =
+    let w = stands (goal.at.of_body-requires c).Else-r-ne-ACCEPTED in
+    checked _ _ _ (accepted (goal.at.of_body-requires c).Else-r-ne-ACCEPTED) w.shape w.body (rw w.body w.sized) (rw w.body w.summed)
 
-returns-2 : tie.Need-returns-2
-returns-2 c =
-    let d = c.before.before in
-    let e = d.before.before.before.before in
-    let w = stands e in
-    let a = e.before.before.before.before.before.args in
-    by-body _ (accepted e) _ w.shape _ w.body a.config.now a.input a.next.now _ _ d.of-body.ensures
+pub returns : goal.returns
+returns c =
+    let w = stands (goal.at.returns c).Else-r-ne-ACCEPTED in
+    let a = c.args in
+    by-body _ (accepted (goal.at.returns c).Else-r-ne-ACCEPTED) _ w.shape _ w.body a.config.now a.input a.next.now _ _ c.of_body.ensures
 
-pub step_spec : {M : Type 1} → statement M
-step_spec =
-    tie.close
-    (tie.spec
-    (λ c κs. search rules)
-    (λ c κs. search rules)
-    returns
-    (λ c. (stands c.before).order)
-    (λ c. (stands c.before).order)
-    (λ c. let e = (stands c.before).end in omega arith)
-    of-body-requires
-    (λ c. search rules)
-    returns-2)
+pub slice_bounds-of_body-count : goal.slice_bounds-of_body-count
+slice_bounds-of_body-count c = (stands (goal.at.slice_bounds-of_body-count c).Else-r-ne-ACCEPTED).order
+
+pub slice_bounds-of_body-start : goal.slice_bounds-of_body-start
+slice_bounds-of_body-start c = (stands (goal.at.slice_bounds-of_body-start c).Else-r-ne-ACCEPTED).order
+
+pub slice_bounds-of_body-end : goal.slice_bounds-of_body-end
+slice_bounds-of_body-end c =
+    let e = (stands (goal.at.slice_bounds-of_body-end c).Else-r-ne-ACCEPTED).end in omega arith

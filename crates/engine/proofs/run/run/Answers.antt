@@ -3,8 +3,6 @@ use mathlib.Core.Path.{◌≡◌, refl, sym, ◌∙◌}
 use mathlib.Core.List.{List}
 use Prim.Native.Nat.{ℕ}
 use native.Mathlib.Omega.{arith}
-use borrow.Author.Rules.{rules}
-use lib.ListN.{length}
 use Rattle.layout.specs.declared.body.Shape.{Shape}
 use Rattle.meaning.specs.File.{trailer, shape_of, body_of, file_at}
 use Rattle.meaning.specs.Check.{refusal_of}
@@ -14,8 +12,8 @@ use Rattle.running.specs.declared.Ran.{Ran}
 use Rattle.engine.specs.Promises.{RunSays}
 use Rattle.running.specs.Run.{BodyRuns}
 use Rattle.running.specs.Run.Laws.{run_refused, bytes_refused, none_carried, run_passed, bytes-passed, carried_passed}
-use Rattle.engine.proofs.run.run.Statement.{statement}
-use Rattle.engine.proofs.run.run.Tie as tie
+use Rattle.engine.proofs.run.run.Goals as goal
+use Rattle.engine.proofs.run.run.Goals.{Else-r-ne-ACCEPTED}
 
 module _ (f config : List ℕ) (carried : ℕ) (inputs rows : List ℕ) where
   by-file : (r : ℕ) → r ≡ refusal_of f → (r ≡ 0 → ⊥) → (a : Ran) → a ≡ record { refusal = r; carried = 0 }
@@ -42,42 +40,35 @@ module _ (f config : List ℕ) (carried : ℕ) (inputs rows : List ℕ) where
       ) q
 
 -- a file that is not refused, and its body
-accepted : (c : tie.Else1) → refusal_of c.before.before.before.before.before.before.args.file.now ≡ 0
-accepted c = sym c.before.opened.ensures.refusal ∙ c.if1.false
+accepted : (c : Else-r-ne-ACCEPTED) → refusal_of c.args.file.now ≡ 0
+accepted c = sym c.opened-o.ensures.refusal ∙ c.if-r-ne-ACCEPTED.false
 
-stands : (c : tie.Else1)
-    → Stands c.before.before.before.before.before.before.args.file.now c.before.opened.result
-stands c = c.before.opened.ensures.stands c.if1.false
+stands : (c : Else-r-ne-ACCEPTED)
+    → Stands c.args.file.now c.opened-o.result
+stands c = c.opened-o.ensures.stands c.if-r-ne-ACCEPTED.false
 
-returns : tie.Need-returns
-returns c = let o = c.before in
-    by-file _ _ _ _ _ _ o.before.opened.ensures.refusal o.if1.true _ c.refused.ensures
+pub returns-then-r-ne-ACCEPTED : goal.returns-then-r-ne-ACCEPTED
+returns-then-r-ne-ACCEPTED c =
+    by-file _ _ _ _ _ _ c.opened-o.ensures.refusal c.if-r-ne-ACCEPTED.true _ c.refused.ensures
 
-of-body-requires : tie.Need-of-body-requires
-of-body-requires c κs =
-    let e = c.before.before.before in
-    let w = stands e in
-    checked _ _ _ (accepted e) w.shape w.body (rw w.body w.sized) (rw w.body w.summed)
+pub of_body-requires : goal.of_body-requires
+of_body-requires c =
+    let w = stands (goal.at.of_body-requires c).Else-r-ne-ACCEPTED in
+    checked _ _ _ (accepted (goal.at.of_body-requires c).Else-r-ne-ACCEPTED) w.shape w.body (rw w.body w.sized) (rw w.body w.summed)
 
-returns-2 : tie.Need-returns-2
-returns-2 c =
-    let d = c.before.before in
-    let e = d.before.before.before.before in
-    let w = stands e in
-    let a = e.before.before.before.before.before.before.args in
-    by-body _ a.config.now a.carried a.inputs.now a.rows.now (accepted e) _ w.shape _ w.body _ _
-    d.of-body.ensures
+pub returns : goal.returns
+returns c =
+    let w = stands (goal.at.returns c).Else-r-ne-ACCEPTED in
+    let a = c.args in
+    by-body _ a.config.now a.carried a.inputs.now a.rows.now (accepted (goal.at.returns c).Else-r-ne-ACCEPTED) _ w.shape _ w.body _ _
+    c.of_body.ensures
 
-pub run_spec : {M : Type 1} → statement M
-run_spec =
-    tie.close
-    (tie.spec
-    (λ c κs. search rules)
-    (λ c κs. search rules)
-    returns
-    (λ c. (stands c.before).order)
-    (λ c. (stands c.before).order)
-    (λ c. let e = (stands c.before).end in omega arith)
-    of-body-requires
-    (λ c. search rules)
-    returns-2)
+pub slice_bounds-of_body-count : goal.slice_bounds-of_body-count
+slice_bounds-of_body-count c = (stands (goal.at.slice_bounds-of_body-count c).Else-r-ne-ACCEPTED).order
+
+pub slice_bounds-of_body-start : goal.slice_bounds-of_body-start
+slice_bounds-of_body-start c = (stands (goal.at.slice_bounds-of_body-start c).Else-r-ne-ACCEPTED).order
+
+pub slice_bounds-of_body-end : goal.slice_bounds-of_body-end
+slice_bounds-of_body-end c =
+    let e = (stands (goal.at.slice_bounds-of_body-end c).Else-r-ne-ACCEPTED).end in omega arith
