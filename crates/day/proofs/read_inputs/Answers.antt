@@ -1,7 +1,6 @@
--- `read_inputs` meets its contract: the inputs read, then those left in the front, are all inputs.
 use mathlib.Core.Path.{◌≡◌, refl, sym, ap, ◌∙◌}
 use mathlib.Core.List.{List, [], ◌∷◌, ◌++◌, append_assoc, append-nil}
-use Prim.Native.Nat.{ℕ, suc, ◌+◌, ◌*◌, ◌-◌, ◌≤◌, ◌<◌}
+use Prim.Native.Nat.{ℕ, suc, ◌+◌, ◌*◌, ◌-◌, ◌<◌}
 use native.Mathlib.Nat.{sub_self}
 use native.Mathlib.Numerals.{add-one}
 use native.Mathlib.Omega.{arith}
@@ -9,8 +8,7 @@ use lib.ListN.{length, take, drop, set, length-set}
 use lib.Seq.{take-suc-set, take-length, drop-drop}
 use Rattle.layout.specs.Le.{le}
 use Rattle.line.specs.Line.{inputs_of}
-use Rattle.day.proofs.read_inputs.Statement.{statement}
-use Rattle.day.proofs.read_inputs.Tie as tie
+use Rattle.day.proofs.read_inputs.Goals as goal
 
 none_yet : (s : List ℕ) (n : ℕ) → inputs_of (n - 0) s ≡ inputs_of n s
 none_yet s n = ap (λ (k : ℕ). inputs_of k s) (let e : n - 0 ≡ n = omega arith in e)
@@ -35,42 +33,36 @@ all : (s l out : List ℕ) (n i : ℕ) → i ≡ n → length l ≡ n
 unfolding inputs_of
 all s l out n i e h p = sym (take-length l) ∙ rw h (sym (append-nil (take n l))) ∙ rw (e, sub_self) at p
 
-abbrev invariant-loop : tie.invariant-loop
-invariant-loop input inputs₀ n i₀ inputs i =
-    (i ≤ n) × (length inputs ≡ n) × (take i inputs ++ inputs_of (n - i) (drop (8 * i) input) ≡ inputs_of n input)
+pub loop-i-init : goal.loop-i-init
+loop-i-init c = (omega arith, refl, none_yet _ _)
 
-abbrev decreases-loop : tie.decreases-loop
-decreases-loop input inputs₀ n i₀ inputs i = n - i
+pub loop-i-preserved : goal.loop-i-preserved
+loop-i-preserved c = (
+  omega arith,
+  simp length-set c.loop-i.invariant.1,
+  one_more _ c.loop-i.inputs _ _ c.loop-i.i _ c.loop-i-test.true (omega arith) c.le64.ensures c.loop-i.invariant.2,
+)
 
-loop-holds : tie.Need-loop-init invariant-loop decreases-loop
-loop-holds c = (omega arith, refl, none_yet _ _)
+pub returns : goal.returns
+returns c = all _ c.loop-i.inputs _ _ c.loop-i.i (omega arith) c.loop-i.invariant.1 c.loop-i.invariant.2
 
-loop-again : tie.Need-loop-preserved invariant-loop decreases-loop
-loop-again c =
-    let l = c.before.before.loop in (
-      omega arith,
-      simp length-set l.invariant.1,
-      one_more _ l.inputs _ _ l.i _ c.before.loop-test.true (omega arith) c.le64.ensures l.invariant.2,
-    )
+pub overflow_mul-i : goal.overflow_mul-i
+overflow_mul-i c = omega arith
 
-returns : tie.Need-returns invariant-loop decreases-loop
-returns c =
-    let l = c.before.loop in
-    all _ l.inputs _ _ l.i (omega arith) l.invariant.1 l.invariant.2
+pub le64-requires : goal.le64-requires
+le64-requires c = omega arith
 
-pub read_inputs_spec : {M : Type 1} → statement M
-read_inputs_spec =
-    tie.close
-    (tie.spec
-    invariant-loop
-    decreases-loop
-    loop-holds
-    (λ c. omega arith)
-    (λ c κs. omega arith)
-    (λ c. omega arith)
-    (λ c. omega arith)
-    (λ c. omega arith)
-    (λ c. omega arith)
-    loop-again
-    (λ c. c.before.loop.invariant.1)
-    returns)
+pub offset_bounds-inputs-i : goal.offset_bounds-inputs-i
+offset_bounds-inputs-i c = omega arith
+
+pub bounds-inputs-i : goal.bounds-inputs-i
+bounds-inputs-i c = omega arith
+
+pub overflow_add-i : goal.overflow_add-i
+overflow_add-i c = omega arith
+
+pub loop-i-smaller : goal.loop-i-smaller
+loop-i-smaller c = omega arith
+
+pub shape_of-inputs : goal.shape_of-inputs
+shape_of-inputs c = c.loop-i.invariant.1

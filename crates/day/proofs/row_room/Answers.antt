@@ -2,11 +2,7 @@
 use mathlib.Core.Path.{sym}
 use Prim.Native.Nat.{ℕ, ◌*◌}
 use lib.ListN.{length-replicate}
-use Rattle.day.proofs.row_room.Statement.{statement}
-use Rattle.day.proofs.row_room.Tie as tie
+use Rattle.day.proofs.row_room.Goals as goal
 
-returns : tie.Need-returns
+pub returns : goal.returns
 returns c = sym (length-replicate {0} {A = ℕ} (8192 * 26) 0)
-
-pub row_room_spec : {M : Type 1} → statement M
-row_room_spec = tie.close (tie.spec returns)

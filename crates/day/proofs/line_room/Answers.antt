@@ -1,0 +1,8 @@
+-- `line_room` meets its contract: so many zeros are so many.
+use mathlib.Core.Path.{sym}
+use Prim.Native.Nat.{ℕ}
+use lib.ListN.{length-replicate}
+use Rattle.day.proofs.line_room.Goals as goal
+
+pub returns : goal.returns
+returns c = sym (length-replicate {0} {A = ℕ} 1048576 0)
