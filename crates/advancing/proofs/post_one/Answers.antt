@@ -32,10 +32,9 @@ rows_is f c d k charts r rows v h g =
     rw (x, drop-drop, g, h)
 
 pub returns : goal.returns
-returns c =
-    (
-      case_is c.args.file.now c.args.c c.args.d c.args.k c.ask-r.result _ c.ask-r.ensures
-          c.kept.ensures,
-      rows_is c.args.file.now c.args.c c.args.d c.args.k c.args.charts c.ask-r.result
-          c.args.rows.now _ c.ask-r.ensures c.put_row.ensures,
-    )
+returns c = (
+  case_is c.args.file.now c.args.c c.args.d c.args.k c.ask-r.result _ c.ask-r.ensures
+      c.kept.ensures,
+  rows_is c.args.file.now c.args.c c.args.d c.args.k c.args.charts c.ask-r.result
+      c.args.rows.now _ c.ask-r.ensures c.put_row.ensures,
+)
