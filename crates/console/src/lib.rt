@@ -128,9 +128,12 @@ mod tests {
         }
     }
 
+    // How many bytes are asked for where a reader fails in mid-stream.
+    const WORD: usize = 4;
+
     #[test]
     fn a_failure_in_mid_stream_is_no_end(rt: HostRuntime) {
-        let mut buffer = [0u8; 4];
+        let mut buffer = [0u8; WORD];
         assert!(rt; read_full(&mut Broken { left: 2 }, &mut buffer).is_err());
         assert!(rt; read_full(&mut Broken { left: 4 }, &mut buffer).is_ok());
     }

@@ -1,5 +1,5 @@
 -- What a transition lacks (RULES 13): the test of its guard on a set that the one who asks gives, and what the call
--- answers. Laws are in Lacking/Laws.antt.
+-- answers. Laws are in proofs/Laws.antt.
 use Rattle.std.specs.Prelude.{◌≡◌, true, cond, List, [], ◌∷◌, ◌++◌, ℕ, length}
 use Rattle.signals.specs.Mask.{◌∪◌, ◌∩◌}
 use Rattle.signals.specs.Guard.{guard, is_met, case_of, signal_of, Shows}

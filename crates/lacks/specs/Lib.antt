@@ -1,3 +1,3 @@
 -- What a transition lacks. What a reader must believe is in Lacking, and its laws say what the answers mean
--- (Lacking/Laws); exchanging the parts of a composed node changes none of them (Exchanged).
+-- (proofs/Laws); exchanging the parts of a composed node changes none of them (Exchanged).
 pub mod Lacking
