@@ -4,6 +4,7 @@
 -- are in order passes, once it is written (InOrder); the records of the cleared file are (New). Then the list as code
 -- goes through it (Left), what else clearing keeps (Kept), the rewriting of a cleared file (Limits over records,
 -- Rewrites over bytes), and files cleared by computation (Examples).
+-- Laws that are named here and not declared below lie in proofs/.
 pub mod Clearing
 pub mod InOrder
 pub mod Left
