@@ -1,24 +1,36 @@
 // A case posted (RULES 11.3 to 11.5): a step from its configuration, its row at its place, and its record after it.
 #![tactic(auto)]
 
-ghost use Rattle.std.specs.Prelude.{◌≡◌, cond, ◌∷◌, ◌++◌, ◌+◌, ◌*◌, ◌≤◌, ◌<◌, length, take, drop};
+ghost use Rattle.std.specs.Prelude.{◌≡◌, List, ◌∷◌, ◌++◌, ℕ, ◌+◌, ◌*◌, ◌≤◌, ◌<◌, length, take, drop};
 ghost use Rattle.layout.specs.Le.{bytes};
 ghost use Rattle.meaning.specs.Sums.{one};
-ghost use Rattle.meaning.specs.Meaning.{same};
-ghost use Rattle.meaning.specs.Calls.{laid_over};
+ghost use Rattle.meaning.specs.Meaning.{Answer};
+ghost use Rattle.meaning.specs.Calls.{laid_over, next_in, carried_after};
 ghost use Rattle.desk.specs.Posting.{most_cases, last_row, width};
-ghost use Rattle.desk.specs.Turns.{row_bytes, turn_case, turn_row};
+ghost use Rattle.desk.specs.Turns.{Replies, row_bytes, turn_case, turn_row};
 
+use checks::limits;
+use checks::refusal::Refusal;
 use desk::{Case, Day, Reply};
 
 // What a case carries on: all that it was offered if the step is refused, nothing if it is given.
-fn kept(refusal: u8, offered: u64) -> u64
-    ensures { result ≡ cond (same refusal 0) 0 offered }
+fn kept(reply: Result<Reply, Refusal>, offered: u64) -> u64
+    ensures { (a : Answer) (config : List ℕ) → Replies a config reply
+        → result ≡ carried_after a offered }
 {
-    if refusal == desk::ACCEPTED {
-        0
-    } else {
-        offered
+    match reply {
+        Ok(_) => 0,
+        Err(_) => offered,
+    }
+}
+
+// The bytes of a record after a step: a refused one leaves them as they were.
+fn after(reply: Result<Reply, Refusal>, config: [u8; desk::WIDTH]) -> [u8; desk::WIDTH]
+    ensures { (a : Answer) → Replies a config reply → result ≡ next_in a config }
+{
+    match reply {
+        Ok(r) => r.next,
+        Err(_) => config,
     }
 }
 
@@ -26,7 +38,7 @@ fn kept(refusal: u8, offered: u64) -> u64
 fn mark_of(yes: bool) -> u8
     ensures { result ≡ one yes }
 {
-    if yes { 1 } else { 0 }
+    u8::from(yes)
 }
 
 // The first n bytes of a record, over the front of the caller's buffer.
@@ -34,14 +46,10 @@ fn put_config(buffer: &mut [u8], config: [u8; desk::WIDTH], n: usize)
     requires { (n ≤ width) × (n ≤ length buffer.old) }
     ensures { buffer.new ≡ laid_over (take n config) buffer.old }
 {
-    let mut i: usize = 0;
-    while i < n {
-        buffer[i] = config[i];
-        i += 1;
-    }
+    buffer[..n].copy_from_slice(&config[..n]);
 }
 
-// A row as a run has it.
+// A row as a run has it. running has this too: the order asks that posting knows a step by its contract alone.
 fn put_fields(
     row: &mut [u8],
     output: u64,
@@ -60,20 +68,27 @@ fn put_fields(
 }
 
 // The same, with its number in front.
-fn put_row(row: &mut [u8], number: u32, r: Reply, charts: usize)
+fn put_row(
+    row: &mut [u8],
+    number: u32,
+    reply: Result<Reply, Refusal>,
+    config: [u8; desk::WIDTH],
+    charts: usize,
+)
     requires { (charts ≤ width) × (length row.old ≡ 14 + charts) }
-    ensures { row.new ≡ row_bytes charts number r }
+    ensures { (a : Answer) → Replies a config reply
+        → row.new ≡ row_bytes charts number a config }
 {
     layout::number::put32(row, 0, number);
-    let next = r.next;
-    put_fields(
-        &mut row[desk::ROW..],
-        r.output,
-        mark_of(r.mark),
-        r.refusal,
-        next,
-        charts,
-    );
+    let fields = &mut row[desk::ROW..];
+    match reply {
+        Ok(r) => {
+            let next = r.next;
+            let mark = mark_of(r.mark);
+            put_fields(fields, r.output, mark, limits::ACCEPTED, next, charts);
+        }
+        Err(refusal) => put_fields(fields, 0, 0, refusal.number(), config, charts),
+    }
 }
 
 // Case k posted: its row at its place, and its record after it.
@@ -89,17 +104,16 @@ pub fn post_one(file: &[u8], c: Case, d: Day, k: usize, charts: usize, rows: &mu
     let config = c.config;
     let offered = c.carried | sets[k];
     let n = c.length as usize;
-    let r = consult::ask(file, config, n, offered);
+    let reply = consult::ask(file, config, n, offered);
     let number = c.last + 1;
     let w = desk::ROW + desk::STATES + charts;
     let at = k * w;
     let e = at + w;
-    put_row(&mut rows[at..e], number, r, charts);
-    let next = r.next;
+    put_row(&mut rows[at..e], number, reply, config, charts);
     Case {
-        carried: kept(r.refusal, offered),
+        carried: kept(reply, offered),
         last: number,
         length: c.length,
-        config: next,
+        config: after(reply, config),
     }
 }

@@ -1,5 +1,5 @@
 -- What the code of the rewriting knows of a body that passed the file check, and what its tables of call signals hold.
-use Rattle.std.specs.Prelude.{◌≡◌, true, not, List, ℕ, ◌+◌, ◌<◌, ltb, length, get_or}
+use Rattle.std.specs.Prelude.{◌≡◌, true, false, Option, Some, None, List, ℕ, ◌+◌, ◌<◌, ltb, length, get_or}
 use Rattle.signals.specs.Mask.{single}
 use Rattle.layout.specs.declared.body.Shape.{Shape}
 use Rattle.meaning.specs.Numbers.{most_signals}
@@ -9,7 +9,6 @@ use Rattle.meaning.specs.Check.Nodes.{Sound}
 use Rattle.meaning.specs.Rewriting.{lacking, call, call_in, nearest_slave}
 use Rattle.meaning.specs.Laws.Names.{kap}
 use Rattle.checks.specs.Known.{Sized, Summed}
-use Rattle.allocation.specs.declared.Calls.{Calls}
 pub mod Laws
 
 -- a body that passed 1 to 11, as far as the rewriting needs that
@@ -18,11 +17,12 @@ pub record Checked (n : Shape) (b : List ℕ) : Type 0 where
   pub summed : Summed n b
   pub sound : Sound (file_at n b)
 
--- slaves get the numbers that `used` lacks, one after another
-pub record Calling (used slaves : ℕ) (r : Calls) : Type 0 where
-  pub enough : r.enough ≡ not (ltb (length (lacking used most_signals)) slaves)
-  pub sets : r.enough ≡ true → (i : ℕ) → i < slaves
-      → get_or r.sets i 0 ≡ single (get_or (lacking used most_signals) i (most_signals + i))
+-- slaves get the numbers that `used` lacks, one after another; nothing, if there are fewer than slaves
+abbrev pub Calling : ℕ → ℕ → Option (List ℕ) → Type 0
+Calling used slaves None = ltb (length (lacking used most_signals)) slaves ≡ true
+Calling used slaves (Some l) =
+    (ltb (length (lacking used most_signals)) slaves ≡ false)
+    × ((i : ℕ) → i < slaves → get_or l i 0 ≡ single (get_or (lacking used most_signals) i (most_signals + i)))
 
 -- of each slave the set of its call signal alone
 abbrev pub CallsIn : File → List ℕ → Type 0

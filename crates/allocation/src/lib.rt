@@ -13,9 +13,7 @@ ghost use Rattle.allocation.specs.Known.{Checked, Calling, CallsIn, InnerIn, Upw
 
 use layout::body::Shape;
 use layout::limits::CHARTS;
-use layout::record;
-use layout::record::Transition;
-use signals::Found;
+use layout::record::{Kind, Transition};
 
 // The signals of `count` transitions from `start` on.
 fn used_by(n: Shape, body: &[u8], start: usize, count: usize) -> u64
@@ -24,11 +22,9 @@ fn used_by(n: Shape, body: &[u8], start: usize, count: usize) -> u64
         ∪ actions (from (transition_at n body.now) start count) }
 {
     let mut all: u64 = 0;
-    let mut k: usize = 0;
-    while k < count {
+    for k in 0..count {
         let t = layout::body::transition_at(n, body, start + k);
         all = all | (t.needed | t.barred | t.action);
-        k += 1;
     }
     all
 }
@@ -42,14 +38,12 @@ fn used_by_charts(n: Shape, body: &[u8]) -> u64
 {
     let mut all: u64 = 0;
     let mut start: usize = 0;
-    let mut c: usize = 0;
-    while c < n.charts {
+    for c in 0..n.charts {
         let h = layout::body::head_at(n, body, c);
         let count = h.transitions as usize;
         let own = used_by(n, body, start, count);
         all = all | (own | h.feedback | h.extra);
         start += count;
-        c += 1;
     }
     all
 }
@@ -61,11 +55,9 @@ fn used_by_nodes(n: Shape, body: &[u8]) -> u64
         (λ j. (file_at n body.now).x j ∪ (file_at n body.now).y j) }
 {
     let mut all: u64 = 0;
-    let mut j: usize = 0;
-    while j < n.nodes {
+    for j in 0..n.nodes {
         let r = layout::body::node_at(n, body, j);
         all = all | (r.x | r.y);
-        j += 1;
     }
     all
 }
@@ -78,36 +70,20 @@ pub fn used(n: Shape, body: &[u8]) -> u64
     used_by_charts(n, body) | used_by_nodes(n, body)
 }
 
-// Of each slave the set of its call signal alone, if there are enough free signals.
-#[derive(Clone, Copy)]
-pub struct Calls {
-    pub enough: bool,
-    pub sets: [u64; CHARTS],
-}
-
-// The slaves get the lowest free signals for their call signals, in the order of their records (RULES 9.2).
-pub fn given(slaves: usize, used: u64) -> Calls
+// The slaves get the lowest free signals for their call signals, in the order of their records (RULES 9.2): of each
+// slave the set of its call signal alone, if there are enough free signals.
+pub fn given(slaves: usize, used: u64) -> Option<[u64; CHARTS]>
     requires { slaves ≤ most_charts }
     ensures { Calling used slaves result }
 {
     let mut sets = [0u64; CHARTS];
     let mut left = used;
-    let mut i: usize = 0;
-    while i < slaves {
-        let Found::At(s) = signals::lowest_free(left) else {
-            return Calls {
-                enough: false,
-                sets: sets,
-            };
-        };
+    for i in 0..slaves {
+        let s = signals::lowest_free(left)?;
         sets[i] = signals::single(s);
         left = signals::with(left, s);
-        i += 1;
     }
-    Calls {
-        enough: true,
-        sets: sets,
-    }
+    Some(sets)
 }
 
 // The call signal of slave i; none for a number that is no slave's.
@@ -128,14 +104,12 @@ pub fn inner(n: Shape, body: &[u8], calls: &[u64; CHARTS]) -> [u64; CHARTS]
     let nodes = n.nodes;
     let slaves = n.slaves;
     let mut inner = [0u64; CHARTS];
-    let mut j: usize = 0;
-    while j < nodes {
+    for j in 0..nodes {
         let node = layout::body::node_at(n, body, j);
         let c = node.a as usize;
-        if node.kind == record::HOLDS {
+        if let Kind::Holds = node.kind() {
             inner[c] = call_of(calls, slaves, near[j]);
         }
-        j += 1;
     }
     inner
 }
@@ -148,13 +122,11 @@ pub fn calls_by(n: Shape, body: &[u8], calls: &[u64; CHARTS], c: usize, t: Trans
 {
     let slaves = n.slaves;
     let mut all: u64 = 0;
-    let mut i: usize = 0;
-    while i < slaves {
+    for i in 0..slaves {
         let s = layout::body::slave_at(n, body, i);
         if (s.chart as usize == c) & ((t.from == s.state) | (t.to == s.state)) {
             all = all | calls[i];
         }
-        i += 1;
     }
     all
 }
@@ -166,13 +138,11 @@ pub fn calls_of(n: Shape, body: &[u8], calls: &[u64; CHARTS], c: usize) -> u64
 {
     let slaves = n.slaves;
     let mut all: u64 = 0;
-    let mut i: usize = 0;
-    while i < slaves {
+    for i in 0..slaves {
         let s = layout::body::slave_at(n, body, i);
         if s.chart as usize == c {
             all = all | calls[i];
         }
-        i += 1;
     }
     all
 }

@@ -17,8 +17,7 @@ ghost use Rattle.assembly.specs.Records.{called_with, idle_with, part_bytes, mas
 
 use layout::body::Shape;
 use layout::limits::{CHARTS, NODES};
-use layout::record;
-use layout::record::{Head, Node, Transition};
+use layout::record::{Head, Kind, Node, Transition};
 
 // Each chart's head: more transitions, the rest as it was.
 fn heads(n: Shape, body: &[u8], inner: &[u64; CHARTS], out: &mut [u8], at: usize) -> usize
@@ -30,8 +29,7 @@ fn heads(n: Shape, body: &[u8], inner: &[u64; CHARTS], out: &mut [u8], at: usize
 {
     let charts = n.charts;
     let mut p = at;
-    let mut c: usize = 0;
-    while c < charts {
+    for c in 0..charts {
         let h = layout::body::head_at(n, body, c);
         let new = Head {
             states: h.states,
@@ -41,7 +39,6 @@ fn heads(n: Shape, body: &[u8], inner: &[u64; CHARTS], out: &mut [u8], at: usize
             extra: h.extra,
         };
         p = laying::put_head(out, p, new);
-        c += 1;
     }
     p
 }
@@ -82,12 +79,10 @@ fn own(
         (transition_at n body.now (start + k))))) out.new result }
 {
     let mut p = at;
-    let mut k: usize = 0;
-    while k < count {
+    for k in 0..count {
         let t = layout::body::transition_at(n, body, start + k);
         let new = called(t, inner, allocation::calls_by(n, body, calls, c, t));
         p = laying::put_transition(out, p, new);
-        k += 1;
     }
     p
 }
@@ -99,8 +94,7 @@ fn idles(inner: u64, count: u8, out: &mut [u8], at: usize) -> usize
         out.new result }
 {
     let mut p = at;
-    let mut s: u8 = 0;
-    while s < count {
+    for s in 0..count {
         let new = Transition {
             from: s,
             to: s,
@@ -109,7 +103,6 @@ fn idles(inner: u64, count: u8, out: &mut [u8], at: usize) -> usize
             action: 0,
         };
         p = laying::put_transition(out, p, new);
-        s += 1;
     }
     p
 }
@@ -168,12 +161,10 @@ fn transitions(
     let charts = n.charts;
     let mut p = at;
     let mut start: usize = 0;
-    let mut c: usize = 0;
-    while c < charts {
+    for c in 0..charts {
         let h = layout::body::head_at(n, body, c);
         p = chart(n, body, calls, inner[c], c, h, start, out, p);
         start += h.transitions as usize;
-        c += 1;
     }
     p
 }
@@ -186,12 +177,10 @@ fn names(n: Shape, body: &[u8]) -> [u8; NODES]
     let nodes = n.nodes;
     let mut names = [0u8; NODES];
     let mut first: usize = 0;
-    let mut j: usize = 0;
-    while j < nodes {
+    for j in 0..nodes {
         let name = first + growth::before_last(n, body, j);
         names[j] = name as u8;
         first = name + 1;
-        j += 1;
     }
     names
 }
@@ -215,13 +204,12 @@ fn parts(
     let slaves = n.slaves;
     let mut p = at;
     let mut made = first;
-    let mut i: usize = 0;
-    while i < slaves {
+    for i in 0..slaves {
         let s = layout::body::slave_at(n, body, i);
         let node = s.node as usize;
         if s.chart as usize == c {
             let new = Node {
-                kind: record::COMPOSES,
+                kind: Kind::Composes as u8,
                 a: made,
                 b: names[node],
                 x: x,
@@ -230,7 +218,6 @@ fn parts(
             p = laying::put_node(out, p, new);
             made += 1;
         }
-        i += 1;
     }
     p
 }
@@ -257,7 +244,7 @@ fn master(
     let hidden = allocation::calls_of(n, body, calls, c);
     let h = layout::body::head_at(n, body, c);
     let held = Node {
-        kind: record::HOLDS,
+        kind: Kind::Holds as u8,
         a: c as u8,
         b: 0,
         x: 0,
@@ -266,7 +253,7 @@ fn master(
     let p = laying::put_node(out, at, held);
     let q = parts(n, body, names, c, h.feedback | hidden, first as u8, out, p);
     let whole = Node {
-        kind: record::HIDES,
+        kind: Kind::Hides as u8,
         a: (first + slaves) as u8,
         b: 0,
         x: hidden,
@@ -297,7 +284,7 @@ fn holder(
     let slaves = growth::slaves_of(n, body, c);
     if slaves == 0 {
         let held = Node {
-            kind: record::HOLDS,
+            kind: Kind::Holds as u8,
             a: c as u8,
             b: 0,
             x: 0,
@@ -326,30 +313,31 @@ fn node(
         out.new result }
 {
     let r = layout::body::node_at(n, body, j);
-    let kind = r.kind;
     let a = r.a as usize;
     let b = r.b as usize;
-    if kind == record::HOLDS {
-        return holder(n, body, calls, names, a, first, out, at);
+    match r.kind() {
+        Kind::Holds => holder(n, body, calls, names, a, first, out, at),
+        Kind::Composes => {
+            let both = Node {
+                kind: Kind::Composes as u8,
+                a: names[a],
+                b: names[b],
+                x: r.x,
+                y: 0,
+            };
+            laying::put_node(out, at, both)
+        }
+        Kind::Hides => {
+            let hidden = Node {
+                kind: Kind::Hides as u8,
+                a: names[a],
+                b: 0,
+                x: r.x,
+                y: r.y,
+            };
+            laying::put_node(out, at, hidden)
+        }
     }
-    if kind == record::COMPOSES {
-        let both = Node {
-            kind: record::COMPOSES,
-            a: names[a],
-            b: names[b],
-            x: r.x,
-            y: 0,
-        };
-        return laying::put_node(out, at, both);
-    }
-    let hidden = Node {
-        kind: record::HIDES,
-        a: names[a],
-        b: 0,
-        x: r.x,
-        y: r.y,
-    };
-    laying::put_node(out, at, hidden)
 }
 
 // The nodes that are made for all nodes, in the old order.
@@ -372,11 +360,9 @@ fn nodes(
     let nodes = n.nodes;
     let mut p = at;
     let mut first: usize = 0;
-    let mut j: usize = 0;
-    while j < nodes {
+    for j in 0..nodes {
         p = node(n, body, calls, names, j, first, out, p);
         first = names[j] as usize + 1;
-        j += 1;
     }
     p
 }

@@ -96,11 +96,9 @@ fn puts_of(n: Shape, body: &[u8], start: usize, count: usize, state: u8, read: u
         count: 0,
     };
     let mut at = HEAD_BYTES * n.charts + TRANSITION_BYTES * start;
-    let mut p: usize = 0;
-    while p < count {
+    for p in 0..count {
         puts = with_one(body, at, state, read, puts);
         at += TRANSITION_BYTES;
-        p += 1;
     }
     puts
 }
@@ -121,8 +119,7 @@ pub fn puts_all(
         may.new sures.new counts.new }
 {
     let mut start: usize = 0;
-    let mut c: usize = 0;
-    while c < n.charts {
+    for c in 0..n.charts {
         let head = layout::body::head_at(n, body, c);
         let count = head.transitions as usize;
         let puts = puts_of(n, body, start, count, config[c], reads[c]);
@@ -130,7 +127,6 @@ pub fn puts_all(
         sures[c] = puts.sure;
         counts[c] = puts.count;
         start += count;
-        c += 1;
     }
 }
 
@@ -140,10 +136,8 @@ fn raise_all(masks: &[u64], low: &mut [u64; CHARTS], c: usize, u: u64)
     ensures { (length low.new ≡ most_charts)
         × Row low.new (λ d. get_or low.old d 0 ∪ u ∩ back_at masks.now d c) }
 {
-    let mut d: usize = 0;
-    while d < CHARTS {
+    for d in 0..CHARTS {
         low[d] = low[d] | u & masks::back(masks, d, c);
-        d += 1;
     }
 }
 
@@ -180,11 +174,9 @@ fn raise_sure(n: Shape, sures: &[u64; CHARTS], masks: &[u64], small: &[u8], low:
     ensures { RaisedBy n masks.now small.now sures.now n.charts
         low.old low.new }
 {
-    let mut c: usize = 0;
-    while c < n.charts {
+    for c in 0..n.charts {
         let sure = surely(n, sures[c]);
         raise(masks, small, low, c, sure);
-        c += 1;
     }
 }
 
@@ -205,10 +197,8 @@ pub fn others(masks: &[u64], charts: usize, may: &[u64; CHARTS], c: usize) -> u6
     ensures { result ≡ others_at masks.now charts (λ e. get_or may.now e 0) c }
 {
     let mut u: u64 = 0;
-    let mut e: usize = 0;
-    while e < charts {
+    for e in 0..charts {
         u = u | but(may, c, e) & masks::back(masks, c, e);
-        e += 1;
     }
     u
 }
@@ -249,12 +239,10 @@ fn is_again(masks: &[u64], small: &[u8], c: usize, n: usize, t: Transition) -> b
     requires { Tabled (c + 1) masks.now small.now × (c < most_charts) × (n ≤ most_from_state) }
     ensures { result ≡ is_again masks.now small.now c n t }
 {
-    let mut v: usize = 0;
-    while v < n {
+    for v in 0..n {
         if is_at(masks, small, c, v, t) {
             return true;
         }
-        v += 1;
     }
     false
 }
@@ -318,11 +306,9 @@ fn list(
 {
     let mut have: usize = 0;
     let mut at = HEAD_BYTES * n.charts + TRANSITION_BYTES * start;
-    let mut p: usize = 0;
-    while p < count {
+    for p in 0..count {
         have = consider(body, at, p as u8, masks, small, a, have);
         at += TRANSITION_BYTES;
-        p += 1;
     }
     have
 }
@@ -384,12 +370,10 @@ fn list_all(
         small.new }
 {
     let mut start: usize = 0;
-    let mut c: usize = 0;
-    while c < n.charts {
+    for c in 0..n.charts {
         start = list_chart(
             n, body, config, reads, lows, may, shuts, masks, small, c, start,
         );
-        c += 1;
     }
 }
 
@@ -400,10 +384,8 @@ fn puts_out(masks: &[u64], small: &[u8], c: usize) -> u64
 {
     let count = small::count(small, c);
     let mut u: u64 = 0;
-    let mut v: usize = 0;
-    while v < count {
+    for v in 0..count {
         u = u | masks::action(masks, c, v);
-        v += 1;
     }
     u
 }
@@ -413,10 +395,8 @@ fn clear_row(masks: &mut [u64], charts: usize)
     requires { (masks_for charts ≤ length masks.old) × (charts ≤ most_charts) }
     ensures { AheadRow charts (λ c. 0) most_charts masks.old masks.new }
 {
-    let mut c: usize = 0;
-    while c < CHARTS {
+    for c in 0..CHARTS {
         masks::put_ahead(masks, charts, c, 0);
-        c += 1;
     }
 }
 
@@ -425,12 +405,10 @@ fn ahead_row(masks: &mut [u64], charts: usize, k: usize, u: u64)
     requires { (masks_for charts ≤ length masks.old) × (charts ≤ most_charts) × (k < charts) }
     ensures { AheadRow k (ahead_by masks.old k u) charts masks.old masks.new }
 {
-    let mut c: usize = 0;
-    while c < charts {
+    for c in 0..charts {
         let later = masks::ahead(masks, k + 1, c);
         let offered = u & masks::back(masks, c, k) | later;
         masks::put_ahead(masks, k, c, offered);
-        c += 1;
     }
 }
 
@@ -440,9 +418,7 @@ fn ahead_all(masks: &mut [u64], small: &[u8], charts: usize)
     ensures { AheadFrom charts small.now 0 masks.old masks.new }
 {
     clear_row(masks, charts);
-    let mut k = charts;
-    while k > 0 {
-        k -= 1;
+    for k in (0..charts).rev() {
         let u = puts_out(masks, small, k);
         ahead_row(masks, charts, k, u);
     }
@@ -453,10 +429,8 @@ fn put_states(small: &mut [u8], config: &[u8], charts: usize)
     requires { (length small.old ≡ small_size) × (charts ≤ most_charts) × (charts ≤ length config.now) }
     ensures { Stated config.now charts small.old small.new }
 {
-    let mut c: usize = 0;
-    while c < charts {
+    for c in 0..charts {
         small::put_state(small, c, config[c]);
-        c += 1;
     }
 }
 
@@ -495,14 +469,12 @@ pub fn is_stuck(small: &[u8], stays: &[u8], charts: usize) -> bool
     requires { (length small.now ≡ small_size) × (length stays.now ≡ stays_size) × (charts ≤ most_charts) }
     ensures { (g : List ℕ) → result ≡ stuck small.now g stays.now charts }
 {
-    let mut c: usize = 0;
-    while c < charts {
+    for c in 0..charts {
         if (small::count(small, c) == 0)
             & (!(small::master(small, c) < CHARTS) & !(triggers::told(stays, c) != 0))
         {
             return true;
         }
-        c += 1;
     }
     false
 }

@@ -5,7 +5,7 @@
 ghost use Rattle.std.specs.Prelude.{◌≡◌, ◌+◌, ◌≤◌, ◌<◌, length, drop};
 ghost use Rattle.tokens.specs.Tokens.{blanks};
 
-use recogniser::Verdict;
+use recogniser::Wrong;
 
 // The longest beginning of a text behind which it is tried what could stand.
 const MOST_BEGUN: usize = 65535;
@@ -34,24 +34,10 @@ fn line_start(text: &[u8], at: usize) -> usize
     requires { at ≤ length text.now }
     ensures { result ≤ at }
 {
-    let mut i = at;
-    while i > 0 {
-        if text[i - 1] == LINE_END {
-            return i;
-        }
-        i -= 1;
+    match text[..at].iter().rposition(|b| *b == LINE_END) {
+        Some(k) => k + 1,
+        None => 0,
     }
-    i
-}
-
-// 1 for the end of a line, and 0 for any other byte.
-fn ends(b: u8) -> usize
-    ensures { result ≤ 1 }
-{
-    if b == LINE_END {
-        return 1;
-    }
-    0
 }
 
 // Which line a place is in, counted from 1.
@@ -59,13 +45,7 @@ fn line_number(text: &[u8], at: usize) -> usize
     requires { at ≤ length text.now }
     ensures { result ≤ at + 1 }
 {
-    let mut n: usize = 1;
-    let mut i: usize = 0;
-    while i < at {
-        n += ends(text[i]);
-        i += 1;
-    }
-    n
+    text[..at].iter().filter(|b| **b == LINE_END).count() + 1
 }
 
 // A byte as it is shown: what is no printable character of ASCII as a question mark.
@@ -84,19 +64,15 @@ fn copy_line(text: &[u8], from: usize, out: &mut [u8]) -> usize
     requires { from ≤ length text.now }
     ensures { result ≤ length out.new }
 {
-    let mut n: usize = 0;
-    while n < out.len() {
-        if text.len() - from <= n {
+    let rest = &text[from..];
+    let most = rest.len().min(out.len());
+    for n in 0..most {
+        if rest[n] == LINE_END {
             return n;
         }
-        let b = text[from + n];
-        if b == LINE_END {
-            return n;
-        }
-        out[n] = shown(b);
-        n += 1;
+        out[n] = shown(rest[n]);
     }
-    n
+    most
 }
 
 // Where the part of a line begins that is shown.
@@ -163,27 +139,16 @@ fn begun_room() -> [u8; MOST_BEGUN + 1]
     [0; MOST_BEGUN + 1]
 }
 
-// The first bytes of a text, at the front of `begun`.
-fn copy_begun(text: &[u8], at: usize, begun: &mut [u8])
-    requires { (at ≤ length text.now) × (at ≤ length begun.old) }
-{
-    let mut i: usize = 0;
-    while i < at {
-        begun[i] = text[i];
-        i += 1;
-    }
-}
-
 // Whether a byte could stand behind the first bytes of `begun`.
 fn could_stand(begun: &mut [u8], at: usize, b: u8) -> bool
     requires { at < length begun.old }
 {
     begun[at] = b;
     let end = at + 1;
-    let Verdict::Wrong(k) = recogniser::recognise(&begun[..end]) else {
-        return true;
-    };
-    k != at
+    match recogniser::recognise(&begun[..end]) {
+        Ok(()) => true,
+        Err(Wrong(k)) => k != at,
+    }
 }
 
 // The token that a byte begins, if it could stand there, and whether it could.
@@ -217,7 +182,7 @@ pub fn show_possible(out: &impl Print, text: &[u8], at: usize)
         return;
     }
     let mut begun = begun_room();
-    copy_begun(text, at, &mut begun);
+    begun[..at].copy_from_slice(&text[..at]);
     say(out, b"here could stand:");
     if !try_all(out, &mut begun, at, b"()[]{},|/&-Deby0cqs") {
         say(out, b" nothing more");

@@ -6,8 +6,13 @@
 ghost use Rattle.std.specs.Prelude.{◌≡◌, ◌≤◌, ◌<◌, length, IfOk};
 ghost use Rattle.console.specs.Counts.{IsPrefixLen};
 
+use checks::limits;
+use checks::refusal::Refusal;
+use engine::interface::Faces;
+use signals::guard::Tested;
 use std::io;
 use std::io::Read;
+use stepping::step::{Refused, Stepped};
 
 const MOST_COMMANDS: u32 = 1000000;
 
@@ -32,16 +37,12 @@ struct Command {
     carried: u64,
 }
 
-fn wide(b: u8) -> usize {
-    b as usize
-}
-
 fn header(head: &[u8]) -> Command
     requires { length head.now ≡ 24 }
 {
     Command {
         op: head[0],
-        name: wide(head[1]),
+        name: usize::from(head[1]),
         config: layout::number::le16(head, 2) as usize,
         file: layout::number::le32(head, 4) as usize,
         room: layout::number::le32(head, 8) as usize,
@@ -58,6 +59,14 @@ fn space(out: &impl Print) -> io::Result<()> {
 fn print_refusal(out: &impl Print, call: &[u8], number: u8) -> io::Result<()> {
     out.write_all(call)?;
     out.print(number)
+}
+
+// 0, or the number of the refusal.
+fn number_of<T: Copy>(answer: Result<T, Refusal>) -> u8 {
+    match answer {
+        Ok(_) => limits::ACCEPTED,
+        Err(refusal) => refusal.number(),
+    }
 }
 
 // A number, after a space.
@@ -92,28 +101,36 @@ fn end_line(out: &impl Print) -> io::Result<()> {
 }
 
 fn print_check(out: &impl Print, file: &[u8]) -> io::Result<()> {
-    print_refusal(out, b" check ", engine::file::check(file))?;
+    print_refusal(out, b" check ", number_of(engine::file::check(file)))?;
     end_line(out)
 }
 
 fn print_first(out: &impl Print, file: &[u8], config: &mut [u8]) -> io::Result<()> {
-    print_refusal(out, b" first ", engine::file::first(file, config))?;
+    print_refusal(
+        out,
+        b" first ",
+        number_of(engine::file::first(file, config)),
+    )?;
     print_buffer(out, config)?;
     end_line(out)
 }
 
 fn print_interface(out: &impl Print, file: &[u8]) -> io::Result<()> {
-    let faces = engine::interface::interface(file);
-    print_refusal(out, b" interface ", faces.refusal)?;
+    let answer = engine::interface::interface(file);
+    print_refusal(out, b" interface ", number_of(answer))?;
+    let faces = answer.unwrap_or(Faces {
+        input: 0,
+        output: 0,
+    });
     print_set(out, faces.input)?;
     print_set(out, faces.output)?;
     end_line(out)
 }
 
 fn print_plain(out: &impl Print, file: &[u8]) -> io::Result<()> {
-    let p = engine::file::plain(file);
-    print_refusal(out, b" plain ", p.refusal)?;
-    if p.plain {
+    let answer = engine::file::plain(file);
+    print_refusal(out, b" plain ", number_of(answer))?;
+    if answer.unwrap_or(false) {
         out.write_all(b" 1")?;
     } else {
         out.write_all(b" 0")?;
@@ -137,6 +154,24 @@ fn print_places(out: &impl Print, places: &[u8], n: usize) -> io::Result<()> {
     print_buffer(out, &places[..n])
 }
 
+// A step that is refused has no output and no mark, and no chart took a transition (RULES 1.4).
+fn not_given(r: Refused) -> Stepped {
+    Stepped {
+        places: [settling::NO_PLACE; layout::limits::CHARTS],
+        output: 0,
+        open_choices: r.open_choices,
+        mark: false,
+    }
+}
+
+// 0 or the refusal's number, and what the step shows.
+fn step_told(answer: Result<Stepped, Refused>) -> (u8, Stepped) {
+    match answer {
+        Ok(s) => (limits::ACCEPTED, s),
+        Err(r) => (r.refusal.number(), not_given(r)),
+    }
+}
+
 // A step with the places of the first eight charts.
 fn print_step(
     out: &impl Print,
@@ -145,8 +180,8 @@ fn print_step(
     input: u64,
     next: &mut [u8],
 ) -> io::Result<()> {
-    let s = engine::step::step(file, config, input, next);
-    print_refusal(out, b" step ", s.refusal)?;
+    let (refusal, s) = step_told(engine::step::step(file, config, input, next));
+    print_refusal(out, b" step ", refusal)?;
     print_set(out, s.output)?;
     print_mark(out, s.mark)?;
     let places = s.places;
@@ -163,8 +198,8 @@ fn print_open(
     input: u64,
     next: &mut [u8],
 ) -> io::Result<()> {
-    let s = engine::step::step(file, config, input, next);
-    print_refusal(out, b" open ", s.refusal)?;
+    let (refusal, s) = step_told(engine::step::step(file, config, input, next));
+    print_refusal(out, b" open ", refusal)?;
     print_set(out, s.output)?;
     print_mark(out, s.mark)?;
     let places = s.places;
@@ -182,25 +217,25 @@ fn print_run(
     inputs: &[u64],
     rows: &mut [u8],
 ) -> io::Result<()> {
-    let a = engine::run::run(file, config, carried, inputs, rows);
-    print_refusal(out, b" run ", a.refusal)?;
-    print_set(out, a.carried)?;
+    let answer = engine::run::run(file, config, carried, inputs, rows);
+    print_refusal(out, b" run ", number_of(answer))?;
+    print_set(out, answer.unwrap_or(0))?;
     print_buffer(out, rows)?;
     end_line(out)
 }
 
 fn print_rewriting(out: &impl Print, file: &[u8], lent: &mut [u8]) -> io::Result<()> {
-    let w = engine::rewriting::rewriting(file, lent);
-    print_refusal(out, b" rewrite ", w.refusal)?;
-    print_number(out, w.length as u64)?;
+    let answer = engine::rewriting::rewriting(file, lent);
+    print_refusal(out, b" rewrite ", number_of(answer))?;
+    print_number(out, answer.unwrap_or(0) as u64)?;
     print_buffer(out, lent)?;
     end_line(out)
 }
 
 fn print_clearing(out: &impl Print, file: &[u8], lent: &mut [u8]) -> io::Result<()> {
-    let w = engine::clear::clear(file, lent);
-    print_refusal(out, b" clear ", w.refusal)?;
-    print_number(out, w.length as u64)?;
+    let answer = engine::clear::clear(file, lent);
+    print_refusal(out, b" clear ", number_of(answer))?;
+    print_number(out, answer.unwrap_or(0) as u64)?;
     print_buffer(out, lent)?;
     end_line(out)
 }
@@ -214,27 +249,32 @@ fn input_at(inputs: &[u64], i: usize) -> u64 {
 fn print_lacking(out: &impl Print, file: &[u8], inputs: &[u64]) -> io::Result<()> {
     let chart = input_at(inputs, 0) as usize;
     let place = input_at(inputs, 1) as usize;
-    let a = lacks::in_numbers(engine::lacking::lacking(file, chart, place, input_at(inputs, 2)));
-    print_refusal(out, b" lacking ", a.refusal)?;
-    print_number(out, a.answer as u64)?;
-    print_number(out, a.signal as u64)?;
+    let answer = engine::lacking::lacking(file, chart, place, input_at(inputs, 2));
+    print_refusal(out, b" lacking ", number_of(answer))?;
+    // A refusal has 0 in both places.
+    let t = answer.unwrap_or(Tested::Met);
+    print_number(out, lacks::case_number(t) as u64)?;
+    print_number(out, lacks::signal_number(t) as u64)?;
     end_line(out)
 }
 
 // A text, in place of the file, that is read into the buffer.
 fn print_reading(out: &impl Print, text: &[u8], lent: &mut [u8]) -> io::Result<()> {
-    let f = texts::read(text, lent);
-    print_refusal(out, b" read ", f.refusal)?;
-    print_number(out, f.length as u64)?;
-    print_number(out, f.place as u64)?;
+    let (refusal, length, place) = match texts::read(text, lent) {
+        Ok(length) => (limits::ACCEPTED, length, 0),
+        Err(e) => (e.refusal.number(), 0, e.place),
+    };
+    print_refusal(out, b" read ", refusal)?;
+    print_number(out, length as u64)?;
+    print_number(out, place as u64)?;
     print_buffer(out, lent)?;
     end_line(out)
 }
 
 fn print_writing(out: &impl Print, file: &[u8], lent: &mut [u8]) -> io::Result<()> {
-    let w = writer::write(file, lent);
-    print_refusal(out, b" write ", w.refusal)?;
-    print_number(out, w.length as u64)?;
+    let answer = writer::write(file, lent);
+    print_refusal(out, b" write ", number_of(answer))?;
+    print_number(out, answer.unwrap_or(0) as u64)?;
     print_buffer(out, lent)?;
     end_line(out)
 }

@@ -8,7 +8,7 @@ use console::{Console, Errors};
 use std::env::{Env, FillError};
 use std::fs::Files;
 use std::io;
-use typed::{Configuration, Read};
+use typed::Configuration;
 
 #[derive(Clone, Copy)]
 pub enum Command {
@@ -246,11 +246,11 @@ pub fn set_count(rt: &impl Env) -> usize {
 }
 
 // The number that was typed as word i, of a chart or a place.
-pub fn number(rt: &(impl Env + Errors), i: usize) -> Read {
+pub fn number(rt: &(impl Env + Errors), i: usize) -> Option<u64> {
     let mut buffer = console::word_room();
     let n = word(rt, i, &mut buffer);
     let r = typed::number(18446744073709551615, &buffer[..n]);
-    if let Read::Wrong = r {
+    if let None = r {
         words::wrong(
             rt,
             &buffer[..n],
@@ -261,11 +261,11 @@ pub fn number(rt: &(impl Env + Errors), i: usize) -> Read {
 }
 
 // The set that was typed as word i.
-pub fn set(rt: &(impl Env + Errors), i: usize) -> Read {
+pub fn set(rt: &(impl Env + Errors), i: usize) -> Option<u64> {
     let mut buffer = console::word_room();
     let n = word(rt, i, &mut buffer);
     let s = typed::set(&buffer[..n]);
-    if let Read::Wrong = s {
+    if let None = s {
         words::wrong(
             rt,
             &buffer[..n],
@@ -281,7 +281,7 @@ pub fn sets(rt: &(impl Env + Errors), inputs: &mut [u64]) -> bool
     requires { length inputs.old ≤ 1024 }
 {
     for (i, input) in inputs.iter_mut().enumerate() {
-        let Read::Is(s) = set(rt, SETS + i) else {
+        let Some(s) = set(rt, SETS + i) else {
             return false;
         };
         *input = s;

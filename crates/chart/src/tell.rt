@@ -1,5 +1,5 @@
 // The answers, printed on standard output.
-ghost use Rattle.std.specs.Prelude.{◌≡◌, ◌+◌, ◌*◌, ◌≤◌, length};
+ghost use Rattle.std.specs.Prelude.{◌≡◌, ◌+◌, ◌*◌, ◌≤◌, length, IfOk};
 ghost use Rattle.layout.specs.Body.{Holds};
 ghost use Rattle.meaning.specs.Numbers.{most_charts};
 ghost use Rattle.stepping.specs.Step.{Checked};
@@ -7,12 +7,13 @@ ghost use Rattle.stepping.specs.Step.{Checked};
 use crate::words::say;
 use crate::{ask, words};
 use checks::limits;
+use checks::refusal::Refusal;
 use console::Console;
 use layout::body::Shape;
 use std::fs::Files;
 use std::io;
 use std::io::Write;
-use stepping::step::Stepped;
+use stepping::step::{Refused, Stepped};
 
 // The most sets of one run.
 const MOST_SETS: usize = 1024;
@@ -43,26 +44,10 @@ pub fn out_room() -> [u8; 65536]
 }
 
 pub fn check(out: &impl Print, file: &[u8]) {
-    let r = engine::file::check(file);
-    if r == limits::ACCEPTED {
-        say(out, b"accepted\n");
-    } else {
-        words::refusal(out, r);
+    match engine::file::check(file) {
+        Ok(()) => say(out, b"accepted\n"),
+        Err(r) => words::refusal(out, r),
     }
-}
-
-// How many charts a file has; none if it is refused, and then the refusal is printed.
-fn charts(out: &impl Print, file: &[u8]) -> usize
-    ensures { result ≤ most_charts }
-{
-    let o = opening::opened(file);
-    let r = o.refusal;
-    if r != limits::ACCEPTED {
-        words::refusal(out, r);
-        return 0;
-    }
-    let n = o.shape;
-    n.charts
 }
 
 // A configuration's states, with dots between.
@@ -75,14 +60,21 @@ fn states(out: &impl Print, config: &[u8])
     say(out, b"\n");
 }
 
+// The first configuration, at the front of `config`; how many states it has.
+fn put_first(file: &[u8], config: &mut [u8]) -> Result<usize, Refusal>
+    ensures { IfOk result (λ n. n ≤ most_charts) }
+{
+    engine::file::first(file, config)?;
+    let o = opening::opened(file)?;
+    Ok(o.shape.charts)
+}
+
 pub fn first(out: &impl Print, file: &[u8]) {
-    let n = charts(out, file);
-    if n == 0 {
-        return;
-    }
     let mut config = [0u8; layout::limits::CHARTS];
-    engine::file::first(file, &mut config);
-    states(out, &config[..n]);
+    match put_first(file, &mut config) {
+        Ok(n) => states(out, &config[..n]),
+        Err(r) => words::refusal(out, r),
+    }
 }
 
 // A set as signals, to the line's end.
@@ -95,32 +87,33 @@ fn signals(out: &impl Print, set: u64) {
 }
 
 pub fn interface(out: &impl Print, file: &[u8]) {
-    let f = engine::interface::interface(file);
-    let r = f.refusal;
-    if r != limits::ACCEPTED {
-        words::refusal(out, r);
-        return;
+    match engine::interface::interface(file) {
+        Ok(f) => {
+            say(out, b"in ");
+            console::say_hex(out, f.input);
+            signals(out, f.input);
+            say(out, b"out ");
+            console::say_hex(out, f.output);
+            signals(out, f.output);
+        }
+        Err(r) => words::refusal(out, r),
     }
-    say(out, b"in ");
-    console::say_hex(out, f.input);
-    signals(out, f.input);
-    say(out, b"out ");
-    console::say_hex(out, f.output);
-    signals(out, f.output);
 }
 
 pub fn plain(out: &impl Print, file: &[u8]) {
-    let p = engine::file::plain(file);
-    let r = p.refusal;
-    if r != limits::ACCEPTED {
-        words::refusal(out, r);
-        return;
+    match engine::file::plain(file) {
+        Ok(true) => say(out, b"plain\n"),
+        Ok(false) => say(out, b"not plain\n"),
+        Err(r) => words::refusal(out, r),
     }
-    if p.plain {
-        say(out, b"plain\n");
-    } else {
-        say(out, b"not plain\n");
+}
+
+// The refusal of a row that has one: 23 or 24 (RULES 6.3).
+fn of_row(number: u8) -> Refusal {
+    if number == Refusal::ManyOpen.number() {
+        return Refusal::ManyOpen;
     }
+    Refusal::NoStep
 }
 
 // A row as the day program's line, and behind it the output as signals, or the refusal's words.
@@ -135,7 +128,7 @@ fn row(out: &impl Print, number: u64, row: &[u8])
     if refusal == limits::ACCEPTED {
         signals(out, layout::number::le64(row, 0));
     } else {
-        words::end_refused(out, refusal);
+        words::end_refused(out, of_row(refusal));
     }
 }
 
@@ -151,19 +144,18 @@ fn rows(out: &impl Print, rows: &[u8], w: usize, n: usize)
     }
 }
 
-// A run of a file that was opened, with nothing carried into it. Returns what is carried after it.
-fn run_of(out: &impl Print, n: Shape, body: &[u8], config: &[u8], inputs: &[u64]) -> u64
+// A run of a file that was opened, with nothing carried into it, and what is carried after it.
+fn run_of(out: &impl Print, n: Shape, body: &[u8], config: &[u8], inputs: &[u64])
     requires { Checked n body.now × (length inputs.now ≤ 1024) }
 {
     let mut space = row_room();
-    let a = running::of_body(n, body, config, 0, inputs, &mut space);
-    let r = a.refusal;
-    if r != limits::ACCEPTED {
-        words::refusal(out, r);
-        return 0;
+    match running::of_body(n, body, config, 0, inputs, &mut space) {
+        Ok(set) => {
+            rows(out, &space, layout::row::STATES + n.charts, inputs.len());
+            carried(out, set);
+        }
+        Err(r) => words::refusal(out, r),
     }
-    rows(out, &space, layout::row::STATES + n.charts, inputs.len());
-    a.carried
 }
 
 // What is carried after a run, if that is something.
@@ -211,43 +203,62 @@ fn open_choices(out: &impl Print, n: u64) {
 }
 
 // The row of a step's answer, with the configuration after it.
-fn answer_row(s: Stepped, next: [u8; layout::limits::CHARTS]) -> [u8; layout::row::MOST_BYTES] {
+fn answer_row(
+    output: u64,
+    mark: bool,
+    refusal: u8,
+    next: [u8; layout::limits::CHARTS],
+) -> [u8; layout::row::MOST_BYTES] {
     let mut row = [0u8; layout::row::MOST_BYTES];
-    layout::number::put64(&mut row, 0, s.output);
-    if s.mark {
+    layout::number::put64(&mut row, 0, output);
+    if mark {
         row[layout::row::MARK] = 1;
     }
-    row[layout::row::REFUSAL] = s.refusal;
-    let mut c: usize = 0;
-    while c < layout::limits::CHARTS {
-        row[layout::row::STATES + c] = next[c];
-        c += 1;
-    }
+    row[layout::row::REFUSAL] = refusal;
+    row[layout::row::STATES..].copy_from_slice(&next);
     row
 }
 
-// A step of a file that was opened: its row; what each chart did, if it is given; and how many choices are open, if the
-// answer says it.
+// A step that is given: its row, what each of so many charts did, and how many choices are open.
+fn given(out: &impl Print, s: Stepped, next: [u8; layout::limits::CHARTS], charts: usize)
+    requires { charts ≤ most_charts }
+{
+    let all = answer_row(s.output, s.mark, limits::ACCEPTED, next);
+    let w = layout::row::STATES + charts;
+    row(out, 1, &all[..w]);
+    let places = s.places;
+    taken(out, charts, places);
+    if s.open_choices > 0 {
+        open_choices(out, s.open_choices);
+    }
+}
+
+// A step that is refused: its row, and with 24 how many choices are open; or why it was not looked for.
+fn not_given(out: &impl Print, r: Refused, next: [u8; layout::limits::CHARTS], charts: usize)
+    requires { charts ≤ most_charts }
+{
+    let refusal = r.refusal;
+    match refusal {
+        Refusal::NoStep | Refusal::ManyOpen => {
+            let all = answer_row(0, false, refusal.number(), next);
+            let w = layout::row::STATES + charts;
+            row(out, 1, &all[..w]);
+        }
+        _ => words::refusal(out, refusal),
+    }
+    if r.open_choices > 0 {
+        open_choices(out, r.open_choices);
+    }
+}
+
+// A step of a file that was opened.
 fn step_of(out: &impl Print, n: Shape, body: &[u8], config: &[u8], input: u64)
     requires { Checked n body.now }
 {
     let mut next = [0u8; layout::limits::CHARTS];
-    let s = stepping::step::of_body(n, body, config, input, &mut next);
-    let r = s.refusal;
-    if (r != limits::ACCEPTED) & (r < limits::NO_STEP) {
-        words::refusal(out, r);
-        return;
-    }
-    let charts = n.charts;
-    let all = answer_row(s, next);
-    let w = layout::row::STATES + charts;
-    row(out, 1, &all[..w]);
-    if r == limits::ACCEPTED {
-        let places = s.places;
-        taken(out, charts, places);
-    }
-    if s.open_choices > 0 {
-        open_choices(out, s.open_choices);
+    match stepping::step::of_body(n, body, config, input, &mut next) {
+        Ok(s) => given(out, s, next, n.charts),
+        Err(r) => not_given(out, r, next, n.charts),
     }
 }
 
@@ -266,7 +277,7 @@ fn run_typed(
         return;
     }
     if !is_step {
-        carried(rt, run_of(rt, n, body, config, inputs));
+        run_of(rt, n, body, config, inputs);
         return;
     }
     if inputs.len() > 0 {
@@ -286,25 +297,19 @@ pub fn run(rt: &impl Console, file: &[u8], is_step: bool) {
     if k == 0 {
         return;
     }
-    let o = opening::opened(file);
-    let r = o.refusal;
-    if r != limits::ACCEPTED {
-        words::refusal(rt, r);
-        return;
-    }
-    let n = o.shape;
-    let start = o.start;
-    let end = o.end;
     let config = c.states;
     let mut inputs = set_room();
-    run_typed(
-        rt,
-        n,
-        &file[start..end],
-        &config[..k],
-        &mut inputs[..count],
-        is_step,
-    );
+    match opening::opened(file) {
+        Ok(o) => run_typed(
+            rt,
+            o.shape,
+            o.body,
+            &config[..k],
+            &mut inputs[..count],
+            is_step,
+        ),
+        Err(r) => words::refusal(rt, r),
+    }
 }
 
 // Writes a file of this name, whatever it had before.
@@ -336,14 +341,10 @@ pub fn save(rt: &impl Console, i: usize, bytes: &[u8]) {
 
 pub fn rewrite(rt: &impl Console, file: &[u8]) {
     let mut out = out_room();
-    let w = engine::rewriting::rewriting(file, &mut out);
-    let r = w.refusal;
-    if r != limits::ACCEPTED {
-        words::refusal(rt, r);
-        return;
+    match engine::rewriting::rewriting(file, &mut out) {
+        Ok(n) => save(rt, ask::OUT, &out[..n]),
+        Err(r) => words::refusal(rt, r),
     }
-    let n = w.length;
-    save(rt, ask::OUT, &out[..n]);
 }
 
 // Says how many transitions chart c lost, if it had more before.
@@ -376,45 +377,34 @@ fn lost_in_bodies(out: &impl Print, n: Shape, body: &[u8], m: Shape, cleared: &[
 
 // The same of each chart, from the files.
 fn lost_in_charts(out: &impl Print, file: &[u8], cleared: &[u8]) {
-    let o = opening::opened(file);
-    if o.refusal != limits::ACCEPTED {
+    let Ok(o) = opening::opened(file) else {
+        return;
+    };
+    let Ok(p) = opening::opened(cleared) else {
+        return;
+    };
+    if p.shape.charts < o.shape.charts {
         return;
     }
-    let p = opening::opened(cleared);
-    if p.refusal != limits::ACCEPTED {
-        return;
-    }
-    let n = o.shape;
-    let m = p.shape;
-    if m.charts < n.charts {
-        return;
-    }
-    let start = o.start;
-    let end = o.end;
-    let new_start = p.start;
-    let new_end = p.end;
-    lost_in_bodies(out, n, &file[start..end], m, &cleared[new_start..new_end]);
+    lost_in_bodies(out, o.shape, o.body, p.shape, p.body);
 }
 
 // Nothing is said of charts that lost none.
 pub fn clear(rt: &impl Console, file: &[u8]) {
     let mut out = out_room();
-    let w = engine::clear::clear(file, &mut out);
-    let r = w.refusal;
-    if r != limits::ACCEPTED {
-        words::clearing_refusal(rt, r);
-        return;
-    }
-    let n = w.length;
-    if is_saved(rt, ask::OUT, &out[..n]) {
-        lost_in_charts(rt, file, &out[..n]);
+    match engine::clear::clear(file, &mut out) {
+        Ok(n) => {
+            if is_saved(rt, ask::OUT, &out[..n]) {
+                lost_in_charts(rt, file, &out[..n]);
+            }
+        }
+        Err(r) => words::clearing_refusal(rt, r),
     }
 }
 
 // The file as text, in one line or laid out.
 pub fn write(out: &impl Print, file: &[u8], laid_out: bool) {
-    let r = display::show(out, file, laid_out);
-    if r != limits::ACCEPTED {
+    if let Err(r) = display::show(out, file, laid_out) {
         words::writing_refusal(out, r);
     }
 }

@@ -4,12 +4,10 @@ ghost use Rattle.checks.specs.Known.{Sized, Summed};
 
 use crate::words::say;
 use crate::{ask, words};
-use checks::limits;
+use checks::refusal::Refusal;
 use console::Console;
-use lacks::Lacking;
 use layout::body::Shape;
 use signals::guard::Tested;
-use typed::Read;
 
 // A signal, by its number.
 fn signal(out: &impl Print, s: u8) {
@@ -35,21 +33,21 @@ fn tested(out: &impl Print, t: Tested) {
 }
 
 // The answer to a question.
-fn answer(out: &impl Print, a: Lacking) {
+fn answer(out: &impl Print, a: Result<Tested, Refusal>) {
     match a {
-        Lacking::Refused(r) => words::question_refusal(out, r),
-        Lacking::Shown(t) => tested(out, t),
+        Ok(t) => tested(out, t),
+        Err(r) => words::question_refusal(out, r),
     }
 }
 
 pub fn lacking(rt: &impl Console, file: &[u8]) {
-    let Read::Is(chart) = ask::number(rt, ask::CHART) else {
+    let Some(chart) = ask::number(rt, ask::CHART) else {
         return;
     };
-    let Read::Is(place) = ask::number(rt, ask::PLACE) else {
+    let Some(place) = ask::number(rt, ask::PLACE) else {
         return;
     };
-    let Read::Is(set) = ask::set(rt, ask::OFFERED) else {
+    let Some(set) = ask::set(rt, ask::OFFERED) else {
         return;
     };
     answer(
@@ -93,17 +91,13 @@ fn all_lines(out: &impl Print, n: Shape, body: &[u8], config: &[u8], set: u64)
 
 // The same of a file that is in order, for a configuration of it.
 fn all_of(out: &impl Print, file: &[u8], config: &[u8], set: u64) {
-    let o = opening::opened(file);
-    if o.refusal != limits::ACCEPTED {
+    let Ok(o) = opening::opened(file) else {
+        return;
+    };
+    if config.len() < o.shape.charts {
         return;
     }
-    let n = o.shape;
-    if config.len() < n.charts {
-        return;
-    }
-    let start = o.start;
-    let end = o.end;
-    all_lines(out, n, &file[start..end], config, set);
+    all_lines(out, o.shape, o.body, config, set);
     say(
         out,
         b"under the input alone; what charts feed back to each other may change this\n",
@@ -115,12 +109,10 @@ fn all_of(out: &impl Print, file: &[u8], config: &[u8], set: u64) {
 fn why_of(out: &impl Print, file: &[u8], config: &[u8], set: u64) {
     let inputs = [0u64; 0];
     let mut rows = [0u8; 0];
-    let r = engine::run::run(file, config, 0, &inputs, &mut rows).refusal;
-    if r != limits::ACCEPTED {
-        words::refusal(out, r);
-        return;
+    match engine::run::run(file, config, 0, &inputs, &mut rows) {
+        Ok(_) => all_of(out, file, config, set),
+        Err(r) => words::refusal(out, r),
     }
-    all_of(out, file, config, set);
 }
 
 pub fn why(rt: &impl Console, file: &[u8]) {
@@ -129,7 +121,7 @@ pub fn why(rt: &impl Console, file: &[u8]) {
     if k == 0 {
         return;
     }
-    let Read::Is(set) = ask::set(rt, ask::INPUT) else {
+    let Some(set) = ask::set(rt, ask::INPUT) else {
         return;
     };
     let config = c.states;

@@ -1,7 +1,7 @@
 // What is printed in words: refusals, what was expected where something is typed wrong, and the help.
 ghost use Rattle.std.specs.Prelude.{◌≤◌, length};
 
-use checks::limits;
+use checks::refusal::Refusal;
 use console::Errors;
 use std::io;
 use std::io::{Cursor, Write};
@@ -17,213 +17,173 @@ pub fn complain(rt: &impl Errors, text: &[u8]) {
     say(&rt.errors(), text);
 }
 
-// Why a file is refused, and what was expected (RULES 3.2).
-fn say_file(out: &impl Print, refusal: u8) {
-    if refusal == limits::TOO_SHORT {
-        say(out, b"fewer than 12 bytes, so there is no trailer");
-    }
-    if refusal == limits::OTHER_EDITION {
-        say(
+// Why it is refused. The day program and the posting have their own words for 30, 31 and 60 to 63.
+fn say_why(out: &impl Print, refusal: Refusal) {
+    match refusal {
+        // A file, and what was expected (RULES 3.2).
+        Refusal::TooShort => say(out, b"fewer than 12 bytes, so there is no trailer"),
+        Refusal::OtherEdition => say(
             out,
             b"the edition is neither 1 nor 2 (a typed chart becomes a file by chart read)",
-        );
-    }
-    if refusal == limits::BAD_COUNTS {
-        say(
+        ),
+        Refusal::BadCounts => say(
             out,
             b"a count in the trailer is out of range: 1 to 16 charts, up to 15 slaves, 1 to 64 \
               nodes, up to 1024 transitions",
-        );
-    }
-    if refusal == limits::BAD_DISTANCE {
-        say(
+        ),
+        Refusal::BadDistance => say(
             out,
             b"the distance in the trailer is not the size of the body, or the file is too short \
               for it",
-        );
-    }
-    if refusal == limits::NOT_ZERO {
-        say(out, b"a byte that has to be zero is not");
-    }
-    if refusal == limits::BAD_CHART {
-        say(
+        ),
+        Refusal::NotZero => say(out, b"a byte that has to be zero is not"),
+        Refusal::BadChart => say(
             out,
             b"a chart needs 1 to 16 states, an initial state among them and at most 64 \
               transitions, and all transitions have to add up to the trailer's number",
-        );
-    }
-    if refusal == limits::BAD_TRANSITION {
-        say(
+        ),
+        Refusal::BadTransition => say(
             out,
             b"a transition leaves or enters a state that its chart does not have, or more than 8 \
               leave one state",
-        );
-    }
-    if refusal == limits::BAD_SLAVE {
-        say(
+        ),
+        Refusal::BadSlave => say(
             out,
             b"a slave names a chart, a state or a node that does not exist, or the slaves are not \
               in order of chart and state",
-        );
-    }
-    if refusal == limits::BAD_NODE {
-        say(
+        ),
+        Refusal::BadNode => say(
             out,
             b"a node has a kind above 2, holds a chart that does not exist, names a node that is \
               not lower, or fills a field that its kind does not use",
-        );
-    }
-    if refusal == limits::BAD_NAMING {
-        say(
+        ),
+        Refusal::BadNaming => say(
             out,
             b"the nodes do not make one tree: every chart is in one node, every node but the last \
               has one name, and a slave's node is lower than its master's",
-        );
-    }
-    if refusal == limits::BAD_INSIDE {
-        say(
+        ),
+        Refusal::BadInside => say(
             out,
             b"a chart inside a slave has a number that is not above that of the slave's master",
-        );
-    }
-}
-
-// Why a configuration, a step or a run is refused (RULES 3.3).
-fn say_step(out: &impl Print, refusal: u8) {
-    if refusal == limits::WRONG_LENGTH {
-        say(out, b"there is not exactly one state for each chart");
-    }
-    if refusal == limits::BAD_STATE {
-        say(out, b"a state is not one of its chart's");
-    }
-    if refusal == limits::SHORT_BUFFER {
-        say(out, b"the buffer is shorter than a configuration");
-    }
-    if refusal == limits::NO_STEP {
-        say(out, b"no choice is permitted");
-    }
-    if refusal == limits::MANY_OPEN {
-        say(out, b"more than 16777216 choices are open");
-    }
-    if refusal == limits::NO_SUCH_CHART {
-        say(
+        ),
+        // A configuration, a step or a run (RULES 3.3).
+        Refusal::WrongLength => say(out, b"there is not exactly one state for each chart"),
+        Refusal::BadState => say(out, b"a state is not one of its chart's"),
+        Refusal::ShortBuffer => say(out, b"the buffer is shorter than a configuration"),
+        Refusal::NoStep => say(out, b"no choice is permitted"),
+        Refusal::ManyOpen => say(out, b"more than 16777216 choices are open"),
+        Refusal::NoSuchChart => say(
             out,
             b"the file has no chart of this number; they are counted from 0",
-        );
-    }
-    if refusal == limits::NO_SUCH_PLACE {
-        say(
+        ),
+        Refusal::NoSuchPlace => say(
             out,
             b"the chart's list has no such place; they are counted from 0",
-        );
-    }
-    if refusal == limits::SHORT_ROWS {
-        say(out, b"the buffer is shorter than a row for each input");
-    }
-}
-
-// Why a rewriting or a clearing is refused (RULES 3.5).
-fn say_rewriting(out: &impl Print, refusal: u8) {
-    if refusal == limits::NO_FREE_SIGNAL {
-        say(out, b"there are fewer free signals than slaves");
-    }
-    if refusal == limits::MANY_FROM_STATE {
-        say(out, b"more than 8 transitions would leave one state");
-    }
-    if refusal == limits::MANY_IN_CHART {
-        say(out, b"a chart would have more than 64 transitions");
-    }
-    if refusal == limits::MANY_NODES {
-        say(out, b"there would be more than 64 nodes");
-    }
-    if refusal == limits::SHORT_OUT {
-        say(out, b"the buffer is shorter than the result");
-    }
-    if refusal == limits::MAY_STAY {
-        say(
+        ),
+        Refusal::ShortRun => say(out, b"the buffer is shorter than a row for each input"),
+        // A rewriting or a clearing (RULES 3.5).
+        Refusal::NoFreeSignal => say(out, b"there are fewer free signals than slaves"),
+        Refusal::ManyFromState => say(out, b"more than 8 transitions would leave one state"),
+        Refusal::ManyInChart => say(out, b"a chart would have more than 64 transitions"),
+        Refusal::ManyNodes => say(out, b"there would be more than 64 nodes"),
+        Refusal::ShortOut => say(out, b"the buffer is shorter than the result"),
+        Refusal::MayStay => say(
             out,
             b"edition 2, in which charts may stay; only edition 1 can be rewritten, cleared or written as text",
-        );
-    }
-}
-
-// Why a text is refused (RULES 14).
-fn say_text(out: &impl Print, refusal: u8) {
-    if refusal == texts::NOT_NOTATION {
-        say(out, b"not the notation of charts");
-    }
-    if refusal == texts::TOO_DEEP {
-        say(out, b"charts are nested more than 16 deep");
-    }
-    if refusal == texts::BAD_NAME {
-        say(
+        ),
+        // A text (RULES 14).
+        Refusal::NotNotation => say(out, b"not the notation of charts"),
+        Refusal::TooDeep => say(out, b"charts are nested more than 16 deep"),
+        Refusal::BadName => say(
             out,
             b"a name is out of range (c0 to c15, q0 to q15, s0 to s63), a chart or a state of a \
               list is given twice, a number below the highest is left out, an initial state is \
               not the first of its list, or a state is used that its chart lacks",
-        );
+        ),
+        Refusal::OddFront
+        | Refusal::TooLong
+        | Refusal::BadBook
+        | Refusal::NoSuchCase
+        | Refusal::RowsEnd
+        | Refusal::ShortRows => {}
     }
 }
 
 // A refusal's words, to the line's end.
-pub fn end_refused(out: &impl Print, refusal: u8) {
+pub fn end_refused(out: &impl Print, refusal: Refusal) {
     say(out, b": ");
-    say_file(out, refusal);
-    say_step(out, refusal);
-    say_rewriting(out, refusal);
-    say_text(out, refusal);
+    say_why(out, refusal);
     say(out, b"\n");
 }
 
 // A whole line of a refusal.
-fn refused(out: &impl Print, what: &[u8], refusal: u8) {
+fn refused(out: &impl Print, what: &[u8], refusal: Refusal) {
     say(out, what);
     say(out, b" refused ");
-    console::say_decimal(out, refusal as u64);
+    console::say_decimal(out, refusal.number() as u64);
     end_refused(out, refusal);
 }
 
-// The line of a refusal of a call: what was refused, its number, its words.
-pub fn refusal(out: &impl Print, r: u8) {
-    if r < limits::WRONG_LENGTH {
-        refused(out, b"file", r);
-    } else if r < limits::NO_FREE_SIGNAL {
-        refused(out, b"configuration", r);
+// Whether the file itself is refused (RULES 3.2), or else what was asked of it.
+fn is_of_file(refusal: Refusal) -> bool {
+    match refusal {
+        Refusal::TooShort
+        | Refusal::OtherEdition
+        | Refusal::BadCounts
+        | Refusal::BadDistance
+        | Refusal::NotZero
+        | Refusal::BadChart
+        | Refusal::BadTransition
+        | Refusal::BadSlave
+        | Refusal::BadNode
+        | Refusal::BadNaming
+        | Refusal::BadInside => true,
+        _ => false,
+    }
+}
+
+// The line of a refusal of a file, or else of what was asked of it: its number, its words.
+fn file_or(out: &impl Print, what: &[u8], refusal: Refusal) {
+    if is_of_file(refusal) {
+        refused(out, b"file", refusal);
     } else {
-        refused(out, b"rewriting", r);
+        refused(out, what, refusal);
+    }
+}
+
+// The line of a refusal of a call: what was refused, its number, its words.
+pub fn refusal(out: &impl Print, r: Refusal) {
+    match r {
+        Refusal::WrongLength
+        | Refusal::BadState
+        | Refusal::ShortBuffer
+        | Refusal::NoStep
+        | Refusal::ManyOpen
+        | Refusal::NoSuchChart
+        | Refusal::NoSuchPlace
+        | Refusal::ShortRun => refused(out, b"configuration", r),
+        _ => file_or(out, b"rewriting", r),
     }
 }
 
 // The same where a file was to be cleared.
-pub fn clearing_refusal(out: &impl Print, r: u8) {
-    if r < limits::WRONG_LENGTH {
-        refused(out, b"file", r);
-    } else {
-        refused(out, b"clearing", r);
-    }
+pub fn clearing_refusal(out: &impl Print, r: Refusal) {
+    file_or(out, b"clearing", r);
 }
 
 // The same where a text was to be read; 1 to 11 are those of the file that it means.
-pub fn text_refusal(out: &impl Print, r: u8) {
+pub fn text_refusal(out: &impl Print, r: Refusal) {
     refused(out, b"text", r);
 }
 
 // The same where a file was to be written as text.
-pub fn writing_refusal(out: &impl Print, r: u8) {
-    if r < limits::WRONG_LENGTH {
-        refused(out, b"file", r);
-    } else {
-        refused(out, b"writing", r);
-    }
+pub fn writing_refusal(out: &impl Print, r: Refusal) {
+    file_or(out, b"writing", r);
 }
 
 // The same of a question about a transition.
-pub fn question_refusal(out: &impl Print, r: u8) {
-    if r < limits::WRONG_LENGTH {
-        refused(out, b"file", r);
-    } else {
-        refused(out, b"question", r);
-    }
+pub fn question_refusal(out: &impl Print, r: Refusal) {
+    file_or(out, b"question", r);
 }
 
 // A word that is not what was expected there.

@@ -3,3 +3,4 @@
 pub mod Known
 pub mod Walk
 pub mod Trailer
+pub mod Refusals

@@ -25,16 +25,13 @@ pub fn bad_charts(n: Shape, body: &[u8]) -> bool
     requires { Sized n body.now }
     ensures { result ≡ charts? n body.now }
 {
-    let charts = n.charts;
     let mut sum: usize = 0;
-    let mut c: usize = 0;
-    while c < charts {
+    for c in 0..n.charts {
         let h = layout::body::head_at(n, body, c);
         if bad_chart(h) {
             return true;
         }
         sum += h.transitions as usize;
-        c += 1;
     }
     sum != n.transitions
 }
@@ -68,22 +65,18 @@ pub fn bad_transitions(n: Shape, body: &[u8]) -> bool
     let charts = n.charts;
     let mut found = false;
     let mut at: usize = 0;
-    let mut c: usize = 0;
-    'scan: while c < charts {
+    'scan: for c in 0..charts {
         let h = layout::body::head_at(n, body, c);
         let count = h.transitions;
         let states = h.states;
         let mut left = [0u8; limits::MOST_STATES as usize];
-        let mut t: u8 = 0;
-        while t < count {
+        for t in 0..count {
             if bad_transition(layout::body::transition_at(n, body, at), states, &mut left) {
                 found = true;
                 break 'scan;
             }
             at += 1;
-            t += 1;
         }
-        c += 1;
     }
     found
 }

@@ -4,5 +4,6 @@
 
 pub mod charts;
 pub mod limits;
+pub mod refusal;
 pub mod trailer;
 pub mod zeros;

@@ -3,9 +3,11 @@ ghost use Rattle.std.specs.Prelude.{◌≡◌, ◌||◌, ltb};
 ghost use Rattle.layout.specs.Body.{size_of};
 ghost use Rattle.meaning.specs.File.{shape_of};
 ghost use Rattle.meaning.specs.Check.{edition?, counts?, differ, first_of};
+ghost use Rattle.checks.specs.Refusals.{told};
 ghost use Rattle.checks.specs.Trailer.{trailer_tests};
 
 use crate::limits;
+use crate::refusal::Refusal;
 use layout::body::Shape;
 use layout::record::Trailer;
 
@@ -48,17 +50,17 @@ fn bad_distance(t: Trailer, end: usize) -> bool
 }
 
 // 2 to 4, of the trailer at `end`.
-pub fn refusal(t: Trailer, end: usize) -> u8
-    ensures { result ≡ first_of (trailer_tests t end) }
+pub fn test(t: Trailer, end: usize) -> Result<(), Refusal>
+    ensures { told result ≡ first_of (trailer_tests t end) }
 {
     if other_edition(t) {
-        return limits::OTHER_EDITION;
+        return Err(Refusal::OtherEdition);
     }
     if bad_counts(t) {
-        return limits::BAD_COUNTS;
+        return Err(Refusal::BadCounts);
     }
     if bad_distance(t, end) {
-        return limits::BAD_DISTANCE;
+        return Err(Refusal::BadDistance);
     }
-    limits::ACCEPTED
+    Ok(())
 }

@@ -14,10 +14,8 @@ pub fn nonzero(s: &[u8], at: usize, k: usize) -> bool
     ensures { result ≡ nonzero s.now at k }
 {
     let mut found = false;
-    let mut i: usize = 0;
-    while i < k {
+    for i in 0..k {
         found = found | (s[at + i] != 0);
-        i += 1;
     }
     found
 }
@@ -29,13 +27,11 @@ fn any_nonzero(s: &[u8], at: usize, size: usize, count: usize, from: usize, k: u
     ensures { result ≡ any_up_to count (λ i. nonzero s.now (at + size * i + from) k) }
 {
     let mut place = at;
-    let mut i: usize = 0;
-    while i < count {
+    for i in 0..count {
         if nonzero(s, place + from, k) {
             return true;
         }
         place += size;
-        i += 1;
     }
     false
 }

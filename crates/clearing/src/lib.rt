@@ -58,13 +58,11 @@ pub fn of_list(n: Shape, body: &[u8], start: usize, count: usize, fed: u64) -> L
     let mut kept: usize = 0;
     let mut was: u64 = 0;
     let mut still: u64 = 0;
-    let mut k: usize = 0;
-    while k < count {
+    for k in 0..count {
         let one = of_one(layout::body::transition_at(n, body, start + k), fed);
         kept += one.count;
         was = was | one.was;
         still = still | one.still;
-        k += 1;
     }
     Left {
         count: kept,
@@ -95,13 +93,11 @@ fn in_all(n: Shape, body: &[u8]) -> usize
     let charts = n.charts;
     let mut sum: usize = 0;
     let mut start: usize = 0;
-    let mut c: usize = 0;
-    while c < charts {
+    for c in 0..charts {
         let h = layout::body::head_at(n, body, c);
         let l = of_list(n, body, start, h.transitions as usize, h.feedback);
         sum += l.count;
         start += h.transitions as usize;
-        c += 1;
     }
     sum
 }
@@ -130,13 +126,11 @@ fn heads(n: Shape, body: &[u8], out: &mut [u8], at: usize) -> usize
     let charts = n.charts;
     let mut p = at;
     let mut start: usize = 0;
-    let mut c: usize = 0;
-    while c < charts {
+    for c in 0..charts {
         let h = layout::body::head_at(n, body, c);
         let l = of_list(n, body, start, h.transitions as usize, h.feedback);
         p = laying::put_head(out, p, head(h, l));
         start += h.transitions as usize;
-        c += 1;
     }
     p
 }
@@ -168,10 +162,8 @@ fn chart(
         (in_turn count (λ k. kept_bytes fed (transition_at n body.now (start + k)))) out.new result }
 {
     let mut p = at;
-    let mut k: usize = 0;
-    while k < count {
+    for k in 0..count {
         p = keep(layout::body::transition_at(n, body, start + k), fed, out, p);
-        k += 1;
     }
     p
 }
@@ -185,12 +177,10 @@ fn transitions(n: Shape, body: &[u8], out: &mut [u8], at: usize) -> usize
     let charts = n.charts;
     let mut p = at;
     let mut start: usize = 0;
-    let mut c: usize = 0;
-    while c < charts {
+    for c in 0..charts {
         let h = layout::body::head_at(n, body, c);
         p = chart(n, body, start, h.transitions as usize, h.feedback, out, p);
         start += h.transitions as usize;
-        c += 1;
     }
     p
 }
@@ -202,10 +192,8 @@ fn slaves(n: Shape, body: &[u8], out: &mut [u8], at: usize) -> usize
 {
     let slaves = n.slaves;
     let mut p = at;
-    let mut i: usize = 0;
-    while i < slaves {
+    for i in 0..slaves {
         p = laying::put_slave(out, p, layout::body::slave_at(n, body, i));
-        i += 1;
     }
     p
 }
@@ -217,10 +205,8 @@ fn nodes(n: Shape, body: &[u8], out: &mut [u8], at: usize) -> usize
 {
     let nodes = n.nodes;
     let mut p = at;
-    let mut j: usize = 0;
-    while j < nodes {
+    for j in 0..nodes {
         p = laying::put_node(out, p, layout::body::node_at(n, body, j));
-        j += 1;
     }
     p
 }

@@ -59,10 +59,8 @@ fn branch(
     ensures { result ≡ branch_in charts masters.now states.now counts.now c q u }
 {
     let mut product: u64 = 1;
-    let mut d: usize = 0;
-    while d < charts {
+    for d in 0..charts {
         product = factor(masters, states, counts, d, c, q, u) * product;
-        d += 1;
     }
     product
 }
@@ -127,11 +125,9 @@ fn summed(
 {
     let mut total = staying(n, masters, states, counts, c, q);
     let mut at = HEAD_BYTES * n.charts + TRANSITION_BYTES * start;
-    let mut p: usize = 0;
-    while p < count {
+    for p in 0..count {
         total = added(n, body, at, masters, states, counts, c, q) + total;
         at += TRANSITION_BYTES;
-        p += 1;
     }
     total
 }
@@ -141,12 +137,10 @@ fn encloses(charts: usize, masters: &[u8], c: usize) -> bool
     requires { charts ≤ length masters.now }
     ensures { result ≡ encloses_in charts masters.now c }
 {
-    let mut d: usize = 0;
-    while d < charts {
+    for d in 0..charts {
         if wide(masters[d]) == c {
             return true;
         }
-        d += 1;
     }
     false
 }
@@ -215,10 +209,8 @@ pub fn fill(n: Shape, body: &[u8], config: &[u8], masters: &[u8], states: &[u8],
         × LeavesTo n body.now config.now n.charts counts.old }
     ensures { Filled n body.now config.now counts.old counts.new }
 {
-    let mut k = n.charts;
     let mut start = n.transitions;
-    while 0 < k {
-        k -= 1;
+    for k in (0..n.charts).rev() {
         start = store(n, body, config, masters, states, counts, k, start);
     }
 }
@@ -242,10 +234,8 @@ fn total(n: Shape, masters: &[u8], counts: &[u64]) -> u64
 {
     let charts = n.charts;
     let mut product: u64 = 1;
-    let mut d: usize = 0;
-    while d < charts {
+    for d in 0..charts {
         product = outside(masters, counts, d) * product;
-        d += 1;
     }
     product
 }
@@ -322,9 +312,7 @@ pub fn shut(
     ensures { Shuts charts config.now masters.now states.now
         counts.now charts shut.new }
 {
-    let mut d: usize = 0;
-    while d < charts {
+    for d in 0..charts {
         shut_one(charts, config, masters, states, counts, d, shut);
-        d += 1;
     }
 }

@@ -1,11 +1,13 @@
 -- What the day program promises of what it prints, and what the check of its input tells it.
-use Rattle.std.specs.Prelude.{◌≡◌, List, ℕ, ◌*◌, ◌/◌, ◌≤◌, length}
+use Rattle.std.specs.Prelude.{◌≡◌, List, ℕ, ◌*◌, ◌/◌, ◌≤◌, length, Result, Ok, Err}
 use Rattle.layout.specs.declared.body.Shape.{Shape}
 use Rattle.meaning.specs.Numbers.{most_charts}
 use Rattle.meaning.specs.File.{trailer, shape_of, body_of, file_of}
 use Rattle.meaning.specs.Check.{refusal_of}
 use Rattle.meaning.proofs.Laws.Runs.{Leads}
 use Rattle.meaning.specs.Calls.{laid_over}
+use Rattle.checks.specs.Refusals.{number}
+use Rattle.checks.specs.declared.refusal.Refusal.{Refusal}
 use Rattle.line.specs.Line.{front_of, day_refusal, day_from}
 use Rattle.opening.specs.Opening.{Stands}
 use Rattle.opening.specs.declared.Opening.{Opening}
@@ -31,9 +33,13 @@ pub record Body (f : List ℕ) (n : Shape) (b : List ℕ) : Type 0 where
   pub body : b ≡ body_of f
   pub checked : Checked n b
 
--- what the check of an input found: its refusal and, if there is none, where the body stands, behind the inputs
-pub record Opened (f : List ℕ) (o : Opening) : Type 0 where
-  pub refusal : o.refusal ≡ day_refusal f
-  pub accepted : o.refusal ≡ 0 → Accepted f o.shape.charts (o.start / 8)
-  pub stands : o.refusal ≡ 0 → Stands f o
-  pub inputs : o.refusal ≡ 0 → o.start / 8 ≡ front_of f / 8
+-- what the check of an input found: the body, behind the inputs
+pub record Behind (f : List ℕ) (o : Opening) : Type 0 where
+  pub accepted : Accepted f o.shape.charts (o.start / 8)
+  pub stands : Stands f o
+  pub inputs : o.start / 8 ≡ front_of f / 8
+
+-- it is found exactly if no refusal applies
+abbrev pub Opened : List ℕ → Result Opening Refusal → Type 0
+Opened f (Ok o) = (day_refusal f ≡ 0) × Behind f o
+Opened f (Err r) = number r ≡ day_refusal f

@@ -11,30 +11,21 @@ ghost use Rattle.line.specs.Line.{inputs_of, lines_of, day_of};
 ghost use Rattle.day.specs.Day.{Opened, Accepted, Body, DaySays};
 
 use checks::limits;
+use checks::refusal::Refusal;
 use layout::body::Shape;
 use opening::Opening;
 use std::io;
 
-// 1 to 11, then 30; and where the body stands, behind the inputs.
-fn opened(input: &[u8]) -> Opening
+// 1 to 11, then 30; and the body, behind the inputs.
+fn opened(input: &[u8]) -> Result<Opening<'_>, Refusal>
     requires { length input.now ≤ 65536 }
     ensures { Opened input.now result }
 {
-    let o = opening::opened(input);
-    if o.refusal != limits::ACCEPTED {
-        return o;
+    let o = opening::opened(input)?;
+    if o.start % 8 != 0 {
+        return Err(Refusal::OddFront);
     }
-    let start = o.start;
-    if start % 8 != 0 {
-        let shape = o.shape;
-        return Opening {
-            refusal: limits::ODD_FRONT,
-            shape,
-            start,
-            end: o.end,
-        };
-    }
-    o
+    Ok(o)
 }
 
 // The most inputs: 8 bytes each.
@@ -66,10 +57,8 @@ fn read_inputs(input: &[u8], inputs: &mut [u64])
     ensures { inputs.new ≡ inputs_of (length inputs.old) input.now }
 {
     let n = inputs.len();
-    let mut i: usize = 0;
-    while i < n {
+    for i in 0..n {
         inputs[i] = layout::number::le64(input, 8 * i);
-        i += 1;
     }
 }
 
@@ -86,7 +75,8 @@ fn put_rows(input: &[u8], n: Shape, body: &[u8], count: usize, rows: &mut [u8])
     queries::file::put_initials(n, body, &mut config);
     let mut inputs = input_room();
     read_inputs(input, &mut inputs[..count]);
-    running::of_body(n, body, &config[..charts], 0, &inputs[..count], rows);
+    // It is not refused.
+    let _ = running::of_body(n, body, &config[..charts], 0, &inputs[..count], rows);
 }
 
 // The lines of n rows of w bytes each, at the front of `out`; returns their length.
@@ -97,14 +87,12 @@ fn put_lines(rows: &[u8], w: usize, n: usize, out: &mut [u8]) -> usize
 {
     let mut at: usize = 0;
     let mut end: usize = 0;
-    let mut i: usize = 0;
-    while i < n {
+    for i in 0..n {
         let e = at + w;
         let room = end + 128;
         let number = i as u64 + 1;
         end += line::line(number, &rows[at..e], &mut out[end..room]);
         at = e;
-        i += 1;
     }
     end
 }
@@ -115,18 +103,14 @@ fn lines_for(input: &[u8], out: &mut [u8]) -> usize
     ensures { (result ≡ length (day_of input.now))
         × (out.new ≡ laid_over (day_of input.now) out.old) }
 {
-    let o = opened(input);
-    let r = o.refusal;
-    if r != limits::ACCEPTED {
-        return line::refused_file(r, out);
-    }
-    let n = o.shape;
-    let start = o.start;
-    let end = o.end;
-    let count = start / 8;
+    let o = match opened(input) {
+        Ok(o) => o,
+        Err(r) => return line::refused_file(r.number(), out),
+    };
+    let count = o.start / 8;
     let mut rows = row_room();
-    put_rows(input, n, &input[start..end], count, &mut rows);
-    put_lines(&rows, layout::row::STATES + n.charts, count, out)
+    put_rows(input, o.shape, o.body, count, &mut rows);
+    put_lines(&rows, layout::row::STATES + o.shape.charts, count, out)
 }
 
 // The same for any input: its first bytes, at most 65,536, and how many of the byte behind them came.
@@ -135,7 +119,7 @@ fn day(input: &[u8], behind: usize, out: &mut [u8]) -> usize
     ensures { DaySays input.now behind out.old result out.new }
 {
     if behind > 0 {
-        return line::refused_file(limits::TOO_LONG, out);
+        return line::refused_file(Refusal::TooLong.number(), out);
     }
     lines_for(input, out)
 }

@@ -1,21 +1,16 @@
 // What a day's posting is decided by (RULES 11): its entries joined case by case, its cases looked at, and then
-// 0 or the refusal. One record at a time, by value.
+// the refusal, if there is one. One record at a time, by value.
 #![tactic(auto)]
 
-ghost use Rattle.std.specs.Prelude.{◌≡◌, cond, ◌||◌, ◌≤◌, get_or};
+ghost use Rattle.std.specs.Prelude.{◌≡◌, ◌≤◌, get_or};
 ghost use Rattle.meaning.specs.Numbers.{most_charts};
 ghost use Rattle.meaning.specs.Sums.{any_up_to};
-ghost use Rattle.meaning.specs.Meaning.{same};
 ghost use Rattle.meaning.specs.Check.{not_below};
-ghost use Rattle.desk.specs.Turns.{joined_at, taken_of, no_day, bad_of, seen_of, verdict_of, plan_of};
+ghost use Rattle.checks.specs.Refusals.{told};
+ghost use Rattle.desk.specs.Turns.{joined_at, taken_of, no_day, bad_of, seen_of, verdict_of, decided_of};
 
-use desk::{Case, Day, Entry, Plan, Seen};
-
-fn either(a: bool, b: bool) -> bool
-    ensures { result ≡ (a || b) }
-{
-    if a { true } else { b }
-}
+use checks::refusal::Refusal;
+use desk::{Case, Day, Entry, Seen};
 
 // ── the entries ──
 
@@ -46,7 +41,7 @@ pub fn take_one(d: Day, e: Entry, n: usize) -> Day
 {
     let old = d.sets;
     let sets = joined_at(old, e.number as usize, e.signals);
-    let outside = either(d.outside, e.number as usize >= n);
+    let outside = d.outside || e.number as usize >= n;
     Day { sets, outside }
 }
 
@@ -57,51 +52,42 @@ fn bad_state(config: [u8; desk::WIDTH], states: [u8; layout::limits::CHARTS], n:
     requires { n ≤ most_charts }
     ensures { result ≡ any_up_to n (λ k. not_below (get_or config k 0) (get_or states k 0)) }
 {
-    let mut k: usize = 0;
-    while k < n {
+    for k in 0..n {
         if config[k] >= states[k] {
             return true;
         }
-        k += 1;
     }
     false
 }
 
-// 20 or 21 of a case, or 0.
-fn bad(s: Seen, c: Case) -> u8
+// 20 and 21 of a case.
+fn test(s: Seen, c: Case) -> Result<(), Refusal>
     ensures { result ≡ bad_of s c }
 {
     let n = c.length as usize;
     if n > layout::limits::CHARTS {
-        return desk::WRONG_LENGTH;
+        return Err(Refusal::WrongLength);
     }
     if n != s.charts as usize {
-        return desk::WRONG_LENGTH;
+        return Err(Refusal::WrongLength);
     }
     let config = c.config;
     let states = s.states;
     if bad_state(config, states, n) {
-        return desk::BAD_STATE;
+        return Err(Refusal::BadState);
     }
-    desk::ACCEPTED
-}
-
-// The first of two refusals.
-fn earlier(r: u8, s: u8) -> u8
-    ensures { result ≡ cond (same r 0) s r }
-{
-    if r == desk::ACCEPTED { s } else { r }
+    Ok(())
 }
 
 // One case more is looked at.
 pub fn look_at(s: Seen, c: Case) -> Seen
     ensures { result ≡ seen_of s c }
 {
-    let refusal = earlier(s.refusal, bad(s, c));
-    let ended = either(s.ended, c.last >= desk::LAST_ROW);
+    let tested = s.tested.and(test(s, c));
+    let ended = s.ended || c.last >= desk::LAST_ROW;
     let states = s.states;
     Seen {
-        refusal,
+        tested,
         charts: s.charts,
         states,
         ended,
@@ -110,56 +96,33 @@ pub fn look_at(s: Seen, c: Case) -> Seen
 
 // ── what is decided ──
 
-// The refusal of a day over n cases, with room for so many bytes of rows.
-fn verdict(s: Seen, outside: bool, n: usize, room: usize) -> u8
-    ensures { result ≡ verdict_of s outside n room }
+// 60 to 63 of a day over n cases, with room for so many bytes of rows.
+fn verdict(s: Seen, outside: bool, n: usize, room: usize) -> Result<(), Refusal>
+    ensures { told result ≡ verdict_of s outside n room }
 {
-    let b = s.refusal;
-    if b != desk::ACCEPTED {
-        return b;
-    }
     if n == 0 {
-        return desk::BAD_BOOK;
+        return Err(Refusal::BadBook);
     }
     if n > desk::CASES {
-        return desk::BAD_BOOK;
+        return Err(Refusal::BadBook);
     }
     if outside {
-        return desk::NO_SUCH_CASE;
+        return Err(Refusal::NoSuchCase);
     }
     let ended = s.ended;
     if ended {
-        return desk::ROWS_END;
+        return Err(Refusal::RowsEnd);
     }
     let charts = s.charts as usize;
     if room < n * (desk::ROW + desk::STATES + charts) {
-        return desk::SHORT_ROWS;
+        return Err(Refusal::ShortRows);
     }
-    desk::ACCEPTED
+    Ok(())
 }
 
-// Where the day is refused, no case is posted.
-fn planned(r: u8, n: usize, charts: usize) -> Plan
-    ensures { result ≡ plan_of r n charts }
+// Whether the day is posted: 20 or 21 of the first bad case goes before 60 to 63.
+pub fn decide(s: Seen, outside: bool, n: usize, room: usize) -> Result<(), Refusal>
+    ensures { told result ≡ decided_of s outside n room }
 {
-    if r == desk::ACCEPTED {
-        return Plan {
-            refusal: r,
-            count: n,
-            charts,
-        };
-    }
-    Plan {
-        refusal: r,
-        count: 0,
-        charts: 0,
-    }
-}
-
-pub fn decide(s: Seen, outside: bool, n: usize, room: usize) -> Plan
-    ensures { result ≡ plan_of (verdict_of s outside n room) n s.charts }
-{
-    let r = verdict(s, outside, n, room);
-    let charts = s.charts as usize;
-    planned(r, n, charts)
+    s.tested.and(verdict(s, outside, n, room))
 }

@@ -12,6 +12,7 @@ ghost use Rattle.depths.specs.Depths.{depth_at, deepest_by, Depths, Reached};
 
 use layout::body::Shape;
 use layout::limits;
+use layout::record::Kind;
 
 // A text is nested so deep at most.
 const MOST_DEPTH: u8 = reading::MOST_DEPTH;
@@ -31,14 +32,12 @@ fn deepest(n: Shape, body: &[u8], deep: &[u8; limits::NODES], c: usize) -> u8
     ensures { result ≡ deepest_by (file_at n body.now) deep.now c n.slaves }
 {
     let mut most: u8 = 0;
-    let mut i: usize = 0;
-    while i < n.slaves {
+    for i in 0..n.slaves {
         let s = layout::body::slave_at(n, body, i);
         let node = s.node as usize;
         if s.chart as usize == c {
             most = larger(most, deep[node]);
         }
-        i += 1;
     }
     most
 }
@@ -49,13 +48,12 @@ fn depth(n: Shape, body: &[u8], deep: &[u8; limits::NODES], j: usize) -> u8
     ensures { result ≡ depth_at (file_at n body.now) j }
 {
     let r = layout::body::node_at(n, body, j);
-    let kind = r.kind;
     let a = r.a as usize;
     let b = r.b as usize;
-    match kind {
-        0 => deepest(n, body, deep, a) + 1,
-        1 => larger(deep[a], deep[b]) + 1,
-        _ => deep[a] + 1,
+    match r.kind() {
+        Kind::Holds => deepest(n, body, deep, a) + 1,
+        Kind::Composes => larger(deep[a], deep[b]) + 1,
+        Kind::Hides => deep[a] + 1,
     }
 }
 
@@ -65,10 +63,8 @@ fn depths(n: Shape, body: &[u8]) -> [u8; limits::NODES]
     ensures { Depths (file_at n body.now) result n.nodes }
 {
     let mut deep = [0u8; limits::NODES];
-    let mut j: usize = 0;
-    while j < n.nodes {
+    for j in 0..n.nodes {
         deep[j] = depth(n, body, &deep, j);
-        j += 1;
     }
     deep
 }

@@ -2,7 +2,7 @@
 -- list of entries. In this order: limits and refusals; a case and its entries; the refusals in order; a case posted;
 -- the book posted; the call.
 use Rattle.std.specs.Prelude.{◌≡◌, Bool, true, false, cond, ◌||◌, List, [], ◌∷◌, ◌++◌, ℕ, zero, suc, ◌+◌, ◌*◌, ltb, leb}
-use Rattle.std.specs.Prelude.{length, get_or}
+use Rattle.std.specs.Prelude.{length, get_or, Result}
 use Rattle.signals.specs.Mask.{◌∪◌}
 use Rattle.layout.specs.Le.{bytes}
 use Rattle.meaning.specs.Meaning.{Set, ∅, same, Answer}
@@ -10,6 +10,8 @@ use Rattle.meaning.specs.File.{File, file_of}
 use Rattle.meaning.specs.Check.{Test, first_of, file_tests}
 use Rattle.meaning.specs.Calls.{made, laid_over, config_tests, step_in, next_in, row_of, carried_after}
 use Rattle.meaning.specs.Numbers.{most_charts}
+use Rattle.checks.specs.Refusals.{Answers}
+use Rattle.checks.specs.declared.refusal.Refusal.{Refusal}
 use Rattle.desk.specs.declared.Case.{Case}
 use Rattle.desk.specs.declared.Entry.{Entry}
 pub mod Laws
@@ -128,9 +130,9 @@ post_rows f cases entries rows =
     cond (same (post_refusal f cases entries (length rows)) 0)
     (laid_over (rows_from (file_of f) 0 cases entries) rows) rows
 
--- the contract: r is the refusal, and cs and rs are what the records and the row buffer hold
-abbrev pub PostSays : List ℕ → List Case → List Entry → List ℕ → ℕ → List Case → List ℕ → Type 0
+-- the contract: r is the result, and cs and rs are what the records and the row buffer hold
+abbrev pub PostSays : List ℕ → List Case → List Entry → List ℕ → Result (Unit {0}) Refusal → List Case → List ℕ → Type 0
 PostSays f cases entries rows r cs rs =
-    (r ≡ post_refusal f cases entries (length rows))
+    Answers (post_refusal f cases entries (length rows)) tt r
     × (cs ≡ post_cases f cases entries (length rows))
     × (rs ≡ post_rows f cases entries rows)

@@ -2,6 +2,8 @@
 // to one entry and one case at a time. Types, definitions and theorems in specs/, no function.
 #![tactic(auto)]
 
+use checks::refusal::Refusal;
+
 // The most cases in a book, and the bytes that a record has for a configuration.
 pub const CASES: usize = 64;
 
@@ -18,21 +20,6 @@ pub const MARK: usize = layout::row::MARK;
 pub const REFUSAL: usize = layout::row::REFUSAL;
 
 pub const STATES: usize = layout::row::STATES;
-
-// Refusals (RULES 3.3, 11).
-pub const ACCEPTED: u8 = checks::limits::ACCEPTED;
-
-pub const WRONG_LENGTH: u8 = checks::limits::WRONG_LENGTH;
-
-pub const BAD_STATE: u8 = checks::limits::BAD_STATE;
-
-pub const BAD_BOOK: u8 = 60;
-
-pub const NO_SUCH_CASE: u8 = 61;
-
-pub const ROWS_END: u8 = 62;
-
-pub const SHORT_ROWS: u8 = 63;
 
 // A case's record: what it carries, the number of its last row, and its configuration, which has `length` bytes at the
 // front of `config`.
@@ -61,29 +48,19 @@ pub struct Day {
     pub outside: bool,
 }
 
-// What the file and the cases looked at say: the file's refusal, or else 20 or 21 of the first bad case; how many
-// charts the file has, and how many states each of them has; whether a row number is at its end.
+// What an accepted file and the cases looked at say: 20 or 21 of the first bad case, if there is one; how many charts
+// the file has, and how many states each of them has; whether a row number is at its end.
 #[derive(Clone, Copy)]
 pub struct Seen {
-    pub refusal: u8,
+    pub tested: Result<(), Refusal>,
     pub charts: u8,
     pub states: [u8; layout::limits::CHARTS],
     pub ended: bool,
 }
 
-// What is decided: 0 or the refusal, how many cases are posted, none if it is refused, and how many charts the file
-// has.
-#[derive(Clone, Copy)]
-pub struct Plan {
-    pub refusal: u8,
-    pub count: usize,
-    pub charts: usize,
-}
-
-// The answer of a step, and the bytes of the record after it.
+// What a step gave, and the bytes of the record after it. A refused step leaves them as they were.
 #[derive(Clone, Copy)]
 pub struct Reply {
-    pub refusal: u8,
     pub output: u64,
     pub mark: bool,
     pub next: [u8; WIDTH],

@@ -3,7 +3,7 @@
 
 ghost use Rattle.std.specs.Prelude.{◌≡◌, length};
 
-use checks::limits;
+use checks::refusal::Refusal;
 
 // Room for the longest text. Only the length is promised, so that no proof looks at so many zeros.
 fn text_room() -> [u8; writer::MOST_TEXT]
@@ -19,10 +19,7 @@ fn say(out: &impl Print, text: &[u8]) {
 
 // The byte at a place; behind the last one, none of the signs.
 fn byte_at(text: &[u8], i: usize) -> u8 {
-    if i < text.len() {
-        return text[i];
-    }
-    0
+    text.get(i).copied().unwrap_or(0)
 }
 
 // A line's end, and two blanks a level.
@@ -37,33 +34,27 @@ fn next_line(out: &impl Print, level: u8) {
 fn lay_out(out: &impl Print, text: &[u8]) {
     let mut p = indent::start();
     let mut from: usize = 0;
-    let mut at: usize = 0;
-    while at < text.len() {
+    for at in 0..text.len() {
         p = indent::behind(p, text[at], byte_at(text, at + 1));
-        at += 1;
         if p.breaks {
-            say(out, &text[from..at]);
+            let end = at + 1;
+            say(out, &text[from..end]);
             next_line(out, p.level);
-            from = at;
+            from = end;
         }
     }
-    say(out, &text[from..at]);
+    say(out, &text[from..]);
 }
 
 // The text of a file, and a line's end; or why there is none.
-pub fn show(out: &impl Print, file: &[u8], laid_out: bool) -> u8 {
+pub fn show(out: &impl Print, file: &[u8], laid_out: bool) -> Result<(), Refusal> {
     let mut text = text_room();
-    let w = writer::write(file, &mut text);
-    let r = w.refusal;
-    if r != limits::ACCEPTED {
-        return r;
-    }
-    let n = w.length;
+    let n = writer::write(file, &mut text)?;
     if laid_out {
         lay_out(out, &text[..n]);
     } else {
         say(out, &text[..n]);
     }
     say(out, b"\n");
-    r
+    Ok(())
 }

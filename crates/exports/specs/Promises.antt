@@ -15,6 +15,9 @@ use Rattle.lacks.specs.Lacking.{lacking_of, case_in, signal_in}
 use Rattle.reading.specs.Read.{read_refusal, read_length, read_place, read_out}
 use Rattle.spelling.specs.Write.{write_refusal, write_length, write_out}
 use Rattle.lacks.specs.Lacking.{refusal_in as refusedIn}
+use Rattle.desk.specs.declared.Case.{Case}
+use Rattle.desk.specs.declared.Entry.{Entry}
+use Rattle.desk.specs.Posting.{post_refusal, post_cases, post_rows}
 pub mod Laws
 
 abbrev pub CheckReturns : List ℕ → ℕ → Type 0
@@ -44,6 +47,13 @@ RunReturns f config carried inputs b r c left =
 abbrev pub RewriteReturns : List ℕ → List ℕ → ℕ → List ℕ → ℕ → Type 0
 RewriteReturns f b r c size =
     (r ≡ rewrite_refusal f (length b)) × (c ≡ rewrite_out f b) × (size ≡ rewrite_length f (length b))
+
+-- cs and rs are what the records and the row buffer hold
+abbrev pub PostReturns : List ℕ → List Case → List Entry → List ℕ → ℕ → List Case → List ℕ → Type 0
+PostReturns f cases entries rows r cs rs =
+    (r ≡ post_refusal f cases entries (length rows))
+    × (cs ≡ post_cases f cases entries (length rows))
+    × (rs ≡ post_rows f cases entries rows)
 
 abbrev pub ClearReturns : List ℕ → List ℕ → ℕ → List ℕ → ℕ → Type 0
 ClearReturns f b r c size = (r ≡ clear_refusal f (length b)) × (c ≡ clear_out f b) × (size ≡ clear_length f (length b))

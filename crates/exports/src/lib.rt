@@ -5,45 +5,72 @@
 
 ghost use Rattle.std.specs.Prelude.{◌≡◌};
 ghost use Rattle.meaning.specs.Sums.{one};
+ghost use Rattle.checks.specs.Refusals.{told};
 ghost use Rattle.exports.specs.Promises.{CheckReturns, FirstReturns, InterfaceReturns, PlainReturns};
 ghost use Rattle.exports.specs.Promises.{StepReturns};
 ghost use Rattle.exports.specs.Promises.{RunReturns, RewriteReturns, ClearReturns, LackingReturns, ReadReturns};
-ghost use Rattle.exports.specs.Promises.{WriteReturns};
-ghost use Rattle.desk.specs.Posting.{PostSays};
+ghost use Rattle.exports.specs.Promises.{PostReturns, WriteReturns};
 
+use checks::limits;
+use checks::refusal::Refusal;
 use desk::{Case, Entry};
+
+// 0, or the number of the refusal.
+fn returned(answer: Result<(), Refusal>) -> u8
+    ensures { result ≡ told answer }
+{
+    match answer {
+        Ok(()) => limits::ACCEPTED,
+        Err(refusal) => refusal.number(),
+    }
+}
 
 #[unsafe(no_mangle)]
 pub extern "C" fn mestecur_check(file: &[u8]) -> u8
     ensures { CheckReturns file.now result }
 {
-    engine::file::check(file)
+    returned(engine::file::check(file))
 }
 
 #[unsafe(no_mangle)]
 pub extern "C" fn mestecur_first(file: &[u8], config: &mut [u8]) -> u8
     ensures { FirstReturns file.now config.old result config.new }
 {
-    engine::file::first(file, config)
+    returned(engine::file::first(file, config))
 }
 
 #[unsafe(no_mangle)]
 pub extern "C" fn mestecur_interface(file: &[u8], input: &mut u64, output: &mut u64) -> u8
     ensures { InterfaceReturns file.now result input.new output.new }
 {
-    let faces = engine::interface::interface(file);
-    *input = faces.input;
-    *output = faces.output;
-    faces.refusal
+    match engine::interface::interface(file) {
+        Ok(faces) => {
+            *input = faces.input;
+            *output = faces.output;
+            limits::ACCEPTED
+        }
+        Err(refusal) => {
+            *input = 0;
+            *output = 0;
+            refusal.number()
+        }
+    }
 }
 
 #[unsafe(no_mangle)]
 pub extern "C" fn mestecur_plain(file: &[u8], plain: &mut u8) -> u8
     ensures { PlainReturns file.now result plain.new }
 {
-    let p = engine::file::plain(file);
-    *plain = number(p.plain);
-    p.refusal
+    match engine::file::plain(file) {
+        Ok(yes) => {
+            *plain = number(yes);
+            limits::ACCEPTED
+        }
+        Err(refusal) => {
+            *plain = 0;
+            refusal.number()
+        }
+    }
 }
 
 #[unsafe(no_mangle)]
@@ -61,20 +88,30 @@ pub extern "C" fn mestecur_step(
         next.new
         output.new mark.new places.new open_choices.new }
 {
-    let s = engine::step::step(file, config, input, next);
-    *output = s.output;
-    *mark = number(s.mark);
-    let taken = s.places;
-    *places = taken;
-    *open_choices = s.open_choices;
-    s.refusal
+    match engine::step::step(file, config, input, next) {
+        Ok(s) => {
+            *output = s.output;
+            *mark = number(s.mark);
+            let taken = s.places;
+            *places = taken;
+            *open_choices = s.open_choices;
+            limits::ACCEPTED
+        }
+        Err(e) => {
+            *output = 0;
+            *mark = 0;
+            *places = [settling::NO_PLACE; layout::limits::CHARTS];
+            *open_choices = e.open_choices;
+            e.refusal.number()
+        }
+    }
 }
 
 // 1 for yes.
 fn number(yes: bool) -> u8
     ensures { result ≡ one yes }
 {
-    if yes { 1 } else { 0 }
+    u8::from(yes)
 }
 
 #[unsafe(no_mangle)]
@@ -90,18 +127,32 @@ pub extern "C" fn mestecur_run(
         rows.old result
         rows.new carried_on.new }
 {
-    let a = engine::run::run(file, config, carried, inputs, rows);
-    *carried_on = a.carried;
-    a.refusal
+    match engine::run::run(file, config, carried, inputs, rows) {
+        Ok(left) => {
+            *carried_on = left;
+            limits::ACCEPTED
+        }
+        Err(refusal) => {
+            *carried_on = 0;
+            refusal.number()
+        }
+    }
 }
 
 #[unsafe(no_mangle)]
 pub extern "C" fn mestecur_rewrite(file: &[u8], out: &mut [u8], size: &mut usize) -> u8
     ensures { RewriteReturns file.now out.old result out.new size.new }
 {
-    let w = engine::rewriting::rewriting(file, out);
-    *size = w.length;
-    w.refusal
+    match engine::rewriting::rewriting(file, out) {
+        Ok(length) => {
+            *size = length;
+            limits::ACCEPTED
+        }
+        Err(refusal) => {
+            *size = 0;
+            refusal.number()
+        }
+    }
 }
 
 #[unsafe(no_mangle)]
@@ -111,19 +162,26 @@ pub extern "C" fn mestecur_post(
     entries: &[Entry],
     rows: &mut [u8],
 ) -> u8
-    ensures { PostSays file.now cases.old entries.now rows.old
+    ensures { PostReturns file.now cases.old entries.now rows.old
         result cases.new rows.new }
 {
-    ledger::post(file, cases, entries, rows)
+    returned(ledger::post(file, cases, entries, rows))
 }
 
 #[unsafe(no_mangle)]
 pub extern "C" fn mestecur_clear(file: &[u8], out: &mut [u8], size: &mut usize) -> u8
     ensures { ClearReturns file.now out.old result out.new size.new }
 {
-    let w = engine::clear::clear(file, out);
-    *size = w.length;
-    w.refusal
+    match engine::clear::clear(file, out) {
+        Ok(length) => {
+            *size = length;
+            limits::ACCEPTED
+        }
+        Err(refusal) => {
+            *size = 0;
+            refusal.number()
+        }
+    }
 }
 
 #[unsafe(no_mangle)]
@@ -138,10 +196,18 @@ pub extern "C" fn mestecur_lacking(
     ensures { LackingReturns file.now chart place offered result answer.new
         signal.new }
 {
-    let a = lacks::in_numbers(engine::lacking::lacking(file, chart, place, offered));
-    *answer = a.answer;
-    *signal = a.signal;
-    a.refusal
+    match engine::lacking::lacking(file, chart, place, offered) {
+        Ok(t) => {
+            *answer = lacks::case_number(t);
+            *signal = lacks::signal_number(t);
+            limits::ACCEPTED
+        }
+        Err(refusal) => {
+            *answer = 0;
+            *signal = 0;
+            refusal.number()
+        }
+    }
 }
 
 #[unsafe(no_mangle)]
@@ -154,17 +220,32 @@ pub extern "C" fn mestecur_read(
     ensures { ReadReturns text.now out.old result out.new size.new
         place.new }
 {
-    let f = texts::read(text, out);
-    *size = f.length;
-    *place = f.place;
-    f.refusal
+    match texts::read(text, out) {
+        Ok(length) => {
+            *size = length;
+            *place = 0;
+            limits::ACCEPTED
+        }
+        Err(e) => {
+            *size = 0;
+            *place = e.place;
+            e.refusal.number()
+        }
+    }
 }
 
 #[unsafe(no_mangle)]
 pub extern "C" fn mestecur_write(file: &[u8], out: &mut [u8], size: &mut usize) -> u8
     ensures { WriteReturns file.now out.old result out.new size.new }
 {
-    let w = writer::write(file, out);
-    *size = w.length;
-    w.refusal
+    match writer::write(file, out) {
+        Ok(length) => {
+            *size = length;
+            limits::ACCEPTED
+        }
+        Err(refusal) => {
+            *size = 0;
+            refusal.number()
+        }
+    }
 }

@@ -2,7 +2,7 @@
 // answered is right if the field is there; the functions are safe on every text.
 #![tactic(auto)]
 
-ghost use Rattle.std.specs.Prelude.{◌≡◌, ◌||◌, ◌≤◌, length};
+ghost use Rattle.std.specs.Prelude.{◌≤◌, length};
 ghost use Rattle.fields.specs.Fields.{Joins, SetAt, MembersAt, LiteralAt, LiteralsAt, GuardAt};
 ghost use Rattle.fields.specs.Fields.{TransitionAt};
 
@@ -14,7 +14,7 @@ pub struct SignalSet {
     pub next: usize,
 }
 
-// Signals read so far.
+// Signals read so far. A guard has two masks and one flag, so a mask and a flag are passed one by one.
 #[derive(Clone, Copy)]
 pub struct Joined {
     pub mask: u64,
@@ -92,19 +92,19 @@ fn literal(text: &[u8], at: usize, g: Guard) -> Guard
         let n = tokens::name_at(text, tokens::behind_sign(text, at, 1));
         let j = with_signal(g.barred, g.bad, n.value);
         return Guard {
-            needed: g.needed,
             barred: j.mask,
             bad: j.bad,
             next: n.next,
+            ..g
         };
     }
     let n = tokens::name_at(text, at);
     let j = with_signal(g.needed, g.bad, n.value);
     Guard {
         needed: j.mask,
-        barred: g.barred,
         bad: j.bad,
         next: n.next,
+        ..g
     }
 }
 
@@ -128,12 +128,8 @@ fn literals(text: &[u8], at: usize) -> Guard
         g = literal(text, tokens::behind_sign(text, i, 1), g);
         i = g.next;
     }
-    Guard {
-        needed: g.needed,
-        barred: g.barred,
-        bad: g.bad,
-        next: tokens::behind_sign(text, i, 1),
-    }
+    let next = tokens::behind_sign(text, i, 1);
+    Guard { next, ..g }
 }
 
 // A guard, which may be left out, and the slash behind it.
@@ -164,15 +160,6 @@ pub struct Passage {
     pub next: usize,
 }
 
-fn either(a: bool, b: bool) -> bool
-    ensures { result ≡ (a || b) }
-{
-    if a {
-        return true;
-    }
-    b
-}
-
 // A transition in round brackets.
 pub fn transition_at(text: &[u8], at: usize) -> Passage
     requires { at ≤ length text.now }
@@ -188,7 +175,7 @@ pub fn transition_at(text: &[u8], at: usize) -> Passage
         needed: g.needed,
         barred: g.barred,
         action: s.mask,
-        bad: either(g.bad, s.bad),
+        bad: g.bad | s.bad,
         next: tokens::behind_sign(text, s.next, 1),
     }
 }

@@ -12,8 +12,7 @@ ghost use Rattle.growth.specs.Growth.{idle_count};
 
 use layout::body::Shape;
 use layout::limits::CHARTS;
-use layout::record;
-use layout::record::Head;
+use layout::record::{Head, Kind};
 
 // How many idle transitions there are for `states` of a chart with the call signal `inner`.
 pub fn idle_count(inner: u64, states: usize) -> usize
@@ -28,13 +27,11 @@ fn leaving(n: Shape, body: &[u8], start: usize, count: usize, s: u8) -> usize
     ensures { (result ≡ leaving_in (from (transition_at n body.now) start count) s) × (result ≤ count) }
 {
     let mut times: usize = 0;
-    let mut k: usize = 0;
-    while k < count {
+    for k in 0..count {
         let t = layout::body::transition_at(n, body, start + k);
         if t.from == s {
             times += 1;
         }
-        k += 1;
     }
     times
 }
@@ -48,12 +45,10 @@ fn over_from_states(n: Shape, body: &[u8], start: usize, h: Head, idle: usize, m
 {
     let states = h.states;
     let count = h.transitions as usize;
-    let mut s: u8 = 0;
-    while s < states {
+    for s in 0..states {
         if most < leaving(n, body, start, count, s) + idle {
             return true;
         }
-        s += 1;
     }
     false
 }
@@ -66,14 +61,12 @@ pub fn over_from(n: Shape, body: &[u8], inner: &[u64; CHARTS], most: usize) -> b
 {
     let charts = n.charts;
     let mut start: usize = 0;
-    let mut c: usize = 0;
-    while c < charts {
+    for c in 0..charts {
         let h = layout::body::head_at(n, body, c);
         if over_from_states(n, body, start, h, idle_count(inner[c], 1), most) {
             return true;
         }
         start += h.transitions as usize;
-        c += 1;
     }
     false
 }
@@ -92,12 +85,10 @@ pub fn over_in_chart(n: Shape, body: &[u8], inner: &[u64; CHARTS], most: usize) 
         (λ c. ltb most (length ((rewrite (file_at n body.now)).chart c).transitions)) }
 {
     let charts = n.charts;
-    let mut c: usize = 0;
-    while c < charts {
+    for c in 0..charts {
         if most < in_chart(layout::body::head_at(n, body, c), inner[c]) {
             return true;
         }
-        c += 1;
     }
     false
 }
@@ -109,10 +100,8 @@ fn in_all(n: Shape, body: &[u8], inner: &[u64; CHARTS]) -> usize
 {
     let charts = n.charts;
     let mut sum: usize = 0;
-    let mut c: usize = 0;
-    while c < charts {
+    for c in 0..charts {
         sum += in_chart(layout::body::head_at(n, body, c), inner[c]);
-        c += 1;
     }
     sum
 }
@@ -124,12 +113,10 @@ pub fn slaves_of(n: Shape, body: &[u8], c: usize) -> usize
 {
     let slaves = n.slaves;
     let mut times: usize = 0;
-    let mut i: usize = 0;
-    while i < slaves {
+    for i in 0..slaves {
         if layout::body::slave_at(n, body, i).chart as usize == c {
             times += 1;
         }
-        i += 1;
     }
     times
 }
@@ -140,9 +127,9 @@ pub fn before_last(n: Shape, body: &[u8], j: usize) -> usize
     ensures { (result ≡ before_last (file_at n body.now) j) × (result ≤ most_slaves + 1) }
 {
     let node = layout::body::node_at(n, body, j);
-    if node.kind != record::HOLDS {
+    let Kind::Holds = node.kind() else {
         return 0;
-    }
+    };
     let slaves = slaves_of(n, body, node.a as usize);
     if slaves == 0 { 0 } else { slaves + 1 }
 }
@@ -153,10 +140,8 @@ fn nodes(n: Shape, body: &[u8]) -> usize
     ensures { result ≡ start (file_at n body.now) n.nodes }
 {
     let mut sum: usize = 0;
-    let mut j: usize = 0;
-    while j < n.nodes {
+    for j in 0..n.nodes {
         sum += before_last(n, body, j) + 1;
-        j += 1;
     }
     sum
 }

@@ -17,9 +17,6 @@ pub struct Place {
     pub breaks: bool,
 }
 
-// Brackets are counted up to here; a written text has fewer open.
-const MOST: u8 = 255;
-
 // Before the first byte.
 pub fn start() -> Place
     ensures { result ≡ begin }
@@ -32,46 +29,31 @@ pub fn start() -> Place
     }
 }
 
+// Brackets are counted up to 255; a written text has fewer open.
 fn raise(n: u8) -> u8
     ensures { result ≡ raised n }
 {
-    if n < MOST {
-        return n + 1;
-    }
-    n
+    n.saturating_add(1)
 }
 
 fn lower(n: u8) -> u8
     ensures { result ≡ lowered n }
 {
-    if n == 0 {
-        return n;
-    }
-    n - 1
+    n.saturating_sub(1)
 }
 
 // No break.
 fn on(s: Place) -> Place
     ensures { result ≡ quiet s }
 {
-    Place {
-        level: s.level,
-        inner: s.inner,
-        second: s.second,
-        breaks: false,
-    }
+    Place { breaks: false, ..s }
 }
 
 // A break on the same level.
 fn next_line(s: Place) -> Place
     ensures { result ≡ broken s }
 {
-    Place {
-        level: s.level,
-        inner: s.inner,
-        second: s.second,
-        breaks: true,
-    }
+    Place { breaks: true, ..s }
 }
 
 // A break behind a bracket that was opened.
@@ -80,9 +62,8 @@ fn open_line(s: Place) -> Place
 {
     Place {
         level: raise(s.level),
-        inner: s.inner,
-        second: s.second,
         breaks: true,
+        ..s
     }
 }
 
@@ -92,91 +73,82 @@ fn close_line(s: Place) -> Place
 {
     Place {
         level: lower(s.level),
-        inner: s.inner,
-        second: s.second,
         breaks: true,
+        ..s
     }
 }
 
 // Whether a round bracket that opens counts: that of a chart and those within it do not.
+#[tactic(auto, unfolding(crate::specs::Breaks::counted))]
 fn counts(inner: u8, next: u8) -> bool
     ensures { result ≡ counted inner next }
 {
-    if inner == 0 {
-        return next != b'c';
-    }
-    false
+    inner == 0 && next != b'c'
 }
 
 // Behind a round bracket that opens.
+#[tactic(auto, unfolding(crate::specs::Breaks::round_opened))]
 fn open_round(s: Place, next: u8) -> Place
     ensures { result ≡ round_opened s next }
 {
     if counts(s.inner, next) {
-        return Place {
+        Place {
             level: raise(s.level),
-            inner: s.inner,
-            second: s.second,
             breaks: false,
-        };
-    }
-    Place {
-        level: s.level,
-        inner: raise(s.inner),
-        second: s.second,
-        breaks: false,
+            ..s
+        }
+    } else {
+        Place {
+            inner: raise(s.inner),
+            breaks: false,
+            ..s
+        }
     }
 }
 
 // Behind a round bracket that closes.
+#[tactic(auto, unfolding(crate::specs::Breaks::round_closed))]
 fn close_round(s: Place) -> Place
     ensures { result ≡ round_closed s }
 {
     if s.inner == 0 {
-        return Place {
+        Place {
             level: lower(s.level),
-            inner: s.inner,
-            second: s.second,
             breaks: false,
-        };
-    }
-    Place {
-        level: s.level,
-        inner: lower(s.inner),
-        second: s.second,
-        breaks: false,
+            ..s
+        }
+    } else {
+        Place {
+            inner: lower(s.inner),
+            breaks: false,
+            ..s
+        }
     }
 }
 
 // The same; if a closing brace follows, that stands on a line of its own.
+#[tactic(auto, unfolding(crate::specs::Breaks::round_ended))]
 fn end_round(s: Place, next: u8) -> Place
     ensures { result ≡ round_ended s next }
 {
     let t = close_round(s);
-    if next == b'}' {
-        return close_line(t);
-    }
-    t
+    if next == b'}' { close_line(t) } else { t }
 }
 
 // Behind a brace that opens: it counts if it is around round brackets.
+#[tactic(auto, unfolding(crate::specs::Breaks::brace_opened))]
 fn open_brace(s: Place, next: u8) -> Place
     ensures { result ≡ brace_opened s next }
 {
-    if next == b'(' {
-        return open_line(s);
-    }
-    on(s)
+    if next == b'(' { open_line(s) } else { on(s) }
 }
 
 // Behind a comma: a break if a round bracket follows.
+#[tactic(auto, unfolding(crate::specs::Breaks::parted))]
 fn at_comma(s: Place, next: u8) -> Place
     ensures { result ≡ parted s next }
 {
-    if next == b'(' {
-        return next_line(s);
-    }
-    on(s)
+    if next == b'(' { next_line(s) } else { on(s) }
 }
 
 // Behind a bar: a break if it is the second of its pair.
@@ -184,57 +156,45 @@ fn at_bar(s: Place) -> Place
     ensures { result ≡ at_bar s }
 {
     Place {
-        level: s.level,
-        inner: s.inner,
         second: !s.second,
         breaks: s.second,
+        ..s
     }
 }
 
 // Behind a byte, by the one that follows it, whatever this is to the line.
+#[tactic(auto, unfolding(crate::specs::Breaks::of_byte))]
 fn of_byte(s: Place, byte: u8, next: u8) -> Place
     ensures { result ≡ of_byte s byte next }
 {
-    if byte == b'(' {
-        return open_round(s, next);
+    match byte {
+        b'(' => open_round(s, next),
+        b')' => end_round(s, next),
+        b'[' => open_line(s),
+        b'{' => open_brace(s, next),
+        b',' => at_comma(s, next),
+        b'|' => at_bar(s),
+        _ => on(s),
     }
-    if byte == b')' {
-        return end_round(s, next);
-    }
-    if byte == b'[' {
-        return open_line(s);
-    }
-    if byte == b'{' {
-        return open_brace(s, next);
-    }
-    if byte == b',' {
-        return at_comma(s, next);
-    }
-    if byte == b'|' {
-        return at_bar(s);
-    }
-    on(s)
 }
 
 // Whether a chart can end with this byte.
+#[tactic(auto, unfolding(crate::specs::Breaks::closes))]
 fn is_end(byte: u8) -> bool
     ensures { result ≡ closes byte }
 {
-    if byte == b')' {
-        return true;
-    }
-    byte == b'}'
+    matches!(byte, b')' | b'}')
 }
 
 // Behind a byte, by the one that follows it. A square bracket that closes stands on a line of its own.
+#[tactic(auto, unfolding(crate::specs::Breaks::behind))]
 pub fn behind(s: Place, byte: u8, next: u8) -> Place
     ensures { result ≡ behind s byte next }
 {
     let t = of_byte(s, byte, next);
-    if is_end(byte) {
-        if next == b']' {
-            return close_line(t);
-        }
+    if is_end(byte) && next == b']' {
+        close_line(t)
+    } else {
+        t
     }
-    t
 }

@@ -1,6 +1,6 @@
 -- What a transition lacks (RULES 5.13) depends on the charts and their lists alone (`answer-lacking`), so exchanging
 -- the two parts of a composed node changes no answer (`same-lacking`). Of both editions, and of refused files too.
-use Rattle.std.specs.Prelude.{◌≡◌, List, ◌⊎◌, ℕ, ◌<◌}
+use Rattle.std.specs.Prelude.{◌≡◌, List, ◌⊎◌, ℕ, ◌<◌, Err}
 use Rattle.std.proofs.Common.{sym, ap, ◌∙◌, inl, inr, arith}
 use Rattle.std.proofs.Math.Decide.{dec_lt}
 use Rattle.meaning.specs.Meaning.{Set}
@@ -12,7 +12,6 @@ use Rattle.propositions.proofs.Exchange.Answers.{TreesAlike}
 use Rattle.propositions.proofs.Exchange.Laws.{same_check, same_trees}
 use Rattle.lacks.specs.Lacking.{place_tests, lacking_of, lacking_in}
 use Rattle.lacks.proofs.Laws.{refused_file, refused_chart, in_file}
-use Rattle.lacks.specs.declared.Lacking.TheVariants.{Refused}
 
 -- over records: the number of charts and the chart are all that counts
 lacking_alike : (F G : File) (chart place : ℕ) (o : Set) → G.charts ≡ F.charts → G.chart chart ≡ F.chart chart
@@ -46,7 +45,7 @@ module _ (f f' : List ℕ) (check : refusal_of f' ≡ refusal_of f)
       go : (refusal_of f ≡ 0) ⊎ (refusal_of f ≡ 0 → ⊥) → lacking_of f' chart place o ≡ lacking_of f chart place o
       go (inl e) = accepted e
       go (inr d) =
-          refused_file f' chart place o (λ z. d (sym check ∙ z)) ∙ ap Refused check
+          refused_file f' chart place o (λ z. d (sym check ∙ z)) ∙ ap Err check
           ∙ sym (refused_file f chart place o d)
 
 pub same-lacking : (j : ℕ) (f : List ℕ) → HasComposed j f → (chart place : ℕ) (o : Set)

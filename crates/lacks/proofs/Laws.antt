@@ -2,7 +2,7 @@
 -- `refused_place`); else the test of the transition at that place (`shown`); the same of the body of a file, as the
 -- code goes (`in_file`); the test is met exactly if the chart could take the transition, were it offered that set
 -- (`met_exactly`, `met_permits`); and every answer says what it should, in words (`says`, of files `answers`).
-use Rattle.std.specs.Prelude.{◌≡◌, refl, true, ◌&&◌, not, List, [], ◌∷◌, ℕ, zero, suc, ◌≤◌, ◌<◌, ◌^◌, length}
+use Rattle.std.specs.Prelude.{◌≡◌, refl, true, ◌&&◌, not, List, [], ◌∷◌, ℕ, zero, suc, Ok, Err, ◌≤◌, ◌<◌, ◌^◌, length}
 use Rattle.std.proofs.Common.{sym, ap, subst, ◌∙◌, arith}
 use borrow.Author.Tests.{le-ltb, ne_eqb}
 use Rattle.signals.specs.Mask.{◌∪◌, ◌∩◌}
@@ -21,7 +21,6 @@ use Rattle.agreement.specs.Every.{Every}
 use Rattle.agreement.specs.Encoded.{Small}
 use Rattle.agreement.specs.Passed.{smalls}
 use Rattle.lacks.specs.Lacking.{test_of, test_at, place_tests, lacking_refusal, lacking_of, lacking_in, Answers}
-use Rattle.lacks.specs.declared.Lacking.TheVariants.{Refused, Shown}
 
 -- ── which answer ──
 
@@ -50,18 +49,18 @@ module _ (F : File) (chart place : ℕ) where
   -- the answer by the first test that applies
   module _ (o : Set) where
     pub in_refused : (r : ℕ) → (r ≡ 0 → ⊥) → first_of (place_tests F chart place) ≡ r
-        → Refused r ≡ lacking_in F chart place o
+        → Err r ≡ lacking_in F chart place o
     unfolding lacking_in same
     in_refused r h e = rw (e, ne_eqb r 0 h)
 
     pub in_shown : first_of (place_tests F chart place) ≡ 0
-        → Shown (test_at (F.chart chart) place o) ≡ lacking_in F chart place o
+        → Ok (test_at (F.chart chart) place o) ≡ lacking_in F chart place o
     unfolding lacking_in same
     in_shown e = rw e
 
 module _ (f : List ℕ) (chart place : ℕ) (o : Set) where
   -- a file that is refused
-  pub refused_file : (refusal_of f ≡ 0 → ⊥) → lacking_of f chart place o ≡ Refused (refusal_of f)
+  pub refused_file : (refusal_of f ≡ 0 → ⊥) → lacking_of f chart place o ≡ Err (refusal_of f)
   unfolding lacking_of lacking_refusal same
   refused_file h = rw (call_refused f (place_tests (file_of f) chart place) h, ne_eqb (refusal_of f) 0 h)
 
@@ -71,18 +70,18 @@ module _ (f : List ℕ) (chart place : ℕ) (o : Set) where
     unfolding lacking_of lacking_refusal lacking_in
     in_file = rw (call-passed f (place_tests (file_of f) chart place) h)
 
-    pub refused_chart : (file_of f).charts ≤ chart → lacking_of f chart place o ≡ Refused no_such_chart
+    pub refused_chart : (file_of f).charts ≤ chart → lacking_of f chart place o ≡ Err no_such_chart
     refused_chart l = in_file ∙ sym (in_refused (file_of f) chart place o _
         (λ z. absurd (omega (arith, z))) (no_chart (file_of f) chart place l))
 
     pub refused_place : chart < (file_of f).charts → length ((file_of f).chart chart).transitions ≤ place
-        → lacking_of f chart place o ≡ Refused no_such_place
+        → lacking_of f chart place o ≡ Err no_such_place
     refused_place l k =
         in_file ∙ sym (in_refused (file_of f) chart place o _
         (λ z. absurd (omega (arith, z))) (no_place (file_of f) chart place l k))
 
     pub shown : chart < (file_of f).charts → place < length ((file_of f).chart chart).transitions
-        → lacking_of f chart place o ≡ Shown (test_at ((file_of f).chart chart) place o)
+        → lacking_of f chart place o ≡ Ok (test_at ((file_of f).chart chart) place o)
     shown l k = in_file ∙ sym (in_shown (file_of f) chart place o (both_there (file_of f) chart place l k))
 
 -- ── what it means ──

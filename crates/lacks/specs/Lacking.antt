@@ -1,6 +1,6 @@
 -- What a transition lacks (RULES 13): the test of its guard on a set that the one who asks gives, and what the call
 -- answers. Laws are in proofs/Laws.antt.
-use Rattle.std.specs.Prelude.{◌≡◌, true, cond, List, [], ◌∷◌, ◌++◌, ℕ, length}
+use Rattle.std.specs.Prelude.{◌≡◌, true, cond, List, [], ◌∷◌, ◌++◌, ℕ, length, Result, Ok, Err}
 use Rattle.signals.specs.Mask.{◌∪◌, ◌∩◌}
 use Rattle.signals.specs.Guard.{guard, is_met, case_of, signal_of, Shows}
 use Rattle.signals.specs.declared.guard.Tested.{Tested}
@@ -10,8 +10,6 @@ use Rattle.meaning.specs.Numbers.{no_such_chart, no_such_place}
 use Rattle.meaning.specs.Meaning.{Set, same, Chart, Move, no_move, takes, stay, nth, ok_chart}
 use Rattle.meaning.specs.File.{File, file_of}
 use Rattle.meaning.specs.Check.{Test, first_of, file_tests, not_below}
-use Rattle.lacks.specs.declared.Lacking.{Lacking}
-use Rattle.lacks.specs.declared.Lacking.TheVariants.{Refused, Shown}
 
 -- ── the test ──
 
@@ -42,35 +40,35 @@ place_tests F chart place =
 unfoldable pub lacking_refusal : List ℕ → ℕ → ℕ → ℕ
 lacking_refusal f chart place = first_of (file_tests f ++ place_tests (file_of f) chart place)
 
--- what `lacking` answers (RULES 13.2)
-unfoldable pub lacking_of : List ℕ → ℕ → ℕ → Set → Lacking
+-- what `lacking` answers: the test of the guard, or the number of the refusal (RULES 13.2)
+unfoldable pub lacking_of : List ℕ → ℕ → ℕ → Set → Result Tested ℕ
 lacking_of f chart place o =
     cond (same (lacking_refusal f chart place) 0)
-    (Shown (test_at ((file_of f).chart chart) place o))
-    (Refused (lacking_refusal f chart place))
+    (Ok (test_at ((file_of f).chart chart) place o))
+    (Err (lacking_refusal f chart place))
 
 -- its answer for a file that passed 1 to 11
-unfoldable pub lacking_in : File → ℕ → ℕ → Set → Lacking
+unfoldable pub lacking_in : File → ℕ → ℕ → Set → Result Tested ℕ
 lacking_in F chart place o =
     cond (same (first_of (place_tests F chart place)) 0)
-    (Shown (test_at (F.chart chart) place o))
-    (Refused (first_of (place_tests F chart place)))
+    (Ok (test_at (F.chart chart) place o))
+    (Err (first_of (place_tests F chart place)))
 
 -- ── the answer in numbers (RULES 13.2) ──
 
 -- its refusal; 0, 1 or 2 as the guard is met, a needed signal is absent, or a barred one is present; and that signal.
 -- What does not apply is 0.
-abbrev pub refusal_in : Lacking → ℕ
-refusal_in (Refused r) = r
-refusal_in (Shown t) = 0
+abbrev pub refusal_in : Result Tested ℕ → ℕ
+refusal_in (Err r) = r
+refusal_in (Ok t) = 0
 
-abbrev pub case_in : Lacking → ℕ
-case_in (Refused r) = 0
-case_in (Shown t) = case_of t
+abbrev pub case_in : Result Tested ℕ → ℕ
+case_in (Err r) = 0
+case_in (Ok t) = case_of t
 
-abbrev pub signal_in : Lacking → ℕ
-signal_in (Refused r) = 0
-signal_in (Shown t) = signal_of t
+abbrev pub signal_in : Result Tested ℕ → ℕ
+signal_in (Err r) = 0
+signal_in (Ok t) = signal_of t
 
 -- ── the answer in words (RULES 13.3) ──
 

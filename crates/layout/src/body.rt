@@ -39,11 +39,9 @@ pub fn start_of(n: Shape, body: &[u8], c: usize) -> usize
     ensures { result ≡ start_of n body.now c }
 {
     let mut start: usize = 0;
-    let mut k: usize = 0;
-    while k < c {
+    for k in 0..c {
         let head = head_at(n, body, k);
         start += head.transitions as usize;
-        k += 1;
     }
     start
 }

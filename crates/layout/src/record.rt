@@ -5,6 +5,7 @@ ghost use Rattle.std.proofs.lemmas.List.Edits.{sets};
 ghost use Rattle.layout.specs.Record.{trailer_of, head_of, transition_of, slave_of, node_of};
 ghost use Rattle.layout.specs.Record.{trailer_bytes, head_bytes, transition_bytes, slave_bytes, node_bytes};
 ghost use Rattle.layout.specs.Record.{with_edition};
+ghost use Rattle.layout.specs.Kind.{byte_of, Decodes};
 
 // The last 12 bytes of a file.
 #[derive(Clone, Copy)]
@@ -44,13 +45,35 @@ pub struct Slave {
     pub node: u8,
 }
 
-// The kinds of a node (RULES 2.6): one holds chart a,
-pub const HOLDS: u8 = 0;
-// one composes nodes a and b, with the feedback x,
-pub const COMPOSES: u8 = 1;
-// and one hides node a, without x in its input and y in its output.
-pub const HIDES: u8 = 2;
+// The kinds of a node (RULES 2.6), under the byte that says each: one holds chart a; one composes nodes a and b, with
+// the feedback x; and one hides node a, without x in its input and y in its output.
+#[derive(Clone, Copy, Debug, PartialEq, Eq)]
+pub enum Kind {
+    Holds = 0,
+    Composes = 1,
+    Hides = 2,
+}
 
+// A byte that says no kind, for which a file is refused (RULES 3.2, 9).
+#[derive(Clone, Copy, Debug, PartialEq, Eq)]
+pub struct NoKind(pub u8);
+
+impl TryFrom<u8> for Kind {
+    type Error = NoKind;
+
+    ghost try_from_gives = { Decodes };
+
+    fn try_from(byte: u8) -> Result<Self, NoKind> {
+        match byte {
+            0 => Ok(Kind::Holds),
+            1 => Ok(Kind::Composes),
+            2 => Ok(Kind::Hides),
+            _ => Err(NoKind(byte)),
+        }
+    }
+}
+
+// As it stands in a file, where the first byte may be none of the kinds.
 #[derive(Clone, Copy)]
 pub struct Node {
     pub kind: u8,
@@ -58,6 +81,20 @@ pub struct Node {
     pub b: u8,
     pub x: u64,
     pub y: u64,
+}
+
+impl Node {
+    // The kind of a node that is not refused.
+    pub fn kind(self) -> Kind
+        requires { self.kind ≤ 2 }
+        ensures { byte_of result ≡ self.kind }
+    {
+        match self.kind {
+            0 => Kind::Holds,
+            1 => Kind::Composes,
+            _ => Kind::Hides,
+        }
+    }
 }
 
 pub fn read_trailer(s: &[u8], at: usize) -> Trailer

@@ -3,10 +3,13 @@
 #![tactic(auto)]
 
 ghost use Rattle.std.specs.Prelude.{◌≡◌, length};
+ghost use Rattle.meaning.specs.Check.{refusal_of};
 ghost use Rattle.meaning.specs.Calls.{laid_over};
+ghost use Rattle.checks.specs.Refusals.{Answers};
 ghost use Rattle.desk.specs.Posting.{PostSays};
 ghost use Rattle.desk.specs.Turns.{no_day, all_taken, unseen_of, all_seen, turn_cases, turn_rows, Postable};
 
+use checks::refusal::Refusal;
 use desk::{Case, Day, Entry, Seen};
 
 // What all entries come to, in a book of n cases.
@@ -14,25 +17,21 @@ pub fn all_entries(entries: &[Entry], n: usize) -> Day
     ensures { result ≡ all_taken n no_day entries.now }
 {
     let mut d = deciding::no_day();
-    let mut i: usize = 0;
-    while i < entries.len() {
-        d = deciding::take_one(d, entries[i], n);
-        i += 1;
+    for entry in entries {
+        d = deciding::take_one(d, *entry, n);
     }
     d
 }
 
 // What the file and all cases say.
-pub fn look_through(file: &[u8], cases: &[Case]) -> Seen
-    ensures { result ≡ all_seen (unseen_of file.now) cases.now }
+pub fn look_through(file: &[u8], cases: &[Case]) -> Result<Seen, Refusal>
+    ensures { Answers (refusal_of file.now) (all_seen (unseen_of file.now) cases.now) result }
 {
-    let mut s = consult::unseen(file);
-    let mut i: usize = 0;
-    while i < cases.len() {
-        s = deciding::look_at(s, cases[i]);
-        i += 1;
+    let mut s = consult::unseen(file)?;
+    for case in cases {
+        s = deciding::look_at(s, *case);
     }
-    s
+    Ok(s)
 }
 
 // The first n cases posted.
@@ -42,22 +41,26 @@ fn post_all(file: &[u8], cases: &mut [Case], d: Day, n: usize, charts: usize, ro
         × (rows.new
         ≡ laid_over (turn_rows file.now d charts n 0 cases.old) rows.old) }
 {
-    let mut i: usize = 0;
-    while i < n {
+    for i in 0..n {
         cases[i] = advancing::post_one(file, cases[i], d, i, charts, rows);
-        i += 1;
     }
 }
 
-// The day posted: each case's row, in order, at the front of `rows`, and its record moved on; 0, or a refusal that
+// The day posted: each case's row, in order, at the front of `rows`, and its record moved on; or a refusal, which
 // changes nothing.
-pub fn post(file: &[u8], cases: &mut [Case], entries: &[Entry], rows: &mut [u8]) -> u8
+pub fn post(
+    file: &[u8],
+    cases: &mut [Case],
+    entries: &[Entry],
+    rows: &mut [u8],
+) -> Result<(), Refusal>
     ensures { PostSays file.now cases.old entries.now rows.old
         result cases.new rows.new }
 {
-    let s = look_through(file, cases);
-    let d = all_entries(entries, cases.len());
-    let p = deciding::decide(s, d.outside, cases.len(), rows.len());
-    post_all(file, cases, d, p.count, p.charts, rows);
-    p.refusal
+    let s = look_through(file, cases)?;
+    let n = cases.len();
+    let d = all_entries(entries, n);
+    deciding::decide(s, d.outside, n, rows.len())?;
+    post_all(file, cases, d, n, s.charts as usize, rows);
+    Ok(())
 }

@@ -63,26 +63,27 @@ pub enum Back {
     Found(u8),
 }
 
+// The outermost level, the whole text: 1 for a second part. Levels are numbers, since the ring has a byte for each and
+// the table of modes counts on from them.
+fn whole(second: bool) -> u8
+    ensures { (result ≡ flag second) × (result < 2) }
+{
+    u8::from(second)
+}
+
 // The level that an open bracket makes.
+#[tactic(auto, unfolding(scan::specs::Look::around))]
 fn found(b: u8, second: bool, q: bool) -> u8
     ensures { result ≡ around b (flag second) q }
 {
+    let part = whole(second);
     if b == b'[' {
-        if second {
-            return 5;
-        }
-        return 4;
+        4 + part
+    } else if q {
+        2 + part
+    } else {
+        6 + part
     }
-    if q {
-        if second {
-            return 3;
-        }
-        return 2;
-    }
-    if second {
-        return 7;
-    }
-    6
 }
 
 // One byte back.
@@ -190,11 +191,10 @@ fn with_room(
     let next = slot(end, OLDEST - 1);
     let t = marked(firsts, lasts, tops, k.marks, places[end], ring[end]);
     Kept {
-        end: end,
         held: OLDEST,
-        fresh: k.fresh,
         floor: places[next],
         marks: t,
+        ..k
     }
 }
 
@@ -222,8 +222,7 @@ fn opened(
         end: (end + 1) % KEPT,
         held: j.held + 1,
         fresh: true,
-        floor: j.floor,
-        marks: j.marks,
+        ..j
     }
 }
 
@@ -232,13 +231,11 @@ fn closed(k: Kept) -> Kept
     requires { (k.end < 1024) × (0 < k.held) }
     ensures { Shuts k result }
 {
-    let held = k.held;
     Kept {
         end: slot(k.end, 0),
-        held: held - 1,
+        held: k.held - 1,
         fresh: false,
-        floor: k.floor,
-        marks: k.marks,
+        ..k
     }
 }
 
@@ -254,26 +251,17 @@ fn second(ring: &mut Ring, k: Kept) -> Kept
     requires { (k.end < 1024) × (0 < k.held) }
     ensures { Changes second_of ring.old k ring.new result }
 {
-    let end = k.end;
-    let at = slot(end, 0);
+    let at = slot(k.end, 0);
     ring[at] = second_of(ring[at]);
-    Kept {
-        end: end,
-        held: k.held,
-        fresh: false,
-        floor: k.floor,
-        marks: k.marks,
-    }
+    Kept { fresh: false, ..k }
 }
 
 // The level of a slave's pair instead of that of round brackets.
+#[tactic(auto, unfolding(scan::specs::Levels::slave_of))]
 fn slave_of(a: u8) -> u8
     ensures { result ≡ slave_of a }
 {
-    if a < 6 {
-        return a;
-    }
-    a - 4
+    if a < 6 { a } else { a - 4 }
 }
 
 // A state's name: right behind an open bracket it makes the level a slave's pair.
@@ -281,16 +269,9 @@ fn named(ring: &mut Ring, k: Kept) -> Kept
     requires { (k.end < 1024) × (0 < k.held) }
     ensures { Changes slave_of ring.old k ring.new result }
 {
-    let end = k.end;
-    let at = slot(end, 0);
+    let at = slot(k.end, 0);
     ring[at] = slave_of(ring[at]);
-    Kept {
-        end: end,
-        held: k.held,
-        fresh: false,
-        floor: k.floor,
-        marks: k.marks,
-    }
+    Kept { fresh: false, ..k }
 }
 
 // The levels behind one byte more that is no blank and opens no bracket.
@@ -305,13 +286,7 @@ fn inside(ring: &mut Ring, k: Kept, b: u8) -> Kept
         return second(ring, k);
     }
     if b != b'q' {
-        return Kept {
-            end: k.end,
-            held: k.held,
-            fresh: false,
-            floor: k.floor,
-            marks: k.marks,
-        };
+        return Kept { fresh: false, ..k };
     }
     if k.fresh {
         return named(ring, k);
@@ -353,16 +328,6 @@ pub fn noted(
     inside(ring, k, b)
 }
 
-// The outermost level, the whole text.
-fn whole(second: bool) -> u8
-    ensures { result ≡ flag second }
-{
-    if second {
-        return 1;
-    }
-    0
-}
-
 // What a walk back has put into the ring: how many levels, and the place around which the others stand.
 #[derive(Clone, Copy)]
 struct Filled {
@@ -375,10 +340,7 @@ fn is_done(held: usize, i: usize, stop: usize) -> bool
     requires { held ≤ 1024 }
     ensures { result ≡ false → held < 1024 }
 {
-    if held == KEPT {
-        return true;
-    }
-    i == stop
+    held == KEPT || i == stop
 }
 
 // Fills the ring further out, behind the levels that are taken, by a walk back from a place around which the next ones
@@ -397,12 +359,10 @@ fn refill(
         ring.new places.new result.held result.floor }
 {
     let mut held = taken;
-    let mut i = from;
     let mut depth: usize = 0;
     let mut second = false;
     let mut q = false;
-    while i > 0 {
-        i -= 1;
+    for i in (0..from).rev() {
         let w = one_back(text[i], depth, second, q);
         match w {
             Back::On(n, s, p) => {
@@ -440,10 +400,7 @@ fn refill(
 fn marks_left(t: usize, first: usize, floor: usize) -> usize
     ensures { 0 < result → (result ≡ t) × (floor ≡ first) }
 {
-    if floor == first {
-        return t;
-    }
-    0
+    if floor == first { t } else { 0 }
 }
 
 // The same levels, those of the last mark in the ring, which was empty.
@@ -472,20 +429,18 @@ fn recalled(
     places[s] = last;
     if last == first {
         return Kept {
-            end: end,
             held: 1,
-            fresh: k.fresh,
             floor: last,
             marks: t,
+            ..k
         };
     }
     let f = refill(text, last, first, ring, places, end, 1);
     Kept {
-        end: end,
         held: f.held,
-        fresh: k.fresh,
         floor: f.floor,
         marks: marks_left(t, first, f.floor),
+        ..k
     }
 }
 
@@ -512,13 +467,11 @@ pub fn refilled(
     if k.marks > 0 {
         return recalled(text, at, ring, places, firsts, lasts, tops, k);
     }
-    let end = k.end;
-    let f = refill(text, k.floor, 0, ring, places, end, 0);
+    let f = refill(text, k.floor, 0, ring, places, k.end, 0);
     Kept {
-        end: end,
         held: f.held,
-        fresh: k.fresh,
         floor: f.floor,
         marks: 0,
+        ..k
     }
 }

@@ -43,11 +43,9 @@ fn put_digits(out: &mut [u8], at: usize, base: u64, n: usize, x: u64) -> usize
     ensures { Put out.old at (digits base n x) out.new result }
 {
     let mut left = x;
-    let mut i: usize = 0;
-    while i < n {
+    for i in 0..n {
         out[place(at, n, i)] = digit((left % base) as u8);
         left = left / base;
-        i += 1;
     }
     at + n
 }
@@ -79,12 +77,9 @@ pub fn put_word(out: &mut [u8], at: usize, word: &[u8]) -> usize
     requires { Room out.old at word.now }
     ensures { Put out.old at word.now out.new result }
 {
-    let mut i: usize = 0;
-    while i < word.len() {
-        out[at + i] = word[i];
-        i += 1;
-    }
-    at + i
+    let end = at + word.len();
+    out[at..end].copy_from_slice(word);
+    end
 }
 
 // A state behind a dot.
@@ -105,10 +100,8 @@ pub fn put_states(out: &mut [u8], at: usize, states: &[u8]) -> usize
         return at;
     }
     let mut next = put_decimal(out, at, states[0] as u64);
-    let mut i: usize = 1;
-    while i < states.len() {
+    for i in 1..states.len() {
         next = put_state(out, next, states[i]);
-        i += 1;
     }
     next
 }

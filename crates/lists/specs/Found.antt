@@ -3,8 +3,8 @@
 use Rattle.std.specs.Prelude.{◌≡◌, Bool, true, false, ◌||◌, cond, List, [], ◌∷◌, ◌++◌, ℕ, ◌+◌, ◌≤◌, ◌<◌, eqb, length}
 use Rattle.std.specs.Prelude.{drop}
 use Rattle.notation.specs.Syntax.{Sequential}
-use Rattle.notation.specs.Grammar.{Sign, lpar, rpar, lbrace, rbrace, lsq, rsq, comma, bar, slash, amp, minus, wordDec}
-use Rattle.notation.specs.Grammar.{wordBy, Letter, letC, letQ, letS, Token, sign, name, Tokens, of_sequential, Text}
+use Rattle.notation.specs.Grammar.{lpar, rpar, lbrace, rbrace, lsq, rsq, comma, bar, slash, amp, minus, wordDec}
+use Rattle.notation.specs.Grammar.{wordBy, letC, letQ, letS, Token, sign, name, Tokens, of_sequential, Text}
 use Rattle.tokens.specs.Tokens.{blanks}
 
 -- tokens begin with a chart's name

@@ -30,16 +30,6 @@ pub struct StateList {
     pub next: usize,
 }
 
-// One of two tests applies.
-pub fn either(a: bool, b: bool) -> bool
-    ensures { result ≡ (a || b) }
-{
-    if a {
-        return true;
-    }
-    b
-}
-
 // One name more, of names below a limit: it is bad if it is out of range or given before.
 pub fn with_name(mask: u64, bad: bool, n: u64, limit: u64) -> Listed
     requires { limit ≤ 64 }
@@ -48,7 +38,7 @@ pub fn with_name(mask: u64, bad: bool, n: u64, limit: u64) -> Listed
     if n < limit {
         return Listed {
             mask: signals::with(mask, n as u32),
-            bad: either(bad, signals::has(mask, n as u32)),
+            bad: bad | signals::has(mask, n as u32),
         };
     }
     Listed {
@@ -83,7 +73,7 @@ fn states_from(text: &[u8], at: usize) -> StateList
         first: n.value,
         count: commas + 1,
         mask: so_far.mask,
-        bad: either(so_far.bad, left_out(so_far.mask)),
+        bad: so_far.bad | left_out(so_far.mask),
         next: tokens::behind_sign(text, i, 1),
     }
 }
@@ -124,7 +114,7 @@ pub fn heading_at(text: &[u8], at: usize) -> Heading
         count: l.count,
         mask: l.mask,
         feedback: x.mask,
-        bad: either(l.bad, either(q.value != l.first, x.bad)),
+        bad: l.bad | ((q.value != l.first) | x.bad),
         next: x.next,
     }
 }
@@ -143,7 +133,7 @@ pub fn lacks(mask: u64, n: u64) -> bool
 fn refused(mask: u64, from: u64, to: u64, bad: bool) -> bool
     ensures { result ≡ (lacks mask from || (lacks mask to || bad)) }
 {
-    either(lacks(mask, from), either(lacks(mask, to), bad))
+    lacks(mask, from) | (lacks(mask, to) | bad)
 }
 
 // A list of transitions: how many there are, whether one is refused, and the place behind it.
@@ -165,7 +155,8 @@ fn transitions_from(text: &[u8], at: usize, mask: u64) -> TransitionList
     let mut commas: usize = 0;
     while tokens::peek(text, i) == b',' {
         let q = fields::transition_at(text, tokens::behind_sign(text, i, 1));
-        bad = either(bad, refused(mask, q.from, q.to, q.bad));
+        let more = refused(mask, q.from, q.to, q.bad);
+        bad = bad | more;
         i = q.next;
         commas += 1;
     }
@@ -238,7 +229,7 @@ pub fn sequential_at(text: &[u8], at: usize) -> Sequential
         feedback: h.feedback,
         extra: x.mask,
         mask: h.mask,
-        bad: either(h.bad, either(l.bad, x.bad)),
+        bad: h.bad | (l.bad | x.bad),
         next: tokens::behind_sign(text, x.next, 1),
     }
 }
@@ -251,16 +242,15 @@ fn is_letter(b: u8) -> bool
 }
 
 // How many bytes a sign has, by its first byte.
+#[tactic(auto, unfolding(crate::specs::Found::width))]
 fn width(b: u8) -> usize
     ensures { result ≡ width b }
 {
-    if b == b'D' {
-        return 3;
+    match b {
+        b'D' => 3,
+        b'b' => 2,
+        _ => 1,
     }
-    if b == b'b' {
-        return 2;
-    }
-    1
 }
 
 // The place behind the next token.

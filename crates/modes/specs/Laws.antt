@@ -1,2 +1,4 @@
--- Laws for the proofs of modes: where a search of the table may start.
+-- Laws for the proofs of modes and of the recogniser: where a search of the table may start (Start), a step as one
+-- number (Step).
 pub mod Start
+pub mod Step

@@ -5,19 +5,30 @@ ghost use Rattle.std.specs.Prelude.{◌≡◌, ◌&&◌, ◌||◌, eqb, ◌+◌,
 ghost use Rattle.scan.specs.Table.{numbers, table, lookup, refine};
 ghost use Rattle.scan.specs.Scan.{token_after, advance_between, expect, advance_letter, advance_number, advance};
 ghost use Rattle.scan.specs.Scan.{is_whole, accepts};
+ghost use Rattle.modes.specs.Step.{LeadsTo, place_of, packed};
 
 use scan::bytes;
 
 pub mod start;
 pub mod table;
 
-// No text has the byte there.
-pub const NOWHERE: u64 = 4095;
+// Where a token is broken off: nowhere between tokens; behind the D or the e of Dec, behind the b of by, behind the
+// letter of a name, in its number.
+#[derive(Clone, Copy)]
+pub enum Token {
+    Between,
+    D,
+    De,
+    B,
+    Letter,
+    Number,
+}
 
-fn wide(b: u8) -> u64
-    ensures { (result ≡ b) × (result < 256) }
-{
-    b as u64
+// Where reading stands: a mode, which is a number since the rows of the table are numbers, and the place in a token.
+#[derive(Clone, Copy)]
+pub struct Step {
+    pub mode: u64,
+    pub token: Token,
 }
 
 // Whether the row at a place of the table is for a mode and a byte.
@@ -25,174 +36,144 @@ fn row_is(i: usize, m: u64, b: u8) -> bool
     requires { i + 2 < 507 }
     ensures { result ≡ (eqb (get_or numbers i 0) m && eqb (get_or numbers (i + 1) 0) b) }
 {
-    if wide(table::entry(i)) != m {
-        return false;
-    }
-    table::entry(i + 1) == b
+    u64::from(table::entry(i)) == m && table::entry(i + 1) == b
 }
 
-// Where a mode and a byte lead; 255 if nowhere.
-fn lookup(m: u64, b: u8) -> u8
-    ensures { result ≡ lookup table m b }
+// Where a mode and a byte lead, if anywhere.
+fn lookup(m: u64, b: u8) -> Option<u64>
+    ensures { LeadsTo (lookup table m b) result }
 {
-    let mut i = start::first(m);
-    while i < 507 {
+    for i in (start::first(m)..507).step_by(3) {
         if row_is(i, m, b) {
-            return table::entry(i + 2);
+            return Some(u64::from(table::entry(i + 2)));
         }
-        i += 3;
     }
-    255
+    None
 }
 
 // Where a token that begins with a byte goes on.
-fn token_after(b: u8) -> u64
-    ensures { result ≡ token_after b }
+#[tactic(auto, unfolding(scan::specs::Scan::token_after))]
+fn token_after(b: u8) -> Token
+    ensures { place_of result ≡ token_after b }
 {
-    if b == b'D' {
-        return 1;
+    match b {
+        b'D' => Token::D,
+        b'b' => Token::B,
+        b'c' | b'q' | b's' => Token::Letter,
+        _ => Token::Between,
     }
-    if b == b'b' {
-        return 3;
-    }
-    if b == b'c' {
-        return 4;
-    }
-    if b == b'q' {
-        return 4;
-    }
-    if b == b's' {
-        return 4;
-    }
-    0
 }
 
 // The mode, with the level around the part that it stands behind.
+#[tactic(auto, unfolding(scan::specs::Table::refine))]
 fn refined(m: u64, a: u8) -> u64
     ensures { result ≡ refine m a }
 {
-    if m == 2 {
-        return 97 + wide(a);
+    match m {
+        2 => 97 + u64::from(a),
+        3 => 105 + u64::from(a),
+        4 => 113 + u64::from(a),
+        _ => m,
     }
-    if m == 3 {
-        return 105 + wide(a);
-    }
-    if m == 4 {
-        return 113 + wide(a);
-    }
-    m
 }
 
 // A byte between tokens.
-fn advance_between(m: u64, b: u8, a: u8) -> u64
-    requires { m < 2305843009213693952 }
-    ensures { result ≡ advance_between m b a }
+#[tactic(auto, unfolding(scan::specs::Scan::advance_between, scan::specs::Scan::landed, scan::specs::Scan::pack))]
+fn advance_between(m: u64, b: u8, a: u8) -> Option<Step>
+    ensures { packed result ≡ advance_between m b a }
 {
     if bytes::is_blank(b) {
-        return m * 8;
+        return Some(Step {
+            mode: m,
+            token: Token::Between,
+        });
     }
-    let t = wide(lookup(refined(m, a), b));
-    if t == 255 {
-        return NOWHERE;
-    }
-    t * 8 + token_after(b)
+    let mode = lookup(refined(m, a), b)?;
+    Some(Step {
+        mode,
+        token: token_after(b),
+    })
 }
 
 // A byte behind the letter of a name.
-fn advance_letter(m: u64, b: u8) -> u64
-    requires { m < 2305843009213693952 }
-    ensures { result ≡ advance_letter m b }
+#[tactic(auto, unfolding(scan::specs::Scan::advance_letter, scan::specs::Scan::pack))]
+fn advance_letter(m: u64, b: u8) -> Option<Step>
+    ensures { packed result ≡ advance_letter m b }
 {
     if b == b'0' {
-        return m * 8;
+        return Some(Step {
+            mode: m,
+            token: Token::Between,
+        });
     }
     if bytes::is_digit(b) {
-        return m * 8 + 5;
+        return Some(Step {
+            mode: m,
+            token: Token::Number,
+        });
     }
-    NOWHERE
+    None
 }
 
 // A byte that must be a certain one.
-fn expect(m: u64, x: u64, b: u8, c: u8) -> u64
-    requires { (m < 2305843009213693952) × (x < 8) }
-    ensures { result ≡ expect m x b c }
+#[tactic(auto, unfolding(scan::specs::Scan::expect))]
+fn expect(m: u64, token: Token, b: u8, c: u8) -> Option<Step>
+    ensures { packed result ≡ expect m (place_of token) b c }
 {
     if b == c {
-        return m * 8 + x;
+        return Some(Step { mode: m, token });
     }
-    NOWHERE
+    None
 }
 
 // A byte in the number of a name, or behind it.
-fn advance_number(m: u64, b: u8, a: u8) -> u64
-    requires { m < 2305843009213693952 }
-    ensures { result ≡ advance_number m b a }
+#[tactic(auto, unfolding(scan::specs::Scan::advance_number, scan::specs::Scan::pack))]
+fn advance_number(m: u64, b: u8, a: u8) -> Option<Step>
+    ensures { packed result ≡ advance_number m b a }
 {
     if bytes::is_digit(b) {
-        return m * 8 + 5;
+        return Some(Step {
+            mode: m,
+            token: Token::Number,
+        });
     }
     advance_between(m, b, a)
 }
 
-// One byte further in the mode m, x bytes into a token, with the level a around the part that has ended: the mode and
-// the place in the token behind the byte, as one number.
-pub fn advance(m: u64, x: u64, b: u8, a: u8) -> u64
-    requires { m < 2305843009213693952 }
-    ensures { result ≡ advance m x b a }
+// One byte further from a step, with the level a around the part that has ended; none if no text has the byte there.
+#[tactic(auto, unfolding(scan::specs::Scan::advance))]
+pub fn advance(s: Step, b: u8, a: u8) -> Option<Step>
+    ensures { packed result ≡ advance s.mode (place_of s.token) b a }
 {
-    if x == 1 {
-        return expect(m, 2, b, b'e');
+    match s.token {
+        Token::D => expect(s.mode, Token::De, b, b'e'),
+        Token::De => expect(s.mode, Token::Between, b, b'c'),
+        Token::B => expect(s.mode, Token::Between, b, b'y'),
+        Token::Letter => advance_letter(s.mode, b),
+        Token::Number => advance_number(s.mode, b, a),
+        Token::Between => advance_between(s.mode, b, a),
     }
-    if x == 2 {
-        return expect(m, 0, b, b'c');
-    }
-    if x == 3 {
-        return expect(m, 0, b, b'y');
-    }
-    if x == 4 {
-        return advance_letter(m, b);
-    }
-    if x == 5 {
-        return advance_number(m, b, a);
-    }
-    advance_between(m, b, a)
 }
 
 // Whether no token is broken off.
-fn between(x: u64) -> bool
-    ensures { result ≡ (eqb x 0 || eqb x 5) }
+fn between(token: Token) -> bool
+    ensures { result ≡ (eqb (place_of token) 0 || eqb (place_of token) 5) }
 {
-    if x == 0 {
-        return true;
-    }
-    x == 5
+    matches!(token, Token::Between | Token::Number)
 }
 
 // Whether a mode is behind a whole chart.
+#[tactic(auto, unfolding(scan::specs::Scan::is_whole))]
 fn is_whole(m: u64) -> bool
     ensures { result ≡ is_whole m }
 {
-    if m == 97 {
-        return true;
-    }
-    if m == 98 {
-        return true;
-    }
-    if m == 105 {
-        return true;
-    }
-    if m == 106 {
-        return true;
-    }
-    m == 114
+    matches!(m, 97 | 98 | 105 | 106 | 114)
 }
 
 // Whether the text may end here.
-pub fn accepts(m: u64, x: u64, a: u8) -> bool
-    ensures { result ≡ accepts m x a }
+#[tactic(auto, unfolding(scan::specs::Scan::accepts))]
+pub fn accepts(s: Step, a: u8) -> bool
+    ensures { result ≡ accepts s.mode (place_of s.token) a }
 {
-    if !between(x) {
-        return false;
-    }
-    is_whole(refined(m, a))
+    between(s.token) && is_whole(refined(s.mode, a))
 }

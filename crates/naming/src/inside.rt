@@ -9,6 +9,7 @@ ghost use Rattle.naming.specs.Inside.{lowest, Lows};
 
 use checks::limits::MOST_NODES;
 use layout::body::Shape;
+use layout::record::Kind;
 
 // The lowest chart of node j, where the table has those of lower nodes.
 fn lowest(n: Shape, body: &[u8], low: &[u8; MOST_NODES as usize], j: usize) -> u8
@@ -17,13 +18,12 @@ fn lowest(n: Shape, body: &[u8], low: &[u8; MOST_NODES as usize], j: usize) -> u
     ensures { result ≡ lowest (tree_of (file_at n body.now) j) }
 {
     let r = layout::body::node_at(n, body, j);
-    let kind = r.kind;
     let a = r.a as usize;
     let b = r.b as usize;
-    match kind {
-        0 => r.a,
-        1 => if low[a] < low[b] { low[a] } else { low[b] },
-        _ => low[a],
+    match r.kind() {
+        Kind::Holds => r.a,
+        Kind::Composes => if low[a] < low[b] { low[a] } else { low[b] },
+        Kind::Hides => low[a],
     }
 }
 
@@ -33,10 +33,8 @@ fn lows(n: Shape, body: &[u8]) -> [u8; MOST_NODES as usize]
     ensures { Lows (file_at n body.now) result n.nodes }
 {
     let mut low = [0u8; MOST_NODES as usize];
-    let mut j: usize = 0;
-    while j < n.nodes {
+    for j in 0..n.nodes {
         low[j] = lowest(n, body, &low, j);
-        j += 1;
     }
     low
 }
@@ -49,14 +47,12 @@ pub fn bad_inside(n: Shape, body: &[u8]) -> bool
         return false;
     }
     let low = lows(n, body);
-    let mut i: usize = 0;
-    while i < n.slaves {
+    for i in 0..n.slaves {
         let s = layout::body::slave_at(n, body, i);
         let node = s.node as usize;
         if s.chart >= low[node] {
             return true;
         }
-        i += 1;
     }
     false
 }

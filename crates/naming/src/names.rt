@@ -12,6 +12,7 @@ ghost use Rattle.naming.specs.Names.{named_by, Walked, held_amiss, named_amiss, 
 
 use checks::limits::{MOST_CHARTS, MOST_NODES};
 use layout::body::Shape;
+use layout::record::Kind;
 
 // The walk over slaves: how often they name each node.
 fn named_by_slaves(n: Shape, body: &[u8]) -> [u8; MOST_NODES as usize]
@@ -19,12 +20,10 @@ fn named_by_slaves(n: Shape, body: &[u8]) -> [u8; MOST_NODES as usize]
     ensures { Table most_nodes (named_by (file_at n body.now) n.slaves 0) result }
 {
     let mut named = [0u8; MOST_NODES as usize];
-    let mut i: usize = 0;
-    while i < n.slaves {
+    for i in 0..n.slaves {
         let s = layout::body::slave_at(n, body, i);
         let node = s.node as usize;
         named[node] += 1;
-        i += 1;
     }
     named
 }
@@ -44,19 +43,18 @@ fn walk_node(
         holder.new }
 {
     let r = layout::body::node_at(n, body, k);
-    let kind = r.kind;
     let a = r.a as usize;
     let b = r.b as usize;
-    match kind {
-        0 => {
+    match r.kind() {
+        Kind::Holds => {
             held[a] += 1;
             holder[a] = k as u8;
         }
-        1 => {
+        Kind::Composes => {
             named[a] += 1;
             named[b] += 1;
         }
-        _ => {
+        Kind::Hides => {
             named[a] += 1;
         }
     }
@@ -74,10 +72,8 @@ fn walk_nodes(
     ensures { Walked (file_at n body.now) n.nodes named.new held.new
         holder.new }
 {
-    let mut k: usize = 0;
-    while k < n.nodes {
+    for k in 0..n.nodes {
         walk_node(n, body, k, named, held, holder);
-        k += 1;
     }
 }
 
@@ -86,12 +82,10 @@ fn bad_held(n: Shape, held: &[u8; MOST_CHARTS as usize]) -> bool
     requires { n.charts ≤ most_charts }
     ensures { result ≡ held_amiss n.charts held.now }
 {
-    let mut c: usize = 0;
-    while c < n.charts {
+    for c in 0..n.charts {
         if held[c] != 1 {
             return true;
         }
-        c += 1;
     }
     false
 }
@@ -109,12 +103,10 @@ fn bad_named(n: Shape, named: &[u8; MOST_NODES as usize]) -> bool
     requires { n.nodes ≤ most_nodes }
     ensures { result ≡ named_amiss n.nodes named.now }
 {
-    let mut j: usize = 0;
-    while j < n.nodes {
+    for j in 0..n.nodes {
         if named[j] != due(n, j) {
             return true;
         }
-        j += 1;
     }
     false
 }
@@ -124,14 +116,12 @@ fn bad_masters(n: Shape, body: &[u8], holder: &[u8; MOST_CHARTS as usize]) -> bo
     requires { Ranged n body.now }
     ensures { result ≡ masters_amiss (file_at n body.now) holder.now }
 {
-    let mut i: usize = 0;
-    while i < n.slaves {
+    for i in 0..n.slaves {
         let s = layout::body::slave_at(n, body, i);
         let master = s.chart as usize;
         if s.node >= holder[master] {
             return true;
         }
-        i += 1;
     }
     false
 }

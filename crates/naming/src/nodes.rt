@@ -6,6 +6,7 @@ ghost use Rattle.meaning.specs.Check.{node_of_kind?, nodes?};
 ghost use Rattle.checks.specs.Known.{Sized};
 
 use layout::body::Shape;
+use layout::record::Kind;
 
 fn bad_node(n: Shape, body: &[u8], j: usize) -> bool
     requires { Sized n body.now × (j < n.nodes) }
@@ -14,12 +15,11 @@ fn bad_node(n: Shape, body: &[u8], j: usize) -> bool
     let r = layout::body::node_at(n, body, j);
     let a = r.a as usize;
     let b = r.b as usize;
-    let kind = r.kind;
-    match kind {
-        0 => !(a < n.charts) | (b != 0) | (r.x != 0) | (r.y != 0),
-        1 => !(a < j) | !(b < j) | (r.y != 0),
-        2 => !(a < j) | (b != 0),
-        _ => true,
+    match Kind::try_from(r.kind) {
+        Ok(Kind::Holds) => !(a < n.charts) | (b != 0) | (r.x != 0) | (r.y != 0),
+        Ok(Kind::Composes) => !(a < j) | !(b < j) | (r.y != 0),
+        Ok(Kind::Hides) => !(a < j) | (b != 0),
+        Err(_) => true,
     }
 }
 
@@ -27,12 +27,10 @@ pub fn bad_nodes(n: Shape, body: &[u8]) -> bool
     requires { Sized n body.now }
     ensures { result ≡ nodes? (file_at n body.now) }
 {
-    let mut j: usize = 0;
-    while j < n.nodes {
+    for j in 0..n.nodes {
         if bad_node(n, body, j) {
             return true;
         }
-        j += 1;
     }
     false
 }

@@ -42,12 +42,10 @@ pub fn bad_slaves(n: Shape, body: &[u8]) -> bool
     requires { Sized n body.now }
     ensures { result ≡ slaves? (file_at n body.now) }
 {
-    let mut i: usize = 0;
-    while i < n.slaves {
+    for i in 0..n.slaves {
         if bad_slave(n, body, i) {
             return true;
         }
-        i += 1;
     }
     false
 }

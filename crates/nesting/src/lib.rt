@@ -9,7 +9,7 @@ ghost use Rattle.nesting.specs.Nearest.{master_by, state_by, Right, Enclosers, S
 
 use layout::body::Shape;
 use layout::limits;
-use layout::record::{COMPOSES, HOLDS, Slave};
+use layout::record::{Kind, Slave};
 
 // The number of no slave and of no chart.
 pub const NONE: u8 = 255;
@@ -19,12 +19,10 @@ fn seed(n: Shape, body: &[u8], near: &mut [u8])
     requires { Wirable n body.now × (length near.old ≡ 64) }
     ensures { Seeds (file_at n body.now) n.slaves near.old near.new }
 {
-    let mut i: usize = 0;
-    while i < n.slaves {
+    for i in 0..n.slaves {
         let slave = layout::body::slave_at(n, body, i);
         let j = slave.node as usize;
         near[j] = i as u8;
-        i += 1;
     }
 }
 
@@ -35,15 +33,18 @@ fn hand(n: Shape, body: &[u8], j: usize, near: &mut [u8])
     ensures { Hands (file_at n body.now) j near.old near.new }
 {
     let node = layout::body::node_at(n, body, j);
-    if node.kind == HOLDS {
-        return;
-    }
     let i = near[j];
     let a = node.a as usize;
-    near[a] = i;
-    if node.kind == COMPOSES {
-        let b = node.b as usize;
-        near[b] = i;
+    let b = node.b as usize;
+    match node.kind() {
+        Kind::Holds => {}
+        Kind::Composes => {
+            near[a] = i;
+            near[b] = i;
+        }
+        Kind::Hides => {
+            near[a] = i;
+        }
     }
 }
 
@@ -52,9 +53,7 @@ fn hand_down(n: Shape, body: &[u8], near: &mut [u8])
     requires { Wirable n body.now × (length near.old ≡ 64) × Seeded (file_at n body.now) near.old }
     ensures { Enclosers (file_at n body.now) near.new }
 {
-    let mut j = n.nodes;
-    while 0 < j {
-        j -= 1;
+    for j in (0..n.nodes).rev() {
         hand(n, body, j, near);
     }
 }

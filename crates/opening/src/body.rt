@@ -3,54 +3,56 @@ ghost use Rattle.std.specs.Prelude.{◌≡◌, false, ◌∷◌, ◌+◌, ◌≤
 ghost use Rattle.meaning.specs.File.{file_at};
 ghost use Rattle.meaning.specs.Check.{first_of, body_tests, slaves?};
 ghost use Rattle.checks.specs.Known.{Sized};
+ghost use Rattle.checks.specs.Refusals.{told};
 ghost use Rattle.opening.specs.Opening.{zero_test, node_tests};
 
-use checks::{charts, limits, zeros};
+use checks::refusal::Refusal;
+use checks::{charts, zeros};
 use layout::body::Shape;
 use naming::{inside, names, nodes, slaves};
 
 // 9 to 11.
-fn nodes_refusal(n: Shape, body: &[u8]) -> u8
+fn test_nodes(n: Shape, body: &[u8]) -> Result<(), Refusal>
     requires { Sized n body.now × (slaves? (file_at n body.now) ≡ false) }
-    ensures { result ≡ first_of (node_tests n body.now) }
+    ensures { told result ≡ first_of (node_tests n body.now) }
 {
     if nodes::bad_nodes(n, body) {
-        return limits::BAD_NODE;
+        return Err(Refusal::BadNode);
     }
     if names::bad_naming(n, body) {
-        return limits::BAD_NAMING;
+        return Err(Refusal::BadNaming);
     }
     if inside::bad_inside(n, body) {
-        return limits::BAD_INSIDE;
+        return Err(Refusal::BadInside);
     }
-    limits::ACCEPTED
+    Ok(())
 }
 
 // 6 to 11.
-fn records_refusal(n: Shape, body: &[u8]) -> u8
+fn test_records(n: Shape, body: &[u8]) -> Result<(), Refusal>
     requires { Sized n body.now }
-    ensures { result ≡ first_of (body_tests n body.now) }
+    ensures { told result ≡ first_of (body_tests n body.now) }
 {
     if charts::bad_charts(n, body) {
-        return limits::BAD_CHART;
+        return Err(Refusal::BadChart);
     }
     if charts::bad_transitions(n, body) {
-        return limits::BAD_TRANSITION;
+        return Err(Refusal::BadTransition);
     }
     if slaves::bad_slaves(n, body) {
-        return limits::BAD_SLAVE;
+        return Err(Refusal::BadSlave);
     }
-    nodes_refusal(n, body)
+    test_nodes(n, body)
 }
 
 // 5 to 11, of the body `body` of `file`, whose trailer stands at `end`.
-pub fn refusal(file: &[u8], end: usize, n: Shape, body: &[u8]) -> u8
+pub fn test(file: &[u8], end: usize, n: Shape, body: &[u8]) -> Result<(), Refusal>
     requires { Sized n body.now × (end + 12 ≤ length file.now) }
-    ensures { result
+    ensures { told result
         ≡ first_of (zero_test file.now end n body.now ∷ body_tests n body.now) }
 {
     if zeros::nonzero(file, end + 10, 2) | zeros::bad_zeros(n, body) {
-        return limits::NOT_ZERO;
+        return Err(Refusal::NotZero);
     }
-    records_refusal(n, body)
+    test_records(n, body)
 }

@@ -4,12 +4,10 @@
 // there may be many, are read by a loop.
 #![tactic(auto)]
 
-ghost use Rattle.std.specs.Prelude.{◌≡◌, ◌+◌, ◌≤◌, ◌<◌, length};
-ghost use Rattle.notation.specs.Syntax.{larger};
+ghost use Rattle.std.specs.Prelude.{◌≡◌, ◌+◌, ◌≤◌, ◌<◌, length, Ok};
 ghost use Rattle.tokens.specs.Tokens.{cap};
 ghost use Rattle.forms.specs.declared.Form.TheVariants.{Sequential, Decomposed, Hidden, Bracketed};
-ghost use Rattle.outline.specs.Outline.{too_deep, Joins, Composes, ChartAt, PartAt, FormedAt, PairAt, SlavesAt};
-ghost use Rattle.outline.specs.Outline.{OutlineOf};
+ghost use Rattle.outline.specs.Outline.{Joins, Composes, ChartAt, PartAt, FormedAt, PairAt, SlavesAt, OutlineOf};
 
 // A chart is nested so deep at most.
 const MOST_DEPTH: usize = reading::MOST_DEPTH as usize;
@@ -17,11 +15,9 @@ const MOST_DEPTH: usize = reading::MOST_DEPTH as usize;
 // Counts are right below this number, which stands for all from there on.
 const MOST_COUNT: usize = 1000;
 
-// Whether a chart is deeper than it may be; and if it is not: how deep it is, whether it is refused, how many nodes and
-// slaves it has, and the place behind it.
+// How deep a chart is, whether it is refused, how many nodes and slaves it has, and the place behind it.
 #[derive(Clone, Copy)]
 pub struct Outline {
-    pub deep: bool,
     pub depth: usize,
     pub bad: bool,
     pub nodes: usize,
@@ -29,55 +25,24 @@ pub struct Outline {
     pub next: usize,
 }
 
-// A chart that is too deep is not read further.
-fn too_deep(next: usize) -> Outline
-    ensures { result ≡ too_deep next }
-{
-    Outline {
-        deep: true,
-        depth: 0,
-        bad: false,
-        nodes: 0,
-        slaves: 0,
-        next: next,
-    }
-}
-
-// The larger of two depths.
-fn larger(a: usize, b: usize) -> usize
-    ensures { result ≡ larger a b }
-{
-    if a < b {
-        return b;
-    }
-    a
-}
-
-// A count as far as it matters.
-fn cut(n: usize) -> usize
-    ensures { (result ≡ cap n) × (result ≤ 1000) }
-{
-    if n < MOST_COUNT {
-        return n;
-    }
-    MOST_COUNT
-}
+// A chart is deeper than it may be. It is not read further.
+#[derive(Clone, Copy)]
+pub struct TooDeep;
 
 // The sum of two counts as far as it matters.
 fn plus(a: usize, b: usize) -> usize
     ensures { result ≡ cap (a + b) }
 {
-    cut(cut(a) + cut(b))
+    a.saturating_add(b).min(MOST_COUNT)
 }
 
-// Two charts side by side, one behind the other, neither of them too deep; bad tells whether what joins them is.
+// Two charts side by side, one behind the other; bad tells whether what joins them is.
 fn joined(p: Outline, bad: bool, q: Outline) -> Outline
     ensures { Joins p bad q result }
 {
     Outline {
-        deep: false,
-        depth: larger(p.depth, q.depth),
-        bad: lists::either(p.bad, lists::either(bad, q.bad)),
+        depth: p.depth.max(q.depth),
+        bad: p.bad | (bad | q.bad),
         nodes: plus(p.nodes, q.nodes),
         slaves: plus(p.slaves, q.slaves),
         next: q.next,
@@ -85,56 +50,47 @@ fn joined(p: Outline, bad: bool, q: Outline) -> Outline
 }
 
 // A composition that may be so deep; bad tells whether its feedback set is.
-fn composed(left: usize, p: Outline, bad: bool, q: Outline) -> Outline
+fn composed(left: usize, p: Outline, bad: bool, q: Outline) -> Result<Outline, TooDeep>
     ensures { Composes left p bad q result }
 {
-    if q.deep {
-        return too_deep(q.next);
-    }
     let j = joined(p, bad, q);
     if left <= j.depth {
-        return too_deep(q.next);
+        return Err(TooDeep);
     }
-    Outline {
-        deep: false,
+    Ok(Outline {
         depth: j.depth + 1,
-        bad: j.bad,
         nodes: plus(j.nodes, 1),
-        slaves: j.slaves,
-        next: q.next,
-    }
+        ..j
+    })
 }
 
 // A chart that may be so deep: a part, or two with their feedback set between bars.
 #[cycle(descent)]
-fn chart(text: &[u8], at: usize, left: usize) -> Outline
+fn chart(text: &[u8], at: usize, left: usize) -> Result<Outline, TooDeep>
     requires { at ≤ length text.now }
     ensures { ChartAt text.now at left result }
 {
-    let p = part(text, at, left);
-    if p.deep {
-        return p;
-    }
+    let p = part(text, at, left)?;
     if tokens::peek(text, p.next) != b'|' {
-        return p;
+        return Ok(p);
     }
     let x = fields::set(text, tokens::behind_sign(text, p.next, 1));
-    let q = part(text, tokens::behind_sign(text, x.next, 1), left);
+    let q = part(text, tokens::behind_sign(text, x.next, 1), left)?;
     composed(left, p, x.bad, q)
 }
 
 // A part of a composition, or a chart that is none.
 #[cycle(descent)]
-fn part(text: &[u8], at: usize, left: usize) -> Outline
+fn part(text: &[u8], at: usize, left: usize) -> Result<Outline, TooDeep>
     requires { at ≤ length text.now }
     ensures { PartAt text.now at left result }
 {
     if left == 0 {
-        return too_deep(at);
+        return Err(TooDeep);
     }
     let f = forms::form_at(text, at);
     match f {
-        forms::Form::Sequential => sequential(text, at, left),
+        forms::Form::Sequential => Ok(sequential(text, at, left)),
         forms::Form::Decomposed => master(text, at, left),
         forms::Form::Hidden => hidden(text, at, left),
         forms::Form::Bracketed => bracketed(text, at, left),
@@ -144,11 +100,10 @@ fn part(text: &[u8], at: usize, left: usize) -> Outline
 // A sequential chart.
 fn sequential(text: &[u8], at: usize, left: usize) -> Outline
     requires { (at ≤ length text.now) × (0 < left) }
-    ensures { FormedAt Sequential text.now at left result }
+    ensures { FormedAt Sequential text.now at left (Ok result) }
 {
     let s = lists::sequential_at(text, at);
     Outline {
-        deep: false,
         depth: 1,
         bad: s.bad,
         nodes: 1,
@@ -159,108 +114,84 @@ fn sequential(text: &[u8], at: usize, left: usize) -> Outline
 
 // A composition in round brackets, which are no level of their own: what it is a part of is.
 #[cycle(descent)]
-fn bracketed(text: &[u8], at: usize, left: usize) -> Outline
+fn bracketed(text: &[u8], at: usize, left: usize) -> Result<Outline, TooDeep>
     requires { (at ≤ length text.now) × (0 < left) }
     ensures { FormedAt Bracketed text.now at left result }
 {
-    let both = chart(text, tokens::behind_sign(text, at, 1), left - 1);
-    Outline {
-        deep: both.deep,
-        depth: both.depth,
-        bad: both.bad,
-        nodes: both.nodes,
-        slaves: both.slaves,
-        next: tokens::behind_sign(text, both.next, 1),
-    }
+    let both = chart(text, tokens::behind_sign(text, at, 1), left - 1)?;
+    let next = tokens::behind_sign(text, both.next, 1);
+    Ok(Outline { next, ..both })
 }
 
 // A chart in square brackets, with its hiding sets.
 #[cycle(descent)]
-fn hidden(text: &[u8], at: usize, left: usize) -> Outline
+fn hidden(text: &[u8], at: usize, left: usize) -> Result<Outline, TooDeep>
     requires { (at ≤ length text.now) × (0 < left) }
     ensures { FormedAt Hidden text.now at left result }
 {
     let x = forms::optional_set_at(text, at);
-    let p = chart(text, tokens::behind_sign(text, x.next, 1), left - 1);
+    let p = chart(text, tokens::behind_sign(text, x.next, 1), left - 1)?;
     let y = forms::optional_set_at(text, tokens::behind_sign(text, p.next, 1));
-    Outline {
-        deep: p.deep,
+    Ok(Outline {
         depth: p.depth + 1,
-        bad: lists::either(x.bad, lists::either(p.bad, y.bad)),
+        bad: x.bad | (p.bad | y.bad),
         nodes: plus(p.nodes, 1),
         slaves: p.slaves,
         next: y.next,
-    }
+    })
 }
 
 // A master with its slaves.
 #[cycle(descent)]
-fn master(text: &[u8], at: usize, left: usize) -> Outline
+fn master(text: &[u8], at: usize, left: usize) -> Result<Outline, TooDeep>
     requires { (at ≤ length text.now) × (0 < left) }
     ensures { FormedAt Decomposed text.now at left result }
 {
     let s = lists::sequential_at(text, tokens::behind_sign(text, at, 3));
     let i = tokens::behind_sign(text, tokens::behind_sign(text, s.next, 2), 1);
-    let all = slaves(text, i, s.mask, left - 1);
-    Outline {
-        deep: all.deep,
+    let all = slaves(text, i, s.mask, left - 1)?;
+    Ok(Outline {
         depth: all.depth + 1,
-        bad: lists::either(s.bad, all.bad),
+        bad: s.bad | all.bad,
         nodes: plus(all.nodes, 1),
-        slaves: all.slaves,
-        next: all.next,
-    }
+        ..all
+    })
 }
 
 // The slaves of a master with the states of a mask, and the brace behind them.
 #[cycle(descent)]
-fn slaves(text: &[u8], at: usize, mask: u64, left: usize) -> Outline
+fn slaves(text: &[u8], at: usize, mask: u64, left: usize) -> Result<Outline, TooDeep>
     requires { at ≤ length text.now }
     ensures { SlavesAt text.now at mask left result }
 {
-    let mut all = pair(text, at, mask, left);
-    if all.deep {
-        return all;
-    }
-    let mut i = all.next;
-    while tokens::peek(text, i) == b',' {
-        let p = pair(text, tokens::behind_sign(text, i, 1), mask, left);
-        if p.deep {
-            return p;
-        }
+    let mut all = pair(text, at, mask, left)?;
+    while tokens::peek(text, all.next) == b',' {
+        let p = pair(text, tokens::behind_sign(text, all.next, 1), mask, left)?;
         all = joined(all, false, p);
-        i = p.next;
     }
-    Outline {
-        deep: false,
-        depth: all.depth,
-        bad: all.bad,
-        nodes: all.nodes,
-        slaves: all.slaves,
-        next: tokens::behind_sign(text, i, 1),
-    }
+    let next = tokens::behind_sign(text, all.next, 1);
+    Ok(Outline { next, ..all })
 }
 
 // A slave with its state, in round brackets.
 #[cycle(descent)]
-fn pair(text: &[u8], at: usize, mask: u64, left: usize) -> Outline
+fn pair(text: &[u8], at: usize, mask: u64, left: usize) -> Result<Outline, TooDeep>
     requires { at ≤ length text.now }
     ensures { PairAt text.now at mask left result }
 {
     let q = tokens::name_at(text, tokens::behind_sign(text, at, 1));
-    let p = chart(text, tokens::behind_sign(text, q.next, 1), left);
-    Outline {
-        deep: p.deep,
+    let p = chart(text, tokens::behind_sign(text, q.next, 1), left)?;
+    Ok(Outline {
         depth: p.depth,
-        bad: lists::either(lists::lacks(mask, q.value), p.bad),
+        bad: lists::lacks(mask, q.value) | p.bad,
         nodes: p.nodes,
         slaves: plus(p.slaves, 1),
         next: tokens::behind_sign(text, p.next, 1),
-    }
+    })
 }
 
-// The outline of the chart that a text spells.
-pub fn outline_of(text: &[u8]) -> Outline
+// The outline of the chart that a text spells, unless it is too deep.
+pub fn outline_of(text: &[u8]) -> Result<Outline, TooDeep>
     ensures { OutlineOf text.now result }
 {
     chart(text, 0, MOST_DEPTH)

@@ -10,6 +10,7 @@ ghost use Rattle.parts.specs.Parts.{off_of, with_slaves, value_at, Filled};
 
 use checks::limits::{MOST_CHARTS, MOST_NODES};
 use layout::body::Shape;
+use layout::record::Kind;
 
 // What hiding takes off: of an input interface x, of an output interface y.
 #[derive(Clone, Copy)]
@@ -33,14 +34,12 @@ fn with_slaves(n: Shape, body: &[u8], table: &[u64; MOST_NODES as usize], c: usi
     ensures { result ≡ with_slaves (file_at n body.now) table.now c own n.slaves }
 {
     let mut all = own;
-    let mut i: usize = 0;
-    while i < n.slaves {
+    for i in 0..n.slaves {
         let s = layout::body::slave_at(n, body, i);
         let node = s.node as usize;
         if s.chart as usize == c {
             all = all | table[node];
         }
-        i += 1;
     }
     all
 }
@@ -58,13 +57,12 @@ fn value(
     ensures { result ≡ value_at (file_at n body.now) own.now off table.now j }
 {
     let r = layout::body::node_at(n, body, j);
-    let kind = r.kind;
     let a = r.a as usize;
     let b = r.b as usize;
-    match kind {
-        0 => with_slaves(n, body, table, a, own[a]),
-        1 => table[a] | table[b],
-        _ => signals::less(table[a], taken(off, r.x, r.y)),
+    match r.kind() {
+        Kind::Holds => with_slaves(n, body, table, a, own[a]),
+        Kind::Composes => table[a] | table[b],
+        Kind::Hides => signals::less(table[a], taken(off, r.x, r.y)),
     }
 }
 
@@ -79,10 +77,8 @@ pub fn table(
     ensures { Filled (file_at n body.now) own.now off result n.nodes }
 {
     let mut t = [0u64; MOST_NODES as usize];
-    let mut j: usize = 0;
-    while j < n.nodes {
+    for j in 0..n.nodes {
         t[j] = value(n, body, own, off, &t, j);
-        j += 1;
     }
     t
 }

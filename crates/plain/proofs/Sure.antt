@@ -1,7 +1,7 @@
 -- A step of a plain file (RULES 8.3), from a valid configuration and with room for the next, has the mark yes or is
 -- refused with 23 or 24 (`plain_sure`), and so is every step of a run (`row_sure`). In this order: an answer that is
 -- sure; the tree of a plain file is plain, and so its steps are sure (`step_sure`); the same of bytes.
-use Rattle.std.specs.Prelude.{◌≡◌, Bool, ◌&&◌, List, [], ◌∷◌, ◌++◌, ◌⊎◌, length}
+use Rattle.std.specs.Prelude.{◌≡◌, Bool, ◌&&◌, List, [], ◌∷◌, ◌++◌, length}
 use Rattle.std.proofs.Math.Path.{refl}
 use Rattle.std.proofs.Common.{◌∙◌, ap, inl, ⊎_elim, arith, get_or-append-add}
 use Rattle.std.proofs.Math.Bool.{true, false, cond}

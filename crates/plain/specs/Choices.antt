@@ -1,24 +1,10 @@
 -- Trees no two transitions of whose charts are doubtful, with all their feedback in one set (PlainTree). The laws are
 -- in
 -- proofs/Choices.
-use Rattle.std.specs.Prelude.{◌≡◌, Bool, false, ◌&&◌, List, [], ◌∷◌, ℕ, zero, ◌<◌}
-use Rattle.std.proofs.Math.Path.{refl, sym, ap, fun_ext}
-use Rattle.std.proofs.Common.{◌∙◌, arith}
-use Rattle.std.proofs.Math.Bool.{true}
-use Rattle.std.proofs.lemmas.Bool.{false≢true}
-use Rattle.std.proofs.Math.Decide.{dec_lt}
-use Rattle.signals.specs.Mask.{◌∪◌, ◌∩◌, ◌∖◌, Within}
-use Rattle.signals.specs.Decide.{sets, A, B, C, D, ◌∩ₑ◌, ◌∖ₑ◌, ◌≐◌}
-use Rattle.meaning.specs.Meaning.{Set, same, Chart, Tree, Slaves, leaf, comp, hide, dec, nil, snoc, action_of}
-use Rattle.meaning.specs.Meaning.{in_face_chart, in_face, out, outs, ok_chart, meets, ok, oks, permitted, moves, pick}
-use Rattle.meaning.specs.Meaning.{nexts, outcomes, given, answer}
-use Rattle.meaning.specs.File.{Has, HasS}
+use Rattle.std.specs.Prelude.{◌≡◌, false, ℕ}
+use Rattle.signals.specs.Mask.{Within}
+use Rattle.meaning.specs.Meaning.{Set, Chart, Tree, Slaves, leaf, comp, hide, dec, nil, snoc}
 use Rattle.meaning.specs.Plain.{any_doubtful}
-use Rattle.meaning.specs.Laws.Bools.{or_elim, and_l, and_r, same→≡}
-use Rattle.meaning.specs.Words.{Choice, Permitted}
-use Rattle.meaning.proofs.Laws.Demand2.{given-first, mark_no}
-use Rattle.meaning.proofs.Laws.Editions.{ok-one}
-use Rattle.plain.specs.Moves.{same_fed, one_move}
 
 -- ── a tree of edition 1 whose feedback is in f, and no two transitions of whose charts are doubtful ──
 

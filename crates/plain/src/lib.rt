@@ -11,8 +11,7 @@ ghost use Rattle.meaning.specs.Plain.{fed_back, told_apart, doubtful, doubtful_w
 ghost use Rattle.checks.specs.Known.{Sized, Summed};
 
 use layout::body::Shape;
-use layout::record;
-use layout::record::Transition;
+use layout::record::{Kind, Transition};
 
 // The signals in feedback sets of charts.
 fn fed_by_charts(n: Shape, body: &[u8]) -> u64
@@ -20,11 +19,9 @@ fn fed_by_charts(n: Shape, body: &[u8]) -> u64
     ensures { result ≡ union_up_to n.charts (λ c. ((file_at n body.now).chart c).feedback) }
 {
     let mut all: u64 = 0;
-    let mut c: usize = 0;
-    while c < n.charts {
+    for c in 0..n.charts {
         let h = layout::body::head_at(n, body, c);
         all = all | h.feedback;
-        c += 1;
     }
     all
 }
@@ -35,7 +32,8 @@ fn fed_by_node(n: Shape, body: &[u8], j: usize) -> u64
     ensures { result ≡ cond (same ((file_at n body.now).kind j) 1) ((file_at n body.now).x j) ∅ }
 {
     let r = layout::body::node_at(n, body, j);
-    if r.kind == record::COMPOSES { r.x } else { 0 }
+    let composes = Kind::Composes as u8;
+    if r.kind == composes { r.x } else { 0 }
 }
 
 // The signals in feedback sets of nodes.
@@ -45,10 +43,8 @@ fn fed_by_nodes(n: Shape, body: &[u8]) -> u64
         (λ j. cond (same ((file_at n body.now).kind j) 1) ((file_at n body.now).x j) ∅) }
 {
     let mut all: u64 = 0;
-    let mut j: usize = 0;
-    while j < n.nodes {
+    for j in 0..n.nodes {
         all = all | fed_by_node(n, body, j);
-        j += 1;
     }
     all
 }
@@ -80,12 +76,10 @@ fn doubtful_with(n: Shape, body: &[u8], fed: u64, t: Transition, start: usize, c
     requires { Holds n body.now × (start + count ≤ n.transitions) }
     ensures { result ≡ doubtful_with fed t (from (transition_at n body.now) start count) }
 {
-    let mut k: usize = 0;
-    while k < count {
+    for k in 0..count {
         if is_doubtful(fed, t, layout::body::transition_at(n, body, start + k)) {
             return true;
         }
-        k += 1;
     }
     false
 }
@@ -95,11 +89,10 @@ fn any_doubtful(n: Shape, body: &[u8], fed: u64, start: usize, count: usize) -> 
     requires { Holds n body.now × (start + count ≤ n.transitions) }
     ensures { result ≡ any_doubtful fed (from (transition_at n body.now) start count) }
 {
-    let mut i: usize = 0;
-    while i < count {
+    for i in 0..count {
         let t = layout::body::transition_at(n, body, start + i);
-        i += 1;
-        if doubtful_with(n, body, fed, t, start + i, count - i) {
+        let next = i + 1;
+        if doubtful_with(n, body, fed, t, start + next, count - next) {
             return true;
         }
     }
@@ -113,15 +106,13 @@ pub fn is_plain(n: Shape, body: &[u8]) -> bool
 {
     let fed = fed_back(n, body);
     let mut start: usize = 0;
-    let mut c: usize = 0;
-    while c < n.charts {
+    for c in 0..n.charts {
         let h = layout::body::head_at(n, body, c);
         let count = h.transitions as usize;
         if any_doubtful(n, body, fed, start, count) {
             return false;
         }
         start += count;
-        c += 1;
     }
     true
 }

@@ -1,7 +1,7 @@
 -- A node's record that was read: its parts are lower, and its chart is one of the file's.
 use mathlib.Core.Path.{◌≡◌, sym, ◌∙◌}
 use mathlib.Core.List.{List}
-use Prim.Native.Nat.{ℕ, ◌<◌}
+use Prim.Native.Nat.{ℕ, ◌≤◌, ◌<◌}
 use native.Mathlib.Omega.{arith}
 use Rattle.layout.specs.Body.{node_at}
 use Rattle.layout.specs.declared.body.Shape.{Shape}
@@ -20,9 +20,9 @@ module _ {n : Shape} {b : List ℕ} (w : Wirable n b) {j : ℕ} (p : j < n.nodes
   lower_comp k =
       (lower-a _ w.sound p (is_node n b j e) (λ z. omega arith), lower-b _ w.sound p (is_node n b j e) k)
 
-  pub kind_hide : (r.kind ≡ 0 → ⊥) → (r.kind ≡ 1 → ⊥) → r.kind ≡ 2
+  pub some_kind : r.kind ≤ 2
   unfolding file_at
-  kind_hide k₀ k₁ = let i = is_node n b j e in let h = w.sound.ordered.kinds j p in omega (arith, i.kind)
+  some_kind = let i = is_node n b j e in let h = w.sound.ordered.kinds j p in omega (arith, i.kind)
 
   pub below-charts : r.kind ≡ 0 → r.a < n.charts
   unfolding file_at

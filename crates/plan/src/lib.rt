@@ -20,7 +20,7 @@ ghost use Rattle.plan.specs.Plan.{Wired};
 use cells::{CHARTS, masks, small};
 use layout::body::Shape;
 use layout::limits::NODES;
-use layout::record::{COMPOSES, HOLDS};
+use layout::record::Kind;
 use nesting::NONE;
 
 // Each chart is offered of chart d's action what is in m and in its entry of `offered`. Most rows have nothing to feed.
@@ -33,11 +33,9 @@ fn feed_row(masks: &mut [u64], charts: usize, d: usize, m: u64, offered: &[u64; 
     if m == 0 {
         return;
     }
-    let mut c: usize = 0;
-    while c < charts {
+    for c in 0..charts {
         let all = masks::back(masks, c, d) | (m & offered[c]);
         masks::put_back(masks, c, d, all);
-        c += 1;
     }
 }
 
@@ -58,10 +56,8 @@ fn down_row(set: u64, down: &[u64; CHARTS], charts: usize) -> [u64; CHARTS]
     ensures { DownRow set down.now charts result }
 {
     let mut row = [0u64; CHARTS];
-    let mut c: usize = 0;
-    while c < charts {
+    for c in 0..charts {
         row[c] = down_in(set, down, c);
-        c += 1;
     }
     row
 }
@@ -75,13 +71,11 @@ fn feed(masks: &mut [u64], charts: usize, set: u64, x: u64, down: &[u64; CHARTS]
         return;
     }
     let offered = down_row(set, down, charts);
-    let mut d: usize = 0;
-    while d < charts {
+    for d in 0..charts {
         if signals::has(set, d as u32) {
             let m = masks::up(masks, d) & x;
             feed_row(masks, charts, d, m, &offered);
         }
-        d += 1;
     }
 }
 
@@ -91,14 +85,12 @@ fn hide(masks: &mut [u64], charts: usize, set: u64, x: u64, y: u64, down: &mut [
     ensures { Hides charts set x y down.old down.new masks.old
         masks.new }
 {
-    let mut c: usize = 0;
-    while c < charts {
+    for c in 0..charts {
         if signals::has(set, c as u32) {
             down[c] = signals::less(down[c], x);
             let up = signals::less(masks::up(masks, c), y);
             masks::put_up(masks, c, up);
         }
-        c += 1;
     }
 }
 
@@ -115,14 +107,12 @@ fn inside(n: Shape, body: &[u8], c: u8, sets: &[u16; NODES]) -> u64
     ensures { Inside (file_at n body.now) c sets.now n.slaves result }
 {
     let mut set: u64 = 0;
-    let mut i: usize = 0;
-    while i < n.slaves {
+    for i in 0..n.slaves {
         let slave = layout::body::slave_at(n, body, i);
         if slave.chart == c {
             let k = slave.node as usize;
             set = set | wide(sets[k]);
         }
-        i += 1;
     }
     set
 }
@@ -173,19 +163,21 @@ fn wire_node(
         × WiredTo (file_at n body.now) (j + 1) down.new masks.new }
 {
     let node = layout::body::node_at(n, body, j);
-    if node.kind == HOLDS {
-        return wire_chart(n, body, node.a, sets, masks, down);
-    }
     let a = node.a as usize;
-    if node.kind == COMPOSES {
-        let b = node.b as usize;
-        let set = wide(sets[a]) | wide(sets[b]);
-        feed(masks, n.charts, set, node.x, down);
-        return set;
+    let b = node.b as usize;
+    match node.kind() {
+        Kind::Holds => wire_chart(n, body, node.a, sets, masks, down),
+        Kind::Composes => {
+            let set = wide(sets[a]) | wide(sets[b]);
+            feed(masks, n.charts, set, node.x, down);
+            set
+        }
+        Kind::Hides => {
+            let set = wide(sets[a]);
+            hide(masks, n.charts, set, node.x, node.y, down);
+            set
+        }
     }
-    let set = wide(sets[a]);
-    hide(masks, n.charts, set, node.x, node.y, down);
-    set
 }
 
 // A chart stands in the slave that its node stands in: its master and state are noted in a search's small numbers.
@@ -195,7 +187,7 @@ fn note(n: Shape, body: &[u8], j: usize, near: &[u8], small: &mut [u8])
     ensures { Notes (file_at n body.now) j small.old small.new }
 {
     let node = layout::body::node_at(n, body, j);
-    if node.kind == HOLDS {
+    if let Kind::Holds = node.kind() {
         let slave = nesting::enclosing(n, body, j, near);
         let c = node.a as usize;
         small::put_nearest(small, c, slave.chart, slave.state);
@@ -207,10 +199,8 @@ fn note_none(small: &mut [u8])
     requires { length small.old ≡ small_size }
     ensures { NotedNone most_charts small.new }
 {
-    let mut c: usize = 0;
-    while c < CHARTS {
+    for c in 0..CHARTS {
         small::put_nearest(small, c, NONE, 0);
-        c += 1;
     }
 }
 
@@ -226,10 +216,8 @@ pub fn nearest(n: Shape, body: &[u8], small: &mut [u8])
     }
     let near = nesting::enclosers(n, body);
     let nodes = n.nodes;
-    let mut j: usize = 0;
-    while j < nodes {
+    for j in 0..nodes {
         note(n, body, j, &near, small);
-        j += 1;
     }
 }
 
@@ -243,11 +231,9 @@ pub fn wired(n: Shape, body: &[u8], masks: &mut [u64], small: &mut [u8]) -> [u64
     let mut down = [0u64; CHARTS];
     let mut sets = [0u16; NODES];
     let nodes = n.nodes;
-    let mut j: usize = 0;
-    while j < nodes {
+    for j in 0..nodes {
         let set = wire_node(n, body, j, &sets, masks, &mut down);
         sets[j] = set as u16;
-        j += 1;
     }
     nearest(n, body, small);
     down

@@ -2,6 +2,7 @@
 // the number of the day last posted; then a record of 32 bytes for each case.
 ghost use Rattle.std.specs.Prelude.{◌≡◌, ◌+◌, ◌*◌, ◌<◌, ◌≤◌, length};
 
+use checks::refusal::Refusal;
 use desk::{Case, Day, Seen};
 
 // The longest book, and a record more, which tells that a file is longer.
@@ -87,11 +88,7 @@ fn config_at(book: &[u8], at: usize) -> [u8; desk::WIDTH]
     requires { at + 16 ≤ length book.now }
 {
     let mut config = [0u8; desk::WIDTH];
-    let mut j: usize = 0;
-    while j < desk::WIDTH {
-        config[j] = book[at + j];
-        j += 1;
-    }
+    config.copy_from_slice(&book[at..at + desk::WIDTH]);
     config
 }
 
@@ -115,12 +112,7 @@ fn record_of(c: Case) -> [u8; RECORD] {
     layout::number::put64(&mut r, 0, c.carried);
     layout::number::put32(&mut r, LAST, c.last);
     r[LONG] = c.length;
-    let config = c.config;
-    let mut j: usize = 0;
-    while j < desk::WIDTH {
-        r[CONFIG + j] = config[j];
-        j += 1;
-    }
+    r[CONFIG..CONFIG + desk::WIDTH].copy_from_slice(&c.config);
     r
 }
 
@@ -128,11 +120,7 @@ fn record_of(c: Case) -> [u8; RECORD] {
 fn put(book: &mut [u8], at: usize, r: [u8; RECORD])
     requires { at + 32 ≤ length book.old }
 {
-    let mut j: usize = 0;
-    while j < RECORD {
-        book[at + j] = r[j];
-        j += 1;
-    }
+    book[at..at + RECORD].copy_from_slice(&r);
 }
 
 // A new book of n cases that all have one record.
@@ -141,24 +129,20 @@ pub fn fill(book: &mut [u8], c: Case, n: usize)
 {
     put(book, 0, head(n));
     let r = record_of(c);
-    let mut k: usize = 0;
-    while k < n {
+    for k in 0..n {
         put(book, HEAD + RECORD * k, r);
-        k += 1;
     }
 }
 
 // What the file and the first n records say.
-pub fn looked(file: &[u8], book: &[u8], n: usize) -> Seen
+pub fn looked(file: &[u8], book: &[u8], n: usize) -> Result<Seen, Refusal>
     requires { (n ≤ 64) × (length book.now ≡ 2112) }
 {
-    let mut s = consult::unseen(file);
-    let mut k: usize = 0;
-    while k < n {
+    let mut s = consult::unseen(file)?;
+    for k in 0..n {
         s = deciding::look_at(s, case_at(book, k));
-        k += 1;
     }
-    s
+    Ok(s)
 }
 
 // Case k posted. Of an accepted day no test here applies.
@@ -178,10 +162,8 @@ fn moved(file: &[u8], c: Case, d: Day, k: usize, charts: usize, rows: &mut [u8])
 pub fn post_cases(file: &[u8], book: &mut [u8], d: Day, n: usize, charts: usize, rows: &mut [u8])
     requires { (n ≤ 64) × (charts ≤ 16) × (length book.old ≡ 2112) × (length rows.old ≡ 1920) }
 {
-    let mut k: usize = 0;
-    while k < n {
+    for k in 0..n {
         let c = moved(file, case_at(book, k), d, k, charts, rows);
         put(book, HEAD + RECORD * k, record_of(c));
-        k += 1;
     }
 }

@@ -4,7 +4,6 @@ ghost use Rattle.std.specs.Prelude.{◌≡◌, ◌+◌, ◌*◌, ◌<◌, ◌≤
 
 use desk::{Day, Entry};
 use std::env::Env;
-use typed::Read;
 
 // What is wrong with a line.
 #[derive(Clone, Copy)]
@@ -54,31 +53,28 @@ pub struct Line {
 }
 
 // A number of at most nine digits.
-pub fn decimal(word: &[u8]) -> Read {
+pub fn decimal(word: &[u8]) -> Option<u64> {
     if word.len() == 0 {
-        return Read::Wrong;
+        return None;
     }
     let mut v: u64 = 0;
-    let mut i: usize = 0;
-    while i < word.len() {
-        let b = word[i];
-        if b < b'0' {
-            return Read::Wrong;
+    for b in word {
+        if *b < b'0' {
+            return None;
         }
-        if b > b'9' {
-            return Read::Wrong;
+        if *b > b'9' {
+            return None;
         }
         if v > 99999999 {
-            return Read::Wrong;
+            return None;
         }
-        v = 10 * v + (b - b'0') as u64;
-        i += 1;
+        v = 10 * v + (*b - b'0') as u64;
     }
-    Read::Is(v)
+    Some(v)
 }
 
 // The number that is typed as word i of the command.
-pub fn count(rt: &impl Env, i: usize) -> Read {
+pub fn count(rt: &impl Env, i: usize) -> Option<u64> {
     let mut word = console::word_room();
     let n = console::word(rt, i, &mut word);
     decimal(&word[..n])
@@ -100,7 +96,7 @@ fn wrong(fault: Fault) -> Line {
 // A line whose two words stand before and behind its first space.
 fn words(first: &[u8], second: &[u8]) -> Line {
     if typed::is(first, b"day") {
-        let Read::Is(n) = decimal(second) else {
+        let Some(n) = decimal(second) else {
             return wrong(Fault::BadDay);
         };
         if n == 0 {
@@ -108,10 +104,10 @@ fn words(first: &[u8], second: &[u8]) -> Line {
         }
         return line_of(Fault::Nothing, true, n, 0);
     }
-    let Read::Is(n) = decimal(first) else {
+    let Some(n) = decimal(first) else {
         return wrong(Fault::BadCase);
     };
-    let Read::Is(s) = typed::set(second) else {
+    let Some(s) = typed::set(second) else {
         return wrong(Fault::BadSet);
     };
     line_of(Fault::Nothing, false, n, s)

@@ -1,6 +1,6 @@
 // The files that the words of a command name. A file is replaced whole: its new bytes go to a file beside it, which is
 // flushed and then takes its name.
-ghost use Rattle.std.specs.Prelude.{◌≡◌, ◌+◌, ◌*◌, ◌≤◌, length, IfOk};
+ghost use Rattle.std.specs.Prelude.{◌≡◌, ◌+◌, ◌*◌, ◌≤◌, length, IfOk, IfSome};
 ghost use Rattle.console.specs.Counts.{IsPrefixLen};
 
 use crate::tell;
@@ -9,13 +9,6 @@ use std::env::Env;
 use std::fs::{Files, OpenFile};
 use std::io;
 use std::io::{Read, Write};
-
-// Whether a file was read, and how many bytes it has.
-#[derive(Clone, Copy)]
-pub struct Loaded {
-    pub is_read: bool,
-    pub count: usize,
-}
 
 // A file's name.
 #[derive(Clone, Copy)]
@@ -52,15 +45,6 @@ pub fn is_there(rt: &(impl Env + Files), i: usize) -> bool {
     console::open(rt, &path[..n]).is_ok()
 }
 
-fn unread() -> Loaded
-    ensures { result.count ≡ 0 }
-{
-    Loaded {
-        is_read: false,
-        count: 0,
-    }
-}
-
 // Reads the file of this name: how many bytes came, and how many of one byte more. That one tells whether the first
 // ones came to its end: it is not there then.
 fn read(rt: &impl Files, name: &[u8], bytes: &mut [u8]) -> io::Result<(usize, usize)>
@@ -73,24 +57,21 @@ fn read(rt: &impl Files, name: &[u8], bytes: &mut [u8]) -> io::Result<(usize, us
     Ok((count, behind))
 }
 
-// Reads the file of word i.
-pub fn load(rt: &(impl Env + Files + Errors), i: usize, bytes: &mut [u8]) -> Loaded
-    ensures { IsPrefixLen result.count bytes.new }
+// Reads the file of word i: how many bytes it has. Where it was not read, it is said why.
+pub fn load(rt: &(impl Env + Files + Errors), i: usize, bytes: &mut [u8]) -> Option<usize>
+    ensures { IfSome result (λ n. IsPrefixLen n bytes.new) }
 {
     let mut path = console::word_room();
     let n = console::word(rt, i, &mut path);
     let Ok((count, behind)) = read(rt, &path[..n], bytes) else {
         failed(rt, i);
-        return unread();
+        return None;
     };
     if behind > 0 {
         too_long(rt, i);
-        return unread();
+        return None;
     }
-    Loaded {
-        is_read: true,
-        count,
-    }
+    Some(count)
 }
 
 // Room for a book. Only the length is promised.
@@ -106,15 +87,12 @@ fn named(rt: &impl Env, i: usize, ending: &[u8]) -> Name
 {
     let mut bytes = [0u8; 4096];
     let n = console::word(rt, i, &mut bytes);
-    let mut at = n;
-    for b in ending {
-        if at >= 4096 {
-            return Name { bytes, count: 0 };
-        }
-        bytes[at] = *b;
-        at += 1;
+    if ending.len() > bytes.len() - n {
+        return Name { bytes, count: 0 };
     }
-    Name { bytes, count: at }
+    let count = n + ending.len();
+    bytes[n..count].copy_from_slice(ending);
+    Name { bytes, count }
 }
 
 // Flushes a file that was written, closes it and gives it its name.

@@ -10,11 +10,11 @@ mod tell;
 
 ghost use Rattle.std.specs.Prelude.{◌≡◌, ◌≤◌, length};
 
+use checks::refusal::Refusal;
 use console::Console;
 use day::{Fault, Outside};
 use desk::Day;
 use std::io;
-use typed::Read;
 
 // Where the words of a command stand.
 const CHART: usize = 2;
@@ -44,28 +44,31 @@ fn row_room() -> [u8; 1920]
 }
 
 // The new record of a case at its first configuration.
-fn first_case(file: &[u8], charts: u8) -> desk::Case {
+fn first_case(file: &[u8]) -> Result<desk::Case, Refusal> {
+    let s = engine::file::states(file)?;
     let mut config = [0u8; desk::WIDTH];
-    engine::file::first(file, &mut config);
-    desk::Case {
+    engine::file::first(file, &mut config)?;
+    Ok(desk::Case {
         carried: 0,
         last: 0,
-        length: charts,
+        length: s.charts,
         config,
-    }
+    })
 }
 
 // Makes a book of n cases.
 fn make(rt: &impl Console, file: &[u8], n: usize)
     requires { n ≤ 64 }
 {
-    let s = engine::file::states(file);
-    if s.refusal != 0 {
-        tell::refused(rt, b"file", s.refusal);
-        return;
-    }
+    let case = match first_case(file) {
+        Ok(case) => case,
+        Err(r) => {
+            tell::refused(rt, b"file", r);
+            return;
+        }
+    };
     let mut book = files::book_room();
-    book::fill(&mut book, first_case(file, s.charts), n);
+    book::fill(&mut book, case, n);
     if files::replace(rt, NEW_BOOK, &book, book::size(n)).is_err() {
         files::failed(rt, NEW_BOOK);
     }
@@ -76,7 +79,7 @@ fn new_book(rt: &impl Console, file: &[u8]) {
         tell::complain(rt, b"post: the book is there already.\n");
         return;
     }
-    let Read::Is(n) = day::count(rt, COUNT) else {
+    let Some(n) = day::count(rt, COUNT) else {
         tell::complain(rt, b"post: COUNT is a number from 1 to 64.\n");
         return;
     };
@@ -107,6 +110,21 @@ fn write(rt: &impl Console, rows: &[u8], w: usize, n: usize, book: &[u8])
     let _ = tell::lines(&mut io::writer(rt), rows, w, n);
 }
 
+// What is decided of a day for the first n records: how many charts a row has, or the refusal.
+fn decided(
+    file: &[u8],
+    book: &[u8],
+    n: usize,
+    is_outside: bool,
+    room: usize,
+) -> Result<usize, Refusal>
+    requires { (n ≤ 64) × (length book.now ≡ 2112) }
+{
+    let s = book::looked(file, book, n)?;
+    deciding::decide(s, is_outside, n, room)?;
+    Ok(s.charts as usize)
+}
+
 // A day that is read, posted to a book of n cases; or its refusal, and with 61 the first entry outside the book.
 fn post_day(
     rt: &impl Console,
@@ -119,17 +137,17 @@ fn post_day(
 )
     requires { (n ≤ 64) × (length book.old ≡ 2112) }
 {
-    let s = book::looked(file, book, n);
     let mut rows = row_room();
-    let p = deciding::decide(s, d.outside, n, rows.len());
-    if p.refusal != 0 {
-        tell::refused(rt, b"day", p.refusal);
-        if p.refusal == desk::NO_SUCH_CASE {
-            tell::no_such_case(rt, outside, n as u64);
+    let charts = match decided(file, book, n, d.outside, rows.len()) {
+        Ok(charts) => charts,
+        Err(refusal) => {
+            tell::refused(rt, b"day", refusal);
+            if let Refusal::NoSuchCase = refusal {
+                tell::no_such_case(rt, outside, n as u64);
+            }
+            return;
         }
-        return;
-    }
-    let charts = p.charts;
+    };
     if charts > desk::WIDTH {
         return;
     }
@@ -171,25 +189,23 @@ fn day_of(rt: &impl Console, file: &[u8], book: &mut [u8], n: usize, text: &[u8]
 
 fn read_day(rt: &impl Console, file: &[u8]) {
     let mut book = files::book_room();
-    let b = files::load(rt, BOOK, &mut book);
-    let n = book::cases(&book, b.count);
+    let count = files::load(rt, BOOK, &mut book).unwrap_or(0);
+    let n = book::cases(&book, count);
     if n == 0 {
         files::no_book(rt, BOOK);
         return;
     }
     let mut text = file_room();
-    let t = files::load(rt, ENTRIES, &mut text);
-    if !t.is_read {
+    let Some(k) = files::load(rt, ENTRIES, &mut text) else {
         return;
-    }
-    let k = t.count;
+    };
     day_of(rt, file, &mut book, n, &text[..k]);
 }
 
 fn show(rt: &impl Console) {
     let mut book = files::book_room();
-    let b = files::load(rt, SHOWN, &mut book);
-    let n = book::cases(&book, b.count);
+    let count = files::load(rt, SHOWN, &mut book).unwrap_or(0);
+    let n = book::cases(&book, count);
     if n == 0 {
         files::no_book(rt, SHOWN);
         return;
@@ -200,11 +216,9 @@ fn show(rt: &impl Console) {
 // A command on a chart file.
 fn on_file(rt: &impl Console, is_new: bool) {
     let mut file = file_room();
-    let f = files::load(rt, CHART, &mut file);
-    if !f.is_read {
+    let Some(k) = files::load(rt, CHART, &mut file) else {
         return;
-    }
-    let k = f.count;
+    };
     if is_new {
         new_book(rt, &file[..k]);
     } else {

@@ -3,6 +3,7 @@ ghost use Rattle.std.specs.Prelude.{◌≡◌, ◌+◌, ◌*◌, ◌≤◌, leng
 
 use crate::book;
 use crate::day::{Fault, Outside};
+use checks::refusal::Refusal;
 use console::Errors;
 use std::io;
 use std::io::Write;
@@ -30,10 +31,10 @@ fn complain_number(rt: &impl Errors, n: u64) {
 }
 
 // The refusal of a chart file or of a day.
-pub fn refused(out: &impl Print, what: &[u8], refusal: u8) {
+pub fn refused(out: &impl Print, what: &[u8], refusal: Refusal) {
     say(out, what);
     say(out, b" refused ");
-    console::say_decimal(out, refusal as u64);
+    console::say_decimal(out, refusal.number() as u64);
     say(out, b"\n");
 }
 
@@ -152,10 +153,6 @@ fn signals(out: &impl Print, set: u64) {
     say(out, b"\n");
 }
 
-fn wide(x: u8) -> u64 {
-    x as u64
-}
-
 // A case: its number, the number of its last row, its configuration, what it carries.
 fn show_case(out: &impl Print, k: usize, c: desk::Case) {
     console::say_decimal(out, k as u64);
@@ -163,15 +160,13 @@ fn show_case(out: &impl Print, k: usize, c: desk::Case) {
     console::say_decimal(out, c.last as u64);
     let config = c.config;
     let n = c.length as usize;
-    for j in 0..desk::WIDTH {
-        if j < n {
-            if j > 0 {
-                say(out, b".");
-            } else {
-                say(out, b" ");
-            }
-            console::say_decimal(out, wide(config[j]));
+    for (j, state) in config.iter().take(n).enumerate() {
+        if j > 0 {
+            say(out, b".");
+        } else {
+            say(out, b" ");
         }
+        console::say_decimal(out, u64::from(*state));
     }
     signals(out, c.carried);
 }

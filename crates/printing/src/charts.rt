@@ -38,12 +38,10 @@ fn in_order(n: Shape, body: &[u8], c: usize, out: &mut [u8], first: usize) -> us
     let count = head.transitions as usize;
     let start = layout::body::start_of(n, body, c);
     let mut at = first;
-    let mut k: usize = 0;
-    while k < count {
+    for k in 0..count {
         let t = layout::body::transition_at(n, body, start + k);
         let next = sets::apart(out, first, at, b',');
         at = transition(t, out, next);
-        k += 1;
     }
     at
 }

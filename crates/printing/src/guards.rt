@@ -39,11 +39,9 @@ pub fn guard(x: u64, y: u64, out: &mut [u8], first: usize) -> usize
     ensures { Prints out.old first (of_guard (listed (literals x y))) out.new result }
 {
     let mut at = first;
-    let mut s: u32 = 0;
-    while s < sets::SIGNALS {
+    for s in 0..sets::SIGNALS {
         let next = literal(x, false, s, out, first, at);
         at = literal(y, true, s, out, first, next);
-        s += 1;
     }
     at
 }

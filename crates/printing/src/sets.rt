@@ -38,10 +38,8 @@ fn members(x: u64, out: &mut [u8], first: usize) -> usize
     ensures { Prints out.old first (in_turn comma (name₁ letS) (members_of x)) out.new result }
 {
     let mut at = first;
-    let mut s: u32 = 0;
-    while s < SIGNALS {
+    for s in 0..SIGNALS {
         at = member(x, s, out, first, at);
-        s += 1;
     }
     at
 }

@@ -26,10 +26,8 @@ pub fn states(count: u8, initial: u8, out: &mut [u8], first: usize) -> usize
         (of_names letQ (initial_first count initial)) out.new result }
 {
     let mut at = signs::name(out, first, b'q', initial);
-    let mut q: u8 = 0;
-    while q < count {
+    for q in 0..count {
         at = other(q, initial, out, first, at);
-        q += 1;
     }
     at
 }

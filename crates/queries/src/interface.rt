@@ -9,13 +9,12 @@ ghost use Rattle.checks.specs.Known.{Sized, Summed};
 ghost use Rattle.queries.specs.Promises.{InterfaceSays};
 ghost use Rattle.queries.specs.Faces.{OwnOf};
 
-use checks::limits;
 use checks::limits::MOST_CHARTS;
+use checks::refusal::Refusal;
 use layout::body::Shape;
 
 #[derive(Clone, Copy)]
 pub struct Faces {
-    pub refusal: u8,
     pub input: u64,
     pub output: u64,
 }
@@ -33,11 +32,9 @@ fn guards(n: Shape, body: &[u8], start: usize, count: usize, extra: u64) -> u64
     ensures { result ≡ guards (from (transition_at n body.now) start count) ∪ extra }
 {
     let mut all = extra;
-    let mut k: usize = 0;
-    while k < count {
+    for k in 0..count {
         let t = layout::body::transition_at(n, body, start + k);
         all = all | t.needed | t.barred;
-        k += 1;
     }
     all
 }
@@ -48,11 +45,9 @@ fn actions(n: Shape, body: &[u8], start: usize, count: usize) -> u64
     ensures { result ≡ actions (from (transition_at n body.now) start count) }
 {
     let mut all: u64 = 0;
-    let mut k: usize = 0;
-    while k < count {
+    for k in 0..count {
         let t = layout::body::transition_at(n, body, start + k);
         all = all | t.action;
-        k += 1;
     }
     all
 }
@@ -64,14 +59,12 @@ fn charts(n: Shape, body: &[u8]) -> Own
     let mut input = [0u64; MOST_CHARTS as usize];
     let mut output = [0u64; MOST_CHARTS as usize];
     let mut start: usize = 0;
-    let mut c: usize = 0;
-    while c < n.charts {
+    for c in 0..n.charts {
         let h = layout::body::head_at(n, body, c);
         let count = h.transitions as usize;
         input[c] = guards(n, body, start, count, h.extra);
         output[c] = actions(n, body, start, count);
         start += count;
-        c += 1;
     }
     Own { input, output }
 }
@@ -80,7 +73,6 @@ fn charts(n: Shape, body: &[u8]) -> Own
 fn of_body(n: Shape, body: &[u8]) -> Faces
     requires { Sized n body.now × (Summed n body.now × Treed (file_at n body.now)) }
     ensures { result ≡ record {
-      refusal = 0;
       input = in_face (file_at n body.now).chart (whole_of (file_at n body.now));
       output = out_face (file_at n body.now).chart (whole_of (file_at n body.now));
     } }
@@ -92,26 +84,14 @@ fn of_body(n: Shape, body: &[u8]) -> Faces
     let outputs = parts::table(n, body, &output, parts::Off::Output);
     let last = n.nodes - 1;
     Faces {
-        refusal: limits::ACCEPTED,
         input: inputs[last],
         output: outputs[last],
     }
 }
 
-pub fn interface(file: &[u8]) -> Faces
+pub fn interface(file: &[u8]) -> Result<Faces, Refusal>
     ensures { InterfaceSays file.now result }
 {
-    let o = opening::opened(file);
-    let r = o.refusal;
-    if r != limits::ACCEPTED {
-        return Faces {
-            refusal: r,
-            input: 0,
-            output: 0,
-        };
-    }
-    let n = o.shape;
-    let start = o.start;
-    let end = o.end;
-    of_body(n, &file[start..end])
+    let o = opening::opened(file)?;
+    Ok(of_body(o.shape, o.body))
 }

@@ -9,10 +9,3 @@ pub const MOST_DEPTH: u8 = 16;
 pub const NAMED_CHARTS: u8 = 16;
 
 pub const NAMED_STATES: u8 = 16;
-
-// The text is not of the notation; charts are nested too deep; a name is wrong.
-pub const NOT_NOTATION: u8 = 50;
-
-pub const TOO_DEEP: u8 = 51;
-
-pub const BAD_NAME: u8 = 52;

@@ -8,12 +8,11 @@ ghost use Rattle.notation.specs.Reader.{reader};
 ghost use Rattle.levels.specs.Ring.{Keeps, MarksIn};
 ghost use Rattle.recogniser.specs.Verdict.{verdict_of};
 
-// The text spells a chart, or its first wrong byte is at a place: the text's length if it only breaks off.
+use modes::{Step, Token};
+
+// The place of the first wrong byte of a text that spells no chart: the text's length if it only breaks off.
 #[derive(Clone, Copy)]
-pub enum Verdict {
-    Spells,
-    Wrong(usize),
-}
+pub struct Wrong(pub usize);
 
 // The verdict, with a ring that keeps the level of the whole text to begin with, and no mark.
 fn from_start(
@@ -24,36 +23,35 @@ fn from_start(
     lasts: &mut levels::Marks,
     tops: &mut levels::Tops,
     start: levels::Kept,
-) -> Verdict
+) -> Result<(), Wrong>
     requires { Keeps text.now ring.old places.old start []
         × MarksIn text.now firsts.old lasts.old tops.old start }
     ensures { result ≡ verdict_of (reader text.now) }
 {
     let mut kept = start;
-    let mut m: u64 = 0;
-    let mut x: u64 = 0;
-    let mut i: usize = 0;
-    while i < text.len() {
+    let mut step = Step {
+        mode: 0,
+        token: Token::Between,
+    };
+    for i in 0..text.len() {
         let b = text[i];
         kept = levels::refilled(text, i, ring, places, firsts, lasts, tops, kept);
-        let h = modes::advance(m, x, b, levels::innermost(ring, kept.end));
-        if h == modes::NOWHERE {
-            return Verdict::Wrong(i);
-        }
+        let Some(next) = modes::advance(step, b, levels::innermost(ring, kept.end)) else {
+            return Err(Wrong(i));
+        };
         kept = levels::noted(ring, places, firsts, lasts, tops, kept, i, b);
-        m = h / 8;
-        x = h % 8;
-        i += 1;
+        step = next;
     }
-    kept = levels::refilled(text, i, ring, places, firsts, lasts, tops, kept);
-    if modes::accepts(m, x, levels::innermost(ring, kept.end)) {
-        return Verdict::Spells;
+    let end = text.len();
+    kept = levels::refilled(text, end, ring, places, firsts, lasts, tops, kept);
+    if modes::accepts(step, levels::innermost(ring, kept.end)) {
+        return Ok(());
     }
-    Verdict::Wrong(i)
+    Err(Wrong(end))
 }
 
 // Whether a text spells a chart, or where its first wrong byte is.
-pub fn recognise(text: &[u8]) -> Verdict
+pub fn recognise(text: &[u8]) -> Result<(), Wrong>
     ensures { result ≡ verdict_of (reader text.now) }
 {
     let mut ring = [0u8; levels::KEPT];

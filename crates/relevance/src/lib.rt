@@ -38,11 +38,9 @@ fn asked_of(n: Shape, body: &[u8], start: usize, count: usize, state: u8) -> u64
 {
     let mut u: u64 = 0;
     let mut at = HEAD_BYTES * n.charts + TRANSITION_BYTES * start;
-    let mut p: usize = 0;
-    while p < count {
+    for p in 0..count {
         u = asked_with(body, at, state, u);
         at += TRANSITION_BYTES;
-        p += 1;
     }
     u
 }
@@ -54,13 +52,11 @@ fn asked_all(n: Shape, body: &[u8], config: &[u8]) -> [u64; CHARTS]
 {
     let mut asks = [0u64; CHARTS];
     let mut start: usize = 0;
-    let mut c: usize = 0;
-    while c < n.charts {
+    for c in 0..n.charts {
         let head = layout::body::head_at(n, body, c);
         let count = head.transitions as usize;
         asks[c] = asked_of(n, body, start, count, config[c]);
         start += count;
-        c += 1;
     }
     asks
 }
@@ -71,10 +67,8 @@ fn read_of(masks: &[u64], charts: usize, asks: &[u64; CHARTS], k: usize) -> u64
     ensures { result ≡ read_at masks.now charts (λ c. get_or asks.now c 0) k }
 {
     let mut u: u64 = 0;
-    let mut c: usize = 0;
-    while c < charts {
+    for c in 0..charts {
         u = u | masks::back(masks, c, k) & asks[c];
-        c += 1;
     }
     masks::up(masks, k) | u
 }
@@ -84,12 +78,10 @@ pub fn all_out(masks: &[u64], charts: usize) -> bool
     requires { (masks_for charts ≤ length masks.now) × (charts ≤ most_charts) }
     ensures { result ≡ every charts (λ c. same (up_at masks.now c) full) }
 {
-    let mut c: usize = 0;
-    while c < charts {
+    for c in 0..charts {
         if masks::up(masks, c) != signals::ALL {
             return false;
         }
-        c += 1;
     }
     true
 }
@@ -101,10 +93,8 @@ pub fn rows(n: Shape, body: &[u8], config: &[u8], masks: &[u64]) -> [u64; CHARTS
 {
     let asks = asked_all(n, body, config);
     let mut reads = [0u64; CHARTS];
-    let mut k: usize = 0;
-    while k < n.charts {
+    for k in 0..n.charts {
         reads[k] = read_of(masks, n.charts, &asks, k);
-        k += 1;
     }
     reads
 }

@@ -1,6 +1,6 @@
 -- What is found of the sequential charts of a text that spells a chart: whether their names are refused, how many
 -- charts and transitions there are, and where the chart of each number stands.
-use Rattle.std.specs.Prelude.{◌≡◌, Bool, false, cond, List, [], ◌∷◌, ◌++◌, map, ℕ, suc, ◌+◌, ◌≤◌, ltb, length, drop}
+use Rattle.std.specs.Prelude.{◌≡◌, Bool, false, cond, List, [], ◌∷◌, ◌++◌, map, ℕ, suc, ◌≤◌, ltb, length, drop}
 use Rattle.std.specs.Prelude.{get_or}
 use Rattle.meaning.specs.Numbers.{most_in_chart}
 use Rattle.notation.specs.Syntax.{Sequential, Chart}

@@ -3,7 +3,7 @@
 // text spells a chart; the functions are safe on every text.
 #![tactic(auto)]
 
-ghost use Rattle.std.specs.Prelude.{◌≡◌, ◌||◌, ◌+◌, ◌<◌, length, drop};
+ghost use Rattle.std.specs.Prelude.{◌≡◌, ◌+◌, ◌<◌, length, drop};
 ghost use Rattle.tokens.specs.Tokens.{blanks};
 ghost use Rattle.roster.specs.Roster.{cut, RosterAt};
 ghost use Rattle.roster.specs.Walk.{Placed, Enters, Begun, Steps, Closes};
@@ -36,25 +36,11 @@ pub struct Roster {
     pub next: usize,
 }
 
-fn either(a: bool, b: bool) -> bool
-    ensures { result ≡ (a || b) }
-{
-    if a {
-        return true;
-    }
-    b
-}
-
 // A sum as far as it matters.
 fn counted(a: usize, b: usize) -> usize
     ensures { result ≡ cut (a + b) }
 {
-    if a < MOST_COUNTED {
-        if b < MOST_COUNTED - a {
-            return a + b;
-        }
-    }
-    MOST_COUNTED
+    a.saturating_add(b).min(MOST_COUNTED)
 }
 
 // The place of the chart n is noted, if there is room for it.
@@ -80,8 +66,8 @@ fn entered(r: Roster, s: lists::Sequential, at: usize) -> Roster
         bad: l.bad,
         charts: counted(r.charts, 1),
         transitions: counted(r.transitions, s.transitions),
-        crowded: either(r.crowded, s.transitions > limits::MOST_IN_CHART as usize),
-        refused: either(r.refused, s.bad),
+        crowded: r.crowded | (s.transitions > limits::MOST_IN_CHART as usize),
+        refused: r.refused | s.bad,
         places: places,
         next: s.next,
     }
@@ -112,18 +98,18 @@ fn step(text: &[u8], r: Roster) -> Roster
     if lists::begins_chart(text, at) {
         return entered(r, lists::sequential_at(text, at), at);
     }
-    let mut q = r;
-    q.next = lists::behind_token(text, at);
-    q
+    let next = lists::behind_token(text, at);
+    Roster { next, ..r }
 }
 
 // Behind the last token: a number may be left out below the highest.
 fn closed(r: Roster) -> Roster
     ensures { Closes r result }
 {
-    let mut q = r;
-    q.bad = either(r.bad, lists::left_out(r.mask));
-    q
+    Roster {
+        bad: r.bad | lists::left_out(r.mask),
+        ..r
+    }
 }
 
 // The sequential charts of a text.

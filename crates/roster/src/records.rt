@@ -52,10 +52,8 @@ pub fn heads(text: &[u8], r: Roster, out: &mut [u8], at: usize) -> usize
 {
     let charts = r.charts;
     let mut p = at;
-    let mut c: usize = 0;
-    while c < charts {
+    for c in 0..charts {
         p = laying::room::put_head(out, p, head_at(text, place(text, r, c)));
-        c += 1;
     }
     p
 }
@@ -119,10 +117,8 @@ pub fn transitions(text: &[u8], r: Roster, out: &mut [u8], at: usize) -> usize
 {
     let charts = r.charts;
     let mut p = at;
-    let mut c: usize = 0;
-    while c < charts {
+    for c in 0..charts {
         p = lines_at(text, place(text, r, c), out, p);
-        c += 1;
     }
     p
 }

@@ -13,35 +13,19 @@ ghost use Rattle.running.specs.Run.{BodyRuns};
 
 use cells::{CHARTS, masks, small};
 use checks::limits;
+use checks::refusal::Refusal;
 use layout::body::Shape;
 use layout::row::{MARK, REFUSAL, STATES};
 use stepping::step::Tried;
-
-// What a run answers, its rows aside: 0 or the refusal, and what is carried after the last input, nothing if the run is
-// refused (RULES 1.4, 6.4).
-#[derive(Clone, Copy)]
-pub struct Ran {
-    pub refusal: u8,
-    pub carried: u64,
-}
-
-pub fn refused(r: u8) -> Ran
-    ensures { result ≡ record { refusal = r; carried = 0 } }
-{
-    Ran {
-        refusal: r,
-        carried: 0,
-    }
-}
 
 // A mark as a number.
 fn mark(yes: bool) -> u8
     ensures { result ≡ one yes }
 {
-    if yes { 1 } else { 0 }
+    u8::from(yes)
 }
 
-// A whole row.
+// A whole row: what a step gave, and the states after it.
 fn put_fields(
     row: &mut [u8],
     output: u64,
@@ -64,49 +48,39 @@ fn put_row(row: &mut [u8], t: Tried, states: [u8; CHARTS], charts: usize)
     requires { (charts ≤ most_charts) × (length row.old ≡ 10 + charts) }
     ensures { row.new ≡ row_of (tried_answer charts t) (take charts states) }
 {
-    let refusal = stepping::step::refusal_of(t);
-    if refusal == limits::ACCEPTED {
-        let f = t.found;
-        let next = f.next;
-        put_fields(row, f.output, mark(f.agree), limits::ACCEPTED, next, charts);
-    } else {
-        put_fields(row, 0, 0, refusal, states, charts);
+    match t.choice() {
+        Ok(f) => {
+            let next = f.next;
+            put_fields(row, f.output, mark(f.agree), limits::ACCEPTED, next, charts);
+        }
+        Err(e) => put_fields(row, 0, 0, e.refusal.number(), states, charts),
     }
 }
 
-// Where a run stands: the present states, what is carried, and how many inputs are left.
+// Where a run stands: the present states, and what is carried.
 #[derive(Clone, Copy)]
 struct Stand {
     states: [u8; CHARTS],
     carried: u64,
-    left: usize,
-}
-
-fn present(states: [u8; CHARTS], carried: u64, left: usize) -> Stand
-    ensures { (result.states ≡ states) × (result.carried ≡ carried) × (result.left ≡ left) }
-{
-    Stand {
-        states: states,
-        carried: carried,
-        left: left,
-    }
 }
 
 // Where it stands after a step that was offered a set. A refused one keeps the states, and what it was offered is
 // carried; the run goes on.
-fn after(t: Tried, states: [u8; CHARTS], offered: u64, left: usize) -> Stand
-    requires { 0 < left }
-    ensures { (result.left + 1 ≡ left)
-        × ((n : ℕ) → (take n result.states ≡ after_step (tried_answer n t) (take n states))
-        × (result.carried ≡ carried_after (tried_answer n t) offered)) }
+fn after(t: Tried, states: [u8; CHARTS], offered: u64) -> Stand
+    ensures { (n : ℕ) → (take n result.states ≡ after_step (tried_answer n t) (take n states))
+        × (result.carried ≡ carried_after (tried_answer n t) offered) }
 {
-    let rest = left - 1;
-    let f = t.found;
+    let Ok(f) = t.choice() else {
+        return Stand {
+            states,
+            carried: offered,
+        };
+    };
     let next = f.next;
-    if stepping::step::refusal_of(t) != limits::ACCEPTED {
-        return present(states, offered, rest);
+    Stand {
+        states: next,
+        carried: 0,
     }
-    present(next, 0, rest)
 }
 
 // The rows of all inputs, from the first states and what is carried there on. Returns what is carried after the last.
@@ -132,17 +106,14 @@ fn put_rows(
     let mut states = start;
     let mut held = carried;
     let mut at: usize = 0;
-    let mut left = inputs.len();
-    while left > 0 {
-        let i = inputs.len() - left;
-        let offered = held | inputs[i];
+    for input in inputs {
+        let offered = held | *input;
         let t = stepping::step::try_wired(n, body, &states[..charts], offered, down, masks, small);
         let e = at + w;
         put_row(&mut rows[at..e], t, states, charts);
-        let p = after(t, states, offered, left);
+        let p = after(t, states, offered);
         states = p.states;
         held = p.carried;
-        left = p.left;
         at = e;
     }
     held
@@ -154,11 +125,7 @@ fn states_of(config: &[u8]) -> [u8; CHARTS]
     ensures { take (length config.now) result ≡ config.now }
 {
     let mut states = [0u8; CHARTS];
-    let mut c: usize = 0;
-    while c < config.len() {
-        states[c] = config[c];
-        c += 1;
-    }
+    states[..config.len()].copy_from_slice(config);
     states
 }
 
@@ -170,27 +137,20 @@ pub fn of_body(
     carried: u64,
     inputs: &[u64],
     rows: &mut [u8],
-) -> Ran
+) -> Result<u64, Refusal>
     requires { Checked n body.now }
     ensures { BodyRuns (file_at n body.now) config.now carried inputs.now
         rows.old result rows.new }
 {
-    let r = stepping::step::config_refusal(n, body, config);
-    if r != limits::ACCEPTED {
-        return refused(r);
-    }
+    stepping::step::test_config(n, body, config)?;
     if rows.len() / (STATES + n.charts) < inputs.len() {
-        return refused(limits::SHORT_ROWS);
+        return Err(Refusal::ShortRun);
     }
     let start = states_of(config);
     let mut masks = [0u64; masks::SIZE];
     let mut small = [0u8; small::SIZE];
     let down = plan::wired(n, body, &mut masks, &mut small);
-    let left = put_rows(
+    Ok(put_rows(
         n, body, start, carried, inputs, down, &mut masks, &mut small, rows,
-    );
-    Ran {
-        refusal: limits::ACCEPTED,
-        carried: left,
-    }
+    ))
 }

@@ -192,12 +192,6 @@ module _ (n : Shape) (b : List ℕ) (some_node : 0 < n.nodes) where
       → Put l 0 (text_in (file_at n b)) m k
   text_put h p = rw whole_is (prints_put p (rw whole_is at h))
 
--- a tree by a kind that is not 0 and not 1
-third : (k : ℕ) (p q r : Tree) → (k ≡ 0 → ⊥) → (k ≡ 1 → ⊥) → by_kind k p q r ≡ r
-third zero p q r e f = absurd (e refl)
-third (suc zero) p q r e f = absurd (f refl)
-third (suc (suc k)) p q r e f = refl
-
 whole_alone : (c : ℕ) (ss : Held) → composes (whole c ss) ≡ false
 unfolding composes
 whole_alone c nil = refl
@@ -242,8 +236,8 @@ module _ (n : Shape) (b : List ℕ) (j : ℕ) (v : Node) (is : v ≡ node_at n b
     pub node_composed : v.kind ≡ 1 → build file left j ≡ composed_by file (left - 1) v
     node_composed e = level ∙ rw e
 
-    pub node_hidden : (v.kind ≡ 0 → ⊥) → (v.kind ≡ 1 → ⊥) → build file left j ≡ hidden_by file (left - 1) v
-    node_hidden e f = level ∙ third v.kind _ _ _ e f
+    pub node_hidden : v.kind ≡ 2 → build file left j ≡ hidden_by file (left - 1) v
+    node_hidden e = level ∙ rw e
 
   -- what the node names is there
   module _ (h : Legible n b) (l : j < n.nodes) where
@@ -262,12 +256,12 @@ module _ (n : Shape) (b : List ℕ) (j : ℕ) (v : Node) (is : v ≡ node_at n b
         let q = ap (λ (w : Node). w.a) is in
         let r = ap (λ (w : Node). w.b) is in (omega (arith, p.0, q), omega (arith, p.1, r))
 
-    pub inside_there : (v.kind ≡ 0 → ⊥) → (v.kind ≡ 1 → ⊥) → v.a < n.nodes
+    pub some_kind : v.kind ≤ 2
+    some_kind = kind_at_most file v.kind j passes
+
+    pub inside_there : v.kind ≡ 2 → v.a < n.nodes
     unfolding file_at
-    inside_there e f =
-        let k = kind_at_most file v.kind j passes in
-        let p = kind₂ file v.kind j (omega (arith, k, e, f)) passes in
-        let q = ap (λ (w : Node). w.a) is in omega (arith, p, q)
+    inside_there e = let p = kind₂ file v.kind j e passes in let q = ap (λ (w : Node). w.a) is in omega (arith, p, q)
 
 -- slave i, which has the record s
 module _ (n : Shape) (b : List ℕ) (i : ℕ) (s : Slave) (is : s ≡ slave_at n b i) where

@@ -14,8 +14,7 @@ ghost use Rattle.script.specs.Tree.{Legible, composes as composesTree, decompose
 ghost use Rattle.script.specs.Tree.{composed_by, hidden_by, held_by, master_by, slave_text, slave_if, slaves_in};
 
 use layout::body::Shape;
-use layout::record;
-use layout::record::Node;
+use layout::record::{Kind, Node};
 use printing::{charts, sets, signs};
 
 // The list of the slaves of a chart: where it begins.
@@ -31,13 +30,11 @@ fn decomposes(n: Shape, body: &[u8], c: u8) -> bool
     ensures { result ≡ hasSlaves (file_at n body.now) c }
 {
     let count = n.slaves;
-    let mut i: usize = 0;
-    while i < count {
+    for i in 0..count {
         let s = layout::body::slave_at(n, body, i);
         if s.chart == c {
             return true;
         }
-        i += 1;
     }
     false
 }
@@ -50,7 +47,8 @@ fn composes(n: Shape, body: &[u8], j: usize, left: usize) -> bool
     if left == 0 {
         return false;
     }
-    layout::body::node_at(n, body, j).kind == record::COMPOSES
+    let composes = Kind::Composes as u8;
+    layout::body::node_at(n, body, j).kind == composes
 }
 
 // Node j by itself.
@@ -64,13 +62,11 @@ fn chart(n: Shape, body: &[u8], j: usize, left: usize, out: &mut [u8], at: usize
         return charts::sequential(n, body, 0, out, at);
     }
     let node = layout::body::node_at(n, body, j);
-    if node.kind == record::HOLDS {
-        return master(n, body, node.a, left - 1, out, at);
+    match node.kind() {
+        Kind::Holds => master(n, body, node.a, left - 1, out, at),
+        Kind::Composes => pair(n, body, node, left - 1, out, at),
+        Kind::Hides => hidden(n, body, node, left - 1, out, at),
     }
-    if node.kind == record::COMPOSES {
-        return pair(n, body, node, left - 1, out, at);
-    }
-    hidden(n, body, node, left - 1, out, at)
 }
 
 // Node j as a part of a composition: a composition stands in round brackets there.
@@ -148,10 +144,8 @@ fn slaves(n: Shape, body: &[u8], list: Held, left: usize, out: &mut [u8]) -> usi
 {
     let count = n.slaves;
     let mut at = list.first;
-    let mut i: usize = 0;
-    while i < count {
+    for i in 0..count {
         at = slave(n, body, i, list, left, out, at);
-        i += 1;
     }
     at
 }

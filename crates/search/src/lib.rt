@@ -64,10 +64,8 @@ fn put_column(
     ensures { BytesPut at (column_in moves.now charts column filler) best.old
         best.new }
 {
-    let mut c: usize = 0;
-    while c < CHARTS {
+    for c in 0..CHARTS {
         best[at + c] = entry(moves, charts, column, filler, c);
-        c += 1;
     }
 }
 
@@ -77,14 +75,12 @@ fn same_states(best: &[u8; FOUND_BYTES], moves: &[u8; moves::SIZE], charts: usiz
     ensures { (o : ℕ) (g : List ℕ) →
         result ≡ eq_list (outcome_in moves.now charts o).next (found_in best.now g).next }
 {
-    let mut c: usize = 0;
-    while c < CHARTS {
+    for c in 0..CHARTS {
         let first = best[c];
         let next = entry(moves, charts, moves::NEXT, 0, c);
         if next != first {
             return false;
         }
-        c += 1;
     }
     true
 }
@@ -95,10 +91,8 @@ fn bytes_at(best: &[u8; FOUND_BYTES], at: usize) -> [u8; CHARTS]
     ensures { result ≡ made most_charts (λ c. get_or best.now (at + c) 0) }
 {
     let mut row = [0u8; CHARTS];
-    let mut c: usize = 0;
-    while c < CHARTS {
+    for c in 0..CHARTS {
         row[c] = best[at + c];
-        c += 1;
     }
     row
 }
@@ -220,8 +214,7 @@ fn hunt(
         return;
     }
     let n = small::count(small, k);
-    let mut v: usize = 0;
-    while v < n {
+    for v in 0..n {
         if settling::fits(masks, trail, asked, k, v) {
             settling::take(masks, small, trail, moves, charts, k, v);
             let more = shown_by(masks, output, k, v);
@@ -242,7 +235,6 @@ fn hunt(
                 return;
             }
         }
-        v += 1;
     }
     if triggers::told(stays, k) == 0 {
         return;
@@ -294,26 +286,26 @@ fn found_in(best: &[u8; FOUND_BYTES], shown: &[u64; 1]) -> Found
     }
 }
 
-// What a search over the charts finds, where low is what each is surely offered of the input, with a trail that is
-// lent.
-fn hunted(
+// What a search over the charts finds, where low is what each is surely offered of the input, with a trail of so many
+// masks.
+fn hunted<const TRAIL: usize>(
     masks: &[u64],
     small: &[u8],
     guards: &[u64],
     stays: &[u8],
-    trail: &mut [u64],
     charts: usize,
     low: [u64; CHARTS],
 ) -> Found
     requires { Tables charts masks.now small.now × (charts ≤ most_charts) × Guards guards.now stays.now
-        × (trail_for charts ≤ length trail.old) }
+        × (trail_for charts ≤ TRAIL) × (TRAIL ≤ trail_for most_charts) }
     ensures { result ≡ over (hunts_both masks.now small.now guards.now
         stays.now charts 0 (beginning low)) nothing }
 {
+    let mut trail = [0u64; TRAIL];
     let mut moves = [0u8; moves::SIZE];
     let mut best = [0u8; FOUND_BYTES];
     let mut shown = [0u64; 1];
-    settling::put_row(trail, &low, 0, 0);
+    settling::put_row(&mut trail, &low, 0, 0);
     put_column(
         &mut best,
         PLACES,
@@ -323,12 +315,13 @@ fn hunted(
         settling::NO_PLACE,
     );
     hunt(
-        masks, small, guards, stays, trail, &mut moves, &mut best, &mut shown, charts, charts, 0,
+        masks, small, guards, stays, &mut trail, &mut moves, &mut best, &mut shown, charts, charts,
+        0,
     );
     found_in(&best, &shown)
 }
 
-// The same with a trail of its own: a shorter one for fewer charts. `guards` has the triggers of charts that may stay,
+// The same with a shorter trail for fewer charts. `guards` has the triggers of charts that may stay,
 // and `stays` how many there are (crate settling, Calm).
 pub fn search(
     masks: &[u64],
@@ -343,13 +336,10 @@ pub fn search(
         stays.now charts 0 (beginning low)) nothing }
 {
     if charts <= cells::FEW {
-        let mut trail = [0u64; trail::FEW_SIZE];
-        return hunted(masks, small, guards, stays, &mut trail, charts, low);
+        return hunted::<{ trail::FEW_SIZE }>(masks, small, guards, stays, charts, low);
     }
     if charts <= cells::HALF {
-        let mut trail = [0u64; trail::HALF_SIZE];
-        return hunted(masks, small, guards, stays, &mut trail, charts, low);
+        return hunted::<{ trail::HALF_SIZE }>(masks, small, guards, stays, charts, low);
     }
-    let mut trail = [0u64; trail::SIZE];
-    hunted(masks, small, guards, stays, &mut trail, charts, low)
+    hunted::<{ trail::SIZE }>(masks, small, guards, stays, charts, low)
 }

@@ -26,6 +26,7 @@ pub const STAY_PLACE: u8 = 254;
 // What was found so far: the first permitted choice's outcome, if there is one, and whether all others agree with it.
 // Places do not count for that. The rows stand first: a copy by words of sixteen bytes then reads no two fields at
 // once.
+// `has` stands beside what is there and is no Option: theorems speak of it (Hunt.Laws, over_first and over_none).
 #[derive(Clone, Copy)]
 pub struct Found {
     pub next: [u8; CHARTS],
@@ -81,12 +82,10 @@ pub fn asks(masks: &[u64], trail: &[u64], k: usize) -> Guard
 {
     let mut needed: u64 = 0;
     let mut barred: u64 = 0;
-    let mut d: usize = 0;
-    while d < k {
+    for d in 0..k {
         let high = trail::low(trail, k, d) | masks::ahead(masks, k + 1, d);
         needed = needed | signals::less(trail::needed(trail, d), high);
         barred = barred | trail::barred(trail, d) & masks::back(masks, d, k);
-        d += 1;
     }
     Guard { needed, barred }
 }
@@ -121,10 +120,8 @@ fn lowered(masks: &[u64], trail: &[u64], action: u64, k: usize, from: usize) -> 
         (λ c. low_in trail.now k (from + c) ∪ action ∩ back_at masks.now (from + c) k) }
 {
     let mut row = [0u64; cells::HALF];
-    let mut c: usize = 0;
-    while c < cells::HALF {
+    for c in 0..cells::HALF {
         row[c] = trail::low(trail, k, from + c) | action & masks::back(masks, from + c, k);
-        c += 1;
     }
     row
 }
@@ -135,10 +132,8 @@ pub fn put_row(trail: &mut [u64], row: &[u64], k: usize, from: usize)
     ensures { RowAt (low_cell k from) (length row.now) (λ c. get_or row.now c 0)
         trail.old trail.new }
 {
-    let mut c: usize = 0;
-    while c < row.len() {
+    for c in 0..row.len() {
         trail::put_low(trail, k, from + c, row[c]);
-        c += 1;
     }
 }
 
@@ -254,8 +249,7 @@ pub fn trips(guards: &[u64], d: usize, n: usize, low: u64, high: u64) -> bool
     requires { (triggers_for (d + 1) ≤ length guards.now) × (d < most_charts) × (n ≤ most_from_state) }
     ensures { result ≡ trips guards.now d n low high }
 {
-    let mut v: usize = 0;
-    while v < n {
+    for v in 0..n {
         let trigger = Guard {
             needed: triggers::needed(guards, d, v),
             barred: triggers::barred(guards, d, v),
@@ -263,7 +257,6 @@ pub fn trips(guards: &[u64], d: usize, n: usize, low: u64, high: u64) -> bool
         if holds(trigger, high, low) {
             return true;
         }
-        v += 1;
     }
     false
 }
@@ -314,12 +307,10 @@ pub fn all_calm(
     if triggers::some_stay(stays) == 0 {
         return true;
     }
-    let mut d: usize = 0;
-    while d < k {
+    for d in 0..k {
         if !calm(masks, guards, stays, trail, moves, k, d) {
             return false;
         }
-        d += 1;
     }
     true
 }

@@ -10,12 +10,6 @@ pub mod guard;
 // The set of all signals.
 pub const ALL: u64 = 18446744073709551615;
 
-#[derive(Clone, Copy)]
-pub enum Found {
-    At(u32),
-    Nothing,
-}
-
 // a without b
 pub fn less(a: u64, b: u64) -> u64
     ensures { result ≡ a ∖ b }
@@ -57,15 +51,14 @@ pub fn with(s: u64, n: u32) -> u64
     s | single(n)
 }
 
-pub fn lowest_free(s: u64) -> Found
+// The lowest signal that is not in a set; none, if all are.
+pub fn lowest_free(s: u64) -> Option<u32>
     ensures { IsLowestFree s result }
 {
-    let mut n: u32 = 0;
-    while n < 64 {
+    for n in 0..64 {
         if !has(s, n) {
-            return Found::At(n);
+            return Some(n);
         }
-        n += 1;
     }
-    Found::Nothing
+    None
 }

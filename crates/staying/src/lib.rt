@@ -53,11 +53,9 @@ fn note_chart(
 {
     let mut have: usize = 0;
     let mut at = HEAD_BYTES * n.charts + TRANSITION_BYTES * start;
-    let mut p: usize = 0;
-    while p < count {
+    for p in 0..count {
         have = note(body, at, state, guards, c, have);
         at += TRANSITION_BYTES;
-        p += 1;
     }
     have
 }
@@ -112,8 +110,7 @@ fn tell_all(
     let mut stays = [0u8; triggers::STAYS];
     stays[triggers::SOME_STAY] = 1;
     let mut start: usize = 0;
-    let mut c: usize = 0;
-    while c < n.charts {
+    for c in 0..n.charts {
         let head = layout::body::head_at(n, body, c);
         let count = head.transitions as usize;
         let others = candidates::others(masks, n.charts, may, c);
@@ -122,7 +119,6 @@ fn tell_all(
             n, body, start, count, config[c], guards, c, low[c], high, shuts[c],
         );
         start += count;
-        c += 1;
     }
     stays
 }

@@ -1,14 +1,15 @@
--- What a step answers, in the numbers that its caller reads.
-use Rattle.std.specs.Prelude.{false, List, [], ℕ}
-use Rattle.meaning.specs.Meaning.{Answer}
-use Rattle.meaning.specs.Calls.{all_places, refusal_in, output_in, mark_in}
+-- What a step answers, in the types of the code.
+use Rattle.std.specs.Prelude.{◌≡◌, List, ℕ, Result, Ok, Err}
+use Rattle.meaning.specs.Meaning.{Answer, refused, given}
+use Rattle.checks.specs.Refusals.{number}
 use Rattle.stepping.specs.declared.step.Stepped.{Stepped}
+use Rattle.stepping.specs.declared.step.Refused.{Refused}
+pub mod Laws
 
--- an answer, the places of its transitions (RULES 5.9, 5.11) and how many choices it says are open (RULES 5.15)
-abbrev pub stepped_of : Answer → List ℕ → ℕ → Stepped
-stepped_of a places n =
-    record { refusal = refusal_in a; output = output_in a; mark = mark_in a; places = places; open_choices = n }
-
--- a refusal with a number of open choices: no output, no mark, no places (RULES 1.4)
-abbrev pub refused_of : ℕ → ℕ → Stepped
-refused_of r n = record { refusal = r; output = 0; mark = false; places = all_places []; open_choices = n }
+-- an answer, the places of its transitions (RULES 5.9, 5.11) and how many choices it says are open (RULES 5.15): a step
+-- given has its output, its mark, these places and this number, a refusal the number of its rule and this one
+abbrev pub Steps : Answer → List ℕ → ℕ → Result Stepped Refused → Type 0
+Steps (given o next m) places k (Ok s) = s ≡ record { places = places; output = o; open_choices = k; mark = m }
+Steps (given o next m) places k (Err e) = ⊥
+Steps (refused r) places k (Ok s) = ⊥
+Steps (refused r) places k (Err e) = (number e.refusal ≡ r) × (e.open_choices ≡ k)

@@ -2,7 +2,7 @@
 -- RULES
 -- 3.6 goes on with; the search over the tables of a wired file answers it (`Prepared`, `Finds`), with 24 before it
 -- (`Tries`).
-use Rattle.std.specs.Prelude.{◌≡◌, false, cond, List, [], ◌∷◌, ◌++◌, ℕ, ltb, length, get_or}
+use Rattle.std.specs.Prelude.{◌≡◌, false, cond, List, [], ◌∷◌, ◌++◌, ℕ, ltb, length, get_or, Result, Ok, Err}
 use Rattle.layout.specs.declared.body.Shape.{Shape}
 use Rattle.meaning.specs.Numbers.{most_open, wrong_length, bad_state, short_buffer, no_step, many_open}
 use Rattle.meaning.specs.Sums.{any_up_to}
@@ -20,11 +20,13 @@ use Rattle.tables.specs.Contents.{answer_of}
 use Rattle.tables.specs.Narrowing.{Reads}
 use Rattle.tables.specs.Simulation.{Opens}
 use Rattle.checks.specs.Known.{Sized, Summed}
+use Rattle.checks.specs.Refusals.{number}
 use Rattle.plan.specs.Plan.{Wired}
 use Rattle.candidates.specs.Candidates.{Tabled, Mays, Sures}
 use Rattle.staying.specs.Staying.{Stays}
-use Rattle.stepping.specs.Answer.{stepped_of}
+use Rattle.stepping.specs.Answer.{Steps}
 use Rattle.stepping.specs.declared.step.Stepped.{Stepped}
+use Rattle.stepping.specs.declared.step.Refused.{Refused}
 use Rattle.stepping.specs.declared.step.Tried.{Tried}
 pub mod Laws
 
@@ -55,10 +57,9 @@ abbrev pub open_after : File → List ℕ → Set → ℕ → ℕ
 open_after F config i room = open_for (step_after F config i room) (open_in F config)
 
 -- what a step of a body that passed 1 to 11 answers, and what it leaves of a buffer b
-abbrev pub BodySteps : File → List ℕ → Set → List ℕ → Stepped → List ℕ → Type 0
+abbrev pub BodySteps : File → List ℕ → Set → List ℕ → Result Stepped Refused → List ℕ → Type 0
 BodySteps F config i b r c =
-    (r ≡ stepped_of (step_after F config i (length b)) (places_after F config i (length b))
-    (open_after F config i (length b)))
+    Steps (step_after F config i (length b)) (places_after F config i (length b)) (open_after F config i (length b)) r
     × (c ≡ next_in (step_after F config i (length b)) b)
 
 -- a body that passed 1 to 11
@@ -111,6 +112,12 @@ tried_answer N t = cond (ltb most_open t.open_choices) (refused many_open) (answ
 
 abbrev pub tried_refusal : Tried → ℕ
 tried_refusal t = cond (ltb most_open t.open_choices) many_open (cond t.found.has 0 no_step)
+
+-- what is told of it: the choice that was found, or the refusal, and how many choices that says are open (RULES 5.15)
+abbrev pub Told : Tried → Result Found Refused → Type 0
+Told t (Ok f) = (tried_refusal t ≡ 0) × (f ≡ t.found)
+Told t (Err e) =
+    (number e.refusal ≡ tried_refusal t) × (e.open_choices ≡ open_for (refused (number e.refusal)) t.open_choices)
 
 -- it answers the step, and has its places
 pub record Tries (n : Shape) (b config : List ℕ) (i : Set) (t : Tried) : Type 0 where

@@ -14,37 +14,42 @@ ghost use Rattle.settling.specs.Hunt.{nothing};
 ghost use Rattle.plan.specs.Noted.{NearestIn};
 ghost use Rattle.plan.specs.ByNode.{Blank};
 ghost use Rattle.candidates.specs.Candidates.{Ready};
-ghost use Rattle.stepping.specs.Answer.{refused_of};
+ghost use Rattle.checks.specs.Refusals.{told};
 ghost use Rattle.counting.specs.Counting.{LeavesTo};
 ghost use Rattle.stepping.specs.Step.{config_tests_in, BodySteps, Checked, Prepared, Shut, Narrowed};
-ghost use Rattle.stepping.specs.Step.{searched_of, Searched, Finds, tried_refusal, Tries};
+ghost use Rattle.stepping.specs.Step.{searched_of, Searched, Finds, Told, Tries};
 
 use cells::{CHARTS, masks, small, triggers};
 use checks::limits;
+use checks::refusal::Refusal;
 use layout::body::Shape;
 use settling::Found;
 
-// What a step answers, the next configuration aside (RULES 5.9): 0 or the refusal, the output, the mark, the places,
-// 254 for a chart that stayed and 255 for one that took none, and how many choices are open.
+// A step that is given, the next configuration aside (RULES 5.9): the output, the mark, the places, 254 for a chart
+// that stayed and 255 for one that took none, and how many choices are open.
 #[derive(Clone, Copy)]
 pub struct Stepped {
     pub places: [u8; CHARTS],
     pub output: u64,
     pub open_choices: u64,
-    pub refusal: u8,
     pub mark: bool,
 }
 
-// A refusal, which says that so many choices are open.
-pub fn refused(r: u8, open_choices: u64) -> Stepped
-    ensures { result ≡ refused_of r open_choices }
-{
-    Stepped {
-        refusal: r,
-        output: 0,
-        mark: false,
-        places: [settling::NO_PLACE; CHARTS],
-        open_choices,
+// Why no step is given, and how many choices are open: 0 but for 24.
+#[derive(Clone, Copy, Debug, PartialEq, Eq)]
+pub struct Refused {
+    pub refusal: Refusal,
+    pub open_choices: u64,
+}
+
+impl From<Refusal> for Refused {
+    ghost from_gives = { λ r e. e ≡ record { refusal = r; open_choices = 0 } };
+
+    fn from(refusal: Refusal) -> Refused {
+        Refused {
+            refusal,
+            open_choices: 0,
+        }
     }
 }
 
@@ -55,28 +60,26 @@ fn bad_states(n: Shape, body: &[u8], config: &[u8]) -> bool
         (λ c. not_below (get_or config.now c 0) (head_at n body.now c).states) }
 {
     let charts = n.charts;
-    let mut c: usize = 0;
-    while c < charts {
+    for c in 0..charts {
         if config[c] >= layout::body::head_at(n, body, c).states {
             return true;
         }
-        c += 1;
     }
     false
 }
 
 // 20 and 21.
-pub fn config_refusal(n: Shape, body: &[u8], config: &[u8]) -> u8
+pub fn test_config(n: Shape, body: &[u8], config: &[u8]) -> Result<(), Refusal>
     requires { Holds n body.now }
-    ensures { result ≡ first_of (config_tests_in (file_at n body.now) config.now) }
+    ensures { told result ≡ first_of (config_tests_in (file_at n body.now) config.now) }
 {
     if config.len() != n.charts {
-        return limits::WRONG_LENGTH;
+        return Err(Refusal::WrongLength);
     }
     if bad_states(n, body, config) {
-        return limits::BAD_STATE;
+        return Err(Refusal::BadState);
     }
-    limits::ACCEPTED
+    Ok(())
 }
 
 // What of the input is offered to each chart.
@@ -84,10 +87,8 @@ fn lows(down: [u64; CHARTS], input: u64) -> [u64; CHARTS]
     ensures { Row result (λ c. input ∩ get_or down c 0) }
 {
     let mut low = down;
-    let mut c: usize = 0;
-    while c < CHARTS {
-        low[c] = input & down[c];
-        c += 1;
+    for mask in &mut low {
+        *mask = input & *mask;
     }
     low
 }
@@ -232,6 +233,26 @@ pub struct Tried {
     pub open_choices: u64,
 }
 
+impl Tried {
+    // The choice that was found, or 24 or 23.
+    pub fn choice(self) -> Result<Found, Refused>
+        ensures { Told self result }
+    {
+        let open_choices = self.open_choices;
+        if open_choices > limits::MOST_OPEN {
+            return Err(Refused {
+                refusal: Refusal::ManyOpen,
+                open_choices,
+            });
+        }
+        let f = self.found;
+        if f.has {
+            return Ok(f);
+        }
+        Err(Refusal::NoStep.into())
+    }
+}
+
 // Nothing was looked for among so many open choices.
 fn untried(open_choices: u64) -> Tried
     ensures { (result.open_choices ≡ open_choices) × (result.found ≡ nothing) }
@@ -240,20 +261,6 @@ fn untried(open_choices: u64) -> Tried
         open_choices,
         found: search::none(),
     }
-}
-
-// 24, 23, or 0 if the step is given.
-pub fn refusal_of(t: Tried) -> u8
-    ensures { result ≡ tried_refusal t }
-{
-    if t.open_choices > limits::MOST_OPEN {
-        return limits::MANY_OPEN;
-    }
-    let f = t.found;
-    if f.has {
-        return limits::ACCEPTED;
-    }
-    limits::NO_STEP
 }
 
 // One step of a wired body from a configuration. There is nothing to look for where no choice is open; where too many
@@ -305,36 +312,33 @@ pub fn try_wired(
     }
 }
 
-// One step of a body, wired for it into masks that are new.
-fn try_in(n: Shape, body: &[u8], config: &[u8], input: u64, masks: &mut [u64]) -> Tried
+// One step of a body, wired for it into so many masks.
+fn try_in<const MASKS: usize>(n: Shape, body: &[u8], config: &[u8], input: u64) -> Tried
     requires { Checked n body.now × Valid (file_at n body.now) config.now
-        × (masks_for n.charts ≤ length masks.old) × Blank masks.old }
+        × (masks_for n.charts ≤ MASKS) × (MASKS ≤ masks_for most_charts) }
     ensures { Tries n body.now config.now input result }
 {
+    let mut masks = [0u64; MASKS];
     let mut small = [0u8; small::SIZE];
-    let down = plan::wired(n, body, masks, &mut small);
-    try_wired(n, body, config, input, down, masks, &mut small)
+    let down = plan::wired(n, body, &mut masks, &mut small);
+    try_wired(n, body, config, input, down, &mut masks, &mut small)
 }
 
-// The same, with masks of its own. For fewer charts they are fewer: to zero them takes a good part of a step.
+// The same, for fewer charts with fewer masks: to zero them takes a good part of a step.
 fn try_new(n: Shape, body: &[u8], config: &[u8], input: u64) -> Tried
     requires { Checked n body.now × Valid (file_at n body.now) config.now }
     ensures { Tries n body.now config.now input result }
 {
     if n.charts <= cells::PAIR {
-        let mut masks = [0u64; masks::PAIR_SIZE];
-        return try_in(n, body, config, input, &mut masks);
+        return try_in::<{ masks::PAIR_SIZE }>(n, body, config, input);
     }
     if n.charts <= cells::FEW {
-        let mut masks = [0u64; masks::FEW_SIZE];
-        return try_in(n, body, config, input, &mut masks);
+        return try_in::<{ masks::FEW_SIZE }>(n, body, config, input);
     }
     if n.charts <= cells::HALF {
-        let mut masks = [0u64; masks::HALF_SIZE];
-        return try_in(n, body, config, input, &mut masks);
+        return try_in::<{ masks::HALF_SIZE }>(n, body, config, input);
     }
-    let mut masks = [0u64; masks::SIZE];
-    try_in(n, body, config, input, &mut masks)
+    try_in::<{ masks::SIZE }>(n, body, config, input)
 }
 
 // The first n states, over the front of the caller's buffer.
@@ -342,44 +346,34 @@ pub fn put_states(buffer: &mut [u8], states: [u8; CHARTS], n: usize)
     requires { (n ≤ most_charts) × (n ≤ length buffer.old) }
     ensures { buffer.new ≡ laid_over (take n states) buffer.old }
 {
-    let mut i: usize = 0;
-    while i < n {
-        buffer[i] = states[i];
-        i += 1;
-    }
+    buffer[..n].copy_from_slice(&states[..n]);
 }
 
 // One step from a configuration under an input, after 20 to 22: the next configuration goes to `next`.
-pub fn of_body(n: Shape, body: &[u8], config: &[u8], input: u64, next: &mut [u8]) -> Stepped
+pub fn of_body(
+    n: Shape,
+    body: &[u8],
+    config: &[u8],
+    input: u64,
+    next: &mut [u8],
+) -> Result<Stepped, Refused>
     requires { Checked n body.now }
     ensures { BodySteps (file_at n body.now) config.now input next.old result
         next.new }
 {
-    let r = config_refusal(n, body, config);
-    if r != limits::ACCEPTED {
-        return refused(r, 0);
-    }
+    test_config(n, body, config)?;
     if next.len() < n.charts {
-        return refused(limits::SHORT_BUFFER, 0);
+        return Err(Refusal::ShortBuffer.into());
     }
     let t = try_new(n, body, config, input);
-    let refusal = refusal_of(t);
-    let open_choices = t.open_choices;
-    if refusal == limits::MANY_OPEN {
-        return refused(refusal, open_choices);
-    }
-    if refusal != limits::ACCEPTED {
-        return refused(refusal, 0);
-    }
-    let f = t.found;
+    let f = t.choice()?;
     let states = f.next;
     put_states(next, states, n.charts);
     let places = f.places;
-    Stepped {
-        refusal: limits::ACCEPTED,
+    Ok(Stepped {
         output: f.output,
         mark: f.agree,
         places,
-        open_choices,
-    }
+        open_choices: t.open_choices,
+    })
 }

@@ -1,5 +1,5 @@
 // Charts from typed text: which file a text means, or why there is none (docs/NOTATION.md). The call has no
-// `requires`: what is wrong is refused by number.
+// `requires`: what is wrong is refused.
 #![tactic(auto)]
 
 ghost use Rattle.std.specs.Prelude.{◌≡◌, ◌+◌, ◌≤◌, length};
@@ -10,17 +10,11 @@ ghost use Rattle.texts.specs.Shapes.{over?, shape_with};
 ghost use Rattle.texts.specs.Ready.{Spelt, Ready};
 
 use checks::limits;
+use checks::refusal::Refusal;
 use layout::body::Shape;
 use outline::Outline;
-use recogniser::Verdict;
+use recogniser::Wrong;
 use roster::Roster;
-
-// The text is not of the notation; charts are nested too deep; a name is wrong (docs/NOTATION.md 5).
-pub const NOT_NOTATION: u8 = reading::NOT_NOTATION;
-
-pub const TOO_DEEP: u8 = reading::TOO_DEEP;
-
-pub const BAD_NAME: u8 = reading::BAD_NAME;
 
 // Bytes of the slaves, of the nodes and of a whole file, at the most.
 const SLAVES: usize = limits::MOST_SLAVES as usize * limits::SLAVE_BYTES;
@@ -33,55 +27,31 @@ pub const MOST_FILE: usize = limits::MOST_CHARTS as usize * limits::HEAD_BYTES
     + NODES
     + limits::TRAILER_BYTES;
 
-// 0 or the refusal; how long the file is; and the place of the first byte that no text could have there.
-#[derive(Clone, Copy)]
-pub struct FileRead {
-    pub refusal: u8,
-    pub length: usize,
+// Why a text means no file; and with 50 the place of the first byte that no text could have there, 0 with any other.
+#[derive(Clone, Copy, Debug, PartialEq, Eq)]
+pub struct Refused {
+    pub refusal: Refusal,
     pub place: usize,
 }
 
-// A refusal: no file, and with 50 the place of the first wrong byte.
-fn refused(r: u8, place: usize) -> FileRead
-    ensures { result ≡ record { refusal = r; length = 0; place = place } }
-{
-    FileRead {
-        refusal: r,
-        length: 0,
-        place: place,
-    }
-}
+impl From<Refusal> for Refused {
+    ghost from_gives = { λ r e. e ≡ record { refusal = r; place = 0 } };
 
-// Bytes at a place of a buffer, and the place behind them.
-fn put_all(bytes: &[u8], out: &mut [u8], at: usize) -> usize
-    requires { at + length bytes.now ≤ length out.old }
-    ensures { Put out.old at bytes.now out.new result }
-{
-    let mut i: usize = 0;
-    while i < bytes.len() {
-        out[at + i] = bytes[i];
-        i += 1;
+    fn from(refusal: Refusal) -> Refused {
+        Refused { refusal, place: 0 }
     }
-    at + i
 }
 
 // The last tests, on the file that the text means: 1 to 11, and 45. If none applies, the file is written to `out`.
-fn deliver(file: &[u8], out: &mut [u8]) -> FileRead
+fn deliver(file: &[u8], out: &mut [u8]) -> Result<usize, Refused>
     ensures { Delivers file.now out.old result out.new }
 {
-    let r = opening::opened(file).refusal;
-    if r != limits::ACCEPTED {
-        return refused(r, 0);
-    }
+    opening::opened(file)?;
     if out.len() < file.len() {
-        return refused(limits::SHORT_OUT, 0);
+        return Err(Refusal::ShortOut.into());
     }
-    put_all(file, out, 0);
-    FileRead {
-        refusal: limits::ACCEPTED,
-        length: file.len(),
-        place: 0,
-    }
+    line::put_word(out, 0, file);
+    Ok(file.len())
 }
 
 // How many records of each kind a text means; a count is cut where it no longer matters.
@@ -138,13 +108,13 @@ fn lay(text: &[u8], s: Roster, m: Shape, file: &mut [u8]) -> usize
     let behind_lines = roster::records::transitions(text, s, file, behind_heads);
     let behind_slaves = walk::order::put_sorted(&list, c.slaves, file, behind_lines);
     let k = c.at;
-    let end = put_all(&tree[..k], file, behind_slaves);
+    let end = line::put_word(file, behind_slaves, &tree[..k]);
     laying::trailer(m, limits::FIRST_EDITION, file, end);
     end + limits::TRAILER_BYTES
 }
 
 // A text to which 51, 52, and 3 and 6 on its own numbers, do not apply.
-fn of_ready(text: &[u8], s: Roster, m: Shape, out: &mut [u8]) -> FileRead
+fn of_ready(text: &[u8], s: Roster, m: Shape, out: &mut [u8]) -> Result<usize, Refused>
     requires { Ready text.now s m }
     ensures { ReadSays text.now out.old result out.new }
 {
@@ -154,34 +124,36 @@ fn of_ready(text: &[u8], s: Roster, m: Shape, out: &mut [u8]) -> FileRead
 }
 
 // A text that spells a chart.
-fn of_chart(text: &[u8], out: &mut [u8]) -> FileRead
+fn of_chart(text: &[u8], out: &mut [u8]) -> Result<usize, Refused>
     requires { Spelt text.now }
     ensures { ReadSays text.now out.old result out.new }
 {
-    let o = outline::outline_of(text);
-    if o.deep {
-        return refused(TOO_DEEP, 0);
-    }
+    let Ok(o) = outline::outline_of(text) else {
+        return Err(Refusal::TooDeep.into());
+    };
     let s = roster::of_text(text);
     if s.bad | o.bad {
-        return refused(BAD_NAME, 0);
+        return Err(Refusal::BadName.into());
     }
     let m = shape(s, o);
     if is_over(m) {
-        return refused(limits::BAD_COUNTS, 0);
+        return Err(Refusal::BadCounts.into());
     }
     if s.crowded {
-        return refused(limits::BAD_CHART, 0);
+        return Err(Refusal::BadChart.into());
     }
     of_ready(text, s, m, out)
 }
 
 // The file that a text means, over the front of `out`, and its length; or why there is none.
-pub fn read(text: &[u8], out: &mut [u8]) -> FileRead
+pub fn read(text: &[u8], out: &mut [u8]) -> Result<usize, Refused>
     ensures { ReadSays text.now out.old result out.new }
 {
-    let Verdict::Wrong(place) = recogniser::recognise(text) else {
-        return of_chart(text, out);
-    };
-    refused(NOT_NOTATION, place)
+    match recogniser::recognise(text) {
+        Ok(()) => of_chart(text, out),
+        Err(Wrong(place)) => Err(Refused {
+            refusal: Refusal::NotNotation,
+            place,
+        }),
+    }
 }

@@ -19,14 +19,12 @@ pub fn next_token(text: &[u8], at: usize) -> usize
     requires { at ≤ length text.now }
     ensures { (result ≡ at + blanks (drop at text.now)) × (result ≤ length text.now) }
 {
-    let mut i = at;
-    while i < text.len() {
+    for i in at..text.len() {
         if !bytes::is_blank(text[i]) {
             return i;
         }
-        i += 1;
     }
-    i
+    text.len()
 }
 
 // The first byte of the next token; 0 at the end of the text.
@@ -59,10 +57,7 @@ fn more(x: u64, b: u8) -> u64
     ensures { (result ≡ cap (x * 10 + (b - 48))) × (result ≤ 1000) }
 {
     let y = x * 10 + ((b - 48) as u64);
-    if y < 1000 {
-        return y;
-    }
-    1000
+    y.min(1000)
 }
 
 // The number that begins at a place.
@@ -71,16 +66,17 @@ fn number(text: &[u8], at: usize) -> Name
     ensures { NumberAt (drop at text.now) text.now result × (at ≤ result.next) }
 {
     let mut x: u64 = 0;
-    let mut i = at;
-    while i < text.len() {
+    for i in at..text.len() {
         let b = text[i];
         if !bytes::is_digit(b) {
             return Name { value: x, next: i };
         }
         x = more(x, b);
-        i += 1;
     }
-    Name { value: x, next: i }
+    Name {
+        value: x,
+        next: text.len(),
+    }
 }
 
 // A name: blanks, a letter, its number.

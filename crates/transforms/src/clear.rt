@@ -6,55 +6,30 @@ ghost use Rattle.transforms.specs.Promises.{ClearSays};
 ghost use Rattle.transforms.specs.Clearing.{ClearsBody};
 
 use checks::limits;
+use checks::refusal::Refusal;
 use layout::body::Shape;
 
-// 0 or the refusal, and how long the cleared file is.
-#[derive(Clone, Copy)]
-pub struct Cleared {
-    pub refusal: u8,
-    pub length: usize,
-}
-
-fn refused(r: u8) -> Cleared
-    ensures { result ≡ record { refusal = r; length = 0 } }
-{
-    Cleared {
-        refusal: r,
-        length: 0,
-    }
-}
-
 // Clears a body that passed 1 to 11 and has edition 1.
-fn of_body(n: Shape, body: &[u8], out: &mut [u8]) -> Cleared
+fn of_body(n: Shape, body: &[u8], out: &mut [u8]) -> Result<usize, Refusal>
     requires { Sized n body.now × Summed n body.now }
     ensures { ClearsBody (file_at n body.now) out.old result out.new }
 {
     let m = clearing::shape(n, body);
     let size = layout::body::size(m) + limits::TRAILER_BYTES;
     if out.len() < size {
-        return refused(limits::SHORT_OUT);
+        return Err(Refusal::ShortOut);
     }
     clearing::lay(n, body, m, out);
-    Cleared {
-        refusal: limits::ACCEPTED,
-        length: size,
-    }
+    Ok(size)
 }
 
 // The file without its dead transitions, over the front of `out`, and its length.
-pub fn clear(file: &[u8], out: &mut [u8]) -> Cleared
+pub fn clear(file: &[u8], out: &mut [u8]) -> Result<usize, Refusal>
     ensures { ClearSays file.now out.old result out.new }
 {
-    let o = opening::opened(file);
-    let r = o.refusal;
-    if r != limits::ACCEPTED {
-        return refused(r);
+    let o = opening::opened(file)?;
+    if o.shape.edition == limits::STAY_EDITION as usize {
+        return Err(Refusal::MayStay);
     }
-    let n = o.shape;
-    if n.edition == limits::STAY_EDITION as usize {
-        return refused(limits::MAY_STAY);
-    }
-    let start = o.start;
-    let end = o.end;
-    of_body(n, &file[start..end], out)
+    of_body(o.shape, o.body, out)
 }

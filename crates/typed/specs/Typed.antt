@@ -8,8 +8,8 @@ use Rattle.signals.specs.Mask.{◌∪◌, bit, single}
 use Rattle.meaning.specs.Meaning.{Set, ∅, same, eq_list}
 use Rattle.line.specs.Ascii.{ascii}
 use Rattle.line.specs.Line.{decimal, dot, joined}
-use Rattle.typed.specs.declared.Read.{Read}
-use Rattle.typed.specs.declared.Read.TheVariants.{Is, Wrong}
+use Rattle.std.specs.Prelude.{Option}
+use Rattle.std.specs.Prelude.{Some, None}
 pub mod Laws
 pub mod ReadBack
 pub mod Example
@@ -27,19 +27,19 @@ value_of b =
     (cond (between (code "A") (code "F") b) (b - code "A" + 10) 16))
 
 -- what is made of the number that was read; if there is none, `other`
-abbrev pub given : {A : Type 0} → Read → (ℕ → A) → A → A
-given (Is n) f other = f n
-given Wrong f other = other
+abbrev pub given : {A : Type 0} → Option ℕ → (ℕ → A) → A → A
+given (Some n) f other = f n
+given None f other = other
 
 -- one digit more behind x, in a base; the number is not to go over `most`
-unfoldable pub digit_on : ℕ → ℕ → ℕ → ℕ → Read
+unfoldable pub digit_on : ℕ → ℕ → ℕ → ℕ → Option ℕ
 digit_on base most x b = cond (ltb (value_of b) base && leb (x * base + value_of b) most)
-    (Is (x * base + value_of b)) Wrong
+    (Some (x * base + value_of b)) None
 
 -- so all of a word's
-unfoldable pub digits_on : ℕ → ℕ → ℕ → List ℕ → Read
-digits_on base most x [] = Is x
-digits_on base most x (b ∷ w) = given (digit_on base most x b) (λ y. digits_on base most y w) Wrong
+unfoldable pub digits_on : ℕ → ℕ → ℕ → List ℕ → Option ℕ
+digits_on base most x [] = Some x
+digits_on base most x (b ∷ w) = given (digit_on base most x b) (λ y. digits_on base most y w) None
 
 -- a word of one digit, or of more with no zero in front
 unfoldable pub begun : List ℕ → Bool
@@ -48,12 +48,12 @@ begun (b ∷ []) = true
 begun (b ∷ c ∷ w) = not (same b (code "0"))
 
 -- a decimal number up to `most`
-unfoldable pub number_of : ℕ → List ℕ → Read
-number_of most w = cond (begun w) (digits_on 10 most 0 w) Wrong
+unfoldable pub number_of : ℕ → List ℕ → Option ℕ
+number_of most w = cond (begun w) (digits_on 10 most 0 w) None
 
 -- 1 to 16 hex digits
-unfoldable pub hex_of : List ℕ → Read
-hex_of w = cond (between 1 16 (length w)) (digits_on 16 (2 ^ 64 - 1) 0 w) Wrong
+unfoldable pub hex_of : List ℕ → Option ℕ
+hex_of w = cond (between 1 16 (length w)) (digits_on 16 (2 ^ 64 - 1) 0 w) None
 
 -- ── parts ──
 
@@ -73,19 +73,19 @@ comma = code ","
 -- ── a set ──
 
 -- `s` and a number from 0 to 63
-unfoldable pub signal_of : List ℕ → Read
-signal_of [] = Wrong
-signal_of (b ∷ w) = cond (same b (code "s")) (number_of 63 w) Wrong
+unfoldable pub signal_of : List ℕ → Option ℕ
+signal_of [] = None
+signal_of (b ∷ w) = cond (same b (code "s")) (number_of 63 w) None
 
 -- the signals of the parts, joined with s
-unfoldable pub signals_on : Set → List (List ℕ) → Read
-signals_on s [] = Is s
-signals_on s (p ∷ ps) = given (signal_of p) (λ n. signals_on (s ∪ single n) ps) Wrong
+unfoldable pub signals_on : Set → List (List ℕ) → Option ℕ
+signals_on s [] = Some s
+signals_on s (p ∷ ps) = given (signal_of p) (λ n. signals_on (s ∪ single n) ps) None
 
 -- `-` for none; `0x` and hex digits; else signals with commas between
-unfoldable pub set_of : List ℕ → Read
+unfoldable pub set_of : List ℕ → Option ℕ
 set_of w =
-    cond (eq_list w (ascii "-")) (Is ∅)
+    cond (eq_list w (ascii "-")) (Some ∅)
     (cond (eq_list (take 2 w) (ascii "0x")) (hex_of (drop 2 w)) (signals_on ∅ (split comma w)))
 
 -- ── a configuration ──

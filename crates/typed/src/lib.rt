@@ -6,19 +6,12 @@ ghost use Rattle.std.specs.Prelude.{◌≡◌, ◌≤◌, ◌<◌, length, take,
 ghost use Rattle.meaning.specs.Meaning.{eq_list};
 ghost use Rattle.meaning.specs.Calls.{laid_over};
 ghost use Rattle.layout.specs.Put.{Put, Room};
-ghost use Rattle.typed.specs.Typed.{between, value_of, digit_on, digits_on, begun, number_of, hex_of, signal_of};
+ghost use Rattle.typed.specs.Typed.{value_of, digit_on, digits_on, begun, number_of, hex_of, signal_of};
 ghost use Rattle.typed.specs.Typed.{signals_on, split, comma, set_of, config_of, shown_signal, shown};
 ghost use Rattle.typed.specs.Parts.{Ends, next_signal};
 
 // The most states that a configuration can be typed with.
 pub const MOST_STATES: usize = 64;
-
-// What a word says: a number, or nothing, since it is not typed as it should be.
-#[derive(Clone, Copy)]
-pub enum Read {
-    Is(u64),
-    Wrong,
-}
 
 // A configuration's states, at the front of 64 bytes; none if it is not typed as it should be.
 #[derive(Clone, Copy)]
@@ -31,18 +24,7 @@ pub struct Configuration {
 pub fn is(word: &[u8], other: &[u8]) -> bool
     ensures { result ≡ eq_list word.now other.now }
 {
-    let n = word.len();
-    if n != other.len() {
-        return false;
-    }
-    let mut i: usize = 0;
-    while i < n {
-        if word[i] != other[i] {
-            return false;
-        }
-        i += 1;
-    }
-    true
+    word == other
 }
 
 // Whether a word begins with another.
@@ -56,62 +38,44 @@ fn begins(word: &[u8], other: &[u8]) -> bool
     is(&word[..n], other)
 }
 
-// Whether a character lies from lo to hi.
-fn between(lo: u8, hi: u8, b: u8) -> bool
-    ensures { result ≡ between lo hi b }
-{
-    if b < lo {
-        return false;
-    }
-    b <= hi
-}
-
 // The value of a digit, 0 to 15; 16 of any other character.
+#[tactic(auto, unfolding(crate::specs::Typed::value_of, crate::specs::Typed::between))]
 fn value(b: u8) -> u64
     ensures { result ≡ value_of b }
 {
-    if between(b'0', b'9', b) {
-        return (b - b'0') as u64;
+    match b {
+        b'0'..=b'9' => u64::from(b - b'0'),
+        b'a'..=b'f' => u64::from(b - b'a') + 10,
+        b'A'..=b'F' => u64::from(b - b'A') + 10,
+        _ => 16,
     }
-    if between(b'a', b'f', b) {
-        return (b - b'a') as u64 + 10;
-    }
-    if between(b'A', b'F', b) {
-        return (b - b'A') as u64 + 10;
-    }
-    16
 }
 
 // One digit more behind x.
-fn digit_on(base: u64, most: u64, x: u64, b: u8) -> Read
+fn digit_on(base: u64, most: u64, x: u64, b: u8) -> Option<u64>
     requires { (0 < base) × (base ≤ most) }
     ensures { result ≡ digit_on base most x b }
 {
     let v = value(b);
     if v >= base {
-        return Read::Wrong;
+        return None;
     }
     if x > (most - v) / base {
-        return Read::Wrong;
+        return None;
     }
-    Read::Is(x * base + v)
+    Some(x * base + v)
 }
 
 // All digits of a word.
-fn digits(base: u64, most: u64, word: &[u8]) -> Read
+fn digits(base: u64, most: u64, word: &[u8]) -> Option<u64>
     requires { (0 < base) × (base ≤ most) }
     ensures { result ≡ digits_on base most 0 word.now }
 {
     let mut x: u64 = 0;
-    let mut i: usize = 0;
-    while i < word.len() {
-        let Read::Is(y) = digit_on(base, most, x, word[i]) else {
-            return Read::Wrong;
-        };
-        x = y;
-        i += 1;
+    for i in 0..word.len() {
+        x = digit_on(base, most, x, word[i])?;
     }
-    Read::Is(x)
+    Some(x)
 }
 
 // Whether a word is one digit, or more with no zero in front.
@@ -129,39 +93,39 @@ fn begun(word: &[u8]) -> bool
 }
 
 // A decimal number up to `most`, with no zero in front.
-pub fn number(most: u64, word: &[u8]) -> Read
+pub fn number(most: u64, word: &[u8]) -> Option<u64>
     requires { 10 ≤ most }
     ensures { result ≡ number_of most word.now }
 {
     if !begun(word) {
-        return Read::Wrong;
+        return None;
     }
     digits(10, most, word)
 }
 
 // A number of 1 to 16 hex digits.
-fn hex(word: &[u8]) -> Read
+fn hex(word: &[u8]) -> Option<u64>
     ensures { result ≡ hex_of word.now }
 {
     let n = word.len();
     if n == 0 {
-        return Read::Wrong;
+        return None;
     }
     if n > 16 {
-        return Read::Wrong;
+        return None;
     }
     digits(16, u64::MAX, word)
 }
 
 // A signal, `s0` to `s63`.
-fn signal(word: &[u8]) -> Read
+fn signal(word: &[u8]) -> Option<u64>
     ensures { result ≡ signal_of word.now }
 {
     if word.len() == 0 {
-        return Read::Wrong;
+        return None;
     }
     if word[0] != b's' {
-        return Read::Wrong;
+        return None;
     }
     number(63, &word[1..])
 }
@@ -171,41 +135,37 @@ pub fn end(word: &[u8], at: usize, separator: u8) -> usize
     requires { at ≤ length word.now }
     ensures { Ends separator word.now at result }
 {
-    let mut i = at;
-    while i < word.len() {
+    for i in at..word.len() {
         if word[i] == separator {
             return i;
         }
-        i += 1;
     }
-    i
+    word.len()
 }
 
 // Signals with commas between.
-fn signal_list(word: &[u8]) -> Read
+fn signal_list(word: &[u8]) -> Option<u64>
     ensures { result ≡ signals_on 0 (split comma word.now) }
 {
     let mut set: u64 = 0;
     let mut at: usize = 0;
     loop {
         let e = end(word, at, b',');
-        let Read::Is(n) = signal(&word[at..e]) else {
-            return Read::Wrong;
-        };
+        let n = signal(&word[at..e])?;
         set = signals::with(set, n as u32);
         if e == word.len() {
-            return Read::Is(set);
+            return Some(set);
         }
         at = e + 1;
     }
 }
 
 // A signal set: `-` is empty, `0x` and hex digits give it as a number, anything else is signals.
-pub fn set(word: &[u8]) -> Read
+pub fn set(word: &[u8]) -> Option<u64>
     ensures { result ≡ set_of word.now }
 {
     if is(word, b"-") {
-        return Read::Is(0);
+        return Some(0);
     }
     if begins(word, b"0x") {
         return hex(&word[2..]);
@@ -230,17 +190,18 @@ pub fn config(word: &[u8]) -> Configuration
     } }
 {
     let mut states = [0u8; MOST_STATES];
-    let mut count: usize = 0;
     let mut at: usize = 0;
-    while count < MOST_STATES {
+    for count in 0..MOST_STATES {
         let e = end(word, at, b'.');
-        let Read::Is(state) = number(255, &word[at..e]) else {
+        let Some(state) = number(255, &word[at..e]) else {
             return no_states();
         };
         states[count] = state as u8;
-        count += 1;
         if e == word.len() {
-            return Configuration { count, states };
+            return Configuration {
+                count: count + 1,
+                states,
+            };
         }
         at = e + 1;
     }
@@ -279,10 +240,8 @@ pub fn show(set: u64, out: &mut [u8]) -> usize
         return line::put_byte(out, 0, b'-');
     }
     let mut end: usize = 0;
-    let mut n: u32 = 0;
-    while n < 64 {
+    for n in 0..64 {
         end = put_next(out, end, set, n);
-        n += 1;
     }
     end
 }

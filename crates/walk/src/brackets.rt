@@ -45,14 +45,12 @@ pub fn close_at(text: &[u8], at: usize) -> usize
     ensures { ClosesAt text.now at result }
 {
     let mut level: usize = 0;
-    let mut i = at;
-    while i < text.len() {
+    for i in at..text.len() {
         let b = text[i];
         if ends(level, b) {
             return i;
         }
         level = opened(level, b);
-        i += 1;
     }
-    i
+    text.len()
 }

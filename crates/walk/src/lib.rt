@@ -11,8 +11,7 @@ ghost use Rattle.walk.specs.Walk.{HiddenAt, BracketedAt, MasterAt, SlavesAt, Sta
 ghost use Rattle.walk.specs.Walk.{TextLaid};
 
 use forms::Form;
-use layout::record;
-use layout::record::{Node, Slave};
+use layout::record::{Kind, Node, Slave};
 
 pub mod brackets;
 pub mod order;
@@ -34,30 +33,21 @@ pub struct Cursor {
 fn one_more(n: u8) -> u8
     ensures { n < 255 → result ≡ n + 1 }
 {
-    if n < 255 {
-        return n + 1;
-    }
-    n
+    n.saturating_add(1)
 }
 
 // The number before a node's.
 fn one_less(n: u8) -> u8
     ensures { result ≡ n - 1 }
 {
-    if n == 0 {
-        return 0;
-    }
-    n - 1
+    n.saturating_sub(1)
 }
 
 // A number that fits a byte.
 fn small(n: u64) -> u8
     ensures { n < 256 → result ≡ n }
 {
-    if n < 256 {
-        return n as u8;
-    }
-    0
+    u8::try_from(n).unwrap_or(0)
 }
 
 // One node more.
@@ -66,10 +56,9 @@ fn add_node(c: Cursor, n: Node, out: &mut [u8]) -> Cursor
         (sheet result out.new l) (one_node n) }
 {
     Cursor {
-        place: c.place,
         node: one_more(c.node),
         at: laying::room::put_node(out, c.at, n),
-        slaves: c.slaves,
+        ..c
     }
 }
 
@@ -79,10 +68,8 @@ fn add_slave(c: Cursor, s: Slave, list: &mut [u8]) -> Cursor
         (sheet result o list.new) (one_slave s) }
 {
     Cursor {
-        place: c.place,
-        node: c.node,
-        at: c.at,
         slaves: laying::room::put_slave(list, c.slaves, s),
+        ..c
     }
 }
 
@@ -92,7 +79,7 @@ fn add_chart(c: Cursor, name: u64, out: &mut [u8]) -> Cursor
         (sheet result out.new l) }
 {
     let n = Node {
-        kind: record::HOLDS,
+        kind: Kind::Holds as u8,
         a: small(name),
         b: 0,
         x: 0,
@@ -110,9 +97,7 @@ fn sequential(text: &[u8], from: Cursor, out: &mut [u8]) -> Cursor
     let s = lists::sequential_at(text, from.place);
     let c = Cursor {
         place: s.next,
-        node: from.node,
-        at: from.at,
-        slaves: from.slaves,
+        ..from
     };
     add_chart(c, s.name, out)
 }
@@ -131,13 +116,11 @@ fn chart(text: &[u8], from: Cursor, left: usize, out: &mut [u8], list: &mut [u8]
     let x = fields::set(text, tokens::behind_sign(text, p.place, 1));
     let c = Cursor {
         place: tokens::behind_sign(text, x.next, 1),
-        node: p.node,
-        at: p.at,
-        slaves: p.slaves,
+        ..p
     };
     let q = part(text, c, left, out, list);
     let n = Node {
-        kind: record::COMPOSES,
+        kind: Kind::Composes as u8,
         a: one_less(p.node),
         b: one_less(q.node),
         x: x.mask,
@@ -175,20 +158,13 @@ fn hidden(text: &[u8], from: Cursor, left: usize, out: &mut [u8], list: &mut [u8
     let x = forms::optional_set_at(text, from.place);
     let inside = Cursor {
         place: tokens::behind_sign(text, x.next, 1),
-        node: from.node,
-        at: from.at,
-        slaves: from.slaves,
+        ..from
     };
     let c = chart(text, inside, left, out, list);
     let y = forms::optional_set_at(text, tokens::behind_sign(text, c.place, 1));
-    let behind = Cursor {
-        place: y.next,
-        node: c.node,
-        at: c.at,
-        slaves: c.slaves,
-    };
+    let behind = Cursor { place: y.next, ..c };
     let n = Node {
-        kind: record::HIDES,
+        kind: Kind::Hides as u8,
         a: one_less(c.node),
         b: 0,
         x: x.mask,
@@ -206,16 +182,12 @@ fn bracketed(text: &[u8], from: Cursor, left: usize, out: &mut [u8], list: &mut 
 {
     let inside = Cursor {
         place: tokens::behind_sign(text, from.place, 1),
-        node: from.node,
-        at: from.at,
-        slaves: from.slaves,
+        ..from
     };
     let c = chart(text, inside, left, out, list);
     Cursor {
         place: tokens::behind_sign(text, c.place, 1),
-        node: c.node,
-        at: c.at,
-        slaves: c.slaves,
+        ..c
     }
 }
 
@@ -230,16 +202,12 @@ fn master(text: &[u8], from: Cursor, left: usize, out: &mut [u8], list: &mut [u8
     let by = tokens::behind_sign(text, s.next, 2);
     let inside = Cursor {
         place: tokens::behind_sign(text, by, 1),
-        node: from.node,
-        at: from.at,
-        slaves: from.slaves,
+        ..from
     };
     let last = slaves(text, inside, small(s.name), left, out, list);
     let behind = Cursor {
         place: tokens::behind_sign(text, last.place, 1),
-        node: last.node,
-        at: last.at,
-        slaves: last.slaves,
+        ..last
     };
     add_chart(behind, s.name, out)
 }
@@ -259,22 +227,16 @@ fn slaves(
         (sheet from out.old list.old) (sheet result out.new list.new) }
 {
     let mut c = from;
-    let mut state: u8 = 0;
-    while state < order::STATES {
+    for state in 0..order::STATES {
         let first = Cursor {
             place: from.place,
-            node: c.node,
-            at: c.at,
-            slaves: c.slaves,
+            ..c
         };
         c = of_state(text, first, name, state, left, out, list);
-        state += 1;
     }
     Cursor {
         place: brackets::close_at(text, from.place),
-        node: c.node,
-        at: c.at,
-        slaves: c.slaves,
+        ..c
     }
 }
 
@@ -297,9 +259,7 @@ fn of_state(
     while tokens::peek(text, c.place) == b',' {
         let next = Cursor {
             place: tokens::behind_sign(text, c.place, 1),
-            node: c.node,
-            at: c.at,
-            slaves: c.slaves,
+            ..c
         };
         c = pair(text, next, name, state, left, out, list);
     }
@@ -327,16 +287,12 @@ fn pair(
     if q.value != state as u64 {
         return Cursor {
             place: behind,
-            node: from.node,
-            at: from.at,
-            slaves: from.slaves,
+            ..from
         };
     }
     let inside = Cursor {
         place: first,
-        node: from.node,
-        at: from.at,
-        slaves: from.slaves,
+        ..from
     };
     let c = chart(text, inside, left, out, list);
     let s = Slave {
@@ -344,12 +300,7 @@ fn pair(
         state: state,
         node: one_less(c.node),
     };
-    let end = Cursor {
-        place: behind,
-        node: c.node,
-        at: c.at,
-        slaves: c.slaves,
-    };
+    let end = Cursor { place: behind, ..c };
     add_slave(end, s, list)
 }
 

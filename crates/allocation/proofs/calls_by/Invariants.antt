@@ -2,7 +2,7 @@
 -- outputs are joined.
 use mathlib.Core.Path.{◌≡◌}
 use mathlib.Core.Bool.{◌&&◌, cond}
-use Prim.Native.Nat.{ℕ, ◌-◌, ◌≤◌}
+use Prim.Native.Nat.{ℕ}
 use Rattle.signals.specs.Mask.{single}
 use Rattle.layout.specs.declared.record.Transition.{Transition}
 use Rattle.meaning.specs.Meaning.{Set, ∅}
@@ -15,7 +15,4 @@ abbrev pub part : File → ℕ → Transition → ℕ → Set
 part F c t i = cond (is_of F c i && touches F t i) (single (call F i)) ∅
 
 abbrev pub invariant-loop-i : goal.invariant-loop-i
-invariant-loop-i l = (l.i ≤ l.slaves) × (l.all ≡ union_up_to l.i (part (file_at l.n l.body) l.c l.t))
-
-abbrev pub decreases-loop-i : goal.decreases-loop-i
-decreases-loop-i l = l.slaves - l.i
+invariant-loop-i l = l.all ≡ union_up_to l.i (part (file_at l.n l.body) l.c l.t)

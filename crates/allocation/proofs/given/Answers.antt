@@ -1,5 +1,5 @@
 use mathlib.Core.Path.{◌≡◌, refl, sym, ap, ◌∙◌}
-use mathlib.Core.Bool.{Bool, true, false, not, ◌||◌, cond, false≢true, or-false}
+use mathlib.Core.Bool.{Bool, true, false, ◌||◌, cond, or-false}
 use mathlib.Core.List.{List, [], ◌∷◌, ◌++◌}
 use mathlib.Core.Logic.{⊎_elim}
 use Prim.Native.Nat.{ℕ, zero, suc, ◌+◌, ◌-◌, ◌^◌, ◌<◌}
@@ -12,15 +12,13 @@ use lib.Seq.{get_or-drop, drop-drop, get_or-set_same, get_or-set_other}
 use Rattle.signals.specs.Mask.{◌∪◌, bit, single}
 use Rattle.signals.specs.Mask.Laws.{bit_union, bit-single}
 use Rattle.signals.specs.All.{bit-all}
-use Rattle.signals.specs.Lowest.{IsLowestFree}
-use Rattle.signals.specs.declared.Found.TheVariants.{At, Nothing}
+use Rattle.std.proofs.Common.{Some, None}
 use Rattle.meaning.specs.Numbers.{most_charts, most_signals}
 use Rattle.meaning.specs.Sums.Laws.{below_suc}
 use Rattle.meaning.specs.Laws.Bools.{or_r}
 use Rattle.meaning.specs.Rewriting.{lacking}
 use Rattle.allocation.specs.Known.{Calling}
 use Rattle.allocation.proofs.given.Goals as goal
-use Rattle.allocation.proofs.given.Goals.{In-At}
 use Rattle.allocation.proofs.given.Invariants.{Gives}
 
 -- ── what a set lacks ──
@@ -98,61 +96,30 @@ module _ (used i left s : ℕ) (l : List ℕ) (h : Gives used i left l) (free : 
 
 -- none is left
 gives_out : (used i left slaves : ℕ) (l : List ℕ) → Gives used i left l → left ≡ 2 ^ 64 - 1 → i < slaves
-    → Calling used slaves record { enough = false; sets = l }
+    → Calling used slaves None
 gives_out used i left slaves l h e q =
     let none : lacking left most_signals ≡ [] = rw e (lacks-none (2 ^ 64 - 1) 64 (λ k p. bit-all 64 k p)) in
-    let short : length (lacking used most_signals) < slaves =
-    omega (arith, ap length (h.rest ∙ none), length-drop i (lacking used most_signals)) in
-    record {
-      enough = sym (ap not (lt-ltb (length (lacking used most_signals)) slaves short));
-      sets = λ z. absurd (false≢true z);
-    }
+    lt-ltb (length (lacking used most_signals)) slaves
+    (omega (arith, ap length (h.rest ∙ none), length-drop i (lacking used most_signals)))
 
-gives_all : (used i left slaves : ℕ) (l : List ℕ) → Gives used i left l → i ≡ slaves
-    → Calling used slaves record { enough = true; sets = l }
+gives_all : (used i left slaves : ℕ) (l : List ℕ) → Gives used i left l → i ≡ slaves → Calling used slaves (Some l)
 gives_all used i left slaves l h e =
     let m = h.most in
-    record {
-      enough = sym (ap not (le-ltb (length (lacking used most_signals)) slaves (omega arith)));
-      sets = λ z k p. h.given k (omega arith);
-    }
+    (le-ltb (length (lacking used most_signals)) slaves (omega arith), λ k p. h.given k (omega arith))
 
 pub loop-i-init : goal.loop-i-init
-loop-i-init c =
-    (omega arith, record { long = refl; most = omega arith; rest = refl; given = λ k h. absurd (omega arith) })
-
-pub returns-in_default : goal.returns-in_default
-returns-in_default c =
-    let out : IsLowestFree c.loop-i.left Nothing =
-    rw c.in_default.is at c.lowest_free.ensures in
-    gives_out _ c.loop-i.i c.loop-i.left _ _ c.loop-i.invariant.1 out c.loop-i-test.true
-
--- the signal that was found
-found : (c : In-At)
-    → IsLowestFree c.loop-i.left (At c.in-At.s)
-found c = rw c.in-At.is at c.lowest_free.ensures
+loop-i-init c = record { long = refl; most = omega arith; rest = refl; given = λ k h. absurd (omega arith) }
 
 pub loop-i-preserved : goal.loop-i-preserved
 loop-i-preserved c =
-    let f = found (goal.at.loop-i-preserved c).In-At in
-    let g = gives_more _ c.loop-i.i c.loop-i.left _ _ c.loop-i.invariant.1 f.1.0 f.1.1 f.0 (omega arith) _
-    c.single.ensures in
-    (omega arith, rw c.with-left.ensures g)
+    let f = c.in_ok-s.ensures in
+    rw c.with-left.ensures
+    (gives_more _ c.loop-i.i c.loop-i.left _ _ c.loop-i.invariant f.1.0 f.1.1 f.0 (omega arith) _ c.single.ensures)
+
+pub returns-in_err-s : goal.returns-in_err-s
+returns-in_err-s c =
+    rw c.from_residual.ensures
+    (gives_out _ c.loop-i.i c.loop-i.left _ _ c.loop-i.invariant c.in_err-s.ensures c.loop-i-test.true)
 
 pub returns : goal.returns
-returns c = gives_all _ c.loop-i.i c.loop-i.left _ _ c.loop-i.invariant.1 (omega arith)
-
-pub single-requires : goal.single-requires
-single-requires c = (found (goal.at.single-requires c).In-At).0
-
-pub bounds-sets-i : goal.bounds-sets-i
-bounds-sets-i c = omega arith
-
-pub with-left-requires : goal.with-left-requires
-with-left-requires c = (found (goal.at.with-left-requires c).In-At).0
-
-pub overflow_add-i : goal.overflow_add-i
-overflow_add-i c = omega arith
-
-pub loop-i-smaller : goal.loop-i-smaller
-loop-i-smaller c = omega arith
+returns c = gives_all _ c.loop-i.i c.loop-i.left _ _ c.loop-i.invariant (omega arith)

@@ -2,7 +2,7 @@
 -- `left` lacks.
 use mathlib.Core.Path.{◌≡◌}
 use mathlib.Core.List.{List}
-use Prim.Native.Nat.{ℕ, ◌+◌, ◌-◌, ◌≤◌, ◌<◌}
+use Prim.Native.Nat.{ℕ, ◌+◌, ◌≤◌, ◌<◌}
 use lib.ListN.{length, get_or, drop}
 use Rattle.signals.specs.Mask.{single}
 use Rattle.meaning.specs.Numbers.{most_charts, most_signals}
@@ -17,7 +17,4 @@ pub record Gives (used i left : ℕ) (l : List ℕ) : Type 0 where
   pub given : (k : ℕ) → k < i → get_or l k 0 ≡ single (get_or (lacking used most_signals) k (most_signals + k))
 
 abbrev pub invariant-loop-i : goal.invariant-loop-i
-invariant-loop-i l = (l.i ≤ l.slaves) × Gives l.used l.i l.left l.sets
-
-abbrev pub decreases-loop-i : goal.decreases-loop-i
-decreases-loop-i l = l.slaves - l.i
+invariant-loop-i l = Gives l.used l.i l.left l.sets

@@ -2,13 +2,17 @@ use mathlib.Core.Path.{◌≡◌, refl, sym, ap, ◌∙◌}
 use mathlib.Core.List.{List}
 use Prim.Native.Nat.{ℕ}
 use native.Mathlib.Omega.{arith}
+use Rattle.layout.specs.Kind.{byte_of}
+use Rattle.layout.specs.Kind.Laws.{byte-one}
+use Rattle.layout.specs.declared.record.Kind.TheVariants.{Holds}
 use Rattle.layout.specs.declared.body.Shape.{Shape}
+use Rattle.layout.specs.declared.record.Node.{Node}
 use Rattle.meaning.specs.File.{file_at}
 use Rattle.meaning.specs.Laws.Names.{joined}
 use Rattle.meaning.specs.Rewriting.{call, call_in}
 use Rattle.allocation.specs.Known.{Checked, InnerIn, Upward}
 use Rattle.allocation.proofs.inner.Goals as goal
-use Rattle.allocation.proofs.inner.Goals.{else-node-eq-HOLDS, then-node-eq-HOLDS}
+use Rattle.allocation.proofs.inner.Goals.{in-Holds, in_default}
 use Rattle.allocation.proofs.inner.Invariants.{Has, call_is, Filled, there, filled_own, filled_other}
 
 -- every chart is held by a node
@@ -24,44 +28,34 @@ filled_all n b w up j l e h c p =
     r ∙ ap (call_in (call (file_at n b))) (sym (up c p))
 
 pub loop-j-init : goal.loop-j-init
-loop-j-init c = (omega arith, record { long = refl; has = λ k h. absurd (omega arith) })
+loop-j-init c = record { long = refl; has = λ k h. absurd (omega arith) }
 
 pub loop-j-preserved : goal.loop-j-preserved
 unfolding file_at
 loop-j-preserved c =
     let p = c.requires in
     let e = c.node_at-node.ensures in
-    let t = c.loop-j-test.true in (
-      omega arith,
-      elim c.if-node-eq-HOLDS.branch [
-        | then-node-eq-HOLDS w ↦ rw w.inner-is (filled_own _ _ p.0 c.loop-j.j t _ e c.loop-j.inner c.loop-j.invariant.1 _
-            (w.call_of.ensures ∙ call_is _ p.0.sound
-            c.args.calls.now p.1
-            p.0.sized.slaves c.loop-j.j _
-            (c.enclosers-near.ensures c.loop-j.j t)) w.if-node-eq-HOLDS.true)
-        | else-node-eq-HOLDS w ↦ rw w.inner-is (filled_other _ _ p.0 c.loop-j.j t _ e c.loop-j.inner c.loop-j.invariant.1 w.if-node-eq-HOLDS.false)
-      ],
-    )
+    let t = c.loop-j-test.true in elim c.match-kind.branch [
+      | in-Holds w ↦ rw w.inner-is (filled_own _ _ p.0 c.loop-j.j t _ e c.loop-j.inner c.loop-j.invariant _
+          (w.call_of.ensures ∙ call_is _ p.0.sound
+          c.args.calls.now p.1
+          p.0.sized.slaves c.loop-j.j _
+          (c.enclosers-near.ensures c.loop-j.j t)) (sym c.kind.ensures ∙ ap byte_of w.in-Holds.is))
+      | in_default w ↦ rw w.inner-is (filled_other _ _ p.0 c.loop-j.j t _ e c.loop-j.inner c.loop-j.invariant
+          (λ z. w.in_default.not-Holds (byte-one _ Holds (c.kind.ensures ∙ z))))
+    ]
 
 pub returns : goal.returns
 returns c =
     filled_all _ _ c.requires.0 c.requires.2
     c.loop-j.j
-    c.loop-j.inner (omega arith) c.loop-j.invariant.1
+    c.loop-j.inner (omega arith) c.loop-j.invariant
 
 pub enclosers-near-requires : goal.enclosers-near-requires
 enclosers-near-requires c = record { sized = c.requires.0.sized; sound = c.requires.0.sound }
 
 pub node_at-node-requires : goal.node_at-node-requires
 node_at-node-requires c = (c.requires.0.sized.holds, c.loop-j-test.true)
-
-pub bounds-near-j : goal.bounds-near-j
-bounds-near-j c =
-    let h = c.requires.0.sized.nodes in
-    omega arith
-
-pub call_of-requires : goal.call_of-requires
-call_of-requires c = c.requires.0.sized.slaves
 
 pub bounds-inner-c : goal.bounds-inner-c
 bounds-inner-c c =
@@ -70,10 +64,10 @@ bounds-inner-c c =
     c.loop-j-test.true _
     c.node_at-node.ensures
     c.loop-j.inner
-    c.loop-j.invariant.1 c.if-node-eq-HOLDS.true
+    c.loop-j.invariant (sym c.kind.ensures ∙ ap byte_of c.in-Holds.is)
 
-pub overflow_add-j : goal.overflow_add-j
-overflow_add-j c = omega arith
-
-pub loop-j-smaller : goal.loop-j-smaller
-loop-j-smaller c = omega arith
+pub kind-requires : goal.kind-requires
+unfolding file_at
+kind-requires c =
+    let t = c.requires.0.sound.ordered.kinds _ c.loop-j-test.true in
+    let d = ap (λ (x : Node). x.kind) c.node_at-node.ensures in omega arith

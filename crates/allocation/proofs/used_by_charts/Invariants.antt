@@ -2,7 +2,7 @@
 -- where the next one's transitions begin.
 use mathlib.Core.Path.{◌≡◌}
 use mathlib.Core.List.{List}
-use Prim.Native.Nat.{ℕ, ◌≤◌, ◌-◌}
+use Prim.Native.Nat.{ℕ}
 use Rattle.signals.specs.Mask.{◌∪◌}
 use Rattle.layout.specs.Body.{start_of}
 use Rattle.layout.specs.declared.body.Shape.{Shape}
@@ -19,7 +19,4 @@ of_chart n b c =
     ∪ ((file_at n b).chart c).extra
 
 abbrev pub invariant-loop-c : goal.invariant-loop-c
-invariant-loop-c l = (l.c ≤ l.n.charts) × (l.start ≡ start_of l.n l.body l.c) × (l.all ≡ union_up_to l.c (of_chart l.n l.body))
-
-abbrev pub decreases-loop-c : goal.decreases-loop-c
-decreases-loop-c l = l.n.charts - l.c
+invariant-loop-c l = (l.start ≡ start_of l.n l.body l.c) × (l.all ≡ union_up_to l.c (of_chart l.n l.body))

@@ -8,26 +8,17 @@ use Rattle.meaning.proofs.Rewriting.Laws.{union_none, union_more}
 use Rattle.allocation.proofs.used_by_nodes.Goals as goal
 
 pub loop-j-init : goal.loop-j-init
-loop-j-init c = (omega arith, union_none _)
+loop-j-init c = union_none _
 
 pub loop-j-preserved : goal.loop-j-preserved
 unfolding file_at
-loop-j-preserved c = (
-  omega arith,
-  ap₂ (λ (a : ℕ) (r : Node). a ∪ (r.x ∪ r.y)) c.loop-j.invariant.1 c.node_at-r.ensures ∙ union_more c.loop-j.j _,
-)
+loop-j-preserved c = ap₂ (λ (a : ℕ) (r : Node). a ∪ (r.x ∪ r.y)) c.loop-j.invariant c.node_at-r.ensures ∙ union_more c.loop-j.j _
 
 pub returns : goal.returns
 returns c =
     let a = c.args in
     let e : c.loop-j.j ≡ a.n.nodes = omega arith in
-    rw e at c.loop-j.invariant.1
+    rw e at c.loop-j.invariant
 
 pub node_at-r-requires : goal.node_at-r-requires
 node_at-r-requires c = (c.requires.sized.holds, omega arith)
-
-pub overflow_add-j : goal.overflow_add-j
-overflow_add-j c = omega arith
-
-pub loop-j-smaller : goal.loop-j-smaller
-loop-j-smaller c = omega arith

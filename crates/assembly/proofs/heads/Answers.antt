@@ -34,7 +34,7 @@ new_is n b c t h eh et = λ i. record {
 room : (c : In-loop-c) → c.loop-c.p + 24 ≤ length c.loop-c.out
 room c =
     room_record (written c.args.n c.args.body.now) 24 (length-head _) c.requires.3 c.loop-c-test.true
-    c.loop-c.invariant.1
+    c.loop-c.invariant
 
 -- what was counted is the chart's number
 is : (c : After-in_chart)
@@ -56,20 +56,14 @@ small c =
     omega arith
 
 pub loop-c-preserved : goal.loop-c-preserved
-loop-c-preserved c = (
-  omega arith,
-  put_next _ c.loop-c.invariant.1
-      (put_is (ap head_bytes (new_is _ _ _ _ _ c.head_at-h.ensures (is (goal.at.loop-c-preserved c).After-in_chart))) c.put_head-p.ensures),
-)
+loop-c-preserved c = put_next _ c.loop-c.invariant
+    (put_is (ap head_bytes (new_is _ _ _ _ _ c.head_at-h.ensures (is (goal.at.loop-c-preserved c).After-in_chart))) c.put_head-p.ensures)
 
 pub loop-c-init : goal.loop-c-init
-loop-c-init c = (omega arith, put-start _)
+loop-c-init c = put-start _
 
 pub head_at-h-requires : goal.head_at-h-requires
 head_at-h-requires c = (c.requires.0.sized.holds, c.loop-c-test.true)
-
-pub bounds-inner-c : goal.bounds-inner-c
-bounds-inner-c c = let h = c.requires.0.sized.charts in omega arith
 
 pub overflow_cast-new : goal.overflow_cast-new
 overflow_cast-new c = let s = small (goal.at.overflow_cast-new c).After-in_chart in omega arith
@@ -77,14 +71,8 @@ overflow_cast-new c = let s = small (goal.at.overflow_cast-new c).After-in_chart
 pub put_head-p-requires : goal.put_head-p-requires
 put_head-p-requires c = room (goal.at.put_head-p-requires c).In-loop-c
 
-pub overflow_add-c : goal.overflow_add-c
-overflow_add-c c = omega arith
-
-pub loop-c-smaller : goal.loop-c-smaller
-loop-c-smaller c = omega arith
-
 pub shape_of-out : goal.shape_of-out
-shape_of-out c = put-length c.loop-c.invariant.1
+shape_of-out c = put-length c.loop-c.invariant
 
 pub returns : goal.returns
-returns c = put-done _ (omega arith) c.loop-c.invariant.1
+returns c = put-done _ (omega arith) c.loop-c.invariant

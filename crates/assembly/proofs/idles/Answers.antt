@@ -12,23 +12,20 @@ use Rattle.assembly.proofs.idles.Invariants.{written}
 room : (c : In-loop-s) → c.loop-s.p + 28 ≤ length c.loop-s.out
 room c =
     room_record (written c.args.inner) 28 (length-transition _) c.requires c.loop-s-test.true
-    c.loop-s.invariant.1
+    c.loop-s.invariant
 
 pub loop-s-preserved : goal.loop-s-preserved
 unfolding idle_with
-loop-s-preserved c = (omega arith, put_next (written _) c.loop-s.invariant.1 c.put_transition-p.ensures)
+loop-s-preserved c = put_next (written _) c.loop-s.invariant c.put_transition-p.ensures
 
 pub loop-s-init : goal.loop-s-init
-loop-s-init c = (omega arith, put-start _)
+loop-s-init c = put-start _
 
 pub put_transition-p-requires : goal.put_transition-p-requires
 put_transition-p-requires c = room (goal.at.put_transition-p-requires c).In-loop-s
 
-pub loop-s-smaller : goal.loop-s-smaller
-loop-s-smaller c = omega arith
-
 pub shape_of-out : goal.shape_of-out
-shape_of-out c = put-length c.loop-s.invariant.1
+shape_of-out c = put-length c.loop-s.invariant
 
 pub returns : goal.returns
-returns c = put-done _ (omega arith) c.loop-s.invariant.1
+returns c = put-done _ (omega arith) c.loop-s.invariant

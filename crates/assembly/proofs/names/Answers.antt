@@ -32,7 +32,7 @@ named_more F j first b l m e h =
 
 pub loop-j-init : goal.loop-j-init
 loop-j-init c =
-    (omega arith, record { long = refl; next = nodes_none _; names = λ k h. absurd (omega arith) })
+    record { long = refl; next = nodes_none _; names = λ k h. absurd (omega arith) }
 
 small : (c : After-before_last) → c.loop-j.first + c.before_last.result < 64
 unfolding file_at
@@ -40,18 +40,18 @@ small c =
     let a = c.args in
     let F = file_at a.n a.body.now in
     let e =
-    name_is F c.loop-j.j _ _ c.loop-j.invariant.1.next c.before_last.ensures.0 in
+    name_is F c.loop-j.j _ _ c.loop-j.invariant.next c.before_last.ensures.0 in
     let h = c.requires.1.nodes in
     omega (arith, ren_inside F a.n.nodes c.loop-j.j c.loop-j-test.true)
 
 pub loop-j-preserved : goal.loop-j-preserved
 loop-j-preserved c =
     let h = c.requires.0.sized.nodes in
-    (omega arith, named_more _ c.loop-j.j _ _ _ (omega arith) c.before_last.ensures.0 c.loop-j.invariant.1)
+    named_more _ c.loop-j.j _ _ _ (omega arith) c.before_last.ensures.0 c.loop-j.invariant
 
 pub returns : goal.returns
 unfolding file_at
-returns c = λ j l. c.loop-j.invariant.1.names j (omega arith)
+returns c = λ j l. c.loop-j.invariant.names j (omega arith)
 
 pub before_last-requires : goal.before_last-requires
 before_last-requires c = (c.requires.0, c.loop-j-test.true)
@@ -62,14 +62,5 @@ overflow_add-name c = let s = small (goal.at.overflow_add-name c).After-before_l
 pub overflow_cast-names : goal.overflow_cast-names
 overflow_cast-names c = let s = small (goal.at.overflow_cast-names c).After-before_last in omega arith
 
-pub bounds-names-j : goal.bounds-names-j
-bounds-names-j c = let h = c.requires.0.sized.nodes in omega arith
-
 pub overflow_add-first : goal.overflow_add-first
 overflow_add-first c = let s = small (goal.at.overflow_add-first c).After-before_last in omega arith
-
-pub overflow_add-j : goal.overflow_add-j
-overflow_add-j c = omega arith
-
-pub loop-j-smaller : goal.loop-j-smaller
-loop-j-smaller c = omega arith

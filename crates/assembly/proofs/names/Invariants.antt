@@ -2,7 +2,7 @@
 -- for the next begin.
 use mathlib.Core.Path.{◌≡◌}
 use mathlib.Core.List.{List}
-use Prim.Native.Nat.{ℕ, ◌-◌, ◌≤◌, ◌<◌}
+use Prim.Native.Nat.{ℕ, ◌<◌}
 use lib.ListN.{length, get_or}
 use Rattle.meaning.specs.File.{File, file_at}
 use Rattle.meaning.specs.Rewriting.{start, new_name}
@@ -14,7 +14,4 @@ pub record Named (F : File) (j first : ℕ) (l : List ℕ) : Type 0 where
   pub names : (k : ℕ) → k < j → get_or l k 0 ≡ new_name F k
 
 abbrev pub invariant-loop-j : goal.invariant-loop-j
-invariant-loop-j l = (l.j ≤ l.nodes) × Named (file_at l.n l.body) l.j l.first l.names
-
-abbrev pub decreases-loop-j : goal.decreases-loop-j
-decreases-loop-j l = l.nodes - l.j
+invariant-loop-j l = Named (file_at l.n l.body) l.j l.first l.names

@@ -8,6 +8,7 @@ use lib.ListN.{get_or}
 use Rattle.layout.specs.Record.{node_bytes}
 use Rattle.layout.specs.Record.Laws.{length_node}
 use Rattle.layout.specs.Body.{node_at}
+use Rattle.layout.specs.Kind.{byte_of}
 use Rattle.layout.specs.declared.body.Shape.{Shape}
 use Rattle.layout.specs.declared.record.Node.{Node}
 use Rattle.meaning.specs.File.{File, file_at}
@@ -21,7 +22,6 @@ use Rattle.assembly.specs.Known.{NamesIn, Holder, Begins}
 use Rattle.assembly.specs.Records.{composing, hiding, held_bytes, nodes_bytes}
 use Rattle.assembly.specs.Records.Laws.{held_are, comp_are, hide_are}
 use Rattle.assembly.proofs.node.Goals as goal
-use Rattle.assembly.proofs.node.Goals.{After-slice_known-2-1, After-slice_known-then-kind-eq-COMPOSES-1, After-slice_known-then-kind-eq-HOLDS-1}
 
 -- the last of a chart's nodes has at least the name of its chart node, counted up by its slaves
 before_most : (F : File) (s : ℕ) → s ≤ before F 0 s
@@ -81,9 +81,12 @@ module _ (n : Shape) (b : List ℕ) (j : ℕ) (r : Node) (e : r ≡ node_at n b 
         ((ap (new_name F) (sym b_is) ∙ sym (h r.b t.1)) i)
         (sym (ap (λ (x : Node). x.x) e) i))
 
-    module _ (k₀ : r.kind ≡ 0 → ⊥) (k₁ : r.kind ≡ 1 → ⊥) where
+    some_kind : r.kind ≤ 2
+    some_kind = let m = w.sound.ordered.kinds j l in let z = kind_is r.kind refl in omega arith
+
+    module _ (k₂ : r.kind ≡ 2) where
       last_kind : F.kind j ≡ 2
-      last_kind = let m = w.sound.ordered.kinds j l in let z = kind_is r.kind refl in omega arith
+      last_kind = kind_is 2 k₂
 
       hidden_there : r.a < F.nodes
       hidden_there = let m = w.sound.ordered.lower₂ j l last_kind in let p = a_is in omega arith
@@ -102,7 +105,7 @@ holder-requires c =
     let p = c.requires in
     let a = c.args in
     let e = c.node_at-r.ensures in
-    let k = c.if-kind-eq-HOLDS.true in (
+    let k = (sym c.kind.ensures ∙ ap byte_of c.in-Holds.is) in (
       p.0,
       p.1,
       p.2,
@@ -110,12 +113,12 @@ holder-requires c =
       room_held a.n a.body.now a.j _ e p.0 p.3.there a.first p.3 k a.at a.out.now p.4,
     )
 
-pub returns-then-kind-eq-HOLDS : goal.returns-then-kind-eq-HOLDS
-returns-then-kind-eq-HOLDS c =
+pub returns-in-Holds : goal.returns-in-Holds
+returns-in-Holds c =
     let p = c.requires in
     put_is (sym (held_bytes_lem _ _ _ _ c.node_at-r.ensures p.0
     p.3.there _ p.3
-    c.if-kind-eq-HOLDS.true)) c.holder.ensures
+    (sym c.kind.ensures ∙ ap byte_of c.in-Holds.is))) c.holder.ensures
 
 pub bounds-names-a : goal.bounds-names-a
 unfolding file_at
@@ -123,7 +126,7 @@ bounds-names-a c =
     let p = c.requires in
     let h = p.0.sized.nodes in
     let t = both_there _ _ _ _ c.node_at-r.ensures p.0 p.3.there
-    c.if-kind-eq-COMPOSES.true in omega arith
+    (sym c.kind.ensures ∙ ap byte_of c.in-Composes.is) in omega arith
 
 pub bounds-names-b : goal.bounds-names-b
 unfolding file_at
@@ -131,7 +134,7 @@ bounds-names-b c =
     let p = c.requires in
     let h = p.0.sized.nodes in
     let t = both_there _ _ _ _ c.node_at-r.ensures p.0 p.3.there
-    c.if-kind-eq-COMPOSES.true in
+    (sym c.kind.ensures ∙ ap byte_of c.in-Composes.is) in
     omega arith
 
 pub put_node-requires : goal.put_node-requires
@@ -140,47 +143,46 @@ put_node-requires c =
     let a = c.args in
     room_all _ _ 20 (both_bytes a.n a.body.now a.j _
     c.node_at-r.ensures p.0
-    p.3.there c.if-kind-eq-COMPOSES.true a.names.now p.2) (length_node _) a.at
+    p.3.there (sym c.kind.ensures ∙ ap byte_of c.in-Composes.is) a.names.now p.2) (length_node _) a.at
     a.out.now p.4
 
-pub returns-then-kind-eq-COMPOSES : goal.returns-then-kind-eq-COMPOSES
-returns-then-kind-eq-COMPOSES c =
+pub returns-in-Composes : goal.returns-in-Composes
+returns-in-Composes c =
     let p = c.requires in
     let a = c.args in
     put_is (sym (both_bytes a.n a.body.now a.j _
     c.node_at-r.ensures p.0
     p.3.there
-    c.if-kind-eq-COMPOSES.true a.names.now p.2))
+    (sym c.kind.ensures ∙ ap byte_of c.in-Composes.is) a.names.now p.2))
     c.put_node.ensures
 
-pub bounds-names-a-2 : goal.bounds-names-a-2
+pub bounds-names-a-in-Hides : goal.bounds-names-a-in-Hides
 unfolding file_at
-bounds-names-a-2 c =
+bounds-names-a-in-Hides c =
     let p = c.requires in
     let h = p.0.sized.nodes in
     let t = hidden_there _ _ _ _ c.node_at-r.ensures p.0 p.3.there
-    c.if-kind-eq-HOLDS.false c.if-kind-eq-COMPOSES.false in
+    (sym c.kind.ensures ∙ ap byte_of c.in-Hides.is) in
     omega arith
 
-pub put_node-requires-2 : goal.put_node-requires-2
-put_node-requires-2 c =
+pub put_node-requires-in-Hides : goal.put_node-requires-in-Hides
+put_node-requires-in-Hides c =
     let p = c.requires in
     let a = c.args in
     room_all _ _ 20 (hidden_bytes a.n a.body.now a.j _
     c.node_at-r.ensures p.0
-    p.3.there c.if-kind-eq-HOLDS.false c.if-kind-eq-COMPOSES.false a.names.now p.2)
+    p.3.there (sym c.kind.ensures ∙ ap byte_of c.in-Hides.is) a.names.now p.2)
     (length_node _) a.at a.out.now
     p.4
 
-pub returns : goal.returns
-returns c =
+pub returns-in-Hides : goal.returns-in-Hides
+returns-in-Hides c =
     let p = c.requires in
     let a = c.args in
     put_is (sym (hidden_bytes a.n a.body.now a.j _
     c.node_at-r.ensures p.0 p.3.there
-    c.if-kind-eq-HOLDS.false
-    c.if-kind-eq-COMPOSES.false a.names.now p.2))
-    c.put_node-2.ensures
+    (sym c.kind.ensures ∙ ap byte_of c.in-Hides.is) a.names.now p.2))
+    c.put_node-in-Hides.ensures
 
 pub node_at-r-requires : goal.node_at-r-requires
 unfolding file_at
@@ -194,16 +196,5 @@ pub overflow_cast-b : goal.overflow_cast-b
 unfolding file_at
 overflow_cast-b c = search rules
 
-pub shape_of-out-then-kind-eq-HOLDS : goal.shape_of-out-then-kind-eq-HOLDS
-unfolding file_at
-shape_of-out-then-kind-eq-HOLDS c =
-    put-length (returns-then-kind-eq-HOLDS (goal.at.shape_of-out-then-kind-eq-HOLDS c).After-slice_known-then-kind-eq-HOLDS-1)
-
-pub shape_of-out-then-kind-eq-COMPOSES : goal.shape_of-out-then-kind-eq-COMPOSES
-unfolding file_at
-shape_of-out-then-kind-eq-COMPOSES c =
-    put-length (returns-then-kind-eq-COMPOSES (goal.at.shape_of-out-then-kind-eq-COMPOSES c).After-slice_known-then-kind-eq-COMPOSES-1)
-
-pub shape_of-out : goal.shape_of-out
-unfolding file_at
-shape_of-out c = put-length (returns (goal.at.shape_of-out c).After-slice_known-2-1)
+pub kind-requires : goal.kind-requires
+kind-requires c = let p = c.requires in some_kind _ _ _ _ c.node_at-r.ensures p.0 p.3.there

@@ -20,7 +20,7 @@ name_next_lem F j =
     e ∙ nodes_more F j refl
 
 pub loop-j-init : goal.loop-j-init
-loop-j-init c = (omega arith, nodes_none _, put-start _)
+loop-j-init c = (nodes_none _, put-start _)
 
 pub node-p-requires : goal.node-p-requires
 unfolding file_at
@@ -31,8 +31,8 @@ node-p-requires c =
       p.0,
       p.1,
       p.2,
-      record { there = t; is = c.loop-j.invariant.1; named = p.3.nodes },
-      room_turn (written a.n a.body.now) p.4 t c.loop-j.invariant.2,
+      record { there = t; is = c.loop-j.invariant.0; named = p.3.nodes },
+      room_turn (written a.n a.body.now) p.4 t c.loop-j.invariant.1,
     )
 
 -- a name is below the limit
@@ -50,19 +50,13 @@ small c =
 pub loop-j-preserved : goal.loop-j-preserved
 unfolding file_at
 loop-j-preserved c = (
-  omega arith,
   ap (λ (k : ℕ). k + 1) (c.requires.2 c.loop-j.j
       c.loop-j-test.true) ∙ name_next_lem _ c.loop-j.j,
-  put_next _ c.loop-j.invariant.2 c.node-p.ensures,
+  put_next _ c.loop-j.invariant.1 c.node-p.ensures,
 )
 
 pub returns : goal.returns
-returns c = put-done _ (omega arith) c.loop-j.invariant.2
-
-pub bounds-names-j : goal.bounds-names-j
-bounds-names-j c =
-    let h = c.requires.0.sized.nodes in
-    omega arith
+returns c = put-done _ (omega arith) c.loop-j.invariant.1
 
 pub overflow_cast-first : goal.overflow_cast-first
 overflow_cast-first c = let s = small (goal.at.overflow_cast-first c).After-first-1 in omega arith
@@ -70,11 +64,5 @@ overflow_cast-first c = let s = small (goal.at.overflow_cast-first c).After-firs
 pub overflow_add-first : goal.overflow_add-first
 overflow_add-first c = let s = small (goal.at.overflow_add-first c).After-first-1 in omega arith
 
-pub overflow_add-j : goal.overflow_add-j
-overflow_add-j c = omega arith
-
-pub loop-j-smaller : goal.loop-j-smaller
-loop-j-smaller c = omega arith
-
 pub shape_of-out : goal.shape_of-out
-shape_of-out c = put-length c.loop-j.invariant.2
+shape_of-out c = put-length c.loop-j.invariant.1

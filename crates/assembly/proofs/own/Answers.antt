@@ -17,20 +17,17 @@ room : (c : In-loop-k) → c.loop-k.p + 28 ≤ length c.loop-k.out
 room c =
     let a = c.args in
     room_record (written a.n a.body.now a.inner a.c a.start) 28 (length-transition _) c.requires.3
-    c.loop-k-test.true c.loop-k.invariant.1
+    c.loop-k-test.true c.loop-k.invariant
 
 pub loop-k-preserved : goal.loop-k-preserved
 loop-k-preserved c =
     let a = c.args in
     let e = c.called-new.ensures
     ∙ ap₂ (called_with a.inner) (c.calls_by.ensures
-    ∙ ap (calls_by (file_at a.n a.body.now) a.c) c.transition_at-t.ensures) c.transition_at-t.ensures in (
-      omega arith,
-      put_next _ c.loop-k.invariant.1 (put_is (ap transition_bytes e) c.put_transition-p.ensures),
-    )
+    ∙ ap (calls_by (file_at a.n a.body.now) a.c) c.transition_at-t.ensures) c.transition_at-t.ensures in put_next _ c.loop-k.invariant (put_is (ap transition_bytes e) c.put_transition-p.ensures)
 
 pub loop-k-init : goal.loop-k-init
-loop-k-init c = (omega arith, put-start _)
+loop-k-init c = put-start _
 
 pub overflow_add-start : goal.overflow_add-start
 overflow_add-start c =
@@ -46,14 +43,8 @@ calls_by-requires c = (c.requires.0, c.requires.1)
 pub put_transition-p-requires : goal.put_transition-p-requires
 put_transition-p-requires c = room (goal.at.put_transition-p-requires c).In-loop-k
 
-pub overflow_add-k : goal.overflow_add-k
-overflow_add-k c = omega arith
-
-pub loop-k-smaller : goal.loop-k-smaller
-loop-k-smaller c = omega arith
-
 pub shape_of-out : goal.shape_of-out
-shape_of-out c = put-length c.loop-k.invariant.1
+shape_of-out c = put-length c.loop-k.invariant
 
 pub returns : goal.returns
-returns c = put-done _ (omega arith) c.loop-k.invariant.1
+returns c = put-done _ (omega arith) c.loop-k.invariant

@@ -1,6 +1,6 @@
 -- `own` meets its contract. The loop's invariant: the own transitions passed are written, with their call signals.
 use mathlib.Core.List.{List}
-use Prim.Native.Nat.{ℕ, ◌+◌, ◌-◌, ◌≤◌}
+use Prim.Native.Nat.{ℕ, ◌+◌}
 use Rattle.layout.specs.Record.{transition_bytes}
 use Rattle.layout.specs.Body.{transition_at}
 use Rattle.layout.specs.declared.body.Shape.{Shape}
@@ -19,7 +19,4 @@ abbrev pub written : Shape → List ℕ → Set → ℕ → ℕ → ℕ → List
 written n b inner c start k = transition_bytes (new n b inner c (start + k))
 
 abbrev pub invariant-loop-k : goal.invariant-loop-k
-invariant-loop-k l = (l.k ≤ l.count) × Put l.initial.out l.at (in_turn l.k (written l.n l.body l.inner l.c l.start)) l.out l.p
-
-abbrev pub decreases-loop-k : goal.decreases-loop-k
-decreases-loop-k l = l.count - l.k
+invariant-loop-k l = Put l.initial.out l.at (in_turn l.k (written l.n l.body l.inner l.c l.start)) l.out l.p

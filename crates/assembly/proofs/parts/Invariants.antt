@@ -2,7 +2,7 @@
 -- one's name.
 use mathlib.Core.Path.{◌≡◌, sym, ap, ◌∙◌}
 use mathlib.Core.List.{List, []}
-use Prim.Native.Nat.{ℕ, ◌+◌, ◌-◌, ◌≤◌, ◌<◌}
+use Prim.Native.Nat.{ℕ, ◌+◌, ◌≤◌, ◌<◌}
 use native.Mathlib.Omega.{arith}
 use lib.ListN.{get_or}
 use Rattle.layout.specs.Record.{node_bytes}
@@ -76,7 +76,4 @@ module _ (n : Shape) (b : List ℕ) (c x first i : ℕ) (r : Slave) (e : r ≡ s
         }
 
 abbrev pub invariant-loop-i : goal.invariant-loop-i
-invariant-loop-i l = (l.i ≤ l.slaves) × Parted (file_at l.n l.body) l.c l.x l.first l.at l.i l.initial.out l.out l.p l.made
-
-abbrev pub decreases-loop-i : goal.decreases-loop-i
-decreases-loop-i l = l.slaves - l.i
+invariant-loop-i l = Parted (file_at l.n l.body) l.c l.x l.first l.at l.i l.initial.out l.out l.p l.made

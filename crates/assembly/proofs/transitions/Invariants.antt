@@ -2,7 +2,7 @@
 -- is where the next one's begin.
 use mathlib.Core.Path.{◌≡◌}
 use mathlib.Core.List.{List}
-use Prim.Native.Nat.{ℕ, ◌-◌, ◌≤◌}
+use Prim.Native.Nat.{ℕ}
 use Rattle.layout.specs.Body.{start_of}
 use Rattle.layout.specs.declared.body.Shape.{Shape}
 use Rattle.meaning.specs.File.{file_at}
@@ -14,7 +14,4 @@ abbrev pub written : Shape → List ℕ → ℕ → List ℕ
 written n b c = transitions_bytes (rewritten_chart (file_at n b) c).transitions
 
 abbrev pub invariant-loop-c : goal.invariant-loop-c
-invariant-loop-c l = (l.c ≤ l.charts) × (l.start ≡ start_of l.n l.body l.c) × Put l.initial.out l.at (in_turn l.c (written l.n l.body)) l.out l.p
-
-abbrev pub decreases-loop-c : goal.decreases-loop-c
-decreases-loop-c l = l.charts - l.c
+invariant-loop-c l = (l.start ≡ start_of l.n l.body l.c) × Put l.initial.out l.at (in_turn l.c (written l.n l.body)) l.out l.p

@@ -6,7 +6,7 @@ use Rattle.tables.specs.Insertion.{is_again}
 use Rattle.candidates.proofs.is_again.Goals as goal
 
 pub loop-v-init : goal.loop-v-init
-loop-v-init c = (search rules, any_none _)
+loop-v-init c = any_none _
 
 pub returns-then-is_at : goal.returns-then-is_at
 unfolding is_again
@@ -15,16 +15,10 @@ returns-then-is_at c =
     (any_at _ _ c.loop-v.v (omega arith) (sym c.is_at.ensures ∙ c.if-is_at.true))
 
 pub loop-v-preserved : goal.loop-v-preserved
-loop-v-preserved c = (
-  omega arith,
-  any-more _ _ c.loop-v.invariant.1 (sym c.is_at.ensures ∙ c.if-is_at.false),
-)
+loop-v-preserved c = any-more _ _ c.loop-v.invariant (sym c.is_at.ensures ∙ c.if-is_at.false)
 
 pub returns : goal.returns
 unfolding is_again
 returns c =
     let e : c.loop-v.v ≡ c.args.n = omega arith in
-    sym (rw e at c.loop-v.invariant.1)
-
-pub is_at-requires : goal.is_at-requires
-is_at-requires c = (search rules, search rules, omega arith)
+    sym (rw e at c.loop-v.invariant)

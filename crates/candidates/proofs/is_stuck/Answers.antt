@@ -3,7 +3,6 @@ use mathlib.Core.List.{List}
 use mathlib.Core.Bool.{not, ◌&&◌}
 use Prim.Native.Nat.{ℕ}
 use native.Mathlib.Omega.{arith}
-use borrow.Author.Rules.{rules}
 use lib.Dec.{ltb}
 use Rattle.meaning.specs.Numbers.{most_charts}
 use Rattle.meaning.specs.Sums.Laws.{any_none, any-more, any_at}
@@ -33,7 +32,7 @@ tested_at c =
     c.told.ensures
 
 pub loop-c-init : goal.loop-c-init
-loop-c-init c = (search rules, any_none _)
+loop-c-init c = any_none _
 
 pub returns-then-count-master : goal.returns-then-count-master
 unfolding stuck stays_at same
@@ -43,19 +42,10 @@ returns-then-count-master c g =
 
 pub loop-c-preserved : goal.loop-c-preserved
 unfolding same
-loop-c-preserved c = (
-  omega arith,
-  any-more _ _ c.loop-c.invariant.1 (tested_at (goal.at.loop-c-preserved c).After-told ∙ c.if-count-master.false),
-)
+loop-c-preserved c = any-more _ _ c.loop-c.invariant (tested_at (goal.at.loop-c-preserved c).After-told ∙ c.if-count-master.false)
 
 pub returns : goal.returns
 unfolding stuck stays_at
 returns c g =
     let e : c.loop-c.c ≡ c.args.charts = omega arith in
-    sym (rw e at c.loop-c.invariant.1)
-
-pub overflow_add-c : goal.overflow_add-c
-overflow_add-c c = omega arith
-
-pub loop-c-smaller : goal.loop-c-smaller
-loop-c-smaller c = omega arith
+    sym (rw e at c.loop-c.invariant)

@@ -1,7 +1,6 @@
 use mathlib.Core.Path.{◌≡◌, refl, sym, subst}
 use Prim.Native.Nat.{ℕ, ◌+◌, ◌*◌, ◌≤◌}
 use native.Mathlib.Omega.{arith}
-use borrow.Author.Rules.{rules}
 use Rattle.layout.specs.declared.record.Transition.{Transition}
 use Rattle.meaning.specs.Numbers.{most_from_state}
 use Rattle.meaning.specs.Sums.{tally, one}
@@ -32,49 +31,33 @@ few s =
     (sym (as_typed s)) s.requires.5
 
 pub loop-p-init : goal.loop-p-init
-loop-p-init c = (search rules, omega arith, left-none c.args.a _ _)
+loop-p-init c = (omega arith, left-none c.args.a _ _)
 
 pub consider-have-requires : goal.consider-have-requires
 consider-have-requires c =
     let a = c.args in (
-      omega (arith, c.requires.0, c.requires.1, c.loop-p.invariant.1),
-      left_tabled a.a (records (goal.at.consider-have-requires c).Start) (none (goal.at.consider-have-requires c).Start) (a.a.chart + 1) c.loop-p.p c.loop-p.masks c.loop-p.small c.loop-p.have c.loop-p.invariant.2
+      omega (arith, c.requires.0, c.requires.1, c.loop-p.invariant.0),
+      left_tabled a.a (records (goal.at.consider-have-requires c).Start) (none (goal.at.consider-have-requires c).Start) (a.a.chart + 1) c.loop-p.p c.loop-p.masks c.loop-p.small c.loop-p.have c.loop-p.invariant.1
           c.requires.3,
       c.requires.4,
-      left_few a.a (records (goal.at.consider-have-requires c).Start) (none (goal.at.consider-have-requires c).Start) refl a.count (few (goal.at.consider-have-requires c).Start) c.loop-p.p c.loop-p.masks c.loop-p.small c.loop-p.have c.loop-p.invariant.2
-          c.loop-p.invariant.0,
+      left_few a.a (records (goal.at.consider-have-requires c).Start) (none (goal.at.consider-have-requires c).Start) refl a.count (few (goal.at.consider-have-requires c).Start) c.loop-p.p c.loop-p.masks c.loop-p.small c.loop-p.have c.loop-p.invariant.1
+          c.loop-p.auto.p-end,
       λ h. left_room a.a (records (goal.at.consider-have-requires c).Start) (none (goal.at.consider-have-requires c).Start) refl a.count (few (goal.at.consider-have-requires c).Start) c.loop-p.p c.loop-p.masks c.loop-p.small c.loop-p.have
-          c.loop-p.invariant.2 c.loop-p-test.true (rw c.loop-p.invariant.1 at h),
+          c.loop-p.invariant.1 c.loop-p-test.true (rw c.loop-p.invariant.0 at h),
     )
 
 pub loop-p-preserved : goal.loop-p-preserved
 loop-p-preserved c = (
-  omega arith,
-  omega (arith, c.loop-p.invariant.1),
-  left-next c.args.a (records (goal.at.loop-p-preserved c).Start) (none (goal.at.loop-p-preserved c).Start) c.loop-p.p c.loop-p.masks c.loop-p.small c.loop-p.have _ _ _ c.loop-p.invariant.2
-      (rw c.loop-p.invariant.1 at c.consider-have.ensures),
+  omega (arith, c.loop-p.invariant.0),
+  left-next c.args.a (records (goal.at.loop-p-preserved c).Start) (none (goal.at.loop-p-preserved c).Start) c.loop-p.p c.loop-p.masks c.loop-p.small c.loop-p.have _ _ _ c.loop-p.invariant.1
+      (rw c.loop-p.invariant.0 at c.consider-have.ensures),
 )
 
 pub returns : goal.returns
 returns c =
     let a = c.args in
     let e : c.loop-p.p ≡ a.count = omega arith in (
-      rw (as_typed (goal.at.returns c).Start) at (rw e at c.loop-p.invariant.2),
-      left_few a.a (records (goal.at.returns c).Start) (none (goal.at.returns c).Start) refl a.count (few (goal.at.returns c).Start) c.loop-p.p c.loop-p.masks c.loop-p.small c.loop-p.have c.loop-p.invariant.2
-          c.loop-p.invariant.0,
+      rw (as_typed (goal.at.returns c).Start) at (rw e at c.loop-p.invariant.1),
+      left_few a.a (records (goal.at.returns c).Start) (none (goal.at.returns c).Start) refl a.count (few (goal.at.returns c).Start) c.loop-p.p c.loop-p.masks c.loop-p.small c.loop-p.have c.loop-p.invariant.1
+          c.loop-p.auto.p-end,
     )
-
-pub overflow_cast-p : goal.overflow_cast-p
-overflow_cast-p c = omega (arith, c.requires.2)
-
-pub overflow_add-p : goal.overflow_add-p
-overflow_add-p c = omega arith
-
-pub loop-p-smaller : goal.loop-p-smaller
-loop-p-smaller c = omega arith
-
-pub shape_of-masks : goal.shape_of-masks
-shape_of-masks c = left_masks c.args.a _ _ _ _ _ _ c.loop-p.invariant.2
-
-pub shape_of-small : goal.shape_of-small
-shape_of-small c = left-small c.args.a _ _ _ _ _ _ c.loop-p.invariant.2

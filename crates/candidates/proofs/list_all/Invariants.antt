@@ -1,12 +1,8 @@
 -- `list_all` meets its contract. The loop: the charts below c have their candidates. Assumes nothing.
 use mathlib.Core.Path.{◌≡◌}
-use Prim.Native.Nat.{◌-◌, ◌≤◌}
 use Rattle.layout.specs.Body.{start_of}
 use Rattle.candidates.specs.Candidates.{UntilChart}
 use Rattle.candidates.proofs.list_all.Given as goal
 
 abbrev pub invariant-loop-c : goal.invariant-loop-c
-invariant-loop-c l = (l.c ≤ l.n.charts) × (l.start ≡ start_of l.n l.body l.c) × UntilChart l.n l.body l.config l.reads l.lows l.shuts l.initial.masks l.initial.small l.c l.masks l.small
-
-abbrev pub decreases-loop-c : goal.decreases-loop-c
-decreases-loop-c l = l.n.charts - l.c
+invariant-loop-c l = (l.start ≡ start_of l.n l.body l.c) × UntilChart l.n l.body l.config l.reads l.lows l.shuts l.initial.masks l.initial.small l.c l.masks l.small

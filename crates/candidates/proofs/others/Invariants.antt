@@ -2,7 +2,6 @@
 -- nothing.
 use mathlib.Core.Path.{◌≡◌}
 use mathlib.Core.Bool.{cond}
-use Prim.Native.Nat.{◌-◌, ◌≤◌}
 use lib.ListN.{get_or}
 use Rattle.signals.specs.Mask.{◌∩◌}
 use Rattle.meaning.specs.Meaning.{same}
@@ -11,7 +10,4 @@ use Rattle.cells.specs.Table.{back_at}
 use Rattle.candidates.proofs.others.Given as goal
 
 abbrev pub invariant-loop-e : goal.invariant-loop-e
-invariant-loop-e l = (l.e ≤ l.charts) × (l.u ≡ union_up_to l.e (λ d. cond (same d l.c) 0 (get_or l.may d 0) ∩ back_at l.masks l.c d))
-
-abbrev pub decreases-loop-e : goal.decreases-loop-e
-decreases-loop-e l = l.charts - l.e
+invariant-loop-e l = l.u ≡ union_up_to l.e (λ d. cond (same d l.c) 0 (get_or l.may d 0) ∩ back_at l.masks l.c d)

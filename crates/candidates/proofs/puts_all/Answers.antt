@@ -8,12 +8,12 @@ use Rattle.candidates.proofs.puts_all.Goals as goal
 
 pub loop-c-init : goal.loop-c-init
 unfolding start_of
-loop-c-init c = (omega arith, refl, puts_by-none _ _ _ _ _ _ _ c.requires.1 c.requires.2 c.requires.3)
+loop-c-init c = (refl, puts_by-none _ _ _ _ _ _ _ c.requires.1 c.requires.2 c.requires.3)
 
 pub puts_of-puts-requires : goal.puts_of-puts-requires
 puts_of-puts-requires c = (
   c.requires.0.sized.holds,
-  in_all c.args.n c.args.body.now c.loop-c.c c.loop-c.start c.head_at-head.ensures c.loop-c.invariant.1
+  in_all c.args.n c.args.body.now c.loop-c.c c.loop-c.start c.head_at-head.ensures c.loop-c.invariant.0
       c.requires.0.summed c.loop-c-test.true,
 )
 
@@ -22,19 +22,18 @@ overflow_add-start c =
     omega (
       arith,
       c.requires.0.sized.transitions,
-      in_all c.args.n c.args.body.now c.loop-c.c c.loop-c.start c.head_at-head.ensures c.loop-c.invariant.1
+      in_all c.args.n c.args.body.now c.loop-c.c c.loop-c.start c.head_at-head.ensures c.loop-c.invariant.0
           c.requires.0.summed c.loop-c-test.true,
     )
 
 pub loop-c-preserved : goal.loop-c-preserved
 loop-c-preserved c =
     let r = c.loop-c-test.true in (
-      omega (arith, r),
       start-next c.args.n c.args.body.now c.loop-c.c c.loop-c.start c.head_at-head.ensures
-          c.loop-c.invariant.1,
-      puts_by-next _ _ _ _ c.loop-c.c _ _ _ c.loop-c.start _ _ c.loop-c.invariant.2
+          c.loop-c.invariant.0,
+      puts_by-next _ _ _ _ c.loop-c.c _ _ _ c.loop-c.start _ _ c.loop-c.invariant.1
           (omega (arith, r, c.requires.0.sized.charts))
-          c.loop-c.invariant.1 c.head_at-head.ensures c.puts_of-puts.ensures,
+          c.loop-c.invariant.0 c.head_at-head.ensures c.puts_of-puts.ensures,
     )
 
 pub returns : goal.returns
@@ -42,28 +41,4 @@ returns c =
     let a = c.args in
     let e : c.loop-c.c ≡ a.n.charts = omega arith in
     subst (λ z. PutsBy a.n a.body.now a.config.now a.reads.now z c.loop-c.may c.loop-c.sures
-    c.loop-c.counts) e c.loop-c.invariant.2
-
-pub head_at-head-requires : goal.head_at-head-requires
-head_at-head-requires c = (c.requires.0.sized.holds, c.loop-c-test.true)
-
-pub bounds-config-c : goal.bounds-config-c
-bounds-config-c c = omega (arith, c.requires.0.configured)
-
-pub bounds-reads-c : goal.bounds-reads-c
-bounds-reads-c c = omega (arith, c.requires.0.sized.charts)
-
-pub bounds-may-c : goal.bounds-may-c
-bounds-may-c c = omega (arith, c.requires.0.sized.charts)
-
-pub bounds-sures-c : goal.bounds-sures-c
-bounds-sures-c c = omega (arith, c.requires.0.sized.charts)
-
-pub bounds-counts-c : goal.bounds-counts-c
-bounds-counts-c c = omega (arith, c.requires.0.sized.charts)
-
-pub overflow_add-c : goal.overflow_add-c
-overflow_add-c c = omega (arith, c.requires.0.sized.charts)
-
-pub loop-c-smaller : goal.loop-c-smaller
-loop-c-smaller c = omega arith
+    c.loop-c.counts) e c.loop-c.invariant.1

@@ -1,16 +1,12 @@
 -- `raise_all` meets its contract: the masks below d are raised, the others are as they came. Assumes nothing.
 use mathlib.Core.Path.{◌≡◌}
-use Prim.Native.Nat.{ℕ, ◌-◌, ◌≤◌, ◌<◌}
+use Prim.Native.Nat.{ℕ, ◌≤◌, ◌<◌}
 use lib.ListN.{length, get_or}
 use Rattle.signals.specs.Mask.{◌∪◌, ◌∩◌}
-use Rattle.meaning.specs.Numbers.{most_charts}
 use Rattle.cells.specs.Table.{back_at}
 use Rattle.candidates.proofs.raise_all.Given as goal
 
 abbrev pub invariant-loop-d : goal.invariant-loop-d
 invariant-loop-d l =
-    (l.d ≤ most_charts) × (length l.low ≡ length l.initial.low) × ((k : ℕ) → l.d ≤ k → get_or l.low k 0 ≡ get_or l.initial.low k 0)
+    (length l.low ≡ length l.initial.low) × ((k : ℕ) → l.d ≤ k → get_or l.low k 0 ≡ get_or l.initial.low k 0)
     × ((k : ℕ) → k < l.d → get_or l.low k 0 ≡ get_or l.initial.low k 0 ∪ l.u ∩ back_at l.masks k l.c)
-
-abbrev pub decreases-loop-d : goal.decreases-loop-d
-decreases-loop-d l = most_charts - l.d

@@ -1,13 +1,9 @@
 -- `raise_sure` meets its contract. The loop: the charts below c have put theirs in.
 use mathlib.Core.Path.{◌≡◌}
-use Prim.Native.Nat.{◌-◌, ◌≤◌}
 use lib.ListN.{length}
 use Rattle.meaning.specs.Numbers.{most_charts}
 use Rattle.candidates.specs.Candidates.{RaisedBy}
 use Rattle.candidates.proofs.raise_sure.Given as goal
 
 abbrev pub invariant-loop-c : goal.invariant-loop-c
-invariant-loop-c l = (l.c ≤ l.n.charts) × (length l.low ≡ most_charts) × RaisedBy l.n l.masks l.small l.sures l.c l.initial.low l.low
-
-abbrev pub decreases-loop-c : goal.decreases-loop-c
-decreases-loop-c l = l.n.charts - l.c
+invariant-loop-c l = (length l.low ≡ most_charts) × RaisedBy l.n l.masks l.small l.sures l.c l.initial.low l.low

@@ -1,5 +1,5 @@
 -- A node as it is read: what it names is in a table of charts or nodes. Assumes nothing.
-use Rattle.std.specs.Prelude.{◌≡◌, List, ℕ, ◌<◌}
+use Rattle.std.specs.Prelude.{◌≡◌, List, ℕ, ◌≤◌, ◌<◌}
 use Rattle.std.proofs.Common.{sym, ◌∙◌}
 use Rattle.std.proofs.Math.Path.{ap}
 use native.Mathlib.Omega.{arith}
@@ -25,10 +25,17 @@ module _ (n : Shape) (b : List ℕ) (j : ℕ) (r : Node) (e : r ≡ node_at n b 
     unfolding file_at
     lower₁ h = let m = w.ordered.lower₁ j l (kind_is 1 h) in let k = z.nodes in rw e (omega arith, omega arith)
 
+    pub some_kind : r.kind ≤ 2
+    unfolding file_at
+    some_kind = let t = w.ordered.kinds j l in let d = ap (λ (x : Node). x.kind) e in omega arith
+
+    pub lower_hidden : r.kind ≡ 2 → r.a < most_nodes
+    unfolding file_at
+    lower_hidden h = let m = w.ordered.lower₂ j l (kind_is 2 h) in let k = z.nodes in rw e (omega arith)
+
     pub kind₂ : (r.kind ≡ 0 → ⊥) → (r.kind ≡ 1 → ⊥) → r.kind ≡ 2
     unfolding file_at
     kind₂ f g = let t = w.ordered.kinds j l in let d = ap (λ (x : Node). x.kind) e in omega arith
 
     pub lower₂ : (r.kind ≡ 0 → ⊥) → (r.kind ≡ 1 → ⊥) → r.a < most_nodes
-    unfolding file_at
-    lower₂ f g = let m = w.ordered.lower₂ j l (kind_is 2 (kind₂ f g)) in let k = z.nodes in rw e (omega arith)
+    lower₂ f g = lower_hidden (kind₂ f g)

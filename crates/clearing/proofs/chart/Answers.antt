@@ -11,32 +11,20 @@ keep-p-requires c =
     rw c.transition_at.ensures
     (room_turn (written c.args.n c.args.body.now c.args.start c.args.fed) c.requires.2
     c.loop-k-test.true
-    c.loop-k.invariant.1)
+    c.loop-k.invariant)
 
 pub loop-k-preserved : goal.loop-k-preserved
-loop-k-preserved c = (
-  omega arith,
-  put_next _ c.loop-k.invariant.1
-      (put_is (ap (kept_bytes c.args.fed) c.transition_at.ensures) c.keep-p.ensures),
-)
+loop-k-preserved c = put_next _ c.loop-k.invariant
+    (put_is (ap (kept_bytes c.args.fed) c.transition_at.ensures) c.keep-p.ensures)
 
 pub loop-k-init : goal.loop-k-init
-loop-k-init c = (omega arith, put-start _)
-
-pub overflow_add-start : goal.overflow_add-start
-overflow_add-start c = omega arith
+loop-k-init c = put-start _
 
 pub transition_at-requires : goal.transition_at-requires
 transition_at-requires c = (c.requires.0, (let l = c.requires.1 in omega arith))
 
-pub overflow_add-k : goal.overflow_add-k
-overflow_add-k c = omega arith
-
-pub loop-k-smaller : goal.loop-k-smaller
-loop-k-smaller c = omega arith
-
 pub shape_of-out : goal.shape_of-out
-shape_of-out c = put-length c.loop-k.invariant.1
+shape_of-out c = put-length c.loop-k.invariant
 
 pub returns : goal.returns
-returns c = put-done _ (omega arith) c.loop-k.invariant.1
+returns c = put-done _ (omega arith) c.loop-k.invariant

@@ -1,6 +1,6 @@
 -- `chart` meets its contract. The loop's invariant: what is left of the transitions passed is written.
 use mathlib.Core.List.{List}
-use Prim.Native.Nat.{ℕ, ◌+◌, ◌-◌, ◌≤◌}
+use Prim.Native.Nat.{ℕ, ◌+◌}
 use Rattle.layout.specs.Body.{transition_at}
 use Rattle.layout.specs.declared.body.Shape.{Shape}
 use Rattle.layout.specs.Put.{Put}
@@ -13,7 +13,4 @@ abbrev pub written : Shape → List ℕ → ℕ → Set → ℕ → List ℕ
 written n b start fed k = kept_bytes fed (transition_at n b (start + k))
 
 abbrev pub invariant-loop-k : goal.invariant-loop-k
-invariant-loop-k l = (l.k ≤ l.count) × Put l.initial.out l.at (in_turn l.k (written l.n l.body l.start l.fed)) l.out l.p
-
-abbrev pub decreases-loop-k : goal.decreases-loop-k
-decreases-loop-k l = l.count - l.k
+invariant-loop-k l = Put l.initial.out l.at (in_turn l.k (written l.n l.body l.start l.fed)) l.out l.p

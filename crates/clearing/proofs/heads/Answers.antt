@@ -20,7 +20,7 @@ there : (c : After-head_at-h)
     → c.loop-c.start + c.head_at-h.result.transitions
     ≤ c.args.n.transitions
 there c =
-    in_all _ _ _ _ c.head_at-h.ensures c.loop-c.invariant.1 c.requires.1
+    in_all _ _ _ _ c.head_at-h.ensures c.loop-c.invariant.0 c.requires.1
     c.loop-c-test.true
 
 -- of them at most all are left
@@ -36,19 +36,18 @@ few c =
 room : (c : In-loop-c) → c.loop-c.p + 24 ≤ length c.loop-c.out
 room c =
     room_record (written c.args.n c.args.body.now) 24 (length-head _) c.requires.2 c.loop-c-test.true
-    c.loop-c.invariant.2
+    c.loop-c.invariant.1
 
 pub loop-c-preserved : goal.loop-c-preserved
 loop-c-preserved c =
     let e = head-cleared c.args.n c.args.body.now c.loop-c.c c.loop-c.start _ c.head_at-h.ensures
-    c.loop-c.invariant.1 _ c.of_list-l.ensures in (
-      omega arith,
-      start-next _ _ _ _ c.head_at-h.ensures c.loop-c.invariant.1,
-      put_next _ c.loop-c.invariant.2 (put_is (ap head_bytes (c.head.ensures ∙ e)) c.put_head-p.ensures),
+    c.loop-c.invariant.0 _ c.of_list-l.ensures in (
+      start-next _ _ _ _ c.head_at-h.ensures c.loop-c.invariant.0,
+      put_next _ c.loop-c.invariant.1 (put_is (ap head_bytes (c.head.ensures ∙ e)) c.put_head-p.ensures),
     )
 
 pub loop-c-init : goal.loop-c-init
-loop-c-init c = (omega arith, sym (start_of-none _ _), put-start _)
+loop-c-init c = (sym (start_of-none _ _), put-start _)
 
 pub head_at-h-requires : goal.head_at-h-requires
 head_at-h-requires c = (c.requires.0.holds, c.loop-c-test.true)
@@ -68,17 +67,8 @@ overflow_add-start c =
     let m = c.requires.0.transitions in
     omega arith
 
-pub overflow_add-c : goal.overflow_add-c
-overflow_add-c c =
-    let l = c.loop-c-test.true in
-    let m = c.requires.0.charts in
-    omega arith
-
-pub loop-c-smaller : goal.loop-c-smaller
-loop-c-smaller c = omega arith
-
 pub shape_of-out : goal.shape_of-out
-shape_of-out c = put-length c.loop-c.invariant.2
+shape_of-out c = put-length c.loop-c.invariant.1
 
 pub returns : goal.returns
-returns c = put-done _ (omega arith) c.loop-c.invariant.2
+returns c = put-done _ (omega arith) c.loop-c.invariant.1

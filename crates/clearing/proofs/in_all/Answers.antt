@@ -15,14 +15,14 @@ use Rattle.clearing.proofs.in_all.Goals as goal
 use Rattle.clearing.proofs.in_all.Goals.{After-head_at-h, After-of_list-l}
 
 pub loop-c-init : goal.loop-c-init
-loop-c-init c = (omega arith, sym (start_of-none _ _), omega arith, sym (tally-none _))
+loop-c-init c = (sym (start_of-none _ _), omega arith, sym (tally-none _))
 
 -- the transitions of a chart are there
 there : (c : After-head_at-h)
     → c.loop-c.start + c.head_at-h.result.transitions
     ≤ c.args.n.transitions
 there c =
-    in_all _ _ _ _ c.head_at-h.ensures c.loop-c.invariant.1 c.requires.1 c.loop-c-test.true
+    in_all _ _ _ _ c.head_at-h.ensures c.loop-c.invariant.0 c.requires.1 c.loop-c-test.true
 
 -- of them at most all are left
 few : (c : After-of_list-l)
@@ -38,11 +38,10 @@ pub loop-c-preserved : goal.loop-c-preserved
 loop-c-preserved c =
     let f = few (goal.at.loop-c-preserved c).After-of_list-l in
     let e = count-cleared c.args.n c.args.body.now c.loop-c.c c.loop-c.start _ c.head_at-h.ensures
-    c.loop-c.invariant.1 _ c.of_list-l.ensures in
-    let q = c.loop-c.invariant.3 in (
-      omega arith,
-      start-next _ _ _ _ c.head_at-h.ensures c.loop-c.invariant.1,
-      (let g = c.loop-c.invariant.2 in omega arith),
+    c.loop-c.invariant.0 _ c.of_list-l.ensures in
+    let q = c.loop-c.invariant.2 in (
+      start-next _ _ _ _ c.head_at-h.ensures c.loop-c.invariant.0,
+      (let g = c.loop-c.invariant.1 in omega arith),
       omega (
         arith,
         e,
@@ -54,7 +53,7 @@ loop-c-preserved c =
 
 pub returns : goal.returns
 unfolding transitions_in file_at
-returns c = c.loop-c.invariant.3 ∙ tally-done _ _ _ c.loop-c.invariant.0 c.loop-c-test.false
+returns c = c.loop-c.invariant.2 ∙ tally-done _ _ _ c.loop-c.auto.c-end c.loop-c-test.false
 
 pub head_at-h-requires : goal.head_at-h-requires
 head_at-h-requires c = (c.requires.0.holds, c.loop-c-test.true)
@@ -67,7 +66,7 @@ overflow_add-sum c =
     let t = there (goal.at.overflow_add-sum c).After-head_at-h in
     let f = few (goal.at.overflow_add-sum c).After-of_list-l in
     let m = c.requires.0.transitions in
-    let g = c.loop-c.invariant.2 in
+    let g = c.loop-c.invariant.1 in
     omega arith
 
 pub overflow_add-start : goal.overflow_add-start
@@ -75,9 +74,3 @@ overflow_add-start c =
     let t = there (goal.at.overflow_add-start c).After-head_at-h in
     let m = c.requires.0.transitions in
     omega arith
-
-pub overflow_add-c : goal.overflow_add-c
-overflow_add-c c = omega arith
-
-pub loop-c-smaller : goal.loop-c-smaller
-loop-c-smaller c = omega arith

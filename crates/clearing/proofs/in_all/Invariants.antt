@@ -1,7 +1,7 @@
 -- `in_all` meets its contract. The loop's invariant: `sum` is the tally of the charts passed, and `start` is where the
 -- next one's transitions begin.
 use mathlib.Core.Path.{◌≡◌}
-use Prim.Native.Nat.{◌-◌, ◌≤◌}
+use Prim.Native.Nat.{◌≤◌}
 use lib.ListN.{length}
 use Rattle.layout.specs.Body.{start_of}
 use Rattle.meaning.specs.Sums.{tally}
@@ -11,10 +11,6 @@ use Rattle.clearing.proofs.in_all.Given as goal
 
 abbrev pub invariant-loop-c : goal.invariant-loop-c
 invariant-loop-c l =
-    (l.c ≤ l.charts)
-    × (l.start ≡ start_of l.n l.body l.c)
+    (l.start ≡ start_of l.n l.body l.c)
     × (l.sum ≤ l.start)
     × (l.sum ≡ tally l.c (λ c. length (cleared_chart ((file_at l.n l.body).chart c)).transitions))
-
-abbrev pub decreases-loop-c : goal.decreases-loop-c
-decreases-loop-c l = l.charts - l.c

@@ -15,7 +15,6 @@ pub loop-k-init : goal.loop-k-init
 loop-k-init c =
     let e = left-none c.args.fed (transition_at c.args.n c.args.body.now)
     c.args.start in (
-      omega arith,
       sym (ap (λ (l : Left). l.count) e),
       sym (ap (λ (l : Left). l.was) e),
       sym (ap (λ (l : Left). l.still) e),
@@ -39,18 +38,17 @@ few c =
     let e =
     left-count c.args.fed (transition_at c.args.n c.args.body.now) c.args.start c.loop-k.k _ (one-is c) in
     let m = left_most c.args.fed (transition_at c.args.n c.args.body.now) c.args.start (c.loop-k.k + 1) in
-    let q = c.loop-k.invariant.1 in
+    let q = c.loop-k.invariant.0 in
     omega arith
 
 pub loop-k-preserved : goal.loop-k-preserved
 loop-k-preserved c =
     let f = transition_at c.args.n c.args.body.now in (
-      omega arith,
-      ap (λ (z : ℕ). z + c.of_one-one.result.count) c.loop-k.invariant.1
+      ap (λ (z : ℕ). z + c.of_one-one.result.count) c.loop-k.invariant.0
           ∙ left-count c.args.fed f c.args.start c.loop-k.k _ (one-is (goal.at.loop-k-preserved c).After-of_one-one),
-      ap (λ (z : ℕ). z ∪ c.of_one-one.result.was) c.loop-k.invariant.2
+      ap (λ (z : ℕ). z ∪ c.of_one-one.result.was) c.loop-k.invariant.1
           ∙ left_was c.args.fed f c.args.start c.loop-k.k _ (one-is (goal.at.loop-k-preserved c).After-of_one-one),
-      ap (λ (z : ℕ). z ∪ c.of_one-one.result.still) c.loop-k.invariant.3
+      ap (λ (z : ℕ). z ∪ c.of_one-one.result.still) c.loop-k.invariant.2
           ∙ left_still c.args.fed f c.args.start c.loop-k.k _ (one-is (goal.at.loop-k-preserved c).After-of_one-one),
     )
 
@@ -59,19 +57,10 @@ unfolding left_of
 returns c =
     let e : c.loop-k.k ≡ c.args.count = omega arith in
     let l = left_to c.args.fed (transition_at c.args.n c.args.body.now) c.args.start in
-    (λ z. record { count = c.loop-k.invariant.1 z; was = c.loop-k.invariant.2 z; still = c.loop-k.invariant.3 z }) ∙ ap l e
-
-pub overflow_add-start : goal.overflow_add-start
-overflow_add-start c = omega arith
+    (λ z. record { count = c.loop-k.invariant.0 z; was = c.loop-k.invariant.1 z; still = c.loop-k.invariant.2 z }) ∙ ap l e
 
 pub transition_at-requires : goal.transition_at-requires
 transition_at-requires c = (c.requires.0, (let l = c.requires.1 in omega arith))
 
 pub overflow_add-kept : goal.overflow_add-kept
 overflow_add-kept c = let f = few (goal.at.overflow_add-kept c).After-of_one-one in omega arith
-
-pub overflow_add-k : goal.overflow_add-k
-overflow_add-k c = omega arith
-
-pub loop-k-smaller : goal.loop-k-smaller
-loop-k-smaller c = omega arith

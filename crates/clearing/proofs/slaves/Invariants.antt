@@ -1,6 +1,6 @@
 -- `slaves` meets its contract. The loop's invariant: the records of the slaves passed are written.
 use mathlib.Core.List.{List}
-use Prim.Native.Nat.{ℕ, ◌-◌, ◌≤◌}
+use Prim.Native.Nat.{ℕ}
 use Rattle.layout.specs.Record.{slave_bytes}
 use Rattle.layout.specs.Body.{slave_at}
 use Rattle.layout.specs.declared.body.Shape.{Shape}
@@ -12,7 +12,4 @@ abbrev pub written : Shape → List ℕ → ℕ → List ℕ
 written n b i = slave_bytes (slave_at n b i)
 
 abbrev pub invariant-loop-i : goal.invariant-loop-i
-invariant-loop-i l = (l.i ≤ l.slaves) × Put l.initial.out l.at (in_turn l.i (written l.n l.body)) l.out l.p
-
-abbrev pub decreases-loop-i : goal.decreases-loop-i
-decreases-loop-i l = l.slaves - l.i
+invariant-loop-i l = Put l.initial.out l.at (in_turn l.i (written l.n l.body)) l.out l.p

@@ -18,7 +18,7 @@ there : (c : After-head_at-h)
     → c.loop-c.start + c.head_at-h.result.transitions
     ≤ c.args.n.transitions
 there c =
-    in_all _ _ _ _ c.head_at-h.ensures c.loop-c.invariant.1 c.requires.1
+    in_all _ _ _ _ c.head_at-h.ensures c.loop-c.invariant.0 c.requires.1
     c.loop-c-test.true
 
 -- what is left of them, in turn
@@ -34,7 +34,7 @@ turned : (c : After-head_at-h)
 turned c =
     ap transitions_bytes
     (list_cleared c.args.n c.args.body.now c.loop-c.c c.loop-c.start _ c.head_at-h.ensures
-    c.loop-c.invariant.1)
+    c.loop-c.invariant.0)
     ∙ kept_turn c.head_at-h.result.feedback (transition_at c.args.n c.args.body.now) c.loop-c.start
     c.head_at-h.result.transitions
 
@@ -44,18 +44,17 @@ chart-p-requires c = (
   there (goal.at.chart-p-requires c).After-head_at-h,
   rw (← turned (goal.at.chart-p-requires c).After-head_at-h)
       (room_turn (written c.args.n c.args.body.now) c.requires.2 c.loop-c-test.true
-      c.loop-c.invariant.2),
+      c.loop-c.invariant.1),
 )
 
 pub loop-c-preserved : goal.loop-c-preserved
 loop-c-preserved c = (
-  omega arith,
-  start-next _ _ _ _ c.head_at-h.ensures c.loop-c.invariant.1,
-  put_next _ c.loop-c.invariant.2 (put_is (sym (turned (goal.at.loop-c-preserved c).After-head_at-h)) c.chart-p.ensures),
+  start-next _ _ _ _ c.head_at-h.ensures c.loop-c.invariant.0,
+  put_next _ c.loop-c.invariant.1 (put_is (sym (turned (goal.at.loop-c-preserved c).After-head_at-h)) c.chart-p.ensures),
 )
 
 pub loop-c-init : goal.loop-c-init
-loop-c-init c = (omega arith, sym (start_of-none _ _), put-start _)
+loop-c-init c = (sym (start_of-none _ _), put-start _)
 
 pub head_at-h-requires : goal.head_at-h-requires
 head_at-h-requires c = (c.requires.0.holds, c.loop-c-test.true)
@@ -66,14 +65,8 @@ overflow_add-start c =
     let m = c.requires.0.transitions in
     omega arith
 
-pub overflow_add-c : goal.overflow_add-c
-overflow_add-c c = omega arith
-
-pub loop-c-smaller : goal.loop-c-smaller
-loop-c-smaller c = omega arith
-
 pub shape_of-out : goal.shape_of-out
-shape_of-out c = put-length c.loop-c.invariant.2
+shape_of-out c = put-length c.loop-c.invariant.1
 
 pub returns : goal.returns
-returns c = put-done _ (omega arith) c.loop-c.invariant.2
+returns c = put-done _ (omega arith) c.loop-c.invariant.1

@@ -1,12 +1,8 @@
 -- `branch` meets its contract. The loop has the product over the charts passed, which is small.
-use Prim.Native.Nat.{◌-◌, ◌≤◌}
 use mathlib.Core.Path.{◌≡◌}
 use Rattle.wiring.specs.Product.{times}
 use Rattle.counting.specs.Counting.{factor_in}
 use Rattle.counting.proofs.branch.Given as goal
 
 abbrev pub invariant-loop-d : goal.invariant-loop-d
-invariant-loop-d l = (l.d ≤ l.charts) × (l.product ≡ times l.d (factor_in l.masters l.states l.counts l.c l.q l.u))
-
-abbrev pub decreases-loop-d : goal.decreases-loop-d
-decreases-loop-d l = l.charts - l.d
+invariant-loop-d l = l.product ≡ times l.d (factor_in l.masters l.states l.counts l.c l.q l.u)

@@ -6,7 +6,7 @@ use Rattle.meaning.specs.Laws.Bools.{same_refl, same_≢}
 use Rattle.counting.proofs.encloses.Goals as goal
 
 pub loop-d-init : goal.loop-d-init
-loop-d-init c = (omega arith, any_none _)
+loop-d-init c = any_none _
 
 pub returns-then-wide-c : goal.returns-then-wide-c
 returns-then-wide-c c =
@@ -19,16 +19,4 @@ pub loop-d-preserved : goal.loop-d-preserved
 loop-d-preserved c =
     let a = c.args in
     let e = c.wide.ensures in
-    (omega arith, any-more _ _ c.loop-d.invariant.1 (ap (λ z. same z a.c) (sym e) ∙ same_≢ _ a.c c.if-wide-c.false))
-
-pub returns : goal.returns
-returns c = any-done _ _ _ c.loop-d.invariant.0 c.loop-d-test.false c.loop-d.invariant.1
-
-pub bounds-masters-d : goal.bounds-masters-d
-bounds-masters-d c = omega arith
-
-pub overflow_add-d : goal.overflow_add-d
-overflow_add-d c = omega arith
-
-pub loop-d-smaller : goal.loop-d-smaller
-loop-d-smaller c = omega arith
+    any-more _ _ c.loop-d.invariant (ap (λ z. same z a.c) (sym e) ∙ same_≢ _ a.c c.if-wide-c.false)

@@ -1,6 +1,5 @@
 -- `fill` meets its contract. The loop has the entries from k on, and where chart k's transitions start.
 use mathlib.Core.Path.{◌≡◌}
-use Prim.Native.Nat.{◌≤◌}
 use lib.ListN.{length}
 use Rattle.layout.specs.Body.{start_of}
 use Rattle.counting.specs.Counting.{CountsOn, LeavesTo}
@@ -8,8 +7,5 @@ use Rattle.counting.proofs.fill.Given as goal
 
 abbrev pub invariant-loop-k : goal.invariant-loop-k
 invariant-loop-k l =
-    (l.k ≤ l.n.charts) × (length l.counts ≡ length l.initial.counts) × (l.start ≡ start_of l.n l.body l.k)
+    (length l.counts ≡ length l.initial.counts) × (l.start ≡ start_of l.n l.body l.k)
     × CountsOn l.n l.body l.config l.k l.counts × LeavesTo l.n l.body l.config l.k l.counts
-
-abbrev pub decreases-loop-k : goal.decreases-loop-k
-decreases-loop-k l = l.k

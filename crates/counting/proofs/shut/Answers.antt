@@ -7,7 +7,6 @@ use Rattle.counting.proofs.shut.Goals as goal
 pub loop-d-init : goal.loop-d-init
 loop-d-init c =
     let a = c.args in (
-      omega arith,
       ap length c.requires.3,
       rw c.requires.3
           (shuts_none a.charts a.config.now a.masters.now a.states.now a.counts.now c.requires.2),
@@ -23,26 +22,19 @@ shut_one-requires c =
       },
       c.requires.1,
       c.requires.2,
-      c.loop-d.invariant.1,
+      c.loop-d.invariant.0,
     )
 
 pub loop-d-preserved : goal.loop-d-preserved
 loop-d-preserved c =
     let a = c.args in (
-      omega arith,
       c.shut_one.ensures.0,
       shuts_next a.charts a.config.now a.masters.now a.states.now a.counts.now c.loop-d.d c.loop-d.shut
-          c.shut_one.new.shut c.loop-d.invariant.2 c.shut_one.ensures.1,
+          c.shut_one.new.shut c.loop-d.invariant.1 c.shut_one.ensures.1,
     )
 
 pub returns : goal.returns
 returns c =
     let a = c.args in
     shuts_done a.charts a.config.now a.masters.now a.states.now a.counts.now c.loop-d.d c.loop-d.shut
-    c.loop-d.invariant.0 (omega arith) c.loop-d.invariant.2
-
-pub overflow_add-d : goal.overflow_add-d
-overflow_add-d c = omega (arith, c.requires.2)
-
-pub loop-d-smaller : goal.loop-d-smaller
-loop-d-smaller c = omega arith
+    c.loop-d.auto.d-end (omega arith) c.loop-d.invariant.1

@@ -1,7 +1,6 @@
 use mathlib.Core.Path.{◌≡◌, ap, ◌∙◌}
 use Prim.Native.Nat.{ℕ, ◌+◌, ◌<◌}
 use native.Mathlib.Omega.{arith}
-use borrow.Author.Rules.{rules}
 use lib.ListN.{drop}
 use Rattle.layout.specs.Record.{transition_of}
 use Rattle.layout.specs.Body.{transition_at}
@@ -17,7 +16,7 @@ start t = (goal.at.At-loop-p t).Start
 -- the transition that is next
 next : (t : At-loop-p) → transition_of (drop t.loop-p.at (start t).args.body.now)
     ≡ transition_at (start t).args.n (start t).args.body.now ((start t).args.start + t.loop-p.p)
-next t = begins-at (start t).args.n (start t).args.body.now _ t.loop-p.at t.loop-p.invariant.1
+next t = begins-at (start t).args.n (start t).args.body.now _ t.loop-p.at t.loop-p.invariant.0
 
 -- the sum with what it adds
 more : (t : At-loop-p) → t.loop-p.p < (start t).args.count → (y : ℕ)
@@ -30,16 +29,12 @@ more t h y e =
     let a = (start t).args in
     let r = (start t).requires in
     sum_more a.n a.body.now a.masters.now a.states.now a.counts.now a.c a.q a.start
-    a.count r.1 r.2 t.loop-p.p t.loop-p.total y h t.loop-p.invariant.2
+    a.count r.1 r.2 t.loop-p.p t.loop-p.total y h t.loop-p.invariant.1
     (e ∙ ap (added_in a.n.charts a.masters.now a.states.now a.counts.now a.c a.q) (next t))
-
-pub staying-total-requires : goal.staying-total-requires
-staying-total-requires c = let r = c.requires in (r.4, r.5.staying)
 
 pub loop-p-init : goal.loop-p-init
 loop-p-init c =
     let a = c.args in (
-      search rules,
       omega arith,
       sum-none a.n a.body.now a.masters.now a.states.now a.counts.now a.c a.q
           c.staying-total.result c.staying-total.ensures,
@@ -49,7 +44,7 @@ pub added-total-requires : goal.added-total-requires
 added-total-requires c =
     let a = (start (goal.at.added-total-requires c).At-loop-p).args in
     let r = (start (goal.at.added-total-requires c).At-loop-p).requires in (
-      omega (arith, r.0, r.3, c.loop-p.invariant.1),
+      omega (arith, r.0, r.3, c.loop-p.invariant.0),
       r.4,
       rw (next (goal.at.added-total-requires c).At-loop-p) (product_small a.n a.body.now a.masters.now a.states.now a.counts.now a.c
           a.q a.start a.count r.1 r.2 r.5 c.loop-p.p (omega arith)),
@@ -66,16 +61,10 @@ overflow_add-total c =
 
 pub loop-p-preserved : goal.loop-p-preserved
 loop-p-preserved c =
-    (omega arith, omega (arith, c.loop-p.invariant.1), more (goal.at.loop-p-preserved c).At-loop-p (omega arith) c.added-total.result c.added-total.ensures)
+    (omega (arith, c.loop-p.invariant.0), more (goal.at.loop-p-preserved c).At-loop-p (omega arith) c.added-total.result c.added-total.ensures)
 
 pub returns : goal.returns
 returns c =
     let a = (start (goal.at.returns c).At-loop-p).args in
     sum_done a.n a.body.now a.masters.now a.states.now a.counts.now a.c a.q a.count c.loop-p.p
-    c.loop-p.total c.loop-p.invariant.0 (omega arith) c.loop-p.invariant.2
-
-pub overflow_add-p : goal.overflow_add-p
-overflow_add-p c = omega arith
-
-pub loop-p-smaller : goal.loop-p-smaller
-loop-p-smaller c = omega arith
+    c.loop-p.total c.loop-p.auto.p-end (omega arith) c.loop-p.invariant.1

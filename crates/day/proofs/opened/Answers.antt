@@ -1,56 +1,39 @@
 -- `opened` meets its contract: the file's refusal, then 30, then neither.
-use mathlib.Core.Path.{◌≡◌, sym, ap, ◌∙◌}
-use mathlib.Core.List.{List}
+use mathlib.Core.Path.{sym, ap, ◌∙◌}
 use Prim.Native.Nat.{ℕ, ◌/◌, ◌%◌}
 use native.Mathlib.Omega.{arith}
-use Rattle.meaning.specs.Check.{refusal_of}
-use Rattle.opening.specs.Opening.{Stands}
-use Rattle.opening.specs.declared.Opening.{Opening}
-use Rattle.line.specs.Line.{day_refusal}
-use Rattle.day.specs.Day.{Opened}
+use Rattle.std.proofs.lemmas.Result.{err_from_is_err_and}
+use Rattle.checks.specs.Refusals.Laws.{number-some}
 use Rattle.day.specs.Day.Laws.{by-file, by_front, by-none, front_is, charts_are, leads-of}
 use Rattle.day.proofs.opened.Goals as goal
-use Rattle.day.proofs.opened.Goals.{Else-o-ne-ACCEPTED}
 
-refuses : (f : List ℕ) (o : Opening) → (o.refusal ≡ 0 → ⊥) → o.refusal ≡ day_refusal f → Opened f o
-refuses f o h p =
-    record {
-      refusal = p;
-      accepted = λ z. absurd (h z);
-      stands = λ z. absurd (h z);
-      inputs = λ z. absurd (h z);
-    }
+pub returns-in_err-o : goal.returns-in_err-o
+returns-in_err-o c =
+    let p = err_from_is_err_and c.from_residual.result c.from_residual.ensures.1 in
+    rw (p.1, p.2)
+    (by-file _ c.requires _ c.in_err-o.ensures (number-some _))
 
-accepted : (c : Else-o-ne-ACCEPTED) → refusal_of c.args.input.now ≡ 0
-accepted c = sym c.opened-o.ensures.refusal ∙ c.if-o-ne-ACCEPTED.false
-
-stands : (c : Else-o-ne-ACCEPTED)
-    → Stands c.args.input.now c.opened-o.result
-stands c = c.opened-o.ensures.stands c.if-o-ne-ACCEPTED.false
-
-pub returns-then-o-ne-ACCEPTED : goal.returns-then-o-ne-ACCEPTED
-returns-then-o-ne-ACCEPTED c =
-    refuses _ _ c.if-o-ne-ACCEPTED.true (by-file _ c.requires _ c.opened-o.ensures.refusal c.if-o-ne-ACCEPTED.true)
-
-pub returns-then-start-ne0 : goal.returns-then-start-ne0
-returns-then-start-ne0 c =
-    refuses _ _ (λ z. omega arith) (by_front _ c.requires (accepted (goal.at.returns-then-start-ne0 c).Else-o-ne-ACCEPTED)
-    (λ z. c.if-start-ne0.true (ap (λ (k : ℕ). k % 8) (front_is _ (accepted (goal.at.returns-then-start-ne0 c).Else-o-ne-ACCEPTED) _ (stands (goal.at.returns-then-start-ne0 c).Else-o-ne-ACCEPTED)) ∙ z)))
+pub returns-then-o-ne0 : goal.returns-then-o-ne0
+returns-then-o-ne0 c =
+    let w = c.in_ok-o.ensures in
+    by_front _ c.requires w.0 (λ z. c.if-o-ne0.true (ap (λ (k : ℕ). k % 8) (front_is _ w.0 _ w.1) ∙ z))
 
 pub returns : goal.returns
 returns c =
-    let w = stands (goal.at.returns c).Else-o-ne-ACCEPTED in
-    let q = front_is _ (accepted (goal.at.returns c).Else-o-ne-ACCEPTED) _ w in
-    record {
-      refusal = c.if-o-ne-ACCEPTED.false
-          ∙ by-none _ c.requires (accepted (goal.at.returns c).Else-o-ne-ACCEPTED) (sym (ap (λ (k : ℕ). k % 8) q) ∙ c.if-start-ne0.false);
-      accepted = λ z. record {
-        passes = accepted (goal.at.returns c).Else-o-ne-ACCEPTED;
-        charts_is = charts_are _ _ w;
-        few = w.sized.charts;
-        within = omega (arith, w.order, w.end);
-        leads = leads-of _ (accepted (goal.at.returns c).Else-o-ne-ACCEPTED) _ w;
-      };
-      stands = λ z. w;
-      inputs = λ z. ap (λ (k : ℕ). k / 8) q;
-    }
+    let w = c.in_ok-o.ensures in
+    let s = w.1 in
+    let q = front_is _ w.0 _ s in (
+      sym (by-none _ c.requires w.0 (sym (ap (λ (k : ℕ). k % 8) q) ∙ c.if-o-ne0.false)),
+      record {
+        accepted =
+            record {
+              passes = w.0;
+              charts_is = charts_are _ _ s;
+              few = s.sized.charts;
+              within = omega (arith, s.start);
+              leads = leads-of _ w.0 _ s;
+            };
+        stands = s;
+        inputs = ap (λ (k : ℕ). k / 8) q;
+      },
+    )

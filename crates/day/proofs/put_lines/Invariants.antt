@@ -1,15 +1,9 @@
 -- `put_lines` meets its contract: the lines written, then those of the rows that are left, are all lines.
-use mathlib.Core.Path.{◌≡◌, refl, sym, ap, ap₂, ◌∙◌}
-use mathlib.Core.List.{List, ◌++◌, append-nil}
-use Prim.Native.Nat.{ℕ, ◌+◌, ◌*◌, ◌-◌, ◌≤◌, ◌<◌}
-use native.Mathlib.Nat.{sub_self}
-use native.Mathlib.Omega.{arith}
-use lib.ListN.{length, take, drop, length-take, length-drop, take-append-drop}
-use lib.Seq.{drop-drop, length-take-le}
-use Rattle.meaning.specs.Calls.{laid_over}
-use Rattle.line.specs.Line.{line_of, lines_of}
-use Rattle.running.specs.Run.Laws.{laid, laid-length, next_row, next-at}
-use Rattle.day.specs.Day.Laws.{text_fits, text_before, text_behind, lines_next}
+use mathlib.Core.Path.{◌≡◌}
+use mathlib.Core.List.{List, ◌++◌}
+use Prim.Native.Nat.{ℕ, ◌+◌, ◌*◌, ◌-◌, ◌≤◌}
+use lib.ListN.{length, take, drop}
+use Rattle.line.specs.Line.{lines_of}
 use Rattle.day.proofs.put_lines.Given as goal
 
 module _ (rows out₀ : List ℕ) (w n : ℕ) where
@@ -24,6 +18,3 @@ module _ (rows out₀ : List ℕ) (w n : ℕ) where
 
 abbrev pub invariant-loop-i : goal.invariant-loop-i
 invariant-loop-i l = So-far l.rows l.initial.out l.w l.n l.out l.at l.end l.i
-
-abbrev pub decreases-loop-i : goal.decreases-loop-i
-decreases-loop-i l = l.n - l.i

@@ -34,17 +34,16 @@ unfolding inputs_of
 all s l out n i e h p = sym (take-length l) ∙ rw h (sym (append-nil (take n l))) ∙ rw (e, sub_self) at p
 
 pub loop-i-init : goal.loop-i-init
-loop-i-init c = (omega arith, refl, none_yet _ _)
+loop-i-init c = (refl, none_yet _ _)
 
 pub loop-i-preserved : goal.loop-i-preserved
 loop-i-preserved c = (
-  omega arith,
-  simp length-set c.loop-i.invariant.1,
-  one_more _ c.loop-i.inputs _ _ c.loop-i.i _ c.loop-i-test.true (omega arith) c.le64.ensures c.loop-i.invariant.2,
+  simp length-set c.loop-i.invariant.0,
+  one_more _ c.loop-i.inputs _ _ c.loop-i.i _ c.loop-i-test.true (omega arith) c.le64.ensures c.loop-i.invariant.1,
 )
 
 pub returns : goal.returns
-returns c = all _ c.loop-i.inputs _ _ c.loop-i.i (omega arith) c.loop-i.invariant.1 c.loop-i.invariant.2
+returns c = all _ c.loop-i.inputs _ _ c.loop-i.i (omega arith) c.loop-i.invariant.0 c.loop-i.invariant.1
 
 pub overflow_mul-i : goal.overflow_mul-i
 overflow_mul-i c = omega arith
@@ -58,11 +57,5 @@ offset_bounds-inputs-i c = omega arith
 pub bounds-inputs-i : goal.bounds-inputs-i
 bounds-inputs-i c = omega arith
 
-pub overflow_add-i : goal.overflow_add-i
-overflow_add-i c = omega arith
-
-pub loop-i-smaller : goal.loop-i-smaller
-loop-i-smaller c = omega arith
-
 pub shape_of-inputs : goal.shape_of-inputs
-shape_of-inputs c = c.loop-i.invariant.1
+shape_of-inputs c = c.loop-i.invariant.0

@@ -27,7 +27,6 @@ use Rattle.meaning.specs.Calls.Laws.{length-made, get_or-made}
 use Rattle.meaning.proofs.Laws.Runs.{Leads, Valid, rows_all}
 use Rattle.opening.specs.Opening.{Stands}
 use Rattle.opening.specs.declared.Opening.{Opening}
-use Rattle.queries.specs.Promises.Laws.{both}
 use Rattle.stepping.specs.Step.{config_tests_in}
 use Rattle.stepping.specs.Step.Laws.{checked}
 use Rattle.running.specs.Run.Laws.{leads, bytes-passed, after_rows}
@@ -123,8 +122,7 @@ module _ (f : List ℕ) (a : refusal_of f ≡ 0) (o : Opening) (s : Stands f o) 
   front_is =
       let b : length (body_of f) ≡ size_of o.shape = s.sized.holds in
       let d : size_of o.shape ≡ (trailer f).distance = ap size_of s.shape ∙ sym distance_is in
-      let t : length (take (o.end - o.start) (drop o.start f)) ≡ length (body_of f) = ap length s.body in
-      omega (arith, b, d, rw (length-take, length-drop) at t, s.order, s.end)
+      omega (arith, b, d, s.start)
 
 pub charts_are : (f : List ℕ) (o : Opening) → Stands f o → o.shape.charts ≡ (file_of f).charts
 unfolding file_of file_at
@@ -224,7 +222,7 @@ module _ (f : List ℕ) where
 -- any two results that the contract allows are equal
 pub day_determined : (s : List ℕ) (behind : ℕ) (b : List ℕ) (r r' : ℕ) (c c' : List ℕ) → DaySays s behind b r c
     → DaySays s behind b r' c' → (r ≡ r') × (c ≡ c')
-day_determined s behind b = both
+day_determined s behind b r r' c c' p q = (p.0 ∙ sym q.0, p.1 ∙ sym q.1)
 
 pub from_more : (s : List ℕ) (behind : ℕ) → 0 < behind → day_from s behind ≡ file_refused input_too_long
 unfolding day_from

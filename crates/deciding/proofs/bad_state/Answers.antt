@@ -6,7 +6,7 @@ use Rattle.meaning.specs.Sums.Laws.{any_none, any-more, any_at, any-done}
 use Rattle.deciding.proofs.bad_state.Goals as goal
 
 pub loop-k-init : goal.loop-k-init
-loop-k-init c = (omega arith, any_none _)
+loop-k-init c = any_none _
 
 pub returns-then-config-k : goal.returns-then-config-k
 returns-then-config-k c =
@@ -14,19 +14,13 @@ returns-then-config-k c =
 
 pub loop-k-preserved : goal.loop-k-preserved
 loop-k-preserved c =
-    (omega arith, any-more _ _ c.loop-k.invariant.1 (ap not (lt-ltb _ _ c.if-config-k.false)))
+    any-more _ _ c.loop-k.invariant (ap not (lt-ltb _ _ c.if-config-k.false))
 
 pub returns : goal.returns
-returns c = any-done _ _ _ c.loop-k.invariant.0 c.loop-k-test.false c.loop-k.invariant.1
+returns c = any-done _ _ _ c.loop-k.auto.k-end c.loop-k-test.false c.loop-k.invariant
 
 pub bounds-config-k : goal.bounds-config-k
 bounds-config-k c = omega arith
 
 pub bounds-states-k : goal.bounds-states-k
 bounds-states-k c = omega arith
-
-pub overflow_add-k : goal.overflow_add-k
-overflow_add-k c = omega arith
-
-pub loop-k-smaller : goal.loop-k-smaller
-loop-k-smaller c = omega arith

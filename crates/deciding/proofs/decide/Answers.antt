@@ -1,10 +1,10 @@
 -- `deciding::decide` meets its contract.
 use mathlib.Core.Path.{ap, ◌∙◌}
-use Prim.Native.Nat.{ℕ}
-use Rattle.desk.specs.Turns.{plan_of}
+use Rattle.checks.specs.Refusals.{told}
+use Rattle.desk.specs.Turns.{decided_of}
+use Rattle.desk.proofs.Turns.Posted.{told-and}
 use Rattle.deciding.proofs.decide.Goals as goal
 
 pub returns : goal.returns
-returns c =
-    c.planned.ensures
-    ∙ ap (λ (r : ℕ). plan_of r c.args.n c.args.s.charts) c.verdict-r.ensures
+unfolding decided_of
+returns c = ap told c.and.ensures ∙ told-and c.args.s.tested c.verdict.result ∙ rw c.verdict.ensures

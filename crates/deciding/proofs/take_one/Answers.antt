@@ -1,5 +1,5 @@
 -- `deciding::take_one` meets its contract.
-use mathlib.Core.Path.{◌≡◌}
+use mathlib.Core.Path.{◌≡◌, refl}
 use mathlib.Core.Bool.{Bool, ◌||◌}
 use mathlib.Core.List.{List}
 use Prim.Native.Nat.{ℕ}
@@ -16,5 +16,8 @@ taken_is : (n : ℕ) (d : Day) (e : Entry) (l : List Set) (t : Bool) → l ≡ j
 unfolding taken_of
 taken_is n d e l t h g = rw (h, g)
 
-pub returns : goal.returns
-returns c = taken_is c.args.n c.args.d c.args.e _ _ c.joined_at-sets.ensures c.either-outside.ensures
+pub returns-then-d : goal.returns-then-d
+returns-then-d c = taken_is c.args.n c.args.d c.args.e _ _ c.joined_at-sets.ensures (rw c.if-d.true refl)
+
+pub returns-else-d : goal.returns-else-d
+returns-else-d c = taken_is c.args.n c.args.d c.args.e _ _ c.joined_at-sets.ensures (rw c.if-d.false refl)

@@ -18,77 +18,55 @@ module _ (s : Seen) (outside : Bool) (n room : ℕ) where
   abbrev verdict : ℕ
   verdict = verdict_of s outside n room
 
-  by_case : (s.refusal ≡ 0 → ⊥) → s.refusal ≡ verdict
+  by-none : n ≡ 0 → bad_book ≡ verdict
   unfolding verdict_of same
-  by_case k = rw (ne_eqb s.refusal 0 k)
+  by-none e = rw (eq-eqb n 0 e)
 
-  module _ (k : s.refusal ≡ 0) where
-    by-none : n ≡ 0 → bad_book ≡ verdict
+  module _ (some : n ≡ 0 → ⊥) where
+    by-many : most_cases < n → bad_book ≡ verdict
     unfolding verdict_of same
-    by-none e = rw (eq-eqb s.refusal 0 k, eq-eqb n 0 e)
+    by-many e = rw (ne_eqb n 0 some, lt-ltb most_cases n e)
 
-    module _ (some : n ≡ 0 → ⊥) where
-      by-many : most_cases < n → bad_book ≡ verdict
+    module _ (few : n ≤ most_cases) where
+      by-outside : outside ≡ true → no_such_case ≡ verdict
       unfolding verdict_of same
-      by-many e = rw (eq-eqb s.refusal 0 k, ne_eqb n 0 some, lt-ltb most_cases n e)
+      by-outside e = rw (ne_eqb n 0 some, le-ltb most_cases n few, e)
 
-      module _ (few : n ≤ most_cases) where
-        by-outside : outside ≡ true → no_such_case ≡ verdict
+      module _ (inside : outside ≡ false) where
+        by_end : s.ended ≡ true → rows_end ≡ verdict
         unfolding verdict_of same
-        by-outside e = rw (eq-eqb s.refusal 0 k, ne_eqb n 0 some, le-ltb most_cases n few, e)
+        by_end e = rw (ne_eqb n 0 some, le-ltb most_cases n few, inside, e)
 
-        module _ (inside : outside ≡ false) where
-          by_end : s.ended ≡ true → rows_end ≡ verdict
+        module _ (on : s.ended ≡ false) where
+          by_room : room < n * (14 + s.charts) → short_book ≡ verdict
           unfolding verdict_of same
-          by_end e = rw (eq-eqb s.refusal 0 k, ne_eqb n 0 some, le-ltb most_cases n few, inside, e)
+          by_room e =
+              rw (ne_eqb n 0 some, le-ltb most_cases n few, inside, on, lt-ltb room (n * (14 + s.charts)) e)
 
-          module _ (on : s.ended ≡ false) where
-            by_room : room < n * (14 + s.charts) → short_book ≡ verdict
-            unfolding verdict_of same
-            by_room e =
-                rw (
-                  eq-eqb s.refusal 0 k,
-                  ne_eqb n 0 some,
-                  le-ltb most_cases n few,
-                  inside,
-                  on,
-                  lt-ltb room (n * (14 + s.charts)) e,
-                )
-
-            by-nothing : n * (14 + s.charts) ≤ room → 0 ≡ verdict
-            unfolding verdict_of same
-            by-nothing e =
-                rw (
-                  eq-eqb s.refusal 0 k,
-                  ne_eqb n 0 some,
-                  le-ltb most_cases n few,
-                  inside,
-                  on,
-                  le-ltb room (n * (14 + s.charts)) e,
-                )
+          by-nothing : n * (14 + s.charts) ≤ room → 0 ≡ verdict
+          unfolding verdict_of same
+          by-nothing e =
+              rw (ne_eqb n 0 some, le-ltb most_cases n few, inside, on, le-ltb room (n * (14 + s.charts)) e)
 
 -- a product that fits
 fits : (n m : ℕ) → n ≤ 64 → m < 256 → n * (14 + m) < 2 ^ 64
 fits n m h k = let e : n * (14 + m) ≤ 64 * (14 + m) = mul-le-mul_right (14 + m) h in omega (arith, e, k)
 
-pub returns-then-b-ne-ACCEPTED : goal.returns-then-b-ne-ACCEPTED
-returns-then-b-ne-ACCEPTED c = by_case _ _ _ _ c.if-b-ne-ACCEPTED.true
-
 pub returns-then-n-eq0 : goal.returns-then-n-eq0
-returns-then-n-eq0 c = by-none _ _ _ _ c.if-b-ne-ACCEPTED.false c.if-n-eq0.true
+returns-then-n-eq0 c = by-none _ _ _ _ c.if-n-eq0.true
 
 pub returns-then-n-gt-CASES : goal.returns-then-n-gt-CASES
 returns-then-n-gt-CASES c =
-    by-many _ _ _ _ c.if-b-ne-ACCEPTED.false c.if-n-eq0.false c.if-n-gt-CASES.true
+    by-many _ _ _ _ c.if-n-eq0.false c.if-n-gt-CASES.true
 
 pub returns-then-outside : goal.returns-then-outside
 returns-then-outside c =
-    by-outside _ _ _ _ c.if-b-ne-ACCEPTED.false c.if-n-eq0.false c.if-n-gt-CASES.false
+    by-outside _ _ _ _ c.if-n-eq0.false c.if-n-gt-CASES.false
     c.if-outside.true
 
 pub returns-then-ended : goal.returns-then-ended
 returns-then-ended c =
-    by_end _ _ _ _ c.if-b-ne-ACCEPTED.false c.if-n-eq0.false
+    by_end _ _ _ _ c.if-n-eq0.false
     c.if-n-gt-CASES.false
     c.if-outside.false c.if-ended.true
 
@@ -99,12 +77,12 @@ overflow_mul-n c =
 
 pub returns-then-room-n : goal.returns-then-room-n
 returns-then-room-n c =
-    by_room _ _ _ _ c.if-b-ne-ACCEPTED.false c.if-n-eq0.false
+    by_room _ _ _ _ c.if-n-eq0.false
     c.if-n-gt-CASES.false
     c.if-outside.false c.if-ended.false c.if-room-n.true
 
 pub returns : goal.returns
 returns c =
-    by-nothing _ _ _ _ c.if-b-ne-ACCEPTED.false c.if-n-eq0.false
+    by-nothing _ _ _ _ c.if-n-eq0.false
     c.if-n-gt-CASES.false
     c.if-outside.false c.if-ended.false c.if-room-n.false

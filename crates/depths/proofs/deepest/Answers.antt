@@ -16,7 +16,7 @@ use Rattle.depths.proofs.deepest.Goals.{else-s-c, then-s-c}
 
 pub loop-i-init : goal.loop-i-init
 unfolding deepest_by
-loop-i-init c = (omega arith, sym (deepest-none _ _ _))
+loop-i-init c = sym (deepest-none _ _ _)
 
 -- s is slave i
 module _ (n : Shape) (b : List ℕ) (i : ℕ) (s : Slave) (e : s ≡ slave_at n b i) where
@@ -42,18 +42,9 @@ bounds-deep-node c =
 
 pub loop-i-preserved : goal.loop-i-preserved
 loop-i-preserved c =
-    let h = c.loop-i.invariant.1 in (
-      omega arith,
-      elim c.if-s-c.branch [ then-s-c w ↦ w.most-is ∙ w.larger-most.ensures ∙ taken _ _ _ _ c.slave_at-s.ensures _ _ _ h w.if-s-c.true | else-s-c w ↦ w.most-is ∙ left _ _ _ _ c.slave_at-s.ensures _ _ _ h w.if-s-c.false ],
-    )
+    let h = c.loop-i.invariant in elim c.if-s-c.branch [ then-s-c w ↦ w.most-is ∙ w.larger-most.ensures ∙ taken _ _ _ _ c.slave_at-s.ensures _ _ _ h w.if-s-c.true | else-s-c w ↦ w.most-is ∙ left _ _ _ _ c.slave_at-s.ensures _ _ _ h w.if-s-c.false ]
 
 pub returns : goal.returns
 returns c =
     let e : c.loop-i.i ≡ c.args.n.slaves = omega arith in
-    c.loop-i.invariant.1 ∙ ap (deepest_by _ _ _) e
-
-pub overflow_add-i : goal.overflow_add-i
-overflow_add-i c = omega arith
-
-pub loop-i-smaller : goal.loop-i-smaller
-loop-i-smaller c = omega arith
+    c.loop-i.invariant ∙ ap (deepest_by _ _ _) e

@@ -1,7 +1,8 @@
 -- That what the functions compute one after another (Turns) is what the posting says (Posting). In this order: a
 -- record's first bytes; the entries; the file and the cases looked at; a case posted; the book posted; what is decided
--- (`verdict_is`); what posting asks (`postable`); the whole (`cases_are`, `rows_are`).
-use Rattle.std.specs.Prelude.{◌≡◌, Bool, true, false, ◌||◌, ◌⊎◌, leb, eqb, take, drop, set}
+-- (`verdict_is`); what posting asks (`posts`); the whole: a day posted (`posted`) and a day refused (`refuses`).
+use Rattle.std.specs.Prelude.{◌≡◌, Bool, true, false, ◌||◌, ◌⊎◌, leb, eqb, take, drop, set, Result, Ok, Err}
+use Rattle.std.specs.Result.{result_and}
 use Rattle.std.proofs.Math.Path.{refl, sym, ap₂}
 use Rattle.std.proofs.Common.{ap, ◌∙◌, arith, lit<, length-set, length-append, get_or-set_same, get_or-set_other}
 use Rattle.std.proofs.Common.{take_at, take-suc}
@@ -15,30 +16,32 @@ use Rattle.std.proofs.Math.ListN.{length, get_or, get_or-append}
 use Rattle.std.proofs.lemmas.List.{length-replicate, get_or-replicate}
 use Rattle.signals.specs.Mask.{◌∪◌}
 use Rattle.signals.specs.Decide.{sets, A, B, C, ◌∪ₑ◌, ∅ₑ, ◌≐◌}
-use Rattle.meaning.specs.Numbers.{most_charts, wrong_length, many_open}
+use Rattle.meaning.specs.Numbers.{most_charts, wrong_length}
 use Rattle.meaning.specs.Sums.{any_up_to}
 use Rattle.meaning.specs.Sums.Laws.{any_cong}
-use Rattle.meaning.specs.Meaning.{Set, ∅, same, Outcome, Answer, refused, given, answer}
+use Rattle.meaning.specs.Meaning.{Set, same, Answer, refused, given}
 use Rattle.meaning.specs.File.{File, trailer, shape_of, file_at, file_of}
 use Rattle.meaning.specs.Check.{Test, first_of, file_tests, refusal_of, not_below}
 use Rattle.meaning.specs.Check.Laws.{eq_or-not, first_of_++, first_of-before, first_of-passes, Passes, passed, counted}
 use Rattle.meaning.specs.Check.Laws.{call_refused, call-passed}
-use Rattle.meaning.specs.Calls.{made, laid_over, config_tests, Valid, step_refusal, outcomes_in, found_in, many_open?}
+use Rattle.meaning.specs.Calls.{made, laid_over, config_tests, Valid, step_refusal}
 use Rattle.meaning.specs.Calls.{step_in, step_of, next_in}
-use Rattle.meaning.specs.Calls.{row_of, after_step, carried_after, refusal_in}
+use Rattle.meaning.specs.Calls.{row_of, after_step}
 use Rattle.meaning.specs.Calls.Laws.{length-made, get_or-made, call_allowed, step_open, behind_is}
 use Rattle.meaning.proofs.Laws.Runs.{file-leads, valid-after}
-use Rattle.queries.specs.States.{no_states, chart_states, states_of}
+use Rattle.checks.specs.Refusals.{number, told}
+use Rattle.checks.specs.Refusals.Laws.{number-some}
+use Rattle.checks.specs.declared.refusal.Refusal.{Refusal}
+use Rattle.queries.specs.States.{chart_states, states_of}
 use Rattle.desk.specs.declared.Case.{Case}
 use Rattle.desk.specs.declared.Entry.{Entry}
 use Rattle.desk.specs.declared.Day.{Day}
 use Rattle.desk.specs.declared.Seen.{Seen}
-use Rattle.desk.specs.declared.Plan.{Plan}
 use Rattle.desk.specs.Posting.{most_cases, last_row, width, bad_book, no_such_case, rows_end, short_book, config_of}
 use Rattle.desk.specs.Posting.{joined, book_tests, outside?, ended?, day_tests, post_refusal, posted_row}
-use Rattle.desk.specs.Posting.{posted_case, rows_from, cases_from, post_cases, post_rows}
+use Rattle.desk.specs.Posting.{posted_case, rows_from, cases_from, post_cases, post_rows, PostSays}
 use Rattle.desk.specs.Turns.{first_bytes, joined_at, taken_of, no_day, all_taken, bad_of, seen_of, unseen_of, all_seen}
-use Rattle.desk.specs.Turns.{verdict_of, plan_of, reply_of, turn_case, row_bytes, turn_row}
+use Rattle.desk.specs.Turns.{verdict_of, decided_of, turn_case, row_bytes, turn_row}
 use Rattle.desk.specs.Turns.{turn_cases, turn_rows, Postable}
 
 -- the first bytes of a record that has them
@@ -142,24 +145,15 @@ book_through f (c ∷ cs) us e =
     (first_of_++ (config_tests f (config_of c)) (book_tests f cs ++ us) (config_passes f (config_of c) z.0)
     ∙ book_through f cs us z.1)
 
--- what is seen of a file is its refusal, and then 20 or 21 of the first bad case
-unseen_refusal : (f : List ℕ) → (unseen_of f).refusal ≡ refusal_of f
-unfolding unseen_of states_of no_states same
-unseen_refusal f = elim (eq_or-not (refusal_of f) 0) [
-  | inl h ↦ rw (eq-eqb (refusal_of f) 0 h) (sym h)
-  | inr h ↦ rw (ne_eqb (refusal_of f) 0 h)
-]
+-- what is seen is 20 or 21 of the first bad case
+pub told-and : (a b : Result (Unit {0}) Refusal) → told (result_and a b) ≡ cond (same (told a) 0) (told b) (told a)
+unfolding same
+told-and (Ok x) b = refl
+told-and (Err e) b = rw (ne_eqb (number e) 0 (number-some e))
 
-seen_kept : (s : Seen) (cs : List Case) → (s.refusal ≡ 0 → ⊥) → (all_seen s cs).refusal ≡ s.refusal
-unfolding all_seen seen_of same
-seen_kept s [] h = refl
-seen_kept s (c ∷ cs) h =
-    let e : (seen_of s c).refusal ≡ s.refusal = rw (ne_eqb s.refusal 0 h) in
-    seen_kept (seen_of s c) cs (λ z. h (sym e ∙ z)) ∙ e
-
-pub seen_refused : (f : List ℕ) (cs : List Case) → (refusal_of f ≡ 0 → ⊥)
-    → (all_seen (unseen_of f) cs).refusal ≡ refusal_of f
-seen_refused f cs h = seen_kept (unseen_of f) cs (λ z. h (sym (unseen_refusal f) ∙ z)) ∙ unseen_refusal f
+told-cond : (t : Bool) (a b : Result (Unit {0}) Refusal) → told (cond t a b) ≡ cond t (told a) (told b)
+told-cond true a b = refl
+told-cond false a b = refl
 
 seen-ended : (s : Seen) (cs : List Case) → (all_seen s cs).ended ≡ (s.ended || ended? cs)
 unfolding all_seen seen_of ended?
@@ -204,15 +198,15 @@ module _ (f : List ℕ) (h : refusal_of f ≡ 0) where
     states : (k : ℕ) → k < F.charts → get_or s.states k 0 ≡ (F.chart k).states
 
   pub charts-seen : (unseen_of f).charts ≡ F.charts
-  unfolding unseen_of states_of same
-  charts-seen = rw (eq-eqb (refusal_of f) 0 h)
+  unfolding unseen_of states_of
+  charts-seen = refl
 
   states-seen : (k : ℕ) → k < F.charts → get_or (unseen_of f).states k 0 ≡ (F.chart k).states
-  unfolding unseen_of states_of chart_states same
+  unfolding unseen_of states_of chart_states
   states-seen k l =
       let n = F.charts in
       let t : ℕ → ℕ = λ c. (F.chart c).states in
-      rw (eq-eqb (refusal_of f) 0 h) (get_or-append (made n t) _ 0 k (rw (length-made n t) l) ∙ get_or-made n t k l)
+      get_or-append (made n t) _ 0 k (rw (length-made n t) l) ∙ get_or-made n t k l
 
   knows : Knows (unseen_of f)
   knows = record { charts = charts-seen; states = states-seen }
@@ -229,7 +223,7 @@ module _ (f : List ℕ) (h : refusal_of f ≡ 0) where
       ∙ any_cong F.charts _ _ (λ k l. ap₂ (λ (m n : ℕ). not_below m n)
       (sym (get_or-made c.length (λ j. get_or c.config j 0) k (omega (arith, l, z)))) (q.states k l))
 
-  bad_config : (s : Seen) → Knows s → (c : Case) → bad_of s c ≡ refusal_at f (config_of c)
+  bad_config : (s : Seen) → Knows s → (c : Case) → told (bad_of s c) ≡ refusal_at f (config_of c)
   unfolding bad_of config_tests first_of same
   bad_config s q c = elim (eq_or-not c.length F.charts) [
     | inl z ↦ rw (
@@ -238,69 +232,50 @@ module _ (f : List ℕ) (h : refusal_of f ≡ 0) where
       eq-eqb (length (config_of c)) F.charts (long ∙ z),
       any_same s q c z,
     )
+        (told-cond _ _ _)
     | inr z ↦ rw (
       ne_eqb c.length s.charts (λ e. z (e ∙ q.charts)),
       ne_eqb (length (config_of c)) F.charts (λ e. z (sym long ∙ e)),
     )
-        (either_way (ltb most_charts c.length) wrong_length)
+        (told-cond (ltb most_charts c.length) _ _ ∙ either_way (ltb most_charts c.length) wrong_length)
   ]
     where
       long : length (config_of c) ≡ c.length
       long = length-made c.length (λ k. get_or c.config k 0)
 
   refusal_now : (s : Seen) → Knows s → (c : Case)
-      → (seen_of s c).refusal ≡ cond (same s.refusal 0) (refusal_at f (config_of c)) s.refusal
+      → told (seen_of s c).tested ≡ cond (same (told s.tested) 0) (refusal_at f (config_of c)) (told s.tested)
   unfolding seen_of
-  refusal_now s q c = rw (bad_config s q c)
+  refusal_now s q c = rw (told-and s.tested (bad_of s c), bad_config s q c)
 
   seen_refusal : (s : Seen) → Knows s → (cs : List Case)
-      → (all_seen s cs).refusal ≡ cond (same s.refusal 0) (first_of (book_tests f cs)) s.refusal
+      → told (all_seen s cs).tested ≡ cond (same (told s.tested) 0) (first_of (book_tests f cs)) (told s.tested)
   unfolding all_seen book_tests first_of same
-  seen_refusal s q [] = elim (eq_or-not s.refusal 0) [ inl z ↦ rw z | inr z ↦ rw (ne_eqb s.refusal 0 z) ]
-  seen_refusal s q (c ∷ cs) = seen_refusal (seen_of s c) (knows_on s c q) cs ∙ elim (eq_or-not s.refusal 0) [
+  seen_refusal s q [] = elim (eq_or-not (told s.tested) 0) [ inl z ↦ rw z | inr z ↦ rw (ne_eqb (told s.tested) 0 z) ]
+  seen_refusal s q (c ∷ cs) = seen_refusal (seen_of s c) (knows_on s c q) cs ∙ elim (eq_or-not (told s.tested) 0) [
     | inl z ↦ first z (eq_or-not (refusal_at f (config_of c)) 0)
-    | inr z ↦ rw (refusal_now s q c, ne_eqb s.refusal 0 z, ne_eqb s.refusal 0 z)
+    | inr z ↦ rw (refusal_now s q c, ne_eqb (told s.tested) 0 z, ne_eqb (told s.tested) 0 z)
   ]
     where
-      first : s.refusal ≡ 0 → ((refusal_at f (config_of c) ≡ 0) ⊎ (refusal_at f (config_of c) ≡ 0 → ⊥))
-          → cond (same (seen_of s c).refusal 0) (first_of (book_tests f cs)) (seen_of s c).refusal
-          ≡ cond (same s.refusal 0) (first_of (book_tests f (c ∷ cs))) s.refusal
+      first : told s.tested ≡ 0 → ((refusal_at f (config_of c) ≡ 0) ⊎ (refusal_at f (config_of c) ≡ 0 → ⊥))
+          → cond (same (told (seen_of s c).tested) 0) (first_of (book_tests f cs)) (told (seen_of s c).tested)
+          ≡ cond (same (told s.tested) 0) (first_of (book_tests f (c ∷ cs))) (told s.tested)
       first z (inl y) = rw (refusal_now s q c, z, y, book_next f c cs y)
       first z (inr y) = rw (refusal_now s q c, z, ne_eqb (refusal_at f (config_of c)) 0 y) (sym (book_first f c cs y))
 
-  pub book_refusal : (cs : List Case) → (all_seen (unseen_of f) cs).refusal ≡ first_of (book_tests f cs)
-  unfolding same
-  book_refusal cs = seen_refusal (unseen_of f) knows cs ∙ rw (unseen_refusal f, h)
+  pub book_refusal : (cs : List Case) → told (all_seen (unseen_of f) cs).tested ≡ first_of (book_tests f cs)
+  unfolding same unseen_of
+  book_refusal cs = seen_refusal (unseen_of f) knows cs
 
   pub book_charts : (cs : List Case) → (all_seen (unseen_of f) cs).charts ≡ F.charts
   book_charts cs = seen-charts (unseen_of f) cs ∙ charts-seen
 
 -- ── a case posted ──
 
-kept_answer : (os : List Outcome) (i : Set) → cond (same (refusal_in (answer os)) 0) ∅ i ≡ carried_after (answer os) i
-unfolding answer same
-kept_answer [] i = refl
-kept_answer (o ∷ os) i = refl
-
 front-laid : (n xs : List ℕ) → first_bytes (length n) (n ++ xs) ≡ n
 front-laid n xs = sym (first-bytes (length n) (n ++ xs) (rw length-append (omega arith))) ∙ take_at n xs (length n) refl
 
 module _ (f : List ℕ) (h : refusal_of f ≡ 0) (c : Case) (z : refusal_at f (config_of c) ≡ 0) where
-  carried_kept : (i : Set)
-      → cond (same (refusal_in (step_in (file_of f) (config_of c) i)) 0) ∅ i
-      ≡ carried_after (step_in (file_of f) (config_of c) i) i
-  unfolding step_in found_in same
-  carried_kept i = limited (many_open? (file_of f) (config_of c))
-    where
-      os : List Outcome
-      os = outcomes_in (file_of f) (config_of c) i
-
-      -- after 24 as after 23
-      limited : (b : Bool) → cond (same (refusal_in (cond b (refused many_open) (answer os))) 0) ∅ i
-          ≡ carried_after (cond b (refused many_open) (answer os)) i
-      limited true = refl
-      limited false = kept_answer os i
-
   -- the step that is asked for is given the room that it needs
   pub step_is : (i : Set) → step_of f (config_of c) i width ≡ step_in (file_of f) (config_of c) i
   unfolding step_of
@@ -323,11 +298,11 @@ module _ (f : List ℕ) (h : refusal_of f ≡ 0) (c : Case) (z : refusal_at f (c
 
   module _ (d : Day) (k : ℕ) (i : Set) (e : get_or d.sets k 0 ≡ i) where
     pub case_posted : turn_case f c d k ≡ posted_case (file_of f) c i
-    unfolding turn_case posted_case reply_of
-    case_posted = rw (e, step_is (c.carried ∪ i), carried_kept (c.carried ∪ i)) refl
+    unfolding turn_case posted_case
+    case_posted = rw (e, step_is (c.carried ∪ i)) refl
 
     pub row_posted : turn_row (file_of f).charts f c d k ≡ posted_row (file_of f) c i
-    unfolding turn_row row_bytes posted_row reply_of row_of
+    unfolding turn_row row_bytes posted_row row_of
     row_posted = rw (
       e,
       step_is (c.carried ∪ i),
@@ -366,28 +341,25 @@ module _ (f : List ℕ) (cs : List Case) (es : List Entry) (room : ℕ) where
   day = all_taken (length cs) no_day es
 
   abbrev pub decision : ℕ
-  decision = verdict_of seen day.outside (length cs) room
+  decision = decided_of seen day.outside (length cs) room
 
-  pub verdict_is : decision ≡ post_refusal f cs es room
-  unfolding verdict_of post_refusal same day_tests first_of
-  verdict_is = elim (eq_or-not (refusal_of f) 0) [
-    | inr h ↦ rw (seen_refused f cs h, ne_eqb (refusal_of f) 0 h)
-        (sym (call_refused f (book_tests f cs ++ day_tests f cs es room) h))
-    | inl h ↦ rw (book_refusal f h cs, call-passed f (book_tests f cs ++ day_tests f cs es room) h)
-        (behind h (eq_or-not (first_of (book_tests f cs)) 0))
-  ]
+  pub verdict_is : refusal_of f ≡ 0 → decision ≡ post_refusal f cs es room
+  unfolding decided_of verdict_of post_refusal same day_tests first_of
+  verdict_is h =
+      rw (book_refusal f h cs, call-passed f (book_tests f cs ++ day_tests f cs es room) h)
+      (behind (eq_or-not (first_of (book_tests f cs)) 0))
     where
-      behind : (h : refusal_of f ≡ 0) → ((first_of (book_tests f cs) ≡ 0) ⊎ (first_of (book_tests f cs) ≡ 0 → ⊥))
+      behind : ((first_of (book_tests f cs) ≡ 0) ⊎ (first_of (book_tests f cs) ≡ 0 → ⊥))
           → cond (eqb (first_of (book_tests f cs)) 0)
           (cond (eqb (length cs) 0 || ltb most_cases (length cs)) bad_book
           (cond day.outside no_such_case
           (cond seen.ended rows_end (cond (ltb room (length cs * (14 + seen.charts))) short_book 0))))
           (first_of (book_tests f cs))
           ≡ first_of (book_tests f cs ++ day_tests f cs es room)
-      behind h (inr z) =
+      behind (inr z) =
           rw (ne_eqb (first_of (book_tests f cs)) 0 z)
           (sym (first_of-before (book_tests f cs) (day_tests f cs es room) z))
-      behind h (inl z) = rw (
+      behind (inl z) = rw (
         eq-eqb (first_of (book_tests f cs)) 0 z,
         book_through f cs (day_tests f cs es room) z,
         outside-of-day (length cs) es,
@@ -395,7 +367,7 @@ module _ (f : List ℕ) (cs : List Case) (es : List Entry) (room : ℕ) where
         book_charts f h cs,
       ) refl
 
-  -- ── what posting asks: that of a day that is accepted, and nothing of one that is refused ──
+  -- ── what posting asks: that of a day that is accepted ──
 
   rows_on : (cs : List Case) → ended? cs ≡ false → (k : ℕ) (c : Case) → k < length cs → (get_or cs k c).last < last_row
   unfolding ended?
@@ -444,22 +416,11 @@ module _ (f : List ℕ) (cs : List Case) (es : List Entry) (room : ℕ) where
           first_of-passes (day_tests f cs es room) (lit< tt, (lit< tt, (lit< tt, (lit< tt, tt))))
           (sym (book_through f cs (day_tests f cs es room) z) ∙ t)
 
-  abbrev pub plan : Plan
-  plan = plan_of decision (length cs) seen.charts
-
-  plan-of : decision ≡ 0 → (plan.count ≡ length cs) × (plan.charts ≡ seen.charts)
-  unfolding plan_of same
-  plan-of z = (rw (eq-eqb decision 0 z), rw (eq-eqb decision 0 z))
-
-  plan-none : (decision ≡ 0 → ⊥) → (plan.count ≡ 0) × (plan.charts ≡ 0)
-  unfolding plan_of same
-  plan-none z = (rw (ne_eqb decision 0 z), rw (ne_eqb decision 0 z))
-
   -- the charts that an accepted day's cases have
   pub charts_are : Accepted → seen.charts ≡ (file_of f).charts
   charts_are a = book_charts f a.file cs
 
-  posts : Accepted → Postable cs (length cs) seen.charts room
+  pub posts : Accepted → Postable cs (length cs) seen.charts room
   posts a = record {
     few = a.few;
     there = omega arith;
@@ -470,50 +431,38 @@ module _ (f : List ℕ) (cs : List Case) (es : List Entry) (room : ℕ) where
     rising = rows_on cs a.on;
   }
 
-  pub postable : Postable cs plan.count plan.charts room
-  postable = elim (eq_or-not decision 0) [
-    | inl z ↦ let q = plan-of z in rw (q.0, q.1) (posts (accepted (sym verdict_is ∙ z)))
-    | inr z ↦ let q = plan-none z in rw (q.0, q.1) none
-  ]
-    where
-      none : Postable cs 0 0 room
-      none = record {
-        few = omega arith;
-        there = omega arith;
-        narrow = omega arith;
-        fits = omega arith;
-        known = λ k c l. absurd (omega (arith, l));
-        rising = λ k c l. absurd (omega (arith, l));
-      }
+-- ── the whole ──
 
-  -- ── the whole ──
+module _ (f : List ℕ) (cs : List Case) (es : List Entry) (rows : List ℕ) where
+  abbrev refusal : ℕ
+  refusal = post_refusal f cs es (length rows)
 
-  charts-of : decision ≡ 0 → plan.charts ≡ (file_of f).charts
-  charts-of z = (plan-of z).1 ∙ charts_are (accepted (sym verdict_is ∙ z))
-
-  pub cases_are : turn_cases f day plan.count 0 cs ≡ post_cases f cs es room
-  unfolding post_cases same turn_cases
-  cases_are = elim (eq_or-not decision 0) [
-    | inl z ↦ let a = accepted (sym verdict_is ∙ z) in
-        rw ((plan-of z).0, eq-eqb (post_refusal f cs es room) 0 (sym verdict_is ∙ z))
-        (cases_posted f a.file day es (sets-of-day (length cs) es) 0 cs a.book (omega (arith, a.few)))
-    | inr z ↦ rw ((plan-none z).0, ne_eqb (post_refusal f cs es room) 0 (λ y. z (verdict_is ∙ y)))
-  ]
-
-  pub rows_are : (rows : List ℕ) → length rows ≡ room
-      → laid_over (turn_rows f day plan.charts plan.count 0 cs) rows ≡ post_rows f cs es rows
-  unfolding post_rows same turn_rows
-  rows_are rows y = rw y (elim (eq_or-not decision 0) [
-    | inl z ↦ let a = accepted (sym verdict_is ∙ z) in
+  -- a day that the file and what is decided let pass is posted
+  pub posted : (h : refusal_of f ≡ 0) (z : 0 ≡ decision f cs es (length rows))
+      → PostSays f cs es rows (Ok tt) (turn_cases f (day f cs es (length rows)) (length cs) 0 cs)
+      (laid_over (turn_rows f (day f cs es (length rows)) (seen f cs es (length rows)).charts (length cs) 0 cs) rows)
+  unfolding post_cases post_rows same
+  posted h z =
+      let y : refusal ≡ 0 = sym (z ∙ verdict_is f cs es (length rows) h) in
+      let a = accepted f cs es (length rows) y in
+      let e = sets-of-day (length cs) es in (
+        (y, refl),
+        rw (eq-eqb refusal 0 y) (cases_posted f h (day f cs es (length rows)) es e 0 cs a.book (omega (arith, a.few))),
         rw (
-          (plan-of z).0,
-          charts-of z,
-          eq-eqb (post_refusal f cs es room) 0 (sym verdict_is ∙ z),
-          rows_posted f a.file day es (sets-of-day (length cs) es) 0 cs a.book (omega (arith, a.few)),
-        )
-    | inr z ↦ rw ((plan-none z).0, ne_eqb (post_refusal f cs es room) 0 (λ y. z (verdict_is ∙ y)))
-  ])
+          eq-eqb refusal 0 y,
+          charts_are f cs es (length rows) a,
+          rows_posted f h (day f cs es (length rows)) es e 0 cs a.book (omega (arith, a.few)),
+        ),
+      )
 
-  pub refusal_is : plan.refusal ≡ post_refusal f cs es room
-  unfolding plan_of
-  refusal_is = verdict_is
+  -- one that is refused changes nothing
+  pub refuses : (r : Refusal) → number r ≡ refusal → PostSays f cs es rows (Err r) cs rows
+  unfolding post_cases post_rows same
+  refuses r e =
+      let z = ne_eqb refusal 0 (λ y. number-some r (e ∙ y)) in (e, rw z, rw z)
+
+  -- the file's refusal is the day's
+  pub file_refused : (r : Refusal) → number r ≡ refusal_of f → number r ≡ refusal
+  unfolding post_refusal
+  file_refused r e =
+      e ∙ sym (call_refused f (book_tests f cs ++ day_tests f cs es (length rows)) (λ y. number-some r (e ∙ y)))

@@ -1,9 +1,6 @@
--- What is printed ends where the next byte stands, which is within the text.
-use Rattle.std.proofs.Common.{length, ◌-◌, ◌≤◌}
+-- What is printed ends at the next byte or before it.
+use Rattle.std.proofs.Common.{◌≤◌}
 use Rattle.display.proofs.lay_out.Given as goal
 
 abbrev pub invariant-loop-at : goal.invariant-loop-at
-invariant-loop-at g l = (l.from ≤ l.at) × (l.at ≤ length l.text)
-
-abbrev pub decreases-loop-at : goal.decreases-loop-at
-decreases-loop-at g l = length l.text - l.at
+invariant-loop-at g l = l.from ≤ l.at

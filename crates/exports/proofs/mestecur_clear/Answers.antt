@@ -1,9 +1,17 @@
--- `exports::mestecur_clear` hands on what `clear` answers.
-use mathlib.Core.Path.{ap}
-use Rattle.transforms.specs.declared.clear.Cleared.{Cleared}
+-- `exports::mestecur_clear` hands on what `clear` answers; what is refused has the length 0.
+use Rattle.std.proofs.Common.{◌≡◌, List, ℕ, ◌∙◌}
+use borrow.Author.Tests.{ne_eqb}
+use Rattle.meaning.specs.Meaning.{same}
+use Rattle.clearing.specs.Clearing.{clear_refusal, clear_length}
+use Rattle.checks.specs.Refusals.{number}
+use Rattle.checks.specs.Refusals.Laws.{number-some}
+use Rattle.checks.specs.declared.refusal.Refusal.{Refusal}
 use Rattle.exports.proofs.mestecur_clear.Goals as goal
 
-pub returns : goal.returns
-returns c =
-    let e = c.clear-w.ensures in
-    (ap (λ (w : Cleared). w.refusal) e.0, e.1, ap (λ (w : Cleared). w.length) e.0)
+none : (f : List ℕ) (room : ℕ) (r : Refusal) → number r ≡ clear_refusal f room → 0 ≡ clear_length f room
+unfolding clear_length same
+none f room r e = rw (← e, ne_eqb (number r) 0 (number-some r))
+
+pub returns-in-Err : goal.returns-in-Err
+returns-in-Err c =
+    let e = c.in-Err.ensures in (c.number.ensures ∙ e.0, e.1, none _ _ _ e.0)

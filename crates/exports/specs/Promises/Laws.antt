@@ -1,10 +1,21 @@
 -- Any two results that one of these contracts allows are equal, behind every pointer too.
 use Rattle.std.specs.Prelude.{◌≡◌, List, ℕ}
+use Rattle.std.proofs.Common.{sym, ◌∙◌}
 use Rattle.meaning.specs.Meaning.{Set}
-use Rattle.queries.specs.Promises.Laws.{one, both}
 use Rattle.exports.specs.Promises.{CheckReturns, FirstReturns, InterfaceReturns, PlainReturns, StepReturns}
 use Rattle.exports.specs.Promises.{RunReturns, RewriteReturns, ClearReturns, LackingReturns, ReadReturns}
-use Rattle.exports.specs.Promises.{WriteReturns}
+use Rattle.exports.specs.Promises.{PostReturns, WriteReturns}
+use Rattle.desk.specs.declared.Case.{Case}
+use Rattle.desk.specs.declared.Entry.{Entry}
+
+-- what is equal to the same is equal; so are both of a pair
+module _ {A : Type 0} where
+  pub one : {d : A} (x y : A) → x ≡ d → y ≡ d → x ≡ y
+  one x y p q = p ∙ sym q
+
+module _ {A B : Type 0} where
+  pub both : {d : A} {e : B} (x y : A) (u v : B) → (x ≡ d) × (u ≡ e) → (y ≡ d) × (v ≡ e) → (x ≡ y) × (u ≡ v)
+  both x y u v p q = (one x y p.0 q.0, one u v p.1 q.1)
 
 -- three answers of a call
 three : {A B C : Type 0} {a : A} {b : B} {d : C} (r r' : A) (c c' : B) (n n' : C) → (r ≡ a) × (c ≡ b) × (n ≡ d)
@@ -47,6 +58,11 @@ module _ (f : List ℕ) where
   pub rewrite_determined : (b : List ℕ) (r r' : ℕ) (c c' : List ℕ) (n n' : ℕ) → RewriteReturns f b r c n
       → RewriteReturns f b r' c' n' → (r ≡ r') × (c ≡ c') × (n ≡ n')
   rewrite_determined b = three
+
+  pub post_determined : (cases : List Case) (entries : List Entry) (rows : List ℕ) (r r' : ℕ) (cs cs' : List Case)
+      (rs rs' : List ℕ) → PostReturns f cases entries rows r cs rs → PostReturns f cases entries rows r' cs' rs'
+      → (r ≡ r') × (cs ≡ cs') × (rs ≡ rs')
+  post_determined cases entries rows = three
 
   pub clear_determined : (b : List ℕ) (r r' : ℕ) (c c' : List ℕ) (n n' : ℕ) → ClearReturns f b r c n
       → ClearReturns f b r' c' n'

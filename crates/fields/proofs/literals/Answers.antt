@@ -34,11 +34,11 @@ loop-i-preserved c = (
 pub returns : goal.returns
 returns c =
     record {
-      within = c.behind_sign-2.ensures.within;
-      onward = omega (arith, c.loop-i.invariant.0.1, c.behind_sign-2.ensures.onward);
+      within = c.behind_sign-next.ensures.within;
+      onward = omega (arith, c.loop-i.invariant.0.1, c.behind_sign-next.ensures.onward);
       gives =
           λ ls ts h. through_end _ ls ts _ _ _
-          (λ e. c.loop-i-test.false (c.peek.ensures ∙ e)) c.behind_sign-2.ensures refl refl
+          (λ e. c.loop-i-test.false (c.peek.ensures ∙ e)) c.behind_sign-next.ensures refl refl
           refl (c.loop-i.invariant.1 ls ts h);
     }
 
@@ -51,5 +51,5 @@ behind_sign-requires c = c.loop-i.invariant.0.0
 pub literal-g-requires-in-loop-i : goal.literal-g-requires-in-loop-i
 literal-g-requires-in-loop-i c = c.behind_sign.ensures.within
 
-pub behind_sign-requires-2 : goal.behind_sign-requires-2
-behind_sign-requires-2 c = c.loop-i.invariant.0.0
+pub behind_sign-next-requires : goal.behind_sign-next-requires
+behind_sign-next-requires c = c.loop-i.invariant.0.0

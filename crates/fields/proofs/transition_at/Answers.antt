@@ -8,7 +8,7 @@ returns c =
     transition-right _ _ _ _ _ _ _ _ _ _ c.behind_sign.ensures c.name_at-a.ensures c.behind_sign-2.ensures
     c.name_at-b.ensures c.behind_sign-3.ensures c.guard_at-g.ensures c.set-s.ensures
     c.behind_sign-4.ensures
-    refl refl refl refl refl c.either.ensures
+    refl refl refl refl refl refl
 
 pub name_at-a-requires : goal.name_at-a-requires
 name_at-a-requires c = c.behind_sign.ensures.within

@@ -1,10 +1,13 @@
 -- `before_last` meets its contract, by the node's kind and its chart's slaves.
-use mathlib.Core.Path.{◌≡◌, refl}
+use mathlib.Core.Path.{◌≡◌, refl, sym, ap, ◌∙◌}
 use mathlib.Core.List.{List}
 use Prim.Native.Nat.{ℕ, zero, suc, ◌+◌}
 use native.Mathlib.Numerals.{add-one}
 use native.Mathlib.Omega.{arith}
 use Rattle.layout.specs.Body.{node_at}
+use Rattle.layout.specs.Kind.{byte_of}
+use Rattle.layout.specs.Kind.Laws.{byte-one}
+use Rattle.layout.specs.declared.record.Kind.TheVariants.{Holds}
 use Rattle.layout.specs.declared.body.Shape.{Shape}
 use Rattle.layout.specs.declared.record.Node.{Node}
 use Rattle.meaning.specs.File.{File, file_at}
@@ -34,13 +37,19 @@ module _ (n : Shape) (b : List ℕ) (j : ℕ) (r : Node) (e : r ≡ node_at n b 
     unfolding file_at
     some h = rw (← e, k, ← is) (before_some (file_at n b) s h)
 
-pub returns-then-node-ne-HOLDS : goal.returns-then-node-ne-HOLDS
-returns-then-node-ne-HOLDS c =
-    (other _ _ _ _ c.node_at-node.ensures c.if-node-ne-HOLDS.true, omega arith)
+pub kind-requires : goal.kind-requires
+unfolding file_at
+kind-requires c =
+    let t = c.requires.0.sound.ordered.kinds _ c.requires.1 in
+    let d = ap (λ (x : Node). x.kind) c.node_at-node.ensures in omega arith
+
+pub returns-in_default : goal.returns-in_default
+returns-in_default c =
+    (other _ _ _ _ c.node_at-node.ensures (λ z. c.in_default.not-Holds (byte-one _ Holds (c.kind.ensures ∙ z))), omega arith)
 
 pub returns-then-slaves-eq0 : goal.returns-then-slaves-eq0
 returns-then-slaves-eq0 c = (
-  none _ _ _ _ c.node_at-node.ensures c.if-node-ne-HOLDS.false _
+  none _ _ _ _ c.node_at-node.ensures (sym c.kind.ensures ∙ ap byte_of c.in-Holds.is) _
       c.slaves_of-slaves.ensures.0 c.if-slaves-eq0.true,
   omega arith,
 )
@@ -50,7 +59,7 @@ returns-else-slaves-eq0 c =
     let m = c.slaves_of-slaves.ensures.1 in
     let h = c.requires.0.sized.slaves in (
       some _ _ _ _ c.node_at-node.ensures
-          c.if-node-ne-HOLDS.false _
+          (sym c.kind.ensures ∙ ap byte_of c.in-Holds.is) _
           c.slaves_of-slaves.ensures.0 c.if-slaves-eq0.false,
       omega arith,
     )

@@ -9,7 +9,7 @@ use Rattle.growth.proofs.in_all.Goals as goal
 use Rattle.growth.proofs.in_all.Goals.{After-in_chart-sum}
 
 pub loop-c-init : goal.loop-c-init
-loop-c-init c = (omega arith, omega arith, sym (tally-none _))
+loop-c-init c = (omega arith, sym (tally-none _))
 
 -- what was counted is the chart's number
 is : (c : After-in_chart-sum)
@@ -27,28 +27,13 @@ loop-c-preserved c =
     let a = c.args in
     let m = c.in_chart-sum.ensures.1 in (
       omega arith,
-      omega arith,
       omega
           (arith, is (goal.at.loop-c-preserved c).After-in_chart-sum, tally-more c.loop-c.c (λ d. length (rewritten_chart (file_at a.n a.body.now) d).transitions)),
     )
 
 pub returns : goal.returns
 unfolding transitions_in file_at
-returns c = c.loop-c.invariant.2 ∙ tally-done _ _ _ c.loop-c.invariant.0 c.loop-c-test.false
+returns c = c.loop-c.invariant.1 ∙ tally-done _ _ _ c.loop-c.auto.c-end c.loop-c-test.false
 
 pub head_at-requires : goal.head_at-requires
 head_at-requires c = (c.requires.0.sized.holds, omega arith)
-
-pub bounds-inner-c : goal.bounds-inner-c
-bounds-inner-c c = let h = c.requires.0.sized.charts in omega arith
-
-pub overflow_add-sum : goal.overflow_add-sum
-overflow_add-sum c =
-    let h = c.requires.0.sized.charts in
-    let m = c.in_chart-sum.ensures.1 in omega arith
-
-pub overflow_add-c : goal.overflow_add-c
-overflow_add-c c = omega arith
-
-pub loop-c-smaller : goal.loop-c-smaller
-loop-c-smaller c = omega arith

@@ -44,29 +44,16 @@ module _ (n : Shape) (b : List ℕ) (start k s times : ℕ) (t : Transition) (e 
 
 pub loop-k-init : goal.loop-k-init
 unfolding leaving_in from
-loop-k-init c = (omega arith, omega arith, refl)
+loop-k-init c = (omega arith, refl)
 
 pub loop-k-preserved : goal.loop-k-preserved
 loop-k-preserved c =
     let e = c.transition_at-t.ensures in (
-      omega arith,
       elim c.if-t-s.branch [ then-t-s w ↦ let q = w.times-is in omega arith | else-t-s w ↦ let q = w.times-is in omega arith ],
-      elim c.if-t-s.branch [ then-t-s w ↦ w.times-is ∙ own _ _ _ _ _ _ _ e c.loop-k.invariant.2 w.if-t-s.true | else-t-s w ↦ w.times-is ∙ other _ _ _ _ _ _ _ e c.loop-k.invariant.2 w.if-t-s.false ],
+      elim c.if-t-s.branch [ then-t-s w ↦ w.times-is ∙ own _ _ _ _ _ _ _ e c.loop-k.invariant.1 w.if-t-s.true | else-t-s w ↦ w.times-is ∙ other _ _ _ _ _ _ _ e c.loop-k.invariant.1 w.if-t-s.false ],
     )
 
 pub returns : goal.returns
 returns c =
     let e : c.loop-k.k ≡ c.args.count = omega arith in
-    (rw e at c.loop-k.invariant.2, omega arith)
-
-pub overflow_add-start : goal.overflow_add-start
-overflow_add-start c = omega arith
-
-pub overflow_add-times : goal.overflow_add-times
-overflow_add-times c = omega arith
-
-pub overflow_add-k : goal.overflow_add-k
-overflow_add-k c = omega arith
-
-pub loop-k-smaller : goal.loop-k-smaller
-loop-k-smaller c = omega arith
+    (rw e at c.loop-k.invariant.1, omega arith)

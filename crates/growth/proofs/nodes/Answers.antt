@@ -5,32 +5,18 @@ use Rattle.growth.specs.Growth.Laws.{nodes_none, nodes_more}
 use Rattle.growth.proofs.nodes.Goals as goal
 
 pub loop-j-init : goal.loop-j-init
-loop-j-init c = (omega arith, omega arith, nodes_none _)
+loop-j-init c = (omega arith, nodes_none _)
 
 pub loop-j-preserved : goal.loop-j-preserved
 loop-j-preserved c =
     let e = c.before_last.ensures.0 in
     let m = c.before_last.ensures.1 in
-    (omega arith, omega arith, ap (λ (k : ℕ). c.loop-j.sum + (k + 1)) e ∙ nodes_more _ c.loop-j.j c.loop-j.invariant.2)
+    (omega arith, ap (λ (k : ℕ). c.loop-j.sum + (k + 1)) e ∙ nodes_more _ c.loop-j.j c.loop-j.invariant.1)
 
 pub returns : goal.returns
 returns c =
     let e : c.loop-j.j ≡ c.args.n.nodes = omega arith in
-    rw e at c.loop-j.invariant.2
+    rw e at c.loop-j.invariant.1
 
 pub before_last-requires : goal.before_last-requires
 before_last-requires c = (c.requires, omega arith)
-
-pub overflow_add-sum : goal.overflow_add-sum
-overflow_add-sum c = let m = c.before_last.ensures.1 in omega arith
-
-pub overflow_add-sum-in-loop-j : goal.overflow_add-sum-in-loop-j
-overflow_add-sum-in-loop-j c =
-    let m = c.before_last.ensures.1 in let h = c.requires.sized.nodes in
-    omega arith
-
-pub overflow_add-j : goal.overflow_add-j
-overflow_add-j c = omega arith
-
-pub loop-j-smaller : goal.loop-j-smaller
-loop-j-smaller c = omega arith

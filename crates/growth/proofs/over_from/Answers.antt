@@ -31,12 +31,12 @@ over_is n b m c s h κ idle eh es ek ei =
     ∙ sym (leaving_is (file_at n b) c κ ek x l)))
 
 pub loop-c-init : goal.loop-c-init
-loop-c-init c = (omega arith, sym (start_of-none _ _), any_none _)
+loop-c-init c = (sym (start_of-none _ _), any_none _)
 
 room : (c : After-head_at-h)
     → c.loop-c.start + c.head_at-h.result.transitions
     ≤ c.args.n.transitions
-room c = in_all _ _ _ _ c.head_at-h.ensures c.loop-c.invariant.1
+room c = in_all _ _ _ _ c.head_at-h.ensures c.loop-c.invariant.0
     c.requires.0.summed
     c.loop-c-test.true
 
@@ -51,7 +51,7 @@ asked c =
     c.over_from_states.ensures
     ∙ over_is _ _ _ c.loop-c.c _ _ _ _
     c.head_at-h.ensures
-    c.loop-c.invariant.1
+    c.loop-c.invariant.0
     (c.requires.1 _
     c.loop-c-test.true)
     c.idle_count.ensures
@@ -63,19 +63,15 @@ returns-then-over_from_states c =
 
 pub loop-c-preserved : goal.loop-c-preserved
 loop-c-preserved c = (
-  omega arith,
-  start-next _ _ _ _ c.head_at-h.ensures c.loop-c.invariant.1,
-  any-more _ _ c.loop-c.invariant.2 (sym (asked (goal.at.loop-c-preserved c).After-over_from_states) ∙ c.if-over_from_states.false),
+  start-next _ _ _ _ c.head_at-h.ensures c.loop-c.invariant.0,
+  any-more _ _ c.loop-c.invariant.1 (sym (asked (goal.at.loop-c-preserved c).After-over_from_states) ∙ c.if-over_from_states.false),
 )
 
 pub returns : goal.returns
-returns c = any-done _ _ _ c.loop-c.invariant.0 c.loop-c-test.false c.loop-c.invariant.2
+returns c = any-done _ _ _ c.loop-c.auto.c-end c.loop-c-test.false c.loop-c.invariant.1
 
 pub head_at-h-requires : goal.head_at-h-requires
 head_at-h-requires c = (c.requires.0.sized.holds, c.loop-c-test.true)
-
-pub bounds-inner-c : goal.bounds-inner-c
-bounds-inner-c c = let h = c.requires.0.sized.charts in omega arith
 
 pub over_from_states-requires : goal.over_from_states-requires
 over_from_states-requires c = (
@@ -89,9 +85,3 @@ overflow_add-start c =
     let r = room (goal.at.overflow_add-start c).After-head_at-h in
     let h = c.requires.0.sized.transitions in
     omega arith
-
-pub overflow_add-c : goal.overflow_add-c
-overflow_add-c c = omega arith
-
-pub loop-c-smaller : goal.loop-c-smaller
-loop-c-smaller c = omega arith

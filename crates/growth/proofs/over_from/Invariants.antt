@@ -3,7 +3,7 @@
 use mathlib.Core.Path.{◌≡◌}
 use mathlib.Core.Bool.{Bool, false}
 use mathlib.Core.List.{List}
-use Prim.Native.Nat.{ℕ, ◌-◌, ◌≤◌}
+use Prim.Native.Nat.{ℕ}
 use lib.Dec.{ltb}
 use Rattle.layout.specs.Body.{start_of}
 use Rattle.layout.specs.declared.body.Shape.{Shape}
@@ -18,7 +18,4 @@ over n b m c = any_up_to (rewritten_chart (file_at n b) c).states
     (λ s. ltb m (leaving_in (rewritten_chart (file_at n b) c).transitions s))
 
 abbrev pub invariant-loop-c : goal.invariant-loop-c
-invariant-loop-c l = (l.c ≤ l.charts) × (l.start ≡ start_of l.n l.body l.c) × (any_up_to l.c (over l.n l.body l.most) ≡ false)
-
-abbrev pub decreases-loop-c : goal.decreases-loop-c
-decreases-loop-c l = l.charts - l.c
+invariant-loop-c l = (l.start ≡ start_of l.n l.body l.c) × (any_up_to l.c (over l.n l.body l.most) ≡ false)

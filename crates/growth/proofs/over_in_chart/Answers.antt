@@ -10,7 +10,7 @@ use Rattle.growth.proofs.over_in_chart.Goals as goal
 use Rattle.growth.proofs.over_in_chart.Goals.{After-in_chart}
 
 pub loop-c-init : goal.loop-c-init
-loop-c-init c = (omega arith, any_none _)
+loop-c-init c = any_none _
 
 -- what was counted is the chart's number
 is : (c : After-in_chart)
@@ -29,23 +29,11 @@ returns-then-most-in_chart c =
     (lt-ltb _ _ (rw (is (goal.at.returns-then-most-in_chart c).After-in_chart) at c.if-most-in_chart.true)))
 
 pub loop-c-preserved : goal.loop-c-preserved
-loop-c-preserved c = (
-  omega arith,
-  any-more _ _ c.loop-c.invariant.1
-      (le-ltb _ _ (rw (is (goal.at.loop-c-preserved c).After-in_chart) at c.if-most-in_chart.false)),
-)
+loop-c-preserved c = any-more _ _ c.loop-c.invariant
+    (le-ltb _ _ (rw (is (goal.at.loop-c-preserved c).After-in_chart) at c.if-most-in_chart.false))
 
 pub returns : goal.returns
-returns c = any-done _ _ _ c.loop-c.invariant.0 c.loop-c-test.false c.loop-c.invariant.1
+returns c = any-done _ _ _ c.loop-c.auto.c-end c.loop-c-test.false c.loop-c.invariant
 
 pub head_at-requires : goal.head_at-requires
 head_at-requires c = (c.requires.0.sized.holds, omega arith)
-
-pub bounds-inner-c : goal.bounds-inner-c
-bounds-inner-c c = let h = c.requires.0.sized.charts in omega arith
-
-pub overflow_add-c : goal.overflow_add-c
-overflow_add-c c = omega arith
-
-pub loop-c-smaller : goal.loop-c-smaller
-loop-c-smaller c = omega arith

@@ -2,6 +2,7 @@
 -- transition there.
 use mathlib.Core.Path.{◌≡◌, sym, ap, ap₂, ◌∙◌}
 use mathlib.Core.List.{List}
+use Rattle.std.specs.Prelude.{Ok, Err}
 use Prim.Native.Nat.{ℕ, ◌+◌, ◌≤◌, ◌<◌}
 use native.Mathlib.Omega.{arith}
 use lib.ListN.{length}
@@ -17,7 +18,6 @@ use Rattle.meaning.specs.File.{chart_of, file_at}
 use Rattle.meaning.proofs.Laws.Choices.{nth-from}
 use Rattle.lacks.specs.Lacking.{test_of, lacking_in}
 use Rattle.lacks.proofs.Laws.{no_chart, no_place, both_there, in_refused, in_shown, at_place}
-use Rattle.lacks.specs.declared.Lacking.TheVariants.{Refused, Shown}
 use Rattle.lacks.proofs.of_body.Goals as goal
 
 module _ (n : Shape) (b : List ℕ) (chart place : ℕ) (o : Set) where
@@ -25,7 +25,7 @@ module _ (n : Shape) (b : List ℕ) (chart place : ℕ) (o : Set) where
   unfolding file_at chart_of transitions_of
   long = length_from (transition_at n b) (start_of n b chart) (head_at n b chart).transitions
 
-  charted : n.charts ≤ chart → Refused no_such_chart ≡ lacking_in (file_at n b) chart place o
+  charted : n.charts ≤ chart → Err no_such_chart ≡ lacking_in (file_at n b) chart place o
   unfolding file_at
   charted l = in_refused (file_at n b) chart place o _ (λ z. omega (arith, z)) (no_chart (file_at n b) chart place l)
 
@@ -33,7 +33,7 @@ module _ (n : Shape) (b : List ℕ) (chart place : ℕ) (o : Set) where
     count : h.transitions ≡ length ((file_at n b).chart chart).transitions
     count = ap (λ (x : Head). x.transitions) eh ∙ sym long
 
-    placed : h.transitions ≤ place → Refused no_such_place ≡ lacking_in (file_at n b) chart place o
+    placed : h.transitions ≤ place → Err no_such_place ≡ lacking_in (file_at n b) chart place o
     unfolding file_at
     placed k =
         in_refused (file_at n b) chart place o _ (λ z. omega (arith, z))
@@ -48,10 +48,10 @@ module _ (n : Shape) (b : List ℕ) (chart place : ℕ) (o : Set) where
           (let t = ap (λ (x : Head). x.transitions) eh in omega (arith, t, k))
 
       shows : (t : Transition) → t ≡ transition_at n b (start_of n b chart + place) → (r : Tested)
-          → r ≡ test_of h.feedback t o → Shown r ≡ lacking_in (file_at n b) chart place o
+          → r ≡ test_of h.feedback t o → Ok r ≡ lacking_in (file_at n b) chart place o
       unfolding file_at chart_of
       shows t et r er =
-          ap Shown (er ∙ ap₂ (λ (x : Head) (z : Transition). test_of x.feedback z o) eh et
+          ap Ok (er ∙ ap₂ (λ (x : Head) (z : Transition). test_of x.feedback z o) eh et
           ∙ sym (at_place ((file_at n b).chart chart) place (transition_at n b (start_of n b chart + place)) o here))
           ∙ in_shown (file_at n b) chart place o
           (both_there (file_at n b) chart place l (let e = count in omega (arith, e, k)))

@@ -15,14 +15,11 @@ taken_last : (n : ℕ) (d : Day) (es : List Entry) (i : ℕ) → i ≡ length es
 unfolding all_taken
 taken_last n d es i e = rw (e, drop-length es)
 
-pub loop-i-preserved : goal.loop-i-preserved
-loop-i-preserved c = (
-  omega arith,
-  rw c.take_one-d.ensures
-      (sym (taken_next c.args.n c.loop-i.d c.args.entries.now c.loop-i.i _ c.loop-i-test.true)
-      ∙ c.loop-i.invariant.1),
-)
+pub loop-entry-preserved : goal.loop-entry-preserved
+loop-entry-preserved c = rw c.take_one-d.ensures
+    (sym (taken_next c.args.n c.loop-entry.d c.args.entries.now c.loop-entry.entry-index _ c.loop-entry-test.true)
+    ∙ c.loop-entry.invariant)
 
 pub returns : goal.returns
 returns c =
-    sym (taken_last c.args.n c.loop-i.d c.args.entries.now c.loop-i.i (omega arith)) ∙ c.loop-i.invariant.1
+    sym (taken_last c.args.n c.loop-entry.d c.args.entries.now c.loop-entry.entry-index (omega arith)) ∙ c.loop-entry.invariant

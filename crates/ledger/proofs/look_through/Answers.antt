@@ -15,12 +15,13 @@ seen_last : (s : Seen) (cs : List Case) (i : ℕ) → i ≡ length cs → all_se
 unfolding all_seen
 seen_last s cs i e = rw (e, drop-length cs)
 
-pub loop-i-preserved : goal.loop-i-preserved
-loop-i-preserved c = (
-  omega arith,
-  rw c.look_at-s.ensures
-      (sym (seen_next c.loop-i.s c.args.cases.now c.loop-i.i _ c.loop-i-test.true) ∙ c.loop-i.invariant.1),
-)
+pub loop-case-preserved : goal.loop-case-preserved
+loop-case-preserved c = rw c.look_at-s.ensures
+    (sym (seen_next c.loop-case.s c.args.cases.now c.loop-case.case-index _ c.loop-case-test.true)
+    ∙ c.loop-case.invariant)
 
 pub returns : goal.returns
-returns c = sym (seen_last c.loop-i.s c.args.cases.now c.loop-i.i (omega arith)) ∙ c.loop-i.invariant.1
+returns c = (
+  c.in_ok-s.ensures.0,
+  sym (seen_last c.loop-case.s c.args.cases.now c.loop-case.case-index (omega arith)) ∙ c.loop-case.invariant,
+)

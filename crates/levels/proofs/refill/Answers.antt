@@ -51,20 +51,14 @@ returns c = (
   omega arith,
   λ ls h. looks_whole _ _ _ _ _ _ ls _ _ _ (c.loop-i.invariant.1.1 ls h) c.loop-i-test.false
       c.loop-i.invariant.1.0 _ c.slot-at-2.ensures.0 _
-      c.whole.ensures,
+      c.whole.ensures.0,
 )
-
-pub overflow_sub-i : goal.overflow_sub-i
-overflow_sub-i c = omega arith
 
 pub bounds-text-i : goal.bounds-text-i
 bounds-text-i c = omega arith
 
 pub one_back-w-requires : goal.one_back-w-requires
 one_back-w-requires c = omega arith
-
-pub loop-i-smaller-in-On : goal.loop-i-smaller-in-On
-loop-i-smaller-in-On c = omega arith
 
 pub slot-at-requires : goal.slot-at-requires
 slot-at-requires c = (omega arith, omega arith)
@@ -83,9 +77,6 @@ overflow_add-held c = omega arith
 
 pub is_done-requires : goal.is_done-requires
 is_done-requires c = omega arith
-
-pub loop-i-smaller : goal.loop-i-smaller
-loop-i-smaller c = omega arith
 
 pub slot-at-requires-2 : goal.slot-at-requires-2
 slot-at-requires-2 c = (omega arith, omega arith)

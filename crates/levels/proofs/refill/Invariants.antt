@@ -10,6 +10,3 @@ invariant-loop-i l =
     (l.i + l.depth ≤ l.from) × ((l.held < 1024)
     × ((ls : List ℕ) → Stands l.text l.initial.ring l.initial.places l.end l.taken l.from ls
     → Looks l.text l.ring l.places l.end l.held l.i l.depth l.second l.q ls))
-
-abbrev pub decreases-loop-i : goal.decreases-loop-i
-decreases-loop-i l = l.i

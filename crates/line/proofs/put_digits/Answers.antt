@@ -31,7 +31,7 @@ lowest-first l at base k x =
     ∙ sym (sets-append l at hs (digit (x % base) ∷ []))
 
 pub loop-i-init : goal.loop-i-init
-loop-i-init c = (omega arith, refl, rw sub-zero)
+loop-i-init c = (refl, rw sub-zero)
 
 -- a digit is below the base
 low : (c : In-loop-i) → c.loop-i.left % c.args.base < 16
@@ -45,10 +45,9 @@ loop-i-preserved c =
     let a = c.args in
     let k = a.n - (c.loop-i.i + 1) in
     let e : a.n - c.loop-i.i ≡ suc k = omega arith in (
-      omega arith,
-      simp length-set c.loop-i.invariant.1,
+      simp length-set c.loop-i.invariant.0,
       rw (c.place.ensures, c.digit.ensures)
-          (lowest-first c.loop-i.out a.at a.base k c.loop-i.left ∙ (rw e at c.loop-i.invariant.2)),
+          (lowest-first c.loop-i.out a.at a.base k c.loop-i.left ∙ (rw e at c.loop-i.invariant.1)),
     )
 
 pub returns : goal.returns
@@ -56,7 +55,7 @@ unfolding digits
 returns c =
     let a = c.args in
     let e : a.n - c.loop-i.i ≡ 0 = omega arith in
-    record { is = rw e at c.loop-i.invariant.2; place = rw length_digits }
+    record { is = rw e at c.loop-i.invariant.1; place = rw length_digits }
 
 pub nonzero_rem-left : goal.nonzero_rem-left
 nonzero_rem-left c = omega arith
@@ -72,12 +71,6 @@ place-requires c = omega arith
 
 pub nonzero_div-left : goal.nonzero_div-left
 nonzero_div-left c = omega arith
-
-pub overflow_add-i : goal.overflow_add-i
-overflow_add-i c = omega arith
-
-pub loop-i-smaller : goal.loop-i-smaller
-loop-i-smaller c = omega arith
 
 pub overflow_add-result : goal.overflow_add-result
 overflow_add-result c = omega arith

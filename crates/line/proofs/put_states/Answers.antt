@@ -41,19 +41,16 @@ put_state-next-requires c =
     room_next a.out.now a.at (decimal (get_or states 0 0)) (rest states 1) (room (goal.at.put_state-next-requires c).Else-states-eq0)
     c.put_decimal-next.ensures in
     room_first c.loop-i.out c.loop-i.next (dot ∷ decimal (get_or states c.loop-i.i 0)) (rest states (suc c.loop-i.i))
-    (rw (behind_cons states c.loop-i.i (omega arith)) at (left_room (rest states c.loop-i.i) c.loop-i.invariant.1 r))
+    (rw (behind_cons states c.loop-i.i (omega arith)) at (left_room (rest states c.loop-i.i) c.loop-i.invariant r))
 
 pub loop-i-preserved : goal.loop-i-preserved
 loop-i-preserved c =
-    let states = c.args.states.now in (
-      omega arith,
-      rw add-one
-          (left-put (dot ∷ decimal (get_or states c.loop-i.i 0)) (rest states (suc c.loop-i.i))
-          (rw (behind_cons states c.loop-i.i (omega arith)) at c.loop-i.invariant.1) c.put_state-next.ensures),
-    )
+    let states = c.args.states.now in rw add-one
+    (left-put (dot ∷ decimal (get_or states c.loop-i.i 0)) (rest states (suc c.loop-i.i))
+    (rw (behind_cons states c.loop-i.i (omega arith)) at c.loop-i.invariant) c.put_state-next.ensures)
 
 pub shape_of-out : goal.shape_of-out
-shape_of-out c = left-length _ c.loop-i.invariant.1 ∙ put-length c.put_decimal-next.ensures
+shape_of-out c = left-length _ c.loop-i.invariant ∙ put-length c.put_decimal-next.ensures
 
 pub returns : goal.returns
 unfolding behind
@@ -61,7 +58,7 @@ returns c =
     let states = c.args.states.now in
     rw (dotted_cons states (omega arith))
     (put-append c.put_decimal-next.ensures
-    (left-none (rw (drop_of_length-le states c.loop-i-test.false) at c.loop-i.invariant.1)))
+    (left-none (rw (drop_of_length-le states c.loop-i-test.false) at c.loop-i.invariant)))
 
 pub bounds-states-0 : goal.bounds-states-0
 bounds-states-0 c = omega arith
@@ -70,13 +67,7 @@ pub overflow_cast-states : goal.overflow_cast-states
 overflow_cast-states c = omega (arith, c.type_inv.states 0)
 
 pub loop-i-init : goal.loop-i-init
-loop-i-init c = (omega arith, left-all _ _ _)
+loop-i-init c = left-all _ _ _
 
 pub bounds-states-i : goal.bounds-states-i
 bounds-states-i c = omega arith
-
-pub overflow_add-i : goal.overflow_add-i
-overflow_add-i c = omega arith
-
-pub loop-i-smaller : goal.loop-i-smaller
-loop-i-smaller c = omega arith

@@ -1,6 +1,5 @@
 -- `sequential_at` meets its contract: its parts are read one after another.
-use mathlib.Core.Path.{refl, ap, ◌∙◌}
-use mathlib.Core.Bool.{◌||◌}
+use mathlib.Core.Path.{refl}
 use Rattle.lists.specs.Laws.Sequentials.{sequential_right}
 use Rattle.lists.proofs.sequential_at.Goals as goal
 
@@ -8,7 +7,7 @@ pub returns : goal.returns
 returns c =
     sequential_right _ _ _ _ _ _ _ c.heading_at-h.ensures c.behind_sign.ensures c.transitions-l.ensures
     c.extra_at-x.ensures c.behind_sign-2.ensures refl refl refl refl refl refl refl
-    (c.either-2.ensures ∙ ap (c.heading_at-h.result.bad ||◌) c.either.ensures)
+    refl
 
 pub behind_sign-requires : goal.behind_sign-requires
 behind_sign-requires c = c.heading_at-h.ensures.within

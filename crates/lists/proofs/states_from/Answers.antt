@@ -46,7 +46,7 @@ returns c =
       onward = omega (arith, c.loop-i.invariant.0.1.0, c.behind_sign-2.ensures.onward);
       gives =
           λ ks ts h. going_end _ ks ts _ _ _ _ _ _ (λ e. c.loop-i-test.false (c.peek.ensures ∙ e)) c.behind_sign-2.ensures
-          refl refl refl (c.either.ensures ∙ ap (c.loop-i.so_far.bad ||◌) c.left_out.ensures) (c.loop-i.invariant.1 ks ts h);
+          refl refl refl (ap (c.loop-i.so_far.bad ||◌) c.left_out.ensures) (c.loop-i.invariant.1 ks ts h);
     }
 
 pub peek-requires : goal.peek-requires

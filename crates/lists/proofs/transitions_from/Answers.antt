@@ -7,7 +7,7 @@ use Rattle.tokens.specs.Tokens.{blanks}
 use Rattle.tokens.specs.Laws.Steps.{peek_some}
 use Rattle.lists.specs.Laws.Transitions.{along_first, along_more, along_end}
 use Rattle.lists.proofs.transitions_from.Goals as goal
-use Rattle.lists.proofs.transitions_from.Goals.{After-either-bad}
+use Rattle.lists.proofs.transitions_from.Goals.{After-refused-more}
 
 pub loop-i-init : goal.loop-i-init
 loop-i-init c =
@@ -27,15 +27,15 @@ loop-i-smaller c =
 
 pub overflow_add-commas : goal.overflow_add-commas
 overflow_add-commas c =
-    omega (arith, loop-i-smaller (goal.at.overflow_add-commas c).After-either-bad, c.loop-i.invariant.0.1.1)
+    omega (arith, loop-i-smaller (goal.at.overflow_add-commas c).After-refused-more, c.loop-i.invariant.0.1.1)
 
 pub loop-i-preserved : goal.loop-i-preserved
 loop-i-preserved c =
-    let f = loop-i-smaller (goal.at.loop-i-preserved c).After-either-bad in
+    let f = loop-i-smaller (goal.at.loop-i-preserved c).After-refused-more in
     let v = c.loop-i.invariant.0 in (
       (c.transition_at-q.ensures.within, (omega (arith, f, v.1.0), omega (arith, f, v.1.1))),
       λ ts us h. along_more _ _ ts us _ _ _ _ _ _ (sym c.peek.ensures ∙ c.loop-i-test.true) c.behind_sign.ensures
-          c.transition_at-q.ensures (c.either-bad.ensures ∙ ap (c.loop-i.bad ||◌) c.refused.ensures)
+          c.transition_at-q.ensures (ap (c.loop-i.bad ||◌) c.refused-more.ensures)
           (c.loop-i.invariant.1 ts us h),
     )
 

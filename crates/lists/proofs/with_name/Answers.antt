@@ -12,7 +12,7 @@ returns-then-n-limit c =
     let l = c.if-n-limit.true in
     record {
       is_bad =
-          c.either.ensures ∙ ap (a.bad ||◌) c.has.ensures
+          ap (a.bad ||◌) c.has.ensures
           ∙ sym (ap (λ b. a.bad || (not b || bit a.mask a.n)) (lt-ltb a.n a.limit l));
       is_mask = λ l. c.with.ensures;
     }

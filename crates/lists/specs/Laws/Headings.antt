@@ -1,9 +1,8 @@
 -- A heading is read if its parts are read one after another: `heading_right`.
-use Rattle.std.specs.Prelude.{◌≡◌, refl, Bool, true, false, ◌||◌, not, cond, List, [], ◌∷◌, ◌++◌, ℕ, ◌≤◌, ◌<◌, ltb, eqb}
+use Rattle.std.specs.Prelude.{◌≡◌, refl, Bool, true, false, ◌||◌, not, List, ◌∷◌, ◌++◌, ℕ, ◌≤◌, ◌<◌, eqb}
 use Rattle.std.specs.Prelude.{drop}
-use Rattle.std.proofs.Common.{sym, ap, ◌∙◌, true≢false, append_assoc, lt-ltb, le-ltb, eqb-true, eq-eqb}
+use Rattle.std.proofs.Common.{sym, ap, ◌∙◌, append_assoc, eqb-true}
 use Rattle.std.proofs.Math.Path.{subst}
-use Rattle.std.proofs.lemmas.Bool.{false≢true}
 use Rattle.std.proofs.Math.Decide.{dec_lt}
 use native.Mathlib.Omega.{arith}
 use Rattle.std.proofs.Math.ListN.{length}

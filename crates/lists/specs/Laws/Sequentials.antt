@@ -1,16 +1,16 @@
 -- A sequential chart is read if its parts are read one after another: the extra set (`extra-..`), all of them
 -- (`sequential_right`).
-use Rattle.std.specs.Prelude.{◌≡◌, refl, Bool, true, false, ◌||◌, not, List, [], ◌∷◌, ◌++◌, ℕ, ◌≤◌, eqb, length, drop}
+use Rattle.std.specs.Prelude.{◌≡◌, refl, Bool, true, false, ◌||◌, List, [], ◌∷◌, ◌++◌, ℕ, ◌≤◌, eqb, length, drop}
 use Rattle.std.specs.Prelude.{get_or}
-use Rattle.std.proofs.Common.{sym, ap, ap₂, ◌∙◌, true≢false, append_assoc, arith, eqb-true}
+use Rattle.std.proofs.Common.{sym, ap, ap₂, ◌∙◌, append_assoc, arith, eqb-true}
 use Rattle.std.proofs.Math.Path.{subst}
-use Rattle.std.proofs.lemmas.Bool.{false≢true, not-false}
+use Rattle.std.proofs.lemmas.Bool.{not-false}
 use Rattle.std.proofs.Math.Option.{Option, none, some}
 use Rattle.meaning.specs.Meaning.{same}
 use Rattle.meaning.specs.Check.{not_below, differ}
 use Rattle.meaning.specs.Sums.Laws.{or_left, or_right}
 use Rattle.notation.specs.Syntax.{Signals, Heading, Sequential}
-use Rattle.notation.specs.Grammar.{comma, rpar, sign, sign_bytes, Tokens, of_set, of_heading, of_transitions, of_extra}
+use Rattle.notation.specs.Grammar.{comma, rpar, sign, sign_bytes, Tokens, of_heading, of_transitions, of_extra}
 use Rattle.notation.specs.Grammar.{of_sequential, Text}
 use Rattle.notation.specs.Reader.{first_byte}
 use Rattle.reading.specs.Numbers.{named_states}

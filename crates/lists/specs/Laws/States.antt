@@ -10,7 +10,7 @@ use mathlib.Core.List.{List, [], ◌∷◌, ◌++◌, append_assoc, append-nil}
 use Rattle.std.proofs.Math.Decide.{dec_lt}
 use borrow.Author.Tests.{lt-ltb, le-ltb, eqb-true, eq-eqb, not-false}
 use Rattle.std.proofs.Math.ListN.{length}
-use Rattle.signals.specs.Mask.{◌∪◌, bit, single, within}
+use Rattle.signals.specs.Mask.{◌∪◌, bit, single}
 use Rattle.signals.specs.Mask.Laws.{bit_suc, within-at, within_of}
 use Rattle.meaning.specs.Check.{not_below}
 use Rattle.meaning.specs.Sums.Laws.{or_left, or_right}

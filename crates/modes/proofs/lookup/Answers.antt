@@ -1,11 +1,14 @@
 use mathlib.Core.Path.{◌≡◌, refl, sym, ap, ◌∙◌}
-use mathlib.Core.Bool.{true, false, ◌&&◌}
+use mathlib.Core.Bool.{true, false, not, ◌&&◌}
 use mathlib.Core.List.{List, ◌∷◌}
-use Prim.Native.Nat.{ℕ, suc, ◌+◌, ◌≤◌}
+use Prim.Native.Nat.{ℕ, suc, ◌+◌, ◌≤◌, ◌<◌}
 use native.Mathlib.Omega.{arith}
 use lib.Dec.{eqb}
 use lib.ListN.{length, get_or, drop, drop_of_length-le}
 use lib.Seq.{drop-cons}
+use Rattle.std.proofs.Common.{true≢false}
+use Rattle.std.specs.List.{list_all}
+use Rattle.std.proofs.lemmas.List.Folds.{list_all_at}
 use Rattle.scan.specs.Table.{row, rows_of, numbers, lookup}
 use Rattle.modes.proofs.lookup.Goals as goal
 
@@ -45,10 +48,18 @@ none_left m b i h =
     ap (λ l. lookup (rows_of l) m b) (drop_of_length-le numbers {i = i} (let z = numbers-length in omega arith))
     ∙ unfold rows_of lookup in refl
 
+-- no row leads to 255
+leads : (i : ℕ) → i < 507 → get_or numbers i 0 ≡ 255 → ⊥
+leads i h e =
+    let all : list_all (λ n. not (eqb n 255)) numbers ≡ true = unfold numbers in refl in
+    true≢false (sym all
+    ∙ list_all_at (λ n. not (eqb n 255)) numbers i 0 (omega (arith, numbers-length)) (ap (λ n. not (eqb n 255)) e))
+
 pub returns-then-row_is : goal.returns-then-row_is
 returns-then-row_is c =
-    c.entry.ensures
-    ∙ sym (taken _ _ c.loop-i.i (omega arith) (sym c.row_is.ensures ∙ c.if-row_is.true)) ∙ c.loop-i.invariant.2
+    let e = sym c.loop-i.invariant.2
+    ∙ taken _ _ c.loop-i.i (omega arith) (sym c.row_is.ensures ∙ c.if-row_is.true) in
+    (e ∙ sym c.entry.ensures ∙ sym c.from.ensures, λ n. leads (c.loop-i.i + 2) (omega arith) (sym e ∙ n))
 
 pub loop-i-preserved : goal.loop-i-preserved
 loop-i-preserved c = (
@@ -58,22 +69,7 @@ loop-i-preserved c = (
 )
 
 pub returns : goal.returns
-returns c = sym (none_left _ _ c.loop-i.i c.loop-i-test.false) ∙ c.loop-i.invariant.2
+returns c = sym c.loop-i.invariant.2 ∙ none_left _ _ c.loop-i.i c.loop-i-test.false
 
 pub loop-i-init : goal.loop-i-init
 loop-i-init c = let f = c.first-i.ensures in (f.0, f.1.0, f.1.1 _)
-
-pub row_is-requires : goal.row_is-requires
-row_is-requires c = omega arith
-
-pub overflow_add-i : goal.overflow_add-i
-overflow_add-i c = omega arith
-
-pub entry-requires : goal.entry-requires
-entry-requires c = omega arith
-
-pub overflow_add-i-in-loop-i : goal.overflow_add-i-in-loop-i
-overflow_add-i-in-loop-i c = omega arith
-
-pub loop-i-smaller : goal.loop-i-smaller
-loop-i-smaller c = omega arith

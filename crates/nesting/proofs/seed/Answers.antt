@@ -1,13 +1,12 @@
-use mathlib.Core.Path.{◌≡◌, refl}
+use mathlib.Core.Path.{◌≡◌}
 use native.Mathlib.Omega.{arith}
-use lib.ListN.{length-set}
 use Rattle.meaning.specs.File.{file_at}
 use Rattle.nesting.proofs.Records.{is_slave}
 use Rattle.nesting.proofs.Near.{seeds_none, seeds_more}
 use Rattle.nesting.proofs.seed.Goals as goal
 
 pub loop-i-init : goal.loop-i-init
-loop-i-init c = (omega arith, refl, seeds_none _ c.requires.0.sound _)
+loop-i-init c = seeds_none _ c.requires.0.sound _
 
 pub overflow_cast-near : goal.overflow_cast-near
 overflow_cast-near c = omega (arith, c.requires.0.sized.slaves)
@@ -28,14 +27,10 @@ pub loop-i-preserved : goal.loop-i-preserved
 unfolding file_at
 loop-i-preserved c =
     let p = c.requires in
-    let v = c.loop-i.invariant in (
-      omega arith,
-      simp length-set v.1,
-      seeds_more _ p.0.sound (is_slave _ _ _ c.slave_at-slave.ensures) c.loop-i-test.true
-          (omega (arith, p.0.sized.nodes, p.1)) v.2,
-    )
+    seeds_more _ p.0.sound (is_slave _ _ _ c.slave_at-slave.ensures) c.loop-i-test.true
+    (omega (arith, p.0.sized.nodes, p.1)) c.loop-i.invariant
 
 pub returns : goal.returns
 returns c =
     let e : c.loop-i.i ≡ c.args.n.slaves = omega arith in
-    rw e at c.loop-i.invariant.2
+    rw e at c.loop-i.invariant

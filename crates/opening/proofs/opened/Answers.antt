@@ -1,49 +1,43 @@
--- `opened` meets its contract: 1, then 2 to 4 of the trailer, then 5 to 11 of the body that the trailer tells. Assumes
--- nothing.
-use mathlib.Core.Path.{◌≡◌, sym, ◌∙◌}
+-- `opened` meets its contract: 1, then 2 to 4 of the trailer, then 5 to 11 of the body that the trailer tells.
+use mathlib.Core.Path.{◌≡◌, refl, sym, ◌∙◌}
 use native.Mathlib.Omega.{arith}
-use Rattle.meaning.specs.File.{end_of, trailer}
-use Rattle.meaning.specs.Check.{first_of}
-use Rattle.checks.specs.Trailer.{trailer_tests}
-use Rattle.opening.specs.Opening.Laws.{refused_short, refused_trailer, within, sized_part, opens}
+use Rattle.std.proofs.lemmas.Result.{err_from_is_err_and}
+use Rattle.meaning.specs.File.{trailer}
+use Rattle.checks.specs.Refusals.Laws.{number-some}
+use Rattle.opening.specs.Opening.Laws.{refused_short, refused_trailer, within, sized_part, refused_body, opens}
 use Rattle.opening.proofs.opened.Goals as goal
-use Rattle.opening.proofs.opened.Goals.{After-read_trailer-t, Else-r-ne-ACCEPTED}
+use Rattle.opening.proofs.opened.Goals.{After-read_trailer-t}
 
 pub returns-then-len-lt-TRAILER_BYTES : goal.returns-then-len-lt-TRAILER_BYTES
-returns-then-len-lt-TRAILER_BYTES c =
-    record {
-      refusal = c.refused.ensures ∙ sym (refused_short _ c.if-len-lt-TRAILER_BYTES.true);
-      stands = λ z. absurd (omega (arith, c.refused.ensures, z));
-    }
+returns-then-len-lt-TRAILER_BYTES c = sym (refused_short _ c.if-len-lt-TRAILER_BYTES.true)
 
 -- what is read is the trailer
 is : (c : After-read_trailer-t) → c.read_trailer-t.result ≡ trailer c.args.file.now
 unfolding trailer
 is c = c.read_trailer-t.ensures
 
-pub returns-then-r-ne-ACCEPTED : goal.returns-then-r-ne-ACCEPTED
-returns-then-r-ne-ACCEPTED c =
-    let r = c.refusal-r.ensures in
-    let e = c.refused-then-r-ne-ACCEPTED.ensures in
-    record {
-      refusal = e ∙ r ∙ sym (refused_trailer _ _ (is (goal.at.returns-then-r-ne-ACCEPTED c).After-read_trailer-t) c.if-len-lt-TRAILER_BYTES.false (λ z. c.if-r-ne-ACCEPTED.true (r ∙ z)));
-      stands = λ z. absurd (c.if-r-ne-ACCEPTED.true (sym e ∙ z));
-    }
-
--- 2 to 4 passed
-past : (c : Else-r-ne-ACCEPTED) → first_of (trailer_tests c.read_trailer-t.result
-    (end_of c.args.file.now)) ≡ 0
-past c = sym c.refusal-r.ensures ∙ c.if-r-ne-ACCEPTED.false
+pub returns-in_err-test : goal.returns-in_err-test
+returns-in_err-test c =
+    let e = c.in_err-test.ensures in
+    let p = err_from_is_err_and c.from_residual.result c.from_residual.ensures.1 in
+    rw (p.1, p.2)
+    (e ∙ sym (refused_trailer _ _ (is (goal.at.returns-in_err-test c).After-read_trailer-t) c.if-len-lt-TRAILER_BYTES.false (λ z. number-some _ (e ∙ z))))
 
 pub overflow_sub-start : goal.overflow_sub-start
 overflow_sub-start c =
-    within _ _ (is (goal.at.overflow_sub-start c).After-read_trailer-t) c.if-len-lt-TRAILER_BYTES.false (past (goal.at.overflow_sub-start c).Else-r-ne-ACCEPTED)
+    within _ _ (is (goal.at.overflow_sub-start c).After-read_trailer-t) c.if-len-lt-TRAILER_BYTES.false (sym c.in_ok-test.ensures)
 
-pub refusal-requires : goal.refusal-requires
-refusal-requires c =
-    (sized_part _ _ (is (goal.at.refusal-requires c).After-read_trailer-t) c.if-len-lt-TRAILER_BYTES.false (past (goal.at.refusal-requires c).Else-r-ne-ACCEPTED) _ c.shape-n.ensures, omega arith)
+pub test-requires-2 : goal.test-requires-2
+test-requires-2 c =
+    (sized_part _ _ (is (goal.at.test-requires-2 c).After-read_trailer-t) c.if-len-lt-TRAILER_BYTES.false (sym c.in_ok-test.ensures) _ c.shape-shape.ensures, omega arith)
+
+pub returns-in_err-test-2 : goal.returns-in_err-test-2
+returns-in_err-test-2 c =
+    let p = err_from_is_err_and c.from_residual-in_err-test-2.result c.from_residual-in_err-test-2.ensures.1 in
+    rw (p.1, p.2)
+    (refused_body _ _ (is (goal.at.returns-in_err-test-2 c).After-read_trailer-t) c.if-len-lt-TRAILER_BYTES.false (sym c.in_ok-test.ensures) _ c.shape-shape.ensures c.in_err-test-2.ensures)
 
 pub returns : goal.returns
 returns c =
-    opens _ _ (is (goal.at.returns c).After-read_trailer-t) c.if-len-lt-TRAILER_BYTES.false (past (goal.at.returns c).Else-r-ne-ACCEPTED) _ c.shape-n.ensures _
-    c.refusal.ensures
+    opens _ _ (is (goal.at.returns c).After-read_trailer-t) c.if-len-lt-TRAILER_BYTES.false (sym c.in_ok-test.ensures) _ c.shape-shape.ensures _
+    refl refl refl c.in_ok-test-2.ensures

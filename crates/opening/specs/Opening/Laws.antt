@@ -1,5 +1,5 @@
 -- Laws of the check's groups: how the groups make `refusal_of`, and what a trailer that passes says of the body.
-use Rattle.std.specs.Prelude.{◌≡◌, refl, List, ◌∷◌, ◌++◌, ℕ, ◌-◌, ◌≤◌, ◌<◌, length, take, drop}
+use Rattle.std.specs.Prelude.{◌≡◌, List, ◌∷◌, ◌++◌, ℕ, ◌-◌, ◌≤◌, ◌<◌, length, take, drop}
 use Rattle.std.proofs.Common.{sym, ap, ap₂, ◌∙◌, lt-ltb, le-ltb, ltb-false, lit<, length-take-le}
 use native.Mathlib.Omega.{arith}
 use Rattle.std.proofs.Math.ListN.{length-drop}
@@ -14,7 +14,8 @@ use Rattle.meaning.specs.Check.Laws.{alike, first_of_here, first_of-next, Passes
 use Rattle.meaning.specs.Check.Laws.{first_of-before, passed, counted, summed}
 use Rattle.checks.specs.Known.{Sized}
 use Rattle.checks.specs.Trailer.{trailer_tests}
-use Rattle.opening.specs.Opening.{zero_test, Opens}
+use Rattle.opening.specs.Opening.{zero_test, Stands}
+use Rattle.opening.specs.declared.Opening.{Opening}
 
 -- ── refusalOf ──
 
@@ -83,23 +84,30 @@ module _ (f : List ℕ) (t : Trailer) (is : t ≡ trailer f) (long : 12 ≤ leng
       pub sized_part : Sized n part
       sized_part = rw (e, body_is) sized
 
-      pub opens : (r : ℕ) → r ≡ first_of (zero_test f (end_of f) n part ∷ body_tests n part)
-          → Opens f record { refusal = r; shape = n; start = end_of f - t.distance; end = end_of f }
-      opens r q =
-          let k : r ≡ refusal_of f =
-          q ∙ ap₂ (λ (m : Shape) (b : List ℕ). first_of (zero_test f (end_of f) m b ∷ body_tests m b)) e body_is
-          ∙ sym refused_rest in
-          let w : n ≡ shape_of (trailer f) = e ∙ ap shape_of is in
-          record {
-            refusal = k;
-            stands =
-                λ z.
-                record {
-                  shape = w;
-                  order = omega arith;
-                  end = refl;
-                  body = body_is;
-                  sized = rw e sized;
-                  summed = rw w (summed _ _ (passed f (sym k ∙ z)).charts);
-                };
-          }
+      tested : first_of (zero_test f (end_of f) n part ∷ body_tests n part) ≡ refusal_of f
+      tested =
+          ap₂ (λ (m : Shape) (b : List ℕ). first_of (zero_test f (end_of f) m b ∷ body_tests m b)) e body_is
+          ∙ sym refused_rest
+
+      -- a refusal of the body is the file's
+      pub refused_body : {r : ℕ} → r ≡ first_of (zero_test f (end_of f) n part ∷ body_tests n part) → r ≡ refusal_of f
+      refused_body q = q ∙ tested
+
+      -- a body with no refusal is opened
+      pub opens : (o : Opening) → o.shape ≡ n → o.start ≡ end_of f - t.distance → o.body.now ≡ part
+          → 0 ≡ first_of (zero_test f (end_of f) n part ∷ body_tests n part)
+          → (refusal_of f ≡ 0) × Stands f o
+      opens o es et eb q =
+          let passes : refusal_of f ≡ 0 = sym (refused_body q) in
+          let w : o.shape ≡ shape_of (trailer f) = es ∙ e ∙ ap shape_of is in
+          let l = within in
+          let k = body-length in (
+            passes,
+            record {
+              shape = w;
+              start = omega (arith, et, k, l);
+              body = eb ∙ body_is;
+              sized = rw (es, e) sized;
+              summed = rw w (summed _ _ (passed f passes).charts);
+            },
+          )

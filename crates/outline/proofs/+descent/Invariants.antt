@@ -1,8 +1,9 @@
 -- A chart has parts, which may be compositions in brackets, hidden charts and masters with slaves, each of which has
 -- charts one level further in. What is left of the levels falls; where it stays, the functions stand in an order.
-use Rattle.std.proofs.Common.{◌≤◌, ◌+◌, ◌-◌, ◌*◌, ◌∷◌, ◌++◌, length, drop}
+use Rattle.std.proofs.Common.{◌+◌, ◌-◌, ◌*◌, ◌∷◌, ◌++◌, length, drop}
 use Rattle.notation.specs.Syntax.{Slaves}
 use Rattle.notation.specs.Grammar.{rbrace, sign, Tokens, of_slaves, Text}
+use Rattle.outline.specs.Outline.{Within}
 use Rattle.outline.specs.Laws.Slaves.{Along}
 use Rattle.outline.proofs.+descent.Given as goal
 
@@ -27,12 +28,12 @@ decreases-part l = 8 * l.left + 5
 abbrev pub decreases-slaves : goal.decreases-slaves
 decreases-slaves l = 8 * l.left + 8
 
--- the slaves before i are read in every text that has slaves there, and none of them is too deep
-abbrev pub invariant-slaves-loop-p : goal.invariant-slaves-loop-p
-invariant-slaves-loop-p l =
-    ((l.i ≤ length l.text) × ((l.at ≤ l.i) × (l.all.depth ≤ l.left)))
+-- the slaves so far are read in every text that has slaves there
+abbrev pub invariant-slaves-loop-all : goal.invariant-slaves-loop-all
+invariant-slaves-loop-all l =
+    Within l.text l.at l.left l.all
     × ((ps : Slaves) (us : Tokens) → Text (of_slaves ps ++ (sign rbrace ∷ us)) (drop l.at l.text)
-    → Along l.text l.mask l.left l.i l.all ps us)
+    → Along l.text l.mask l.left l.all.next l.all ps us)
 
-abbrev pub decreases-slaves-loop-p : goal.decreases-slaves-loop-p
-decreases-slaves-loop-p l = length l.text - l.i
+abbrev pub decreases-slaves-loop-all : goal.decreases-slaves-loop-all
+decreases-slaves-loop-all l = length l.text - l.all.next

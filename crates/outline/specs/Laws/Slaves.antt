@@ -1,8 +1,8 @@
 -- The slaves of a master as a loop reads them: the first of them (`along_first`), each further one (`along_more`), and
 -- the end (`along_end`); one that is too deep is the end as well (`first-deep`, `more-deep`).
-use Rattle.std.specs.Prelude.{◌≡◌, refl, Bool, true, false, ◌||◌, ℕ, ◌+◌, ◌≤◌, ltb, drop, get_or}
+use Rattle.std.specs.Prelude.{◌≡◌, true, false, ◌||◌, ℕ, ◌+◌, ◌≤◌, ltb, drop, get_or, Result, Ok, Err}
 use Rattle.std.proofs.Math.Path.{sym, ap₂, subst}
-use Rattle.std.proofs.Common.{◌∙◌, true≢false}
+use Rattle.std.proofs.Common.{◌∙◌}
 use mathlib.Core.List.{List, [], ◌∷◌, ◌++◌}
 use native.Mathlib.Omega.{arith}
 use borrow.Author.Tests.{lt-ltb, le-ltb, ltb-true, ltb-false}
@@ -15,11 +15,12 @@ use Rattle.tokens.specs.Laws.Lists.{peek_sign}
 use Rattle.lists.specs.Lists.{lacks}
 use Rattle.forms.specs.Laws.Slaves.{Pair, pairs_text, and_more, Front, front}
 use Rattle.outline.specs.declared.Outline.{Outline}
+use Rattle.outline.specs.declared.TooDeep.{TooDeep}
 use Rattle.outline.specs.Tree.{refused_slaves?, nodes_in_slaves, slaves_in_slaves, told_slaves}
 use Rattle.outline.specs.Tree.{nodes_in, slaves_in}
 use Rattle.outline.specs.Outline.{Joins, Gives, PairAt}
 use Rattle.outline.specs.Laws.Counts.{cap_plus}
-use Rattle.outline.specs.Laws.Forms.{larger-left, larger-right}
+use Rattle.outline.specs.Laws.Forms.{larger-max, larger-left, larger-right}
 
 -- ── depths ──
 
@@ -36,11 +37,7 @@ more-deep-at-least ps (p ∷ rest) =
 
 -- the larger of two that are not too deep is not
 pub larger-at_most : (m n left : ℕ) → m ≤ left → n ≤ left → larger m n ≤ left
-larger-at_most m n left l k = go (ltb m n) refl
-  where
-    go : (b : Bool) → ltb m n ≡ b → larger m n ≤ left
-    go true e = rw e k
-    go false e = rw e l
+larger-at_most m n left l k = omega (arith, larger-max m n)
 
 -- ── the loop ──
 
@@ -58,41 +55,43 @@ pub record Along (w : List ℕ) (mask left i : ℕ) (r : Outline) (ps : Slaves) 
 
 module _ (w : List ℕ) (mask left : ℕ) (ps : Slaves) (us : Tokens) where
   -- a slave that is too deep
-  deep-right : (r : Outline) (d : ℕ) → r.deep ≡ true → r.deep ≡ ltb left d → d ≤ depth_slaves ps
-      → Gives w left (depth_slaves ps) r (told_slaves (lacks mask) ps) us
-  deep-right r d e h l =
+  deep-right : (e : TooDeep) (d : ℕ) → true ≡ ltb left d → d ≤ depth_slaves ps
+      → Gives w left (depth_slaves ps) (Err e) (told_slaves (lacks mask) ps) us
+  deep-right e d h l =
       record {
-        is_deep = e ∙ sym (lt-ltb left (depth_slaves ps) (omega (arith, ltb-true left d (sym h ∙ e), l)));
-        reads = λ f. absurd (true≢false (sym e ∙ f));
+        is_deep = sym (lt-ltb left (depth_slaves ps) (omega (arith, ltb-true left d (sym h), l)));
+        reads = tt;
       }
 
-  module _ (at : ℕ) (r : Outline) (h : Text (of_slaves ps ++ (sign rbrace ∷ us)) (drop at w))
-      (o : PairAt w at mask left r) where
+  module _ (at : ℕ) (h : Text (of_slaves ps ++ (sign rbrace ∷ us)) (drop at w)) where
     abbrev f : Front ps
     f = front ps
 
-    first_pair : Gives w left (depth f.chart) r (told_slaves (lacks mask) (first_slave f.state f.chart))
+    first_pair : (r : Result Outline TooDeep) → PairAt w at mask left r
+        → Gives w left (depth f.chart) r (told_slaves (lacks mask) (first_slave f.state f.chart))
         (pairs_text f.rest (sign rbrace ∷ us))
-    first_pair =
+    first_pair r o =
         o.gives f.state f.chart _ (subst (λ u. Text u (drop at w)) (f.text (sign rbrace ∷ us)) h)
 
-    pub first-deep : r.deep ≡ true → Gives w left (depth_slaves ps) r (told_slaves (lacks mask) ps) us
+    pub first-deep : (e : TooDeep) → PairAt w at mask left (Err e)
+        → Gives w left (depth_slaves ps) (Err e) (told_slaves (lacks mask) ps) us
     unfolding depth_slaves
-    first-deep e =
-        deep-right r (depth f.chart) e first_pair.is_deep
+    first-deep e o =
+        deep-right e (depth f.chart) (first_pair (Err e) o).is_deep
         (subst (λ s. depth f.chart ≤ depth_slaves s) (sym f.all)
         (more-deep-at-least (first_slave f.state f.chart) f.rest))
 
-    pub along_first : r.deep ≡ false → Along w mask left r.next r ps us
+    pub along_first : (r : Outline) → PairAt w at mask left (Ok r) → Along w mask left r.next r ps us
     unfolding depth_slaves
-    along_first e =
-        let g = first_pair.reads e in
+    along_first r o =
+        let p = first_pair (Ok r) o in
+        let g = p.reads in
         record {
           done = first_slave f.state f.chart;
           rest = f.rest;
           all = f.all;
           text = g.goes_on;
-          fits = ltb-false left (depth f.chart) (sym first_pair.is_deep ∙ e);
+          fits = ltb-false left (depth f.chart) (sym p.is_deep);
           is_depth = g.is_depth;
           is_bad = g.is_bad;
           is_nodes = g.is_nodes;
@@ -101,8 +100,8 @@ module _ (w : List ℕ) (mask left : ℕ) (ps : Slaves) (us : Tokens) where
 
   module _ (i : ℕ) (r : Outline) (a : Along w mask left i r ps us) where
     -- behind a comma stands one more
-    module _ (j : ℕ) (p : Outline) (s : get_or (after_blanks (drop i w)) 0 0 ≡ 44) (b : BehindSign w i 1 j)
-        (o : PairAt w j mask left p) where
+    module _ (j : ℕ) (p : Result Outline TooDeep) (s : get_or (after_blanks (drop i w)) 0 0 ≡ 44)
+        (b : BehindSign w i 1 j) (o : PairAt w j mask left p) where
       pub record Next : Type 0 where
         pub state : ℕ
         pub chart : Chart
@@ -127,11 +126,13 @@ module _ (w : List ℕ) (mask left : ℕ) (ps : Slaves) (us : Tokens) where
                 gives = o.gives k.state k.chart _ (behind-right w i comma j t b.behind);
               }
 
-      pub more-deep : p.deep ≡ true → Gives w left (depth_slaves ps) p (told_slaves (lacks mask) ps) us
+    module _ (j : ℕ) (s : get_or (after_blanks (drop i w)) 0 0 ≡ 44) (b : BehindSign w i 1 j) where
+      pub more-deep : (e : TooDeep) → PairAt w j mask left (Err e)
+          → Gives w left (depth_slaves ps) (Err e) (told_slaves (lacks mask) ps) us
       unfolding depth_slaves
-      more-deep e =
-          let n = next_pair in
-          deep-right p (depth n.chart) e n.gives.is_deep
+      more-deep e o =
+          let n = next_pair j (Err e) s b o in
+          deep-right e (depth n.chart) n.gives.is_deep
           (subst (λ s. depth n.chart ≤ depth_slaves s) (sym n.all)
           (omega (
             arith,
@@ -139,11 +140,12 @@ module _ (w : List ℕ) (mask left : ℕ) (ps : Slaves) (us : Tokens) where
             larger-right (depth_slaves a.done) (depth n.chart),
           )))
 
-      pub along_more : (q : Outline) → p.deep ≡ false → Joins r false p q → Along w mask left p.next q ps us
+      pub along_more : (p q : Outline) → PairAt w j mask left (Ok p) → Joins r false p q
+          → Along w mask left p.next q ps us
       unfolding depth_slaves refused_slaves? nodes_in_slaves slaves_in_slaves
-      along_more q e c =
-          let n = next_pair in
-          let g = n.gives.reads e in
+      along_more p q o c =
+          let n = next_pair j (Ok p) s b o in
+          let g = n.gives.reads in
           let d = depth_slaves a.done in
           record {
             done = more_slaves a.done n.state n.chart;
@@ -152,7 +154,7 @@ module _ (w : List ℕ) (mask left : ℕ) (ps : Slaves) (us : Tokens) where
             text = g.goes_on;
             fits =
                 larger-at_most d (depth n.chart) left a.fits
-                (ltb-false left (depth n.chart) (sym n.gives.is_deep ∙ e));
+                (ltb-false left (depth n.chart) (sym n.gives.is_deep));
             is_depth = c.is_depth ∙ ap₂ larger a.is_depth g.is_depth;
             is_bad = c.is_bad ∙ ap₂ (◌||◌) a.is_bad g.is_bad;
             is_nodes =
@@ -164,25 +166,24 @@ module _ (w : List ℕ) (mask left : ℕ) (ps : Slaves) (us : Tokens) where
           }
 
     pub along_end : (q : Outline) → (get_or (after_blanks (drop i w)) 0 0 ≡ 44 → ⊥) → BehindSign w i 1 q.next
-        → q.deep ≡ false → q.depth ≡ r.depth → q.bad ≡ r.bad → q.nodes ≡ r.nodes → q.slaves ≡ r.slaves
-        → Gives w left (depth_slaves ps) q (told_slaves (lacks mask) ps) us
+        → q.depth ≡ r.depth → q.bad ≡ r.bad → q.nodes ≡ r.nodes → q.slaves ≡ r.slaves
+        → Gives w left (depth_slaves ps) (Ok q) (told_slaves (lacks mask) ps) us
     unfolding pairs_text and_more first_byte sign_bytes
-    along_end q s b ed eh eb en es = go a.rest a.all a.text
+    along_end q s b eh eb en es = go a.rest a.all a.text
       where
         go : (rest : List Pair) → ps ≡ and_more a.done rest
             → Text (pairs_text rest (sign rbrace ∷ us)) (drop i w)
-            → Gives w left (depth_slaves ps) q (told_slaves (lacks mask) ps) us
+            → Gives w left (depth_slaves ps) (Ok q) (told_slaves (lacks mask) ps) us
         go [] e t =
-            subst (λ s. Gives w left (depth_slaves s) q (told_slaves (lacks mask) s) us) (sym e)
+            subst (λ s. Gives w left (depth_slaves s) (Ok q) (told_slaves (lacks mask) s) us) (sym e)
             (record {
-              is_deep = ed ∙ sym (le-ltb left (depth_slaves a.done) a.fits);
-              reads =
-                  λ f. record {
-                    goes_on = behind-right w i rbrace q.next t b.behind;
-                    is_depth = eh ∙ a.is_depth;
-                    is_bad = eb ∙ a.is_bad;
-                    is_nodes = en ∙ a.is_nodes;
-                    is_slaves = es ∙ a.is_slaves;
-                  };
+              is_deep = sym (le-ltb left (depth_slaves a.done) a.fits);
+              reads = record {
+                goes_on = behind-right w i rbrace q.next t b.behind;
+                is_depth = eh ∙ a.is_depth;
+                is_bad = eb ∙ a.is_bad;
+                is_nodes = en ∙ a.is_nodes;
+                is_slaves = es ∙ a.is_slaves;
+              };
             })
         go (k ∷ rest) e t = absurd (s (peek_sign comma t))

@@ -23,28 +23,15 @@ module _ (F : File) (w : Ordered F) (own : List ℕ) (off : Off) (t : List ℕ) 
   stored = record { at = fill_more (λ k. fold (λ c. get_or own c 0) (off_of off) (tree_of F k)) t j v f.at right m }
 
 pub loop-j-init : goal.loop-j-init
-loop-j-init c = (omega arith, refl, record { at = λ k h. absurd (omega arith) })
+loop-j-init c = (refl, record { at = λ k h. absurd (omega arith) })
 
 pub loop-j-preserved : goal.loop-j-preserved
 unfolding file_at
 loop-j-preserved c = (
-  omega arith,
-  simp length-set c.loop-j.invariant.1,
-  stored _ c.requires.1.ordered _ _ _ _ _ c.loop-j.invariant.2 c.loop-j-test.true
+  simp length-set c.loop-j.invariant.0,
+  stored _ c.requires.1.ordered _ _ _ _ _ c.loop-j.invariant.1 c.loop-j-test.true
       (omega arith) c.value.ensures,
 )
 
 pub returns : goal.returns
-returns c = record { at = λ k h. c.loop-j.invariant.2.at k (omega arith) }
-
-pub offset_bounds-t-j : goal.offset_bounds-t-j
-offset_bounds-t-j c = omega arith
-
-pub bounds-t-j : goal.bounds-t-j
-bounds-t-j c = omega arith
-
-pub overflow_add-j : goal.overflow_add-j
-overflow_add-j c = omega arith
-
-pub loop-j-smaller : goal.loop-j-smaller
-loop-j-smaller c = omega arith
+returns c = record { at = λ k h. c.loop-j.invariant.1.at k (omega arith) }

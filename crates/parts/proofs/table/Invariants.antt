@@ -1,6 +1,5 @@
 -- `parts::table` meets its contract. The loop's invariant: the table is right below j. Assumes nothing.
 use mathlib.Core.Path.{◌≡◌}
-use Prim.Native.Nat.{◌≤◌, ◌-◌}
 use lib.ListN.{length}
 use Rattle.meaning.specs.Numbers.{most_nodes}
 use Rattle.meaning.specs.File.{file_at}
@@ -8,7 +7,4 @@ use Rattle.parts.specs.Parts.{Filled}
 use Rattle.parts.proofs.table.Given as goal
 
 abbrev pub invariant-loop-j : goal.invariant-loop-j
-invariant-loop-j l = (l.j ≤ l.n.nodes) × (length l.t ≡ most_nodes) × Filled (file_at l.n l.body) l.own l.off l.t l.j
-
-abbrev pub decreases-loop-j : goal.decreases-loop-j
-decreases-loop-j l = l.n.nodes - l.j
+invariant-loop-j l = (length l.t ≡ most_nodes) × Filled (file_at l.n l.body) l.own l.off l.t l.j

@@ -1,10 +1,11 @@
 -- `parts::value` meets its contract: each arm is the value at its kind, and names lower nodes. Assumes nothing.
-use mathlib.Core.Path.{◌≡◌, refl, ap, ◌∙◌}
+use mathlib.Core.Path.{◌≡◌, refl, sym, ap, ◌∙◌}
 use mathlib.Core.List.{List}
 use Prim.Native.Nat.{ℕ, zero, suc}
 use lib.ListN.{get_or}
 use Rattle.signals.specs.Mask.{◌∪◌, ◌∖◌}
 use Rattle.layout.specs.Body.{node_at}
+use Rattle.layout.specs.Kind.{byte_of}
 use Rattle.layout.specs.declared.body.Shape.{Shape}
 use Rattle.layout.specs.declared.record.Node.{Node}
 use Rattle.meaning.specs.Meaning.{Set}
@@ -12,14 +13,8 @@ use Rattle.meaning.specs.File.{file_at}
 use Rattle.meaning.specs.Laws.Folds.{set_by_kind, value_of}
 use Rattle.parts.specs.Parts.{off_of, with_slaves, value_at}
 use Rattle.parts.specs.declared.Off.{Off}
-use Rattle.checks.specs.Known.Node.{kind_is, chart₀, lower₁, lower₂}
+use Rattle.checks.specs.Known.Node.{kind_is, some_kind, chart₀, lower₁, lower_hidden}
 use Rattle.parts.proofs.value.Goals as goal
-
--- neither 0 nor 1
-last_kind : (k : ℕ) (p q r : Set) → (k ≡ 0 → ⊥) → (k ≡ 1 → ⊥) → r ≡ set_by_kind k p q r
-last_kind zero p q r f g = absurd (f refl)
-last_kind (suc zero) p q r f g = absurd (g refl)
-last_kind (suc (suc k)) p q r f g = refl
 
 -- r is node j
 module _ (n : Shape) (b : List ℕ) (j : ℕ) (r : Node) (e : r ≡ node_at n b j) where
@@ -33,41 +28,45 @@ module _ (n : Shape) (b : List ℕ) (j : ℕ) (r : Node) (e : r ≡ node_at n b 
     unfolding value_at value_of file_at
     value₁ h = rw (kind_is n b j r e 1 h, e)
 
-    value₂ : (r.kind ≡ 0 → ⊥) → (r.kind ≡ 1 → ⊥)
-        → get_or t r.a 0 ∖ off_of off r.x r.y ≡ value_at (file_at n b) own off t j
+    value₂ : r.kind ≡ 2 → get_or t r.a 0 ∖ off_of off r.x r.y ≡ value_at (file_at n b) own off t j
     unfolding value_at value_of file_at
-    value₂ f g = rw (← e) (last_kind r.kind _ _ _ f g)
+    value₂ h = rw (kind_is n b j r e 2 h, e)
+
+pub kind-requires : goal.kind-requires
+kind-requires c =
+    let p = c.requires in
+    some_kind _ _ _ _ c.node_at-r.ensures p.0 p.1.0 p.1.1
 
 pub bounds-own-a : goal.bounds-own-a
 bounds-own-a c =
     let p = c.requires in
-    chart₀ _ _ _ _ c.node_at-r.ensures p.0 p.1.0 p.1.1 c.in-0.is
+    chart₀ _ _ _ _ c.node_at-r.ensures p.0 p.1.0 p.1.1 (sym c.kind.ensures ∙ ap byte_of c.in-Holds.is)
 
 pub bounds-table-a : goal.bounds-table-a
 bounds-table-a c =
     let p = c.requires in
-    (lower₁ _ _ _ _ c.node_at-r.ensures p.0 p.1.0 p.1.1 c.in-1.is).0
+    (lower₁ _ _ _ _ c.node_at-r.ensures p.0 p.1.0 p.1.1 (sym c.kind.ensures ∙ ap byte_of c.in-Composes.is)).0
 
 pub bounds-table-b : goal.bounds-table-b
 bounds-table-b c =
     let p = c.requires in
-    (lower₁ _ _ _ _ c.node_at-r.ensures p.0 p.1.0 p.1.1 c.in-1.is).1
+    (lower₁ _ _ _ _ c.node_at-r.ensures p.0 p.1.0 p.1.1 (sym c.kind.ensures ∙ ap byte_of c.in-Composes.is)).1
 
-pub bounds-table-a-in_default : goal.bounds-table-a-in_default
-bounds-table-a-in_default c =
+pub bounds-table-a-in-Hides : goal.bounds-table-a-in-Hides
+bounds-table-a-in-Hides c =
     let p = c.requires in
-    lower₂ _ _ _ _ c.node_at-r.ensures p.0 p.1.0 p.1.1 c.in_default.in_default-own.rest.0.1 c.in_default.in_default-own.rest.1
+    lower_hidden _ _ _ _ c.node_at-r.ensures p.0 p.1.0 p.1.1 (sym c.kind.ensures ∙ ap byte_of c.in-Hides.is)
 
-pub returns-in-0 : goal.returns-in-0
-returns-in-0 c = c.with_slaves.ensures ∙ value₀ _ _ _ _ c.node_at-r.ensures _ _ _ c.in-0.is
+pub returns-in-Holds : goal.returns-in-Holds
+returns-in-Holds c = c.with_slaves.ensures ∙ value₀ _ _ _ _ c.node_at-r.ensures _ _ _ (sym c.kind.ensures ∙ ap byte_of c.in-Holds.is)
 
-pub returns-in-1 : goal.returns-in-1
-returns-in-1 c = value₁ _ _ _ _ c.node_at-r.ensures _ _ _ c.in-1.is
+pub returns-in-Composes : goal.returns-in-Composes
+returns-in-Composes c = value₁ _ _ _ _ c.node_at-r.ensures _ _ _ (sym c.kind.ensures ∙ ap byte_of c.in-Composes.is)
 
-pub returns-in_default : goal.returns-in_default
-returns-in_default c =
+pub returns-in-Hides : goal.returns-in-Hides
+returns-in-Hides c =
     c.less.ensures
     ∙ ap (λ (v : Set). get_or c.args.table.now
     c.node_at-r.result.a 0 ∖ v)
     c.taken.ensures
-    ∙ value₂ _ _ _ _ c.node_at-r.ensures _ _ _ c.in_default.in_default-own.rest.0.1 c.in_default.in_default-own.rest.1
+    ∙ value₂ _ _ _ _ c.node_at-r.ensures _ _ _ (sym c.kind.ensures ∙ ap byte_of c.in-Hides.is)

@@ -16,7 +16,7 @@ use Rattle.parts.proofs.with_slaves.Goals.{else-s-c, then-s-c}
 
 pub loop-i-init : goal.loop-i-init
 unfolding with_slaves
-loop-i-init c = (omega arith, join_none _ _ _ _)
+loop-i-init c = join_none _ _ _ _
 
 -- s is slave i
 module _ (n : Shape) (b : List ℕ) (i : ℕ) (s : Slave) (e : s ≡ slave_at n b i) where
@@ -40,18 +40,9 @@ bounds-table-node c =
 
 pub loop-i-preserved : goal.loop-i-preserved
 loop-i-preserved c =
-    let h = c.loop-i.invariant.1 in (
-      omega arith,
-      elim c.if-s-c.branch [ then-s-c w ↦ w.all-is ∙ taken _ _ _ _ c.slave_at-s.ensures _ _ _ _ h w.if-s-c.true | else-s-c w ↦ w.all-is ∙ left _ _ _ _ c.slave_at-s.ensures _ _ _ _ h w.if-s-c.false ],
-    )
+    let h = c.loop-i.invariant in elim c.if-s-c.branch [ then-s-c w ↦ w.all-is ∙ taken _ _ _ _ c.slave_at-s.ensures _ _ _ _ h w.if-s-c.true | else-s-c w ↦ w.all-is ∙ left _ _ _ _ c.slave_at-s.ensures _ _ _ _ h w.if-s-c.false ]
 
 pub returns : goal.returns
 returns c =
     let e : c.loop-i.i ≡ c.args.n.slaves = omega arith in
-    c.loop-i.invariant.1 ∙ ap (with_slaves _ _ _ _) e
-
-pub overflow_add-i : goal.overflow_add-i
-overflow_add-i c = omega arith
-
-pub loop-i-smaller : goal.loop-i-smaller
-loop-i-smaller c = omega arith
+    c.loop-i.invariant ∙ ap (with_slaves _ _ _ _) e

@@ -37,23 +37,8 @@ unfolding any_doubtful
 returns c =
     sym (c.loop-i.invariant ∙ ap (any_doubtful _) (left-none _ _ _ c.loop-i.i c.loop-i-test.false))
 
-pub overflow_add-start : goal.overflow_add-start
-overflow_add-start c = omega arith
-
 pub transition_at-t-requires : goal.transition_at-t-requires
 transition_at-t-requires c = (c.requires.0, omega arith)
 
-pub overflow_add-i : goal.overflow_add-i
-overflow_add-i c = omega arith
-
-pub overflow_add-start-in-loop-i : goal.overflow_add-start-in-loop-i
-overflow_add-start-in-loop-i c = omega arith
-
-pub overflow_sub-count : goal.overflow_sub-count
-overflow_sub-count c = omega arith
-
 pub doubtful_with-requires : goal.doubtful_with-requires
 doubtful_with-requires c = (c.requires.0, omega arith)
-
-pub loop-i-smaller : goal.loop-i-smaller
-loop-i-smaller c = omega arith

@@ -36,14 +36,5 @@ unfolding doubtful_with
 returns c =
     sym (c.loop-k.invariant ∙ ap (doubtful_with _ _) (left-none _ _ _ c.loop-k.k c.loop-k-test.false))
 
-pub overflow_add-start : goal.overflow_add-start
-overflow_add-start c = omega arith
-
 pub transition_at-requires : goal.transition_at-requires
 transition_at-requires c = (c.requires.0, omega arith)
-
-pub overflow_add-k : goal.overflow_add-k
-overflow_add-k c = omega arith
-
-pub loop-k-smaller : goal.loop-k-smaller
-loop-k-smaller c = omega arith

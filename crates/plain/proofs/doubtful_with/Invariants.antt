@@ -1,6 +1,5 @@
 -- `doubtful_with` meets its contract. The loop's invariant: those that are left decide.
 use mathlib.Core.Path.{◌≡◌}
-use Prim.Native.Nat.{◌-◌}
 use Rattle.layout.specs.Body.{from, transition_at}
 use Rattle.meaning.specs.Plain.{doubtful_with}
 use Rattle.plain.proofs.Laws.{left}
@@ -10,6 +9,3 @@ abbrev pub invariant-loop-k : goal.invariant-loop-k
 invariant-loop-k l =
     doubtful_with l.fed l.t (from (transition_at l.n l.body) l.start l.count)
     ≡ doubtful_with l.fed l.t (left (transition_at l.n l.body) l.start l.count l.k)
-
-abbrev pub decreases-loop-k : goal.decreases-loop-k
-decreases-loop-k l = l.count - l.k

@@ -22,8 +22,8 @@ module _ (n : Shape) (b : List ℕ) (j : ℕ) {r : Node} (e : r ≡ node_at n b 
   unfolding file_at
   other h = rw (← e, same_≢ r.kind 1 h)
 
-pub returns-then-r-eq-COMPOSES : goal.returns-then-r-eq-COMPOSES
-returns-then-r-eq-COMPOSES c = composed _ _ _ c.node_at-r.ensures (omega arith)
+pub returns-then-r-composes : goal.returns-then-r-composes
+returns-then-r-composes c = composed _ _ _ c.node_at-r.ensures (omega arith)
 
-pub returns-else-r-eq-COMPOSES : goal.returns-else-r-eq-COMPOSES
-returns-else-r-eq-COMPOSES c = other _ _ _ c.node_at-r.ensures (λ h. omega arith)
+pub returns-else-r-composes : goal.returns-else-r-composes
+returns-else-r-composes c = other _ _ _ c.node_at-r.ensures (λ h. omega arith)

@@ -4,22 +4,16 @@ use Rattle.meaning.proofs.Rewriting.Laws.{union_none, union_taken}
 use Rattle.plain.proofs.fed_by_nodes.Goals as goal
 
 pub loop-j-init : goal.loop-j-init
-loop-j-init c = (omega arith, union_none _)
+loop-j-init c = union_none _
 
 pub loop-j-preserved : goal.loop-j-preserved
 loop-j-preserved c =
-    (omega arith, union_taken c.loop-j.j _ c.loop-j.invariant.1 c.fed_by_node-all.ensures)
+    union_taken c.loop-j.j _ c.loop-j.invariant c.fed_by_node-all.ensures
 
 pub returns : goal.returns
 returns c =
     let e : c.loop-j.j ≡ c.args.n.nodes = omega arith in
-    rw e at c.loop-j.invariant.1
+    rw e at c.loop-j.invariant
 
 pub fed_by_node-all-requires : goal.fed_by_node-all-requires
 fed_by_node-all-requires c = (c.requires, omega arith)
-
-pub overflow_add-j : goal.overflow_add-j
-overflow_add-j c = omega arith
-
-pub loop-j-smaller : goal.loop-j-smaller
-loop-j-smaller c = omega arith

@@ -1,14 +1,10 @@
 -- `fed_by_nodes` meets its contract. The loop's invariant: the feedback sets of the nodes passed are joined.
 use mathlib.Core.Path.{◌≡◌}
 use mathlib.Core.Bool.{cond}
-use Prim.Native.Nat.{◌≤◌, ◌-◌}
 use Rattle.meaning.specs.Meaning.{∅, same}
 use Rattle.meaning.specs.File.{file_at}
 use Rattle.meaning.specs.Rewriting.{union_up_to}
 use Rattle.plain.proofs.fed_by_nodes.Given as goal
 
 abbrev pub invariant-loop-j : goal.invariant-loop-j
-invariant-loop-j l = (l.j ≤ l.n.nodes) × (l.all ≡ union_up_to l.j (λ j. cond (same ((file_at l.n l.body).kind j) 1) ((file_at l.n l.body).x j) ∅))
-
-abbrev pub decreases-loop-j : goal.decreases-loop-j
-decreases-loop-j l = l.n.nodes - l.j
+invariant-loop-j l = l.all ≡ union_up_to l.j (λ j. cond (same ((file_at l.n l.body).kind j) 1) ((file_at l.n l.body).x j) ∅)

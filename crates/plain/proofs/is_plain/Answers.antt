@@ -12,14 +12,14 @@ use Rattle.plain.proofs.is_plain.Goals.{After-any_doubtful, After-head_at-h}
 use Rattle.plain.proofs.is_plain.Invariants.{doubted}
 
 pub loop-c-init : goal.loop-c-init
-loop-c-init c = (omega arith, sym (start_of-none _ _), any_none _)
+loop-c-init c = (sym (start_of-none _ _), any_none _)
 
 -- a chart's transitions are there
 fits : (c : After-head_at-h)
     → c.loop-c.start
     + c.head_at-h.result.transitions ≤ c.args.n.transitions
 fits c =
-    in_all _ _ _ _ c.head_at-h.ensures c.loop-c.invariant.1 c.requires.1 c.loop-c-test.true
+    in_all _ _ _ _ c.head_at-h.ensures c.loop-c.invariant.0 c.requires.1 c.loop-c-test.true
 
 -- what was asked of the chart
 asked : (c : After-any_doubtful)
@@ -28,7 +28,7 @@ asked : (c : After-any_doubtful)
 asked c =
     c.any_doubtful.ensures
     ∙ ap₂ any_doubtful c.fed_back-fed.ensures
-    (sym (own_are _ _ c.loop-c.c _ c.head_at-h.ensures c.loop-c.invariant.1))
+    (sym (own_are _ _ c.loop-c.c _ c.head_at-h.ensures c.loop-c.invariant.0))
 
 pub returns-then-any_doubtful : goal.returns-then-any_doubtful
 unfolding plain_in file_at
@@ -38,24 +38,17 @@ returns-then-any_doubtful c =
 
 pub loop-c-preserved : goal.loop-c-preserved
 loop-c-preserved c = (
-  omega arith,
-  start-next _ _ _ _ c.head_at-h.ensures c.loop-c.invariant.1,
-  any-more _ _ c.loop-c.invariant.2 (sym (asked (goal.at.loop-c-preserved c).After-any_doubtful) ∙ c.if-any_doubtful.false),
+  start-next _ _ _ _ c.head_at-h.ensures c.loop-c.invariant.0,
+  any-more _ _ c.loop-c.invariant.1 (sym (asked (goal.at.loop-c-preserved c).After-any_doubtful) ∙ c.if-any_doubtful.false),
 )
 
 pub returns : goal.returns
 unfolding plain_in file_at
 returns c =
-    ap not (any-done c.loop-c.c _ (doubted _ _) c.loop-c.invariant.0 c.loop-c-test.false c.loop-c.invariant.2)
-
-pub fed_back-fed-requires : goal.fed_back-fed-requires
-fed_back-fed-requires c = c.requires.0.holds
+    ap not (any-done c.loop-c.c _ (doubted _ _) c.loop-c.auto.c-end c.loop-c-test.false c.loop-c.invariant.1)
 
 pub head_at-h-requires : goal.head_at-h-requires
 head_at-h-requires c = (c.requires.0.holds, omega arith)
-
-pub overflow_cast-count : goal.overflow_cast-count
-overflow_cast-count c = omega arith
 
 pub any_doubtful-requires : goal.any_doubtful-requires
 any_doubtful-requires c = (c.requires.0.holds, fits (goal.at.any_doubtful-requires c).After-head_at-h)
@@ -65,9 +58,3 @@ overflow_add-start c =
     let r = fits (goal.at.overflow_add-start c).After-head_at-h in
     let t = c.requires.0.transitions in
     omega arith
-
-pub overflow_add-c : goal.overflow_add-c
-overflow_add-c c = omega arith
-
-pub loop-c-smaller : goal.loop-c-smaller
-loop-c-smaller c = omega arith

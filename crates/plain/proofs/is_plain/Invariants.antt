@@ -3,7 +3,7 @@
 use mathlib.Core.Path.{◌≡◌}
 use mathlib.Core.Bool.{Bool, false}
 use mathlib.Core.List.{List}
-use Prim.Native.Nat.{ℕ, ◌≤◌, ◌-◌}
+use Prim.Native.Nat.{ℕ}
 use Rattle.layout.specs.Body.{start_of}
 use Rattle.layout.specs.declared.body.Shape.{Shape}
 use Rattle.meaning.specs.Sums.{any_up_to}
@@ -16,7 +16,4 @@ abbrev pub doubted : Shape → List ℕ → ℕ → Bool
 doubted n b c = any_doubtful (fed_back (file_at n b)) ((file_at n b).chart c).transitions
 
 abbrev pub invariant-loop-c : goal.invariant-loop-c
-invariant-loop-c l = (l.c ≤ l.n.charts) × (l.start ≡ start_of l.n l.body l.c) × (any_up_to l.c (doubted l.n l.body) ≡ false)
-
-abbrev pub decreases-loop-c : goal.decreases-loop-c
-decreases-loop-c l = l.n.charts - l.c
+invariant-loop-c l = (l.start ≡ start_of l.n l.body l.c) × (any_up_to l.c (doubted l.n l.body) ≡ false)

@@ -5,17 +5,16 @@ use Rattle.layout.specs.Row.Laws.{fill_more}
 use Rattle.plan.proofs.down_row.Goals as goal
 
 pub loop-c-init : goal.loop-c-init
-loop-c-init c = (omega arith, search rules, λ k p. absurd (omega arith))
+loop-c-init c = (search rules, λ k p. absurd (omega arith))
 
 pub loop-c-preserved : goal.loop-c-preserved
 loop-c-preserved c = (
-  omega arith,
-  simp length-set c.loop-c.invariant.1,
-  fill_more _ c.loop-c.row c.loop-c.c _ c.loop-c.invariant.2 c.down_in.ensures (omega (arith, c.loop-c.invariant.1, c.requires)),
+  simp length-set c.loop-c.invariant.0,
+  fill_more _ c.loop-c.row c.loop-c.c _ c.loop-c.invariant.1 c.down_in.ensures (omega (arith, c.loop-c.invariant.0, c.requires)),
 )
 
 pub returns : goal.returns
-returns c = λ k p. c.loop-c.invariant.2 k (omega arith)
+returns c = λ k p. c.loop-c.invariant.1 k (omega arith)
 
 pub down_in-requires : goal.down_in-requires
 down_in-requires c = omega (arith, c.requires)
@@ -25,9 +24,3 @@ offset_bounds-row-c c = omega (arith, c.requires)
 
 pub bounds-row-c : goal.bounds-row-c
 bounds-row-c c = omega (arith, c.requires)
-
-pub overflow_add-c : goal.overflow_add-c
-overflow_add-c c = omega arith
-
-pub loop-c-smaller : goal.loop-c-smaller
-loop-c-smaller c = omega arith

@@ -94,31 +94,31 @@ loop-d-preserved c =
     let z : Now c.if-has.masks =
     elim c.if-has.branch [
       | then-has w ↦ subst Now (sym w.masks-is) (
-        w.feed_row.auto.masks ∙ c.loop-d.invariant.1,
-        fed_in_lem a.charts c.loop-d.d c.requires.1 a.set a.x a.down.now a.masks.now c.loop-d.masks c.loop-d.invariant.2 _
+        w.feed_row.auto.masks ∙ c.loop-d.invariant.0,
+        fed_in_lem a.charts c.loop-d.d c.requires.1 a.set a.x a.down.now a.masks.now c.loop-d.masks c.loop-d.invariant.1 _
             w.up.result
             (sym c.has.ensures ∙ w.if-has.true) w.up.ensures (fed_row_lem a.charts c.loop-d.d a.set (w.up.result ∩ a.x)
             a.down.now c.down_row-offered.result c.loop-d.masks _
             c.down_row-offered.ensures w.feed_row.ensures),
       )
       | else-has w ↦ subst Now (sym w.masks-is) (
-        c.loop-d.invariant.1,
-        fed_out a.charts c.loop-d.d c.requires.1 a.set a.x a.down.now a.masks.now c.loop-d.masks c.loop-d.invariant.2
+        c.loop-d.invariant.0,
+        fed_out a.charts c.loop-d.d c.requires.1 a.set a.x a.down.now a.masks.now c.loop-d.masks c.loop-d.invariant.1
             (sym c.has.ensures ∙ w.if-has.false),
       )
     ] in
-    (omega arith, z.0, z.1)
+    (z.0, z.1)
 
 pub returns : goal.returns
 returns c =
     let i = c.loop-d.invariant in
-    record { back_is = λ k d p q. i.2.in_rows k d p (omega arith); up_is = λ d p. i.2.ups d }
+    record { back_is = λ k d p q. i.1.in_rows k d p (omega arith); up_is = λ d p. i.1.ups d }
 
 pub down_row-offered-requires : goal.down_row-offered-requires
 down_row-offered-requires c = c.requires.1
 
 pub loop-d-init : goal.loop-d-init
-loop-d-init c = (omega arith, refl, fed_none _ _ _ _ _)
+loop-d-init c = (refl, fed_none _ _ _ _ _)
 
 pub overflow_cast-d : goal.overflow_cast-d
 overflow_cast-d c = omega arith
@@ -129,18 +129,12 @@ has-requires c = omega arith
 pub up-requires : goal.up-requires
 up-requires c =
     let p = c.requires in
-    (omega (arith, c.loop-d.invariant.1, p.0), omega (arith, p.1))
+    (omega (arith, c.loop-d.invariant.0, p.0), omega (arith, p.1))
 
 pub feed_row-requires : goal.feed_row-requires
 feed_row-requires c =
     let p = c.requires in
-    (omega (arith, c.loop-d.invariant.1, p.0), p.1, omega arith)
-
-pub overflow_add-d : goal.overflow_add-d
-overflow_add-d c = omega arith
-
-pub loop-d-smaller : goal.loop-d-smaller
-loop-d-smaller c = omega arith
+    (omega (arith, c.loop-d.invariant.0, p.0), p.1, omega arith)
 
 pub shape_of-masks : goal.shape_of-masks
-shape_of-masks c = c.loop-d.invariant.1
+shape_of-masks c = c.loop-d.invariant.0

@@ -1,7 +1,7 @@
 -- `plan::feed` meets its contract: the rows below d are fed, if their chart is in the set; what gets up stays.
 use mathlib.Core.Path.{◌≡◌}
 use mathlib.Core.List.{List}
-use Prim.Native.Nat.{ℕ, ◌-◌, ◌≤◌, ◌<◌}
+use Prim.Native.Nat.{ℕ, ◌≤◌, ◌<◌}
 use lib.ListN.{length, get_or}
 use Rattle.meaning.specs.Meaning.{Set}
 use Rattle.cells.specs.Table.{back_row, back_at, up_at}
@@ -15,7 +15,4 @@ pub record Fed (N n : ℕ) (s x : Set) (r l m : List ℕ) : Type 0 where
   pub ups : (d : ℕ) → up_at m d ≡ up_at l d
 
 abbrev pub invariant-loop-d : goal.invariant-loop-d
-invariant-loop-d l = (l.d ≤ l.charts) × (length l.masks ≡ length l.initial.masks) × Fed l.charts l.d l.set l.x l.down l.initial.masks l.masks
-
-abbrev pub decreases-loop-d : goal.decreases-loop-d
-decreases-loop-d l = l.charts - l.d
+invariant-loop-d l = (length l.masks ≡ length l.initial.masks) × Fed l.charts l.d l.set l.x l.down l.initial.masks l.masks

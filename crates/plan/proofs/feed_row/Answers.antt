@@ -19,26 +19,23 @@ returns-then-m-eq0 c =
     row_same _ _ _ _ (λ k p. nothing _ _ (get_or a.offered.now k 0) c.if-m-eq0.true)
 
 pub loop-c-init : goal.loop-c-init
-loop-c-init c = (omega arith, row-none _ _ _)
+loop-c-init c = row-none _ _ _
 
 -- the masks are as many as they were
 roomy : (t : At-loop-c) → masks_for (t.args.d + 1) ≤ length t.loop-c.masks
-roomy t = omega (arith, t.loop-c.invariant.1.long, t.requires.0, t.requires.2)
+roomy t = omega (arith, t.loop-c.invariant.long, t.requires.0, t.requires.2)
 
 pub loop-c-preserved : goal.loop-c-preserved
 loop-c-preserved c =
     let a = c.args in
     let e = ap (λ (x : ℕ). x ∪ (a.m ∩ get_or a.offered.now c.loop-c.c 0))
-    (c.back.ensures ∙ c.loop-c.invariant.1.above (back_cell c.loop-c.c a.d) (omega arith)) in (
-      omega arith,
-      rw c.put_back.ensures
-          (row_more (back_row a.d) c.loop-c.c _ _ a.masks.now c.loop-c.masks (omega (arith, roomy (goal.at.loop-c-preserved c).At-loop-c)) e c.loop-c.invariant.1),
-    )
+    (c.back.ensures ∙ c.loop-c.invariant.above (back_cell c.loop-c.c a.d) (omega arith)) in rw c.put_back.ensures
+    (row_more (back_row a.d) c.loop-c.c _ _ a.masks.now c.loop-c.masks (omega (arith, roomy (goal.at.loop-c-preserved c).At-loop-c)) e c.loop-c.invariant)
 
 pub returns : goal.returns
 returns c =
     let e : c.loop-c.c ≡ c.args.charts = omega arith in
-    rw e at c.loop-c.invariant.1
+    rw e at c.loop-c.invariant
 
 pub back-requires : goal.back-requires
 back-requires c =
@@ -54,11 +51,5 @@ pub put_back-requires : goal.put_back-requires
 put_back-requires c =
     (roomy (goal.at.put_back-requires c).At-loop-c, omega (arith, c.requires.1), omega (arith, c.requires.1, c.requires.2))
 
-pub overflow_add-c : goal.overflow_add-c
-overflow_add-c c = omega arith
-
-pub loop-c-smaller : goal.loop-c-smaller
-loop-c-smaller c = omega arith
-
 pub shape_of-masks : goal.shape_of-masks
-shape_of-masks c = c.loop-c.invariant.1.long
+shape_of-masks c = c.loop-c.invariant.long

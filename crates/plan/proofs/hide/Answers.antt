@@ -66,37 +66,37 @@ loop-c-preserved c =
     let z : Now c.if-has.masks c.if-has.down =
     elim c.if-has.branch [
       | then-has w ↦ subst₂ Now (sym w.masks-is) (sym w.down-is) (rw w.put_up.ensures (
-        length-set c.loop-c.masks _ _ ∙ c.loop-c.invariant.1,
-        hidden_in c.loop-c.c a.set a.x a.y a.down.now c.loop-c.down a.masks.now c.loop-c.masks c.loop-c.invariant.2 _ _
-            (omega (arith, c.loop-c.invariant.2.long, c.requires.2, c.requires.1)) (omega (arith, c.loop-c.invariant.1, c.requires.0))
+        length-set c.loop-c.masks _ _ ∙ c.loop-c.invariant.0,
+        hidden_in c.loop-c.c a.set a.x a.y a.down.now c.loop-c.down a.masks.now c.loop-c.masks c.loop-c.invariant.1 _ _
+            (omega (arith, c.loop-c.invariant.1.long, c.requires.2, c.requires.1)) (omega (arith, c.loop-c.invariant.0, c.requires.0))
             (sym c.has.ensures ∙ w.if-has.true) w.less.ensures (w.less-up.ensures ∙ ap (λ (u : Set). u ∖ a.y) w.up.ensures),
       ))
       | else-has w ↦ subst₂ Now (sym w.masks-is) (sym w.down-is) (
-        c.loop-c.invariant.1,
-        hidden_out c.loop-c.c a.set a.x a.y a.down.now c.loop-c.down a.masks.now c.loop-c.masks c.loop-c.invariant.2
+        c.loop-c.invariant.0,
+        hidden_out c.loop-c.c a.set a.x a.y a.down.now c.loop-c.down a.masks.now c.loop-c.masks c.loop-c.invariant.1
             (sym c.has.ensures ∙ w.if-has.false),
       )
     ] in
-    (omega arith, z.0, z.1)
+    (z.0, z.1)
 
 pub returns : goal.returns
 returns c =
     let i = c.loop-c.invariant in
     let p = c.requires in
     record {
-      down_is = λ k l. i.2.down_is k (omega arith);
-      up_is = λ k l. i.2.up_is k (omega arith);
-      back_is = λ k d l m. i.2.back_is k d (omega (arith, p.1));
-      long = i.2.long;
+      down_is = λ k l. i.1.down_is k (omega arith);
+      up_is = λ k l. i.1.up_is k (omega arith);
+      back_is = λ k d l m. i.1.back_is k d (omega (arith, p.1));
+      long = i.1.long;
     }
 
 -- the masks are as many as they were
 room : (c : In-loop-c)
     → (masks_for (c.loop-c.c + 1) ≤ length c.loop-c.masks) × (c.loop-c.c < most_charts)
-room c = let p = c.requires in (omega (arith, p.0, c.loop-c.invariant.1), omega (arith, p.1))
+room c = let p = c.requires in (omega (arith, p.0, c.loop-c.invariant.0), omega (arith, p.1))
 
 pub loop-c-init : goal.loop-c-init
-loop-c-init c = (omega arith, refl, hidden_none _ _ _ _ _)
+loop-c-init c = (refl, hidden_none _ _ _ _ _)
 
 pub overflow_cast-c : goal.overflow_cast-c
 overflow_cast-c c = omega arith
@@ -128,11 +128,5 @@ less-up-requires c = tt
 pub put_up-requires : goal.put_up-requires
 put_up-requires c = room (goal.at.put_up-requires c).In-loop-c
 
-pub overflow_add-c : goal.overflow_add-c
-overflow_add-c c = omega arith
-
-pub loop-c-smaller : goal.loop-c-smaller
-loop-c-smaller c = omega arith
-
 pub shape_of-masks : goal.shape_of-masks
-shape_of-masks c = c.loop-c.invariant.1
+shape_of-masks c = c.loop-c.invariant.0

@@ -2,7 +2,7 @@
 use mathlib.Core.Path.{◌≡◌}
 use mathlib.Core.Bool.{Bool, cond}
 use mathlib.Core.List.{List}
-use Prim.Native.Nat.{ℕ, ◌-◌, ◌≤◌, ◌<◌}
+use Prim.Native.Nat.{ℕ, ◌≤◌, ◌<◌}
 use lib.ListN.{length, get_or}
 use Rattle.signals.specs.Mask.{◌∖◌, bit}
 use Rattle.meaning.specs.Numbers.{most_charts}
@@ -24,7 +24,4 @@ pub record Hidden (n : ℕ) (s x y : Set) (r q l m : List ℕ) : Type 0 where
   pub long : length q ≡ length r
 
 abbrev pub invariant-loop-c : goal.invariant-loop-c
-invariant-loop-c l = (l.c ≤ l.charts) × (length l.masks ≡ length l.initial.masks) × Hidden l.c l.set l.x l.y l.initial.down l.down l.initial.masks l.masks
-
-abbrev pub decreases-loop-c : goal.decreases-loop-c
-decreases-loop-c l = l.charts - l.c
+invariant-loop-c l = (length l.masks ≡ length l.initial.masks) × Hidden l.c l.set l.x l.y l.initial.down l.down l.initial.masks l.masks

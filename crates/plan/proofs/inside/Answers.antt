@@ -41,22 +41,19 @@ module _ (F : File) {i : ℕ} {s : Slave} (e : IsSlave F i s) (d : ℕ) (l : Lis
       (sym (ap (λ (y : Bool). y && bit (get_or l (F.node i) 0) c) (same_≢ (F.master i) d (λ z. o (e.chart ∙ z))))))
 
 pub loop-i-init : goal.loop-i-init
-loop-i-init c = (omega arith, λ k. bit-none k ∙ sym (any_none _))
+loop-i-init c = λ k. bit-none k ∙ sym (any_none _)
 
 pub loop-i-preserved : goal.loop-i-preserved
 loop-i-preserved c =
     let a = c.args in
     let F = file_at a.n a.body.now in
     let s = is_slave a.n a.body.now c.loop-i.i c.slave_at-slave.ensures in
-    let Now : Set → Type 0 = Inside F a.c a.sets.now (c.loop-i.i + 1) in (
-      omega arith,
-      elim c.if-slave-c.branch [
-        | then-slave-c w ↦ subst Now (sym w.set-is) (inside_in F s a.c a.sets.now c.loop-i.set c.loop-i.invariant.1
-            w.if-slave-c.true w.wide-set.result w.wide-set.ensures)
-        | else-slave-c w ↦ subst Now (sym w.set-is)
-            (inside_out F s a.c a.sets.now c.loop-i.set c.loop-i.invariant.1 w.if-slave-c.false)
-      ],
-    )
+    let Now : Set → Type 0 = Inside F a.c a.sets.now (c.loop-i.i + 1) in elim c.if-slave-c.branch [
+      | then-slave-c w ↦ subst Now (sym w.set-is) (inside_in F s a.c a.sets.now c.loop-i.set c.loop-i.invariant
+          w.if-slave-c.true w.wide-set.result w.wide-set.ensures)
+      | else-slave-c w ↦ subst Now (sym w.set-is)
+          (inside_out F s a.c a.sets.now c.loop-i.set c.loop-i.invariant w.if-slave-c.false)
+    ]
 
 -- the node that a slave names is one of the file's
 node-there : (c : After-slave_at-slave) → c.slave_at-slave.result.node < most_nodes
@@ -70,8 +67,8 @@ node-there c =
 pub returns : goal.returns
 unfolding file_at
 returns c =
-    let e : c.loop-i.i ≡ c.args.n.slaves = omega (arith, c.loop-i.invariant.0, c.loop-i-test.false) in
-    rw e at c.loop-i.invariant.1
+    let e : c.loop-i.i ≡ c.args.n.slaves = omega (arith, c.loop-i.auto.i-end, c.loop-i-test.false) in
+    rw e at c.loop-i.invariant
 
 pub offset_bounds-sets-k : goal.offset_bounds-sets-k
 offset_bounds-sets-k c = omega (arith, node-there (goal.at.offset_bounds-sets-k c).After-slave_at-slave)
@@ -81,9 +78,3 @@ bounds-sets-k c = node-there (goal.at.bounds-sets-k c).After-slave_at-slave
 
 pub wide-set-requires : goal.wide-set-requires
 wide-set-requires c = tt
-
-pub overflow_add-i : goal.overflow_add-i
-overflow_add-i c = omega arith
-
-pub loop-i-smaller : goal.loop-i-smaller
-loop-i-smaller c = omega arith

@@ -1,11 +1,7 @@
 -- `plan::inside` meets its contract: the sets of the slaves below i are joined.
-use Prim.Native.Nat.{◌-◌, ◌≤◌}
 use Rattle.meaning.specs.File.{file_at}
 use Rattle.plan.specs.ByNode.{Inside}
 use Rattle.plan.proofs.inside.Given as goal
 
 abbrev pub invariant-loop-i : goal.invariant-loop-i
-invariant-loop-i l = (l.i ≤ l.n.slaves) × Inside (file_at l.n l.body) l.c l.sets l.i l.set
-
-abbrev pub decreases-loop-i : goal.decreases-loop-i
-decreases-loop-i l = l.n.slaves - l.i
+invariant-loop-i l = Inside (file_at l.n l.body) l.c l.sets l.i l.set

@@ -5,27 +5,20 @@ use Rattle.plan.proofs.Noted.{noted_none-more}
 use Rattle.plan.proofs.note_none.Goals as goal
 
 pub loop-c-init : goal.loop-c-init
-loop-c-init c = (omega arith, refl, λ k l. absurd (omega arith))
+loop-c-init c = (refl, λ k l. absurd (omega arith))
 
 pub loop-c-preserved : goal.loop-c-preserved
 loop-c-preserved c =
     let e = c.put_nearest.ensures in (
-      omega arith,
-      ap length e ∙ simp length-set c.loop-c.invariant.1,
-      rw e (noted_none-more c.loop-c.c c.loop-c.small (omega arith) (c.loop-c.invariant.1 ∙ c.requires) c.loop-c.invariant.2),
+      ap length e ∙ simp length-set c.loop-c.invariant.0,
+      rw e (noted_none-more c.loop-c.c c.loop-c.small (omega arith) (c.loop-c.invariant.0 ∙ c.requires) c.loop-c.invariant.1),
     )
 
 pub returns : goal.returns
-returns c k l = c.loop-c.invariant.2 k (omega arith)
+returns c k l = c.loop-c.invariant.1 k (omega arith)
 
 pub put_nearest-requires : goal.put_nearest-requires
-put_nearest-requires c = (c.loop-c.invariant.1 ∙ c.requires, omega arith)
-
-pub overflow_add-c : goal.overflow_add-c
-overflow_add-c c = omega arith
-
-pub loop-c-smaller : goal.loop-c-smaller
-loop-c-smaller c = omega arith
+put_nearest-requires c = (c.loop-c.invariant.0 ∙ c.requires, omega arith)
 
 pub shape_of-small : goal.shape_of-small
-shape_of-small c = c.loop-c.invariant.1
+shape_of-small c = c.loop-c.invariant.0

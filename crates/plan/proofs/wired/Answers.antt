@@ -10,7 +10,6 @@ use Rattle.plan.proofs.wired.Goals as goal
 pub loop-j-init : goal.loop-j-init
 unfolding file_at
 loop-j-init c = (
-  omega arith,
   refl,
   refl,
   λ i p. absurd (omega arith),
@@ -22,19 +21,18 @@ pub wire_node-set-requires : goal.wire_node-set-requires
 wire_node-set-requires c = (
   c.requires.0,
   c.loop-j-test.true,
-  rw c.loop-j.invariant.1 c.requires.1,
+  rw c.loop-j.invariant.0 c.requires.1,
+  c.loop-j.invariant.2,
   c.loop-j.invariant.3,
-  c.loop-j.invariant.4,
 )
 
 pub loop-j-preserved : goal.loop-j-preserved
 loop-j-preserved c =
     let i = c.loop-j.invariant in
     let F = file_at c.args.n c.args.body.now in (
-      omega arith,
-      c.wire_node-set.auto.masks ∙ i.1,
-      length-set c.loop-j.sets c.loop-j.j c.wire_node-set.result ∙ i.2,
-      sets_more F c.loop-j.j c.loop-j.sets c.wire_node-set.result (omega (arith, i.2, c.requires.0.sized.nodes)) i.3
+      c.wire_node-set.auto.masks ∙ i.0,
+      length-set c.loop-j.sets c.loop-j.j c.wire_node-set.result ∙ i.1,
+      sets_more F c.loop-j.j c.loop-j.sets c.wire_node-set.result (omega (arith, i.1, c.requires.0.sized.nodes)) i.2
           c.wire_node-set.ensures.0,
       c.wire_node-set.ensures.1,
     )
@@ -56,9 +54,9 @@ unfolding file_at
 returns c =
     let F = file_at c.args.n c.args.body.now in
     let e : c.loop-j.j ≡ c.args.n.nodes =
-    omega (arith, c.loop-j.invariant.0, c.loop-j-test.false) in
+    omega (arith, c.loop-j.auto.j-end, c.loop-j-test.false) in
     wired_whole F c.requires.0.sound c.requires.0.sized.some_node c.loop-j.down c.loop-j.masks _
-    (subst (λ (k : ℕ). WiredTo F k c.loop-j.down c.loop-j.masks) e c.loop-j.invariant.4)
+    (subst (λ (k : ℕ). WiredTo F k c.loop-j.down c.loop-j.masks) e c.loop-j.invariant.3)
     c.nearest.ensures
 
 pub offset_bounds-sets-j : goal.offset_bounds-sets-j
@@ -67,11 +65,5 @@ offset_bounds-sets-j c = omega arith
 pub bounds-sets-j : goal.bounds-sets-j
 bounds-sets-j c = omega arith
 
-pub overflow_add-j : goal.overflow_add-j
-overflow_add-j c = omega arith
-
-pub loop-j-smaller : goal.loop-j-smaller
-loop-j-smaller c = omega arith
-
 pub shape_of-masks : goal.shape_of-masks
-shape_of-masks c = c.loop-j.invariant.1
+shape_of-masks c = c.loop-j.invariant.0

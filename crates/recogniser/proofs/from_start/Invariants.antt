@@ -2,18 +2,14 @@
 -- whole text; and the ring has the level that the scan looks for.
 use mathlib.Core.Path.{◌≡◌}
 use mathlib.Core.List.{[]}
-use Prim.Native.Nat.{◌-◌, ◌≤◌, ◌<◌}
-use lib.ListN.{length, take, drop}
+use lib.ListN.{take, drop}
 use Rattle.scan.specs.Look.{rev}
 use Rattle.scan.specs.Scan.{scan_from, scan}
 use Rattle.levels.specs.Ring.{Keeps, MarksIn}
+use Rattle.modes.specs.Step.{place_of}
 use Rattle.recogniser.proofs.from_start.Given as goal
 
 abbrev pub invariant-loop-i : goal.invariant-loop-i
 invariant-loop-i l =
-    (l.i ≤ length l.text) × ((l.m < 2305843009213693952)
-    × ((Keeps l.text l.ring l.places l.kept (rev (take l.i l.text) []) × MarksIn l.text l.firsts l.lasts l.tops l.kept)
-    × (scan_from (drop l.i l.text) (rev (take l.i l.text) []) l.i l.m l.x ≡ scan l.text)))
-
-abbrev pub decreases-loop-i : goal.decreases-loop-i
-decreases-loop-i l = length l.text - l.i
+    (Keeps l.text l.ring l.places l.kept (rev (take l.i l.text) []) × MarksIn l.text l.firsts l.lasts l.tops l.kept)
+    × (scan_from (drop l.i l.text) (rev (take l.i l.text) []) l.i l.step.mode (place_of l.step.token) ≡ scan l.text)

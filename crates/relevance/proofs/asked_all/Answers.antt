@@ -1,6 +1,5 @@
 use mathlib.Core.Path.{◌≡◌, refl, ◌∙◌, subst}
 use native.Mathlib.Omega.{arith}
-use borrow.Author.Rules.{rules}
 use lib.ListN.{length-set}
 use Rattle.layout.specs.Body.{start_of}
 use Rattle.checks.specs.Known.Laws.{in_all, start-next}
@@ -10,19 +9,19 @@ use Rattle.relevance.proofs.asked_all.Goals as goal
 
 pub loop-c-init : goal.loop-c-init
 unfolding start_of
-loop-c-init c = (search rules, refl, refl, λ d l. absurd (omega arith))
+loop-c-init c = (refl, refl, λ d l. absurd (omega arith))
 
 pub asked_of-requires : goal.asked_of-requires
 asked_of-requires c = (
   c.requires.sized.holds,
-  in_all c.args.n c.args.body.now c.loop-c.c c.loop-c.start c.head_at-head.ensures c.loop-c.invariant.1
+  in_all c.args.n c.args.body.now c.loop-c.c c.loop-c.start c.head_at-head.ensures c.loop-c.invariant.0
       c.requires.summed c.loop-c-test.true,
 )
 
 pub bounds-asks-c : goal.bounds-asks-c
 bounds-asks-c c = omega (
   arith,
-  c.loop-c.invariant.2,
+  c.loop-c.invariant.1,
   c.loop-c-test.true,
   c.requires.sized.charts,
 )
@@ -33,25 +32,24 @@ overflow_add-start c =
       arith,
       c.requires.sized.transitions,
       in_all c.args.n c.args.body.now c.loop-c.c c.loop-c.start c.head_at-head.ensures
-          c.loop-c.invariant.1 c.requires.summed c.loop-c-test.true,
+          c.loop-c.invariant.0 c.requires.summed c.loop-c-test.true,
     )
 
 pub loop-c-preserved : goal.loop-c-preserved
 loop-c-preserved c =
     let h = c.head_at-head.ensures in
     let r = c.loop-c-test.true in (
-      omega (arith, r),
-      start-next c.args.n c.args.body.now c.loop-c.c c.loop-c.start h c.loop-c.invariant.1,
-      length-set c.loop-c.asks c.loop-c.c c.asked_of.result ∙ c.loop-c.invariant.2,
-      asks_next c.args.n c.args.body.now c.args.config.now c.loop-c.c c.loop-c.asks _ c.loop-c.start _ c.loop-c.invariant.3
-          (omega (arith, r, c.requires.sized.charts, c.loop-c.invariant.2)) c.loop-c.invariant.1 h c.asked_of.ensures,
+      start-next c.args.n c.args.body.now c.loop-c.c c.loop-c.start h c.loop-c.invariant.0,
+      length-set c.loop-c.asks c.loop-c.c c.asked_of.result ∙ c.loop-c.invariant.1,
+      asks_next c.args.n c.args.body.now c.args.config.now c.loop-c.c c.loop-c.asks _ c.loop-c.start _ c.loop-c.invariant.2
+          (omega (arith, r, c.requires.sized.charts, c.loop-c.invariant.1)) c.loop-c.invariant.0 h c.asked_of.ensures,
     )
 
 pub returns : goal.returns
 returns c =
     let a = c.args in
     let e : c.loop-c.c ≡ a.n.charts = omega arith in
-    subst (λ z. Asks a.n a.body.now a.config.now z c.loop-c.asks) e c.loop-c.invariant.3
+    subst (λ z. Asks a.n a.body.now a.config.now z c.loop-c.asks) e c.loop-c.invariant.2
 
 pub head_at-head-requires : goal.head_at-head-requires
 head_at-head-requires c = (c.requires.sized.holds, c.loop-c-test.true)
@@ -63,14 +61,3 @@ bounds-config-c c =
       c.loop-c-test.true,
       c.requires.configured,
     )
-
-pub overflow_add-c : goal.overflow_add-c
-overflow_add-c c =
-    omega (
-      arith,
-      c.loop-c-test.true,
-      c.requires.sized.charts,
-    )
-
-pub loop-c-smaller : goal.loop-c-smaller
-loop-c-smaller c = omega (arith, c.loop-c-test.true)

@@ -1,6 +1,5 @@
 -- `read_of` meets its contract. The loop joins what the charts below c look for and get. Assumes nothing.
 use mathlib.Core.Path.{◌≡◌}
-use Prim.Native.Nat.{◌-◌, ◌≤◌}
 use lib.ListN.{get_or}
 use Rattle.signals.specs.Mask.{◌∩◌}
 use Rattle.meaning.specs.Rewriting.{union_up_to}
@@ -8,7 +7,4 @@ use Rattle.cells.specs.Table.{back_at}
 use Rattle.relevance.proofs.read_of.Given as goal
 
 abbrev pub invariant-loop-c : goal.invariant-loop-c
-invariant-loop-c l = (l.c ≤ l.charts) × (l.u ≡ union_up_to l.c (λ d. back_at l.masks d l.k ∩ get_or l.asks d 0))
-
-abbrev pub decreases-loop-c : goal.decreases-loop-c
-decreases-loop-c l = l.charts - l.c
+invariant-loop-c l = l.u ≡ union_up_to l.c (λ d. back_at l.masks d l.k ∩ get_or l.asks d 0)

@@ -1,13 +1,9 @@
 -- `rows` meets its contract. The loop: what is read of the charts below k stands in the row. Assumes nothing.
 use mathlib.Core.Path.{◌≡◌}
-use Prim.Native.Nat.{◌-◌, ◌≤◌}
 use lib.ListN.{length}
 use Rattle.meaning.specs.Numbers.{most_charts}
 use Rattle.relevance.specs.Relevance.{ReadRow}
 use Rattle.relevance.proofs.rows.Given as goal
 
 abbrev pub invariant-loop-k : goal.invariant-loop-k
-invariant-loop-k l = (l.k ≤ l.n.charts) × (length l.reads ≡ most_charts) × ReadRow l.n l.body l.config l.masks l.k l.reads
-
-abbrev pub decreases-loop-k : goal.decreases-loop-k
-decreases-loop-k l = l.n.charts - l.k
+invariant-loop-k l = (length l.reads ≡ most_charts) × ReadRow l.n l.body l.config l.masks l.k l.reads

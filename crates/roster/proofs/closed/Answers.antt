@@ -1,12 +1,12 @@
 -- `closed` meets its contract.
-use mathlib.Core.Path.{refl, ap, ◌∙◌}
+use mathlib.Core.Path.{refl, ap}
 use mathlib.Core.Bool.{◌||◌}
 use Rattle.roster.proofs.closed.Goals as goal
 
 pub returns : goal.returns
 returns c =
     record {
-      is_bad = c.either.ensures ∙ ap (c.args.r.bad ||◌) c.left_out.ensures;
+      is_bad = ap (c.args.r.bad ||◌) c.left_out.ensures;
       is_charts = refl;
       is_transitions = refl;
       is_crowded = refl;

@@ -12,8 +12,8 @@ returns c =
       is_bad = refl;
       is_charts = c.counted.ensures;
       is_transitions = c.counted-2.ensures;
-      is_crowded = c.either.ensures;
-      is_refused = c.either-2.ensures;
+      is_crowded = refl;
+      is_refused = refl;
       is_places = c.placed-places.ensures;
       is_next = refl;
     }

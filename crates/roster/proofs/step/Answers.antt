@@ -12,4 +12,4 @@ pub returns : goal.returns
 unfolding moved
 returns c =
     walked_passed _ _ c.requires _ c.begins_chart.ensures c.if-begins_chart.false _
-    c.behind_token.ensures
+    c.behind_token-next.ensures

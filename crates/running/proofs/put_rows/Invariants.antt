@@ -2,7 +2,7 @@
 -- present configuration, are all rows.
 use mathlib.Core.Path.{◌≡◌}
 use mathlib.Core.List.{List, ◌++◌}
-use Prim.Native.Nat.{ℕ, ◌+◌, ◌*◌, ◌-◌, ◌≤◌}
+use Prim.Native.Nat.{ℕ, ◌+◌, ◌*◌}
 use lib.ListN.{length, take, drop}
 use Rattle.layout.specs.declared.body.Shape.{Shape}
 use Rattle.meaning.specs.File.{file_at}
@@ -24,12 +24,8 @@ module _ (n : Shape) (b inputs : List ℕ) (start : Stand) (rows₀ : List ℕ) 
 abbrev pub stand : Shape → List ℕ → ℕ → Stand
 stand n states held = record { config = take n.charts states; carried = held }
 
-abbrev pub invariant-loop-left : goal.invariant-loop-left
-invariant-loop-left l =
+abbrev pub invariant-loop-input : goal.invariant-loop-input
+invariant-loop-input l =
     So-far l.n l.body l.inputs (stand l.n l.initial.states l.initial.held) l.initial.rows l.rows
-    (stand l.n l.states l.held) l.at (length l.inputs - l.left)
-    × Prepared l.n l.body l.down l.masks l.small
-    × (l.left ≤ length l.inputs) × (length l.masks ≡ length l.initial.masks)
-
-abbrev pub decreases-loop-left : goal.decreases-loop-left
-decreases-loop-left l = l.left
+    (stand l.n l.states l.held) l.at l.input-index
+    × Prepared l.n l.body l.down l.masks l.small × (length l.masks ≡ length l.initial.masks)

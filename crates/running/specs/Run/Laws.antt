@@ -1,6 +1,6 @@
 -- Laws of the run, in this order: the call's list behind 1 to 11; 20, 21 and 27; a checked body's transitions lead to
 -- states of their charts; a row laid over a part of a buffer; one row more, and the last.
-use Rattle.std.specs.Prelude.{◌≡◌, ℕ, ◌+◌, ◌*◌, ◌-◌, ◌/◌, ◌≤◌, ◌<◌, ltb, length, get_or, drop}
+use Rattle.std.specs.Prelude.{◌≡◌, ℕ, ◌+◌, ◌*◌, ◌-◌, ◌/◌, ◌≤◌, ◌<◌, ltb, length, get_or, drop, Ok, Err}
 use Rattle.std.proofs.Math.Path.{sym}
 use Rattle.std.proofs.Common.{◌∙◌, le_trans, suc-mul, mul-le-mul_right, le-div_iff_mul-le, div-lt_iff_lt-mul, add-one}
 use Rattle.std.proofs.Common.{arith, length-append, length-drop, take-append-drop, take_at, drop_at, length-take-le}
@@ -16,12 +16,13 @@ use Rattle.meaning.specs.File.{File, file_at, file_of}
 use Rattle.meaning.specs.Check.{Test, first_of, refusal_of}
 use Rattle.meaning.specs.Check.Laws.{first_of_++, first_of-before, first_of_here, first_of-next, first_of_[]}
 use Rattle.meaning.specs.Calls.{laid_over, row_of, rows_of, carried_of, run_refusal, run_bytes, run_carried}
-use Rattle.meaning.proofs.Laws.Runs.{Leads, body-leads, Valid, Stand, step_from, stand_after, rows_from, carried_from}
+use Rattle.meaning.proofs.Laws.Runs.{Leads, body-leads, Stand, step_from, stand_after, rows_from, carried_from}
 use Rattle.meaning.proofs.Laws.Runs.{rows_next, carried_next}
+use Rattle.checks.specs.Refusals.{number}
+use Rattle.checks.specs.declared.refusal.Refusal.{Refusal}
 use Rattle.stepping.specs.Step.{config_tests_in, Checked}
 use Rattle.stepping.specs.Step.Laws.{behind_refused, behind-passed, config_passes}
 use Rattle.running.specs.Run.{run_refusal_after, run_after, carried_run, BodyRuns}
-use Rattle.running.specs.declared.Ran.{Ran}
 
 -- ── behind 1 to 11 ──
 
@@ -62,11 +63,11 @@ module _ (F : File) (config : List ℕ) (carried : Set) (inputs : List Set) (row
 
   -- the refusal is r, and the rows are left
   abbrev pub Refuses : ℕ → Type 0
-  Refuses r = (a : Ran) → a ≡ record { refusal = r; carried = ∅ } → BodyRuns F config carried inputs rows a rows
+  Refuses n = (r : Refusal) → number r ≡ n → BodyRuns F config carried inputs rows (Err r) rows
 
-  refuses : (r : ℕ) → (r ≡ 0 → ⊥) → run_refusal_after F config (length inputs) (length rows) ≡ r → Refuses r
-  unfolding run_after carried_run same
-  refuses r h e a q = (rw (e, ne_eqb r 0 h) q, rw (e, ne_eqb r 0 h))
+  refuses : (n : ℕ) → (n ≡ 0 → ⊥) → run_refusal_after F config (length inputs) (length rows) ≡ n → Refuses n
+  unfolding run_after same
+  refuses n h e r q = (rw e q, rw (e, ne_eqb n 0 h))
 
   pub after_config : (first_of (config_tests_in F config) ≡ 0 → ⊥) → Refuses (first_of (config_tests_in F config))
   unfolding run_refusal_after
@@ -91,9 +92,9 @@ module _ (F : File) (config : List ℕ) (carried : Set) (inputs : List Set) (row
 
       pub after_rows : (rows' : List ℕ) (c : Set) → rows' ≡ laid_over (rows_of F config carried inputs) rows
           → c ≡ carried_of F config carried inputs
-          → BodyRuns F config carried inputs rows (record { refusal = 0; carried = c }) rows'
+          → BodyRuns F config carried inputs rows (Ok c) rows'
       unfolding run_after carried_run same
-      after_rows rows' c e q = (rw (after_none, q), rw (after_none, e))
+      after_rows rows' c e q = ((after_none, rw (after_none, q)), rw (after_none, e))
 
 -- ── transitions lead to states of their chart ──
 

@@ -2,6 +2,7 @@
 use mathlib.Core.Path.{◌≡◌, refl, sym, ap, ◌∙◌}
 use native.Mathlib.Numerals.{add-one}
 use native.Mathlib.Omega.{arith}
+use Rattle.layout.specs.Kind.{byte_of}
 use Rattle.meaning.specs.File.{file_at}
 use Rattle.notation.specs.Grammar.{lpar, rpar, bar, comma, lbrace, rbrace, lsq, rsq, letQ, sign_bytes, letter}
 use Rattle.printing.specs.Separated.{in_turn}
@@ -10,7 +11,7 @@ use Rattle.printing.specs.Laws.Separated.{in_turn-none, adds_none, adds_one}
 use Rattle.script.specs.Tree.{text_by, slave_text}
 use Rattle.script.proofs.Laws.{prints_by, adds-by, part-composed, part-single, composed_text, hidden_text_lem}
 use Rattle.script.proofs.Laws.{slaves_solid, slaves-none, slaves-more, master_some, master_none, chart-none}
-use Rattle.script.proofs.Laws.{node_chart, node_composed, node_hidden, chart_there, both_there, inside_there}
+use Rattle.script.proofs.Laws.{node_chart, node_composed, node_hidden, chart_there, both_there, inside_there, some_kind}
 use Rattle.script.proofs.Laws.{slave-other, slave-own, slave_text_lem, node-there}
 use Rattle.script.proofs.+descent.Goals as goal
 
@@ -19,34 +20,37 @@ use Rattle.script.proofs.+descent.Goals as goal
 pub chart-returns-then-left-eq0 : goal.chart-returns-then-left-eq0
 chart-returns-then-left-eq0 t c = prints_by (chart-none _ _ _ c.if-left-eq0.true) c.sequential.ensures
 
+pub chart-kind-requires : goal.chart-kind-requires
+chart-kind-requires t c = some_kind _ _ _ _ c.node_at-node.ensures c.requires.0 c.requires.1
+
 pub chart-master-requires : goal.chart-master-requires
 chart-master-requires t c =
     let some = c.if-left-eq0.false in (
       omega (arith, c.decreases),
       (
         c.requires.0,
-        chart_there _ _ _ _ c.node_at-node.ensures c.requires.0 c.requires.1 c.if-node-eq-HOLDS.true,
+        chart_there _ _ _ _ c.node_at-node.ensures c.requires.0 c.requires.1 (sym c.kind.ensures ∙ ap byte_of c.in-Holds.is),
       ),
     )
 
-pub chart-returns-then-node-eq-HOLDS : goal.chart-returns-then-node-eq-HOLDS
-chart-returns-then-node-eq-HOLDS t c =
+pub chart-returns-in-Holds : goal.chart-returns-in-Holds
+chart-returns-in-Holds t c =
     prints_by
     (ap (text_by _)
-    (node_chart _ _ _ _ c.node_at-node.ensures _ c.if-left-eq0.false c.if-node-eq-HOLDS.true))
+    (node_chart _ _ _ _ c.node_at-node.ensures _ c.if-left-eq0.false (sym c.kind.ensures ∙ ap byte_of c.in-Holds.is)))
     c.master.ensures
 
 pub chart-pair-requires : goal.chart-pair-requires
 chart-pair-requires t c =
     let some = c.if-left-eq0.false in
-    let q = both_there _ _ _ _ c.node_at-node.ensures c.requires.0 c.requires.1 c.if-node-eq-COMPOSES.true in
+    let q = both_there _ _ _ _ c.node_at-node.ensures c.requires.0 c.requires.1 (sym c.kind.ensures ∙ ap byte_of c.in-Composes.is) in
     (omega (arith, c.decreases), (c.requires.0, q.0, q.1))
 
-pub chart-returns-then-node-eq-COMPOSES : goal.chart-returns-then-node-eq-COMPOSES
-chart-returns-then-node-eq-COMPOSES t c =
+pub chart-returns-in-Composes : goal.chart-returns-in-Composes
+chart-returns-in-Composes t c =
     prints_by
     (ap (text_by _)
-    (node_composed _ _ _ _ c.node_at-node.ensures _ c.if-left-eq0.false c.if-node-eq-COMPOSES.true))
+    (node_composed _ _ _ _ c.node_at-node.ensures _ c.if-left-eq0.false (sym c.kind.ensures ∙ ap byte_of c.in-Composes.is)))
     c.pair.ensures
 
 pub chart-hidden-requires : goal.chart-hidden-requires
@@ -55,17 +59,15 @@ chart-hidden-requires t c =
       omega (arith, c.decreases),
       (
         c.requires.0,
-        inside_there _ _ _ _ c.node_at-node.ensures c.requires.0 c.requires.1 c.if-node-eq-HOLDS.false
-            c.if-node-eq-COMPOSES.false,
+        inside_there _ _ _ _ c.node_at-node.ensures c.requires.0 c.requires.1 (sym c.kind.ensures ∙ ap byte_of c.in-Hides.is),
       ),
     )
 
-pub chart-returns : goal.chart-returns
-chart-returns t c =
+pub chart-returns-in-Hides : goal.chart-returns-in-Hides
+chart-returns-in-Hides t c =
     prints_by
     (ap (text_by _)
-    (node_hidden _ _ _ _ c.node_at-node.ensures _ c.if-left-eq0.false c.if-node-eq-HOLDS.false
-    c.if-node-eq-COMPOSES.false))
+    (node_hidden _ _ _ _ c.node_at-node.ensures _ c.if-left-eq0.false (sym c.kind.ensures ∙ ap byte_of c.in-Hides.is)))
     c.hidden.ensures
 
 -- ── hidden ──

@@ -2,7 +2,6 @@ use mathlib.Core.Path.{◌≡◌, sym, ap, ◌∙◌}
 use mathlib.Core.Bool.{true, false}
 use mathlib.Core.List.{List}
 use Prim.Native.Nat.{ℕ}
-use native.Mathlib.Omega.{arith}
 use borrow.Author.Tests.{eq-eqb, ne_eqb}
 use Rattle.layout.specs.Body.{slave_at}
 use Rattle.layout.specs.declared.body.Shape.{Shape}
@@ -28,20 +27,14 @@ returns-then-s-c c =
 
 pub loop-i-preserved : goal.loop-i-preserved
 loop-i-preserved c =
-    (omega arith, any-more _ _ c.loop-i.invariant.1 (other _ _ _ _ _ c.slave_at-s.ensures c.if-s-c.false))
+    any-more _ _ c.loop-i.invariant (other _ _ _ _ _ c.slave_at-s.ensures c.if-s-c.false)
 
 pub returns : goal.returns
 unfolding file_at
-returns c = any-done _ _ _ c.loop-i.invariant.0 c.loop-i-test.false c.loop-i.invariant.1
+returns c = any-done _ _ _ c.loop-i.auto.i-end c.loop-i-test.false c.loop-i.invariant
 
 pub loop-i-init : goal.loop-i-init
-loop-i-init c = (omega arith, any_none _)
+loop-i-init c = any_none _
 
 pub slave_at-s-requires : goal.slave_at-s-requires
 slave_at-s-requires c = (c.requires.ranged.sized.holds, c.loop-i-test.true)
-
-pub overflow_add-i : goal.overflow_add-i
-overflow_add-i c = omega arith
-
-pub loop-i-smaller : goal.loop-i-smaller
-loop-i-smaller c = omega arith

@@ -2,7 +2,7 @@
 use mathlib.Core.Path.{◌≡◌}
 use mathlib.Core.Bool.{Bool, false}
 use mathlib.Core.List.{List}
-use Prim.Native.Nat.{ℕ, ◌-◌, ◌≤◌}
+use Prim.Native.Nat.{ℕ}
 use Rattle.layout.specs.declared.body.Shape.{Shape}
 use Rattle.meaning.specs.Sums.{any_up_to}
 use Rattle.meaning.specs.Meaning.{same}
@@ -14,7 +14,4 @@ abbrev pub of : Shape → List ℕ → ℕ → ℕ → Bool
 of n b c i = same ((file_at n b).master i) c
 
 abbrev pub invariant-loop-i : goal.invariant-loop-i
-invariant-loop-i l = (l.i ≤ l.n.slaves) × (any_up_to l.i (of l.n l.body l.c) ≡ false)
-
-abbrev pub decreases-loop-i : goal.decreases-loop-i
-decreases-loop-i l = l.n.slaves - l.i
+invariant-loop-i l = any_up_to l.i (of l.n l.body l.c) ≡ false

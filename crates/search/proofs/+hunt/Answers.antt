@@ -163,7 +163,7 @@ returns-then-not-wakes t c =
 
 pub loop-v-init : goal.loop-v-init
 unfolding in_turn over
-loop-v-init t c = (omega arith, keeps_refl _ _ _, refl, c.requires.2)
+loop-v-init t c = (keeps_refl _ _ _, refl, c.requires.2)
 
 -- from the loop's head: that the chart's number is below most_charts, and a candidate's below most_from_state
 few : (t : ℕ) (c : At-loop-v t) → c.args.charts - c.args.left < most_charts
@@ -176,7 +176,7 @@ roomy t c = let some = c.if-left-eq0.false in omega (arith, c.requires.0.masks, 
 one_more : (t : ℕ) (c : At-loop-v t) → Room (c.args.charts - c.args.left + 1) c.loop-v.trail c.loop-v.moves
 one_more t c =
     let some = c.if-left-eq0.false in
-    keeps_room c.loop-v.invariant.1 (room_fewer _ (omega (arith, c.requires.4)) c.requires.1)
+    keeps_room c.loop-v.invariant.0 (room_fewer _ (omega (arith, c.requires.4)) c.requires.1)
 
 counted : (t : ℕ) (c : At-loop-v t) → c.count-n.result ≤ most_from_state
 counted t c =
@@ -208,9 +208,9 @@ fits-requires t c =
       roomy t l,
       few t l,
       omega (arith, counted t l),
-      c.asks-asked.ensures ∙ sym (asks_kept c.args.masks.now (few t l) c.loop-v.invariant.1),
+      c.asks-asked.ensures ∙ sym (asks_kept c.args.masks.now (few t l) c.loop-v.invariant.0),
       omega (arith, (one_more t l).masks),
-      passes_kept c.args.masks.now (few t l) c.loop-v.invariant.1 c.requires.6,
+      passes_kept c.args.masks.now (few t l) c.loop-v.invariant.0 c.requires.6,
       covered t p,
     )
 
@@ -231,8 +231,8 @@ hunt-requires-then-fits t c =
       omega (arith, c.decreases),
       (
         c.requires.0,
-        keeps_room c.take.ensures.kept (keeps_room c.loop-v.invariant.1 c.requires.1),
-        c.loop-v.invariant.3,
+        keeps_room c.take.ensures.kept (keeps_room c.loop-v.invariant.0 c.requires.1),
+        c.loop-v.invariant.2,
         c.requires.3,
         omega (arith, c.requires.4),
         c.requires.5,
@@ -242,9 +242,6 @@ hunt-requires-then-fits t c =
             (sym (c.fits.ensures a.small.now c.loop-v.moves a.output) ∙ c.if-fits.true),
       ),
     )
-
-pub overflow_add-v : goal.overflow_add-v
-overflow_add-v t c = omega (arith, counted t (goal.at.overflow_add-v t c).At-loop-v)
 
 pub returns-then-disagree : goal.returns-then-disagree
 returns-then-disagree t c =
@@ -261,11 +258,11 @@ returns-then-disagree t c =
     let stays = last m s gs y a.left k (trail_in a.trail.now a.moves.now k a.output) in
     let one = goes m s gs y a.charts a.left c.if-left-eq0.false c.requires.4
     (found_in c.loop-v.best c.loop-v.shown) a.trail.now a.moves.now
-    c.loop-v.trail c.loop-v.moves c.loop-v.v a.output c.loop-v.invariant.1 c.requires.3 _ _ _ _ _ _ _ _ _ refl
+    c.loop-v.trail c.loop-v.moves c.loop-v.v a.output c.loop-v.invariant.0 c.requires.3 _ _ _ _ _ _ _ _ _ refl
     (sym c.if-fits.true ∙ c.fits.ensures s c.loop-v.moves a.output)
     c.take.ensures c.shown_by-more.ensures h.ensures in
     let r' = found_in h.new.best h.new.shown in
-    let e : r' ≡ over (in_turn (c.loop-v.v + 1) all) f = rw (over_each, ← c.loop-v.invariant.2) one.1 in
+    let e : r' ≡ over (in_turn (c.loop-v.v + 1) all) f = rw (over_each, ← c.loop-v.invariant.1) one.1 in
     let end : Stopped r' = stopped r' (sym (c.disagree.ensures h.new.shown) ∙ c.if-disagree.true) in
     let same : r' ≡ over (in_turn (count_at s k) all) f =
     e ∙ sym (over_each_stopped all f (count_at s k) (c.loop-v.v + 1)
@@ -294,7 +291,7 @@ loop-v-preserved t c =
     elim c.if-fits.branch [
       | then-fits+else-disagree w ↦
           let one = goes m s gs y a.charts a.left some c.requires.4 f a.trail.now a.moves.now
-          c.loop-v.trail c.loop-v.moves c.loop-v.v a.output c.loop-v.invariant.1 c.requires.3 _ _ _ _ _ _ _ _ _ refl
+          c.loop-v.trail c.loop-v.moves c.loop-v.v a.output c.loop-v.invariant.0 c.requires.3 _ _ _ _ _ _ _ _ _ refl
           (sym w.if-fits.true ∙ fits)
           w.take.ensures w.shown_by-more.ensures w.hunt-then-fits.ensures in (
             subst₂ (λ (x y : List ℕ). Keeps k a.trail.now a.moves.now x y) (sym w.trail-is) (sym w.moves-is) one.0,
@@ -303,14 +300,14 @@ loop-v-preserved t c =
           )
       | else-fits w ↦ (
         subst₂ (λ (x y : List ℕ). Keeps k a.trail.now a.moves.now x y) (sym w.trail-is) (sym w.moves-is)
-            c.loop-v.invariant.1,
+            c.loop-v.invariant.0,
         ap₂ found_in w.best-is w.shown-is
             ∙ leaves m s gs y a.charts a.left some c.requires.4 f a.trail.now a.moves.now
-            c.loop-v.trail c.loop-v.moves c.loop-v.v a.output c.loop-v.invariant.1 (sym w.if-fits.false ∙ fits),
-        subst₂ Held (sym w.best-is) (sym w.shown-is) c.loop-v.invariant.3,
+            c.loop-v.trail c.loop-v.moves c.loop-v.v a.output c.loop-v.invariant.0 (sym w.if-fits.false ∙ fits),
+        subst₂ Held (sym w.best-is) (sym w.shown-is) c.loop-v.invariant.2,
       )
     ] in
-    (omega arith, e.0, rw (over_each, ← c.loop-v.invariant.2) e.1, e.2)
+    (e.0, rw (over_each, ← c.loop-v.invariant.1) e.1, e.2)
 
 -- ── all candidates were tried: what was found so far, and its staying ──
 
@@ -323,7 +320,7 @@ tried : (t : ℕ) (c : After-loop-v t) →
 tried t c =
     let a = c.args in
     let e : c.loop-v.v ≡ count_at a.small.now (a.charts - a.left) = omega (arith, c.count-n.ensures) in
-    rw (← e) c.loop-v.invariant.2
+    rw (← e) c.loop-v.invariant.1
 
 pub told-requires : goal.told-requires
 told-requires t c = let l = (goal.at.told-requires t c).At-loop-v in (c.requires.5.small, few t l)
@@ -342,8 +339,8 @@ returns-then-told-eq0 t c =
       found = sym (shut_last m s gs y a.left k u (found_in c.loop-v.best c.loop-v.shown)
           (sym c.told.ensures ∙ c.if-told-eq0.true))
           ∙ ap (over (last m s gs y a.left k u)) (tried t here.After-loop-v) ∙ sym (whole t here.At-loop-v);
-      kept = c.loop-v.invariant.1;
-      held = c.loop-v.invariant.3;
+      kept = c.loop-v.invariant.0;
+      held = c.loop-v.invariant.2;
     }
 
 pub returns-then-asked-ne0-2 : goal.returns-then-asked-ne0-2
@@ -366,8 +363,8 @@ returns-then-asked-ne0-2 t c =
           c.asks-asked.result c.asks-asked.ensures false (ne_eqb _ _ c.if-asked-ne0-2.true))
           ∙ sym (open_last m s gs y a.left k u f (λ e. c.if-told-eq0.false (c.told.ensures ∙ e)))
           ∙ ap (over (last m s gs y a.left k u)) (tried t here.After-loop-v) ∙ sym (whole t here.At-loop-v);
-      kept = c.loop-v.invariant.1;
-      held = c.loop-v.invariant.3;
+      kept = c.loop-v.invariant.0;
+      held = c.loop-v.invariant.2;
     }
 
 pub stay-requires : goal.stay-requires
@@ -399,7 +396,7 @@ grown_stay t c =
     let m = a.masks.now in
     let k = a.charts - a.left in
     subst (Matches a.charts _)
-    (ap (λ (x : Trail). stayed m a.small.now x k) (trail_kept c.loop-v.invariant.1 a.output))
+    (ap (λ (x : Trail). stayed m a.small.now x k) (trail_kept c.loop-v.invariant.0 a.output))
     (c.stay.ensures.grown m a.output)
 
 pub hunt-requires-2 : goal.hunt-requires-2
@@ -412,8 +409,8 @@ hunt-requires-2 t c =
       omega (arith, c.decreases),
       (
         c.requires.0,
-        keeps_room c.stay.ensures.kept (keeps_room c.loop-v.invariant.1 c.requires.1),
-        c.loop-v.invariant.3,
+        keeps_room c.stay.ensures.kept (keeps_room c.loop-v.invariant.0 c.requires.1),
+        c.loop-v.invariant.2,
         c.requires.3,
         omega (arith, c.requires.4),
         c.requires.5,
@@ -444,7 +441,7 @@ returns t c =
           (stays_fine t here.After-apart c.if-asked-ne0-2.false)
           ∙ sym (open_last m s gs y a.left k u f (λ e. c.if-told-eq0.false (c.told.ensures ∙ e)))
           ∙ ap (over (last m s gs y a.left k u)) (tried t here.After-loop-v) ∙ sym (whole t here.At-loop-v);
-      kept = keeps_trans c.loop-v.invariant.1 (keeps_trans c.stay.ensures.kept
+      kept = keeps_trans c.loop-v.invariant.0 (keeps_trans c.stay.ensures.kept
           (keeps_fewer (a.charts - (a.left - 1)) z c.hunt-2.ensures.kept));
       held = c.hunt-2.ensures.held;
     }

@@ -2,7 +2,6 @@
 -- where two permitted choices disagree, since nothing more can change. What it writes stands behind the beginning that
 -- it was given, or is what was found.
 use mathlib.Core.Path.{◌≡◌}
-use Prim.Native.Nat.{◌-◌, ◌≤◌}
 use Rattle.settling.specs.Trail.{trail_in, Keeps}
 use Rattle.meaning.specs.Rewriting.{in_turn}
 use Rattle.settling.specs.Hunt.{over, found_in, Held}
@@ -14,10 +13,7 @@ decreases-hunt l = l.left
 
 abbrev pub invariant-loop-v : goal.invariant-loop-v
 invariant-loop-v l =
-    (l.v ≤ l.n) × Keeps l.k l.fn.trail l.fn.moves l.trail l.moves
+    Keeps l.k l.fn.trail l.fn.moves l.trail l.moves
     × (found_in l.best l.shown
     ≡ over (in_turn l.v (block l.masks l.small l.guards l.stays l.left l.k (trail_in l.fn.trail l.fn.moves l.k l.output)))
     (found_in l.fn.best l.fn.shown)) × Held l.best l.shown
-
-abbrev pub decreases-loop-v : goal.decreases-loop-v
-decreases-loop-v l = l.n - l.v

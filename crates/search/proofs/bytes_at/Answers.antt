@@ -10,18 +10,15 @@ use Rattle.search.proofs.bytes_at.Goals as goal
 
 pub loop-c-init : goal.loop-c-init
 unfolding made
-loop-c-init c = (omega arith, refl)
+loop-c-init c = refl
 
 pub loop-c-preserved : goal.loop-c-preserved
 loop-c-preserved c =
-    let a = c.args in (
-      omega arith,
-      made_filled most_charts 0 (λ d. get_or a.best.now (a.at + d) 0) c.loop-c.c c.loop-c.row (omega arith)
-          c.loop-c.invariant.1,
-    )
+    let a = c.args in made_filled most_charts 0 (λ d. get_or a.best.now (a.at + d) 0) c.loop-c.c c.loop-c.row (omega arith)
+    c.loop-c.invariant
 
 pub returns : goal.returns
-returns c = let e : c.loop-c.c ≡ most_charts = omega arith in rw e at c.loop-c.invariant.1 ∙ append-nil _
+returns c = let e : c.loop-c.c ≡ most_charts = omega arith in rw e at c.loop-c.invariant ∙ append-nil _
 
 pub overflow_add-row : goal.overflow_add-row
 overflow_add-row c = omega arith
@@ -31,9 +28,3 @@ bounds-best-at c = omega arith
 
 pub bounds-row-c : goal.bounds-row-c
 bounds-row-c c = omega arith
-
-pub overflow_add-c : goal.overflow_add-c
-overflow_add-c c = omega arith
-
-pub loop-c-smaller : goal.loop-c-smaller
-loop-c-smaller c = omega arith

@@ -46,8 +46,8 @@ module _ (b f : List ℕ) (h : BytesPut most_charts (column_in b 0 2 no_place) (
             (λ c l. h.in_row c l ∙ filled_behind 0 (place_in b) no_place c (omega arith) l),
       )
 
-offered : (s : Start) → length s.args.low ≡ most_charts
-offered s = search rules
+offered : (g : _) (s : Start g) → length s.args.low ≡ most_charts
+offered g s = search rules
 
 -- what each chart is surely offered stands in front
 first-row : (low w w' : List ℕ) → length low ≡ most_charts
@@ -55,13 +55,13 @@ first-row : (low w w' : List ℕ) → length low ≡ most_charts
 first-row low w w' e h c l = h.in_row c (omega (arith, e))
 
 pub put_row-requires : goal.put_row-requires
-put_row-requires c =
-    (omega (arith, c.requires.3), omega arith, omega (arith, offered (goal.at.put_row-requires c).Start))
+put_row-requires g c =
+    (omega (arith, c.requires.3), omega arith, omega (arith, offered g (goal.at.put_row-requires g c).Start))
 
 pub hunt-requires : goal.hunt-requires
-hunt-requires c = (
+hunt-requires g c = (
   c.requires.0,
-  record { masks = rw c.put_row.ensures.long c.requires.3; small = refl },
+  record { masks = omega (arith, c.put_row.ensures.long, c.requires.3); small = refl },
   begun-held (replicate moves_size 0) _ c.put_column.ensures,
   c.requires.1,
   omega arith,
@@ -70,8 +70,8 @@ hunt-requires c = (
 )
 
 pub returns : goal.returns
-returns c =
-    let n = offered (goal.at.returns c).Start in
+returns g c =
+    let n = offered g (goal.at.returns g c).Start in
     c.found_in.ensures ∙ c.hunt.ensures.found
     ∙ all c.args.masks.now c.args.small.now c.args.guards.now c.args.stays.now _ _ c.args.low
     c.args.charts _ (begun _ _ c.args.low n (first-row c.args.low _ _ n c.put_row.ensures))

@@ -1,13 +1,8 @@
 -- `search::put_column` meets its contract: the entries below c of the column are put, and the others stay.
-use Prim.Native.Nat.{◌-◌, ◌≤◌}
 use lib.ListN.{get_or}
-use Rattle.meaning.specs.Numbers.{most_charts}
 use Rattle.layout.specs.Row.{RowAt}
 use Rattle.cells.specs.Trail.{column_in}
 use Rattle.search.proofs.put_column.Given as goal
 
 abbrev pub invariant-loop-c : goal.invariant-loop-c
-invariant-loop-c l = (l.c ≤ most_charts) × RowAt l.at l.c (λ d. get_or (column_in l.moves l.charts l.column l.filler) d 0) l.initial.best l.best
-
-abbrev pub decreases-loop-c : goal.decreases-loop-c
-decreases-loop-c l = most_charts - l.c
+invariant-loop-c l = RowAt l.at l.c (λ d. get_or (column_in l.moves l.charts l.column l.filler) d 0) l.initial.best l.best

@@ -55,7 +55,4 @@ module _ (f b : List ℕ) (N : ℕ) where
         (λ z. q (sym next-at ∙ z ∙ first-at))
 
 abbrev pub invariant-loop-c : goal.invariant-loop-c
-invariant-loop-c l = (l.c ≤ most_charts) × Left l.best l.moves l.charts l.c
-
-abbrev pub decreases-loop-c : goal.decreases-loop-c
-decreases-loop-c l = most_charts - l.c
+invariant-loop-c l = Left l.best l.moves l.charts l.c

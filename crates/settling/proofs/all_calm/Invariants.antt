@@ -2,14 +2,11 @@
 use mathlib.Core.Path.{◌≡◌}
 use mathlib.Core.Bool.{true}
 use mathlib.Core.List.{List}
-use Prim.Native.Nat.{ℕ, ◌-◌, ◌≤◌}
+use Prim.Native.Nat.{ℕ}
 use Rattle.meaning.specs.Laws.Bools.{every}
 use Rattle.settling.specs.Trail.{trail_in}
 use Rattle.settling.specs.Calm.{calm_at}
 use Rattle.settling.proofs.all_calm.Given as goal
 
 abbrev pub invariant-loop-d : goal.invariant-loop-d
-invariant-loop-d l = (l.d ≤ l.k) × ((s : List ℕ) (o : ℕ) → every l.d (calm_at l.masks s l.guards l.stays (trail_in l.trail l.moves l.k o) l.k) ≡ true)
-
-abbrev pub decreases-loop-d : goal.decreases-loop-d
-decreases-loop-d l = l.k - l.d
+invariant-loop-d l = (s : List ℕ) (o : ℕ) → every l.d (calm_at l.masks s l.guards l.stays (trail_in l.trail l.moves l.k o) l.k) ≡ true

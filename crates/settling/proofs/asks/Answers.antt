@@ -15,7 +15,7 @@ join_more n f x y p q = rw add-one (ap₂ ◌∪◌ p q)
 
 pub loop-d-init : goal.loop-d-init
 unfolding union_up_to
-loop-d-init c = (omega arith, refl, refl)
+loop-d-init c = (refl, refl)
 
 pub loop-d-preserved : goal.loop-d-preserved
 loop-d-preserved c =
@@ -26,25 +26,12 @@ loop-d-preserved c =
     let a = c.args in
     let m = a.masks.now in
     let w = a.trail.now in (
-      omega arith,
-      join_more c.loop-d.d (wants_in m w a.k) _ _ c.loop-d.invariant.1 (rw (c.less-needed.ensures, rules, ahead, low) refl),
-      join_more c.loop-d.d (bans_in m w a.k) _ _ c.loop-d.invariant.2 (rw (bars, c.back.ensures) refl),
+      join_more c.loop-d.d (wants_in m w a.k) _ _ c.loop-d.invariant.0 (rw (c.less-needed.ensures, rules, ahead, low) refl),
+      join_more c.loop-d.d (bans_in m w a.k) _ _ c.loop-d.invariant.1 (rw (bars, c.back.ensures) refl),
     )
 
 pub returns : goal.returns
 unfolding asks_of
 returns c =
     let e : c.loop-d.d ≡ c.args.k = omega arith in
-    ap₂ (λ (x y : ℕ). record { needed = x; barred = y }) (rw e at c.loop-d.invariant.1) (rw e at c.loop-d.invariant.2)
-
-pub overflow_add-k : goal.overflow_add-k
-overflow_add-k c = omega arith
-
-pub less-needed-requires : goal.less-needed-requires
-less-needed-requires c = tt
-
-pub overflow_add-d : goal.overflow_add-d
-overflow_add-d c = omega arith
-
-pub loop-d-smaller : goal.loop-d-smaller
-loop-d-smaller c = omega arith
+    ap₂ (λ (x y : ℕ). record { needed = x; barred = y }) (rw e at c.loop-d.invariant.0) (rw e at c.loop-d.invariant.1)

@@ -1,7 +1,7 @@
 -- `settling::lowered` meets its contract: what the first c charts of the half are offered, and 0 behind it.
 use mathlib.Core.Path.{◌≡◌}
 use mathlib.Core.List.{◌++◌}
-use Prim.Native.Nat.{◌+◌, ◌-◌, ◌≤◌}
+use Prim.Native.Nat.{◌+◌, ◌-◌}
 use lib.ListN.{replicate}
 use Rattle.signals.specs.Mask.{◌∪◌, ◌∩◌}
 use Rattle.meaning.specs.Calls.{made}
@@ -11,8 +11,4 @@ use Rattle.settling.proofs.lowered.Given as goal
 
 abbrev pub invariant-loop-c : goal.invariant-loop-c
 invariant-loop-c l =
-    (l.c ≤ half)
-    × (l.row ≡ made l.c (λ d. low_in l.trail l.k (l.from + d) ∪ l.action ∩ back_at l.masks (l.from + d) l.k) ++ replicate (half - l.c) 0)
-
-abbrev pub decreases-loop-c : goal.decreases-loop-c
-decreases-loop-c l = half - l.c
+    l.row ≡ made l.c (λ d. low_in l.trail l.k (l.from + d) ∪ l.action ∩ back_at l.masks (l.from + d) l.k) ++ replicate (half - l.c) 0

@@ -11,7 +11,7 @@ use Rattle.settling.proofs.trips.Goals.{After-holds}
 use Rattle.settling.proofs.trips.Invariants.{one}
 
 pub loop-v-init : goal.loop-v-init
-loop-v-init c = (omega arith, any_none _)
+loop-v-init c = any_none _
 
 -- what was tested is trigger v
 tested : (c : After-holds) →
@@ -32,20 +32,11 @@ returns-then-holds c =
 
 pub loop-v-preserved : goal.loop-v-preserved
 loop-v-preserved c =
-    let a = c.args in (
-      omega arith,
-      any-more c.loop-v.v (one a.guards.now a.d a.low a.high) c.loop-v.invariant.1
-          (guard_is _ _ _ _ ∙ tested (goal.at.loop-v-preserved c).After-holds ∙ c.if-holds.false),
-    )
+    let a = c.args in any-more c.loop-v.v (one a.guards.now a.d a.low a.high) c.loop-v.invariant
+    (guard_is _ _ _ _ ∙ tested (goal.at.loop-v-preserved c).After-holds ∙ c.if-holds.false)
 
 pub returns : goal.returns
 unfolding trips
 returns c =
     let a = c.args in
-    any-done c.loop-v.v a.n (one a.guards.now a.d a.low a.high) (omega arith) (omega arith) c.loop-v.invariant.1
-
-pub overflow_add-v : goal.overflow_add-v
-overflow_add-v c = omega arith
-
-pub loop-v-smaller : goal.loop-v-smaller
-loop-v-smaller c = omega arith
+    any-done c.loop-v.v a.n (one a.guards.now a.d a.low a.high) (omega arith) (omega arith) c.loop-v.invariant

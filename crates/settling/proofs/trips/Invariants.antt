@@ -2,7 +2,7 @@
 use mathlib.Core.Path.{◌≡◌}
 use mathlib.Core.Bool.{Bool, false}
 use mathlib.Core.List.{List}
-use Prim.Native.Nat.{ℕ, ◌-◌, ◌≤◌}
+use Prim.Native.Nat.{ℕ}
 use Rattle.signals.specs.Guard.{guard, is_met}
 use Rattle.meaning.specs.Sums.{any_up_to}
 use Rattle.cells.specs.Triggers.{trigger_needed, trigger_barred}
@@ -13,7 +13,4 @@ abbrev pub one : List ℕ → ℕ → ℕ → ℕ → ℕ → Bool
 one g d low high v = is_met (guard (trigger_needed g d v) (trigger_barred g d v) low high)
 
 abbrev pub invariant-loop-v : goal.invariant-loop-v
-invariant-loop-v l = (l.v ≤ l.n) × (any_up_to l.v (one l.guards l.d l.low l.high) ≡ false)
-
-abbrev pub decreases-loop-v : goal.decreases-loop-v
-decreases-loop-v l = l.n - l.v
+invariant-loop-v l = any_up_to l.v (one l.guards l.d l.low l.high) ≡ false

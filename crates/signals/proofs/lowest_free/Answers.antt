@@ -8,7 +8,7 @@ use Rattle.signals.specs.All.{bit-all}
 use Rattle.signals.proofs.lowest_free.Goals as goal
 
 pub loop-n-init : goal.loop-n-init
-loop-n-init c = (omega arith, λ k h. absurd (omega arith))
+loop-n-init c = λ k h. absurd (omega arith)
 
 pub has-requires : goal.has-requires
 has-requires c = omega arith
@@ -18,23 +18,14 @@ returns-then-not-has c = (
   omega arith,
   (
     sym c.has.ensures ∙ c.if-not-has.true,
-    c.loop-n.invariant.1,
+    c.loop-n.invariant,
   ),
 )
 
-pub overflow_add-n : goal.overflow_add-n
-overflow_add-n c = omega arith
-
-pub loop-n-smaller : goal.loop-n-smaller
-loop-n-smaller c = omega arith
-
 pub loop-n-preserved : goal.loop-n-preserved
-loop-n-preserved c = (
-  omega arith,
-  below_more _ _ c.loop-n.invariant.1 (sym c.has.ensures ∙ c.if-not-has.false),
-)
+loop-n-preserved c = below_more _ _ c.loop-n.invariant (sym c.has.ensures ∙ c.if-not-has.false)
 
 pub returns : goal.returns
 returns c =
     ext_below 64 c.args.s (2 ^ 64 - 1) c.ranges.s.fits (lit< tt)
-    (λ k h. c.loop-n.invariant.1 k (omega arith) ∙ sym (bit-all 64 k h))
+    (λ k h. c.loop-n.invariant k (omega arith) ∙ sym (bit-all 64 k h))

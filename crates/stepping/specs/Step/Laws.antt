@@ -1,7 +1,7 @@
 -- Laws of the step, in this order: a call's list behind 1 to 11; what a checked body and a valid configuration give the
 -- choosing of candidates; the tables after it, and what is read by their wiring; what the search over them answers;
 -- what was found, as an answer; how many choices are open; what was tried.
-use Rattle.std.specs.Prelude.{◌≡◌, Bool, false, not, cond, ℕ, ◌+◌, ◌*◌, ◌^◌, ◌≤◌, ◌<◌, ltb, length, take, replicate}
+use Rattle.std.specs.Prelude.{◌≡◌, Bool, false, not, cond, ℕ, ◌^◌, ◌≤◌, ◌<◌, ltb, length, take, replicate, Err}
 use Rattle.std.proofs.Math.Path.{refl, ap}
 use Rattle.std.proofs.Common.{sym, subst, ◌∙◌, lit<}
 use Rattle.std.proofs.Math.Bool.{true}
@@ -43,6 +43,7 @@ use Rattle.tables.specs.Narrowing.Laws.{reads_all, reads_at}
 use Rattle.tables.specs.Insertion.{opens_by}
 use Rattle.tables.specs.Step.{step_found, step_places}
 use Rattle.checks.specs.Known.{Sized}
+use Rattle.checks.specs.Refusals.{number}
 use Rattle.nesting.specs.Known.{Wirable}
 use Rattle.nesting.specs.Nearest.{master_by, state_by}
 use Rattle.counting.specs.Counting.{Countable, CountsOn, begins, Shuts}
@@ -53,9 +54,9 @@ use Rattle.candidates.specs.Candidates.{Ready, Mays, Chooses}
 use Rattle.candidates.specs.Candidates.Laws.{length_from, actions-small}
 use Rattle.relevance.specs.Relevance.{ReadRow}
 use Rattle.staying.specs.Staying.{Stays}
-use Rattle.stepping.specs.declared.step.Stepped.{Stepped}
+use Rattle.stepping.specs.declared.step.Refused.{Refused}
 use Rattle.stepping.specs.declared.step.Tried.{Tried}
-use Rattle.stepping.specs.Answer.{stepped_of, refused_of}
+use Rattle.stepping.specs.Answer.{Steps}
 use Rattle.stepping.specs.Step.{config_tests_in, refusal_after, step_after, places_after, open_after, Checked, Prepared}
 use Rattle.stepping.specs.Step.{Shut, AllRead, searched_of, Finds, tried_answer, tried_refusal, Tries}
 
@@ -314,11 +315,11 @@ pub answer-given : (N : ℕ) (f : Found) → f.has ≡ true → answer_of N f �
 unfolding trimmed
 answer-given N f h = rw h
 
--- a refusal gives nothing and leaves the buffer; k choices are open, and it says j of them
-pub refuses : (a : Answer) (places b : List ℕ) (r k j : ℕ) (s : Stepped) → a ≡ refused r → places ≡ all_places []
-    → j ≡ open_for (refused r) k
-    → s ≡ refused_of r j → (s ≡ stepped_of a places (open_for a k)) × (b ≡ next_in a b)
-refuses a places b r k j s e q w h = rw (e, q, h, w) (refl, refl)
+-- a refusal gives nothing and leaves the buffer, whatever its places are; k choices are open
+pub refuses : (a : Answer) (places b : List ℕ) (k : ℕ) (e : Refused) → a ≡ refused (number e.refusal)
+    → e.open_choices ≡ open_for (refused (number e.refusal)) k
+    → Steps a places (open_for a k) (Err e) × (b ≡ next_in a b)
+refuses a places b k e h w = rw h ((refl, w), refl)
 
 -- below 24 it says none, in 24 all
 pub says_none : (r k : ℕ) → r < many_open → 0 ≡ open_for (refused r) k

@@ -9,7 +9,8 @@ use lib.Seq.{length-take-le, take-append_seam}
 use Rattle.layout.specs.Put.{Put}
 use Rattle.layout.specs.Put.Laws.{put-length, put-over}
 use Rattle.reading.specs.Read.{read_file}
-use Rattle.texts.specs.declared.FileRead.{FileRead}
+use Rattle.std.specs.Prelude.{Result}
+use Rattle.texts.specs.declared.Refused.{Refused}
 use Rattle.texts.specs.Promises.{Delivers}
 use Rattle.texts.specs.Laws.Laying.{size, ready_says}
 use Rattle.texts.proofs.of_ready.Goals as goal
@@ -26,7 +27,7 @@ module _ (x l m : List ℕ) (n : ℕ) (p : Put l 0 x m n) (h : length x ≤ leng
       let rest = drop (length x) l in
       ap (take n) o.1 ∙ ap (λ k. take k (x ++ rest)) o.0 ∙ take-append_seam x rest
 
-delivered : (f g b : List ℕ) (r : FileRead) (c : List ℕ) → f ≡ g → Delivers f b r c → Delivers g b r c
+delivered : (f g b : List ℕ) (r : Result ℕ Refused) (c : List ℕ) → f ≡ g → Delivers f b r c → Delivers g b r c
 delivered f g b r c e h = subst (λ (x : List ℕ). Delivers x b r c) e h
 
 -- the file has room

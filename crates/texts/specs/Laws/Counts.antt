@@ -2,14 +2,14 @@
 -- where they pass (`cut_is`); so 3 is tested on cut counts (`counts_shape`), and a shape that passes is the file's
 -- (`shape_is`).
 use Rattle.std.proofs.Math.Path.{◌≡◌}
-use Rattle.std.specs.Prelude.{refl, Bool, true, false, ◌||◌, cond, ℕ, suc, ◌+◌, ◌≤◌, ◌<◌, length}
-use Rattle.std.proofs.Common.{sym, ap, ap₂, ◌∙◌, ⊎_elim, arith, lt-ltb, le-ltb, ltb-true, ltb-false}
+use Rattle.std.specs.Prelude.{true, false, ◌||◌, cond, ℕ, ◌≤◌, ◌<◌, length}
+use Rattle.std.proofs.Common.{sym, ap, ◌∙◌, ⊎_elim, arith, lt-ltb, le-ltb, ltb-true, ltb-false}
 use Rattle.std.proofs.Math.Dec.{ltb}
 use Rattle.layout.specs.declared.body.Shape.{Shape}
 use Rattle.meaning.specs.Numbers.{first_edition, most_charts, most_slaves, most_nodes, most_transitions}
 use Rattle.meaning.specs.Sums.Laws.{or_right, or_four}
 use Rattle.meaning.specs.Meaning.{same}
-use Rattle.meaning.specs.Laws.Bools.{same_≢, same_refl}
+use Rattle.meaning.specs.Laws.Bools.{same_≢}
 use Rattle.meaning.specs.File.{shape_of}
 use Rattle.meaning.specs.Check.{counts?}
 use Rattle.meaning.specs.Check.Laws.{decided}

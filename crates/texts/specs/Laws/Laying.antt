@@ -1,7 +1,7 @@
 -- The file of a text that is ready, laid down part by part: each part stands behind the ones before it, and there is
 -- room for the rest (`put_heads` to `put_nodes`, `room-..`); together they are the file (`put-file`).
-use Rattle.std.specs.Prelude.{◌≡◌, refl, false, ◌||◌, List, ◌++◌, map, ℕ, ◌+◌, ◌*◌, ◌≤◌, ◌<◌, length, take, drop}
-use Rattle.std.proofs.Common.{sym, ap, ◌∙◌, subst, append_assoc, arith, length-append}
+use Rattle.std.specs.Prelude.{◌≡◌, refl, false, ◌||◌, List, ◌++◌, map, ℕ, ◌+◌, ◌≤◌, length, take, drop, Result}
+use Rattle.std.proofs.Common.{sym, ap, ◌∙◌, arith, length-append}
 use borrow.Author.Tests.{ltb-false}
 use Rattle.std.proofs.Math.Dec.{ltb}
 use Rattle.std.proofs.lemmas.List.Edits.{sets}
@@ -34,7 +34,7 @@ use Rattle.walk.specs.Order.{PutsAll}
 use Rattle.walk.specs.Walk.{TextLaid}
 use Rattle.walk.specs.Laws.Text.{slaves_sorted}
 use Rattle.outline.specs.Laws.Filed.{slaves-filed, slaves-met}
-use Rattle.texts.specs.declared.FileRead.{FileRead}
+use Rattle.texts.specs.declared.Refused.{Refused}
 use Rattle.texts.specs.Promises.{ReadSays, Delivers, deliver_tests}
 use Rattle.texts.specs.Ready.{Ready}
 use Rattle.texts.specs.Laws.Tests.{tests_same, chart-file, says-chart}
@@ -101,7 +101,7 @@ module _ (w : List ℕ) (s : Roster) (m : Shape) (y : Ready w s m) where
       )
 
   -- the file that is laid down is delivered
-  pub ready_says : (b : List ℕ) (r : FileRead) (c : List ℕ) → Delivers (read_file w) b r c → ReadSays w b r c
+  pub ready_says : (b : List ℕ) (r : Result ℕ Refused) (c : List ℕ) → Delivers (read_file w) b r c → ReadSays w b r c
   ready_says b r c h =
       let e = (read_spells w t 0 y.spells).1.1 in
       says-chart w t b r c y.spells

@@ -1,17 +1,22 @@
 -- Laws of the tests of a reading: a refusal, and a file that is written (`tests_refused`, `tests_passed`); the file's
 -- own tests (`deliver-..`); those of a chart before them (`chart-..`); what the call says (`says-..`), and that it is
 -- one answer (`read_determined`).
-use Rattle.std.specs.Prelude.{◌≡◌, refl, Bool, true, false, cond, List, [], ◌∷◌, ◌++◌, ℕ, ◌<◌, ◌≤◌, ltb, length}
-use Rattle.std.proofs.Common.{sym, ap, ◌∙◌, arith, length-append}
+use Rattle.std.specs.Prelude.{◌≡◌, refl, Bool, true, false, cond, List, [], ℕ, ◌<◌, ◌≤◌, ltb, length}
+use Rattle.std.specs.Prelude.{Result, Ok, Err, IfOk}
+use Rattle.std.proofs.Common.{sym, ap, ap₂, ◌∙◌, arith, length-append}
 use borrow.Author.Tests.{ne_eqb, lt-ltb, le-ltb}
 use Rattle.meaning.specs.Numbers.{most_in_chart, bad_counts, bad_chart, short_out}
 use Rattle.meaning.specs.Meaning.{same}
-use Rattle.meaning.specs.Check.{Test, first_of, file_tests, refusal_of, counts?}
+use Rattle.meaning.specs.Check.{Test, first_of, refusal_of, counts?}
 use Rattle.meaning.specs.Check.Laws.{first_of_here, first_of-next, first_of_[], call_refused, call-passed}
 use Rattle.meaning.specs.Calls.{laid_over}
+use Rattle.checks.specs.Refusals.{number}
+use Rattle.checks.specs.Refusals.Laws.{number-some, number-one}
+use Rattle.checks.specs.declared.refusal.Refusal.{Refusal}
+use Rattle.checks.specs.declared.refusal.Refusal.TheVariants.{NotNotation}
 use Rattle.notation.specs.Syntax.{Chart, depth}
 use Rattle.notation.specs.Grammar.{Spells}
-use Rattle.notation.specs.Reader.{Reading, spelt, wrong_at, reader}
+use Rattle.notation.specs.Reader.{wrong_at, reader}
 use Rattle.notation.proofs.Laws.Theorems.{complete}
 use Rattle.reading.specs.Numbers.{most_depth, not_notation, too_deep, bad_name}
 use Rattle.reading.specs.Names.{any, names?}
@@ -19,28 +24,27 @@ use Rattle.reading.specs.Meant.{charts_of, transitions_in, trailer_for, file_for
 use Rattle.reading.specs.Read.{chart_tests, refusal_in, read_refusal, place_in, read_place, file_in, read_file}
 use Rattle.reading.specs.Read.{read_length}
 use Rattle.reading.specs.Read.{read_out}
-use Rattle.texts.specs.declared.FileRead.{FileRead}
-use Rattle.texts.specs.Promises.{ReadSays, tested, written, deliver_tests, Delivers, ReadsChart}
+use Rattle.texts.specs.declared.Refused.{Refused}
+use Rattle.texts.specs.Promises.{Reads, ReadSays, Tested, written, deliver_tests, ReadsChart}
 
 -- ── tests ──
 
 module _ (ts : List Test) (f b : List ℕ) where
   -- a refusal leaves the buffer as it was
-  pub tests_refused : (n : ℕ) (s : FileRead) → first_of ts ≡ n → (n ≡ 0 → ⊥)
-      → s ≡ record { refusal = n; length = 0; place = 0 }
-      → (s ≡ tested ts f) × (b ≡ written ts f b)
-  unfolding tested written same
-  tests_refused n s e h q = rw (e, ne_eqb n 0 h) (q, refl)
+  pub tests_refused : (e : Refusal) → first_of ts ≡ number e → Tested ts f (Err (record { refusal = e; place = 0 }))
+      × (b ≡ written ts f b)
+  unfolding Tested written same
+  tests_refused e h = ((sym h, refl), rw (h, ne_eqb (number e) 0 (number-some e)) refl)
 
   pub tests_passed : (k : ℕ) (c : List ℕ) → first_of ts ≡ 0 → k ≡ length f → c ≡ laid_over f b
-      → (record { refusal = 0; length = k; place = 0 } ≡ tested ts f) × (c ≡ written ts f b)
-  unfolding tested written same
-  tests_passed k c e q h = rw (e, q) (refl, h)
+      → Tested ts f (Ok k) × (c ≡ written ts f b)
+  unfolding Tested written same
+  tests_passed k c e q h = rw (e, q) ((refl, refl, refl), h)
 
 -- other tests with the same answer
-pub tests_same : (ts us : List Test) (f b : List ℕ) (r : FileRead) (c : List ℕ) → first_of us ≡ first_of ts
-    → (r ≡ tested ts f) × (c ≡ written ts f b) → (r ≡ tested us f) × (c ≡ written us f b)
-unfolding tested written
+pub tests_same : (ts us : List Test) (f b : List ℕ) (r : Result ℕ Refused) (c : List ℕ) → first_of us ≡ first_of ts
+    → Tested ts f r × (c ≡ written ts f b) → Tested us f r × (c ≡ written us f b)
+unfolding Tested written
 tests_same ts us f b r c e h = rw e h
 
 -- ── the file's own tests ──
@@ -86,28 +90,38 @@ module _ (t : Chart) (room : ℕ) where
 -- ── what the call says ──
 
 -- of a text that spells a chart, all tests are made on that chart
-pub says-chart : (text : List ℕ) (t : Chart) (b : List ℕ) (r : FileRead) (c : List ℕ) → Spells text t
+pub says-chart : (text : List ℕ) (t : Chart) (b : List ℕ) (r : Result ℕ Refused) (c : List ℕ) → Spells text t
     → ReadsChart t b r c
     → ReadSays text b r c
-unfolding read_refusal read_length read_place read_out read_file refusal_in place_in file_in tested written
+unfolding read_refusal read_length read_place read_out read_file refusal_in place_in file_in Tested written
 says-chart text t b r c s h = rw (complete text t s) h
 
 -- of any other, 50 and the place of its first wrong byte
-pub says_wrong : (text : List ℕ) (k : ℕ) (b : List ℕ) (r : FileRead) → reader text ≡ wrong_at k
-    → r ≡ record { refusal = not_notation; length = 0; place = k } → ReadSays text b r b
+pub says_wrong : (text : List ℕ) (k : ℕ) (b : List ℕ) → reader text ≡ wrong_at k
+    → ReadSays text b (Err (record { refusal = NotNotation; place = k })) b
 unfolding read_refusal read_length read_place read_out read_file refusal_in place_in file_in same
-says_wrong text k b r e q = rw e (q, refl)
+says_wrong text k b e = rw e ((refl, refl), refl)
 
 -- the file is within the caller's buffer
-pub read_within : (text b : List ℕ) (r : FileRead) (c : List ℕ) → ReadSays text b r c → r.length ≤ length c
+pub read_within : (text b : List ℕ) (r : Result ℕ Refused) (c : List ℕ) → ReadSays text b r c
+    → IfOk r (λ k. k ≤ length c)
 unfolding read_length read_out
-read_within text b r c h = rw (h.0, h.1) (go (same (read_refusal text (length b)) 0))
+read_within text b (Ok k) c h = rw (h.0.1, h.1) (go (same (read_refusal text (length b)) 0))
   where
     go : (t : Bool) → cond t (length (read_file text)) 0 ≤ length (cond t (laid_over (read_file text) b) b)
     go true = rw length-append (omega arith)
     go false = omega arith
+read_within text b (Err e) c h = tt
 
 -- any two results that the call's contract allows are equal, and so are the bytes that it leaves in the buffer
-pub read_determined : (text b : List ℕ) (r r' : FileRead) (c c' : List ℕ) → ReadSays text b r c → ReadSays text b r' c'
-    → (r ≡ r') × (c ≡ c')
-read_determined text b r r' c c' h h' = (h.0 ∙ sym h'.0, h.1 ∙ sym h'.1)
+reads-one : (n k p : ℕ) (r s : Result ℕ Refused) → Reads n k p r → Reads n k p s → r ≡ s
+reads-one n k p (Ok x) (Ok y) h g = ap Ok (h.1 ∙ sym g.1)
+reads-one n k p (Ok x) (Err e) h g = absurd (number-some e.refusal (g.0 ∙ h.0))
+reads-one n k p (Err d) (Ok y) h g = absurd (number-some d.refusal (h.0 ∙ g.0))
+reads-one n k p (Err d) (Err e) h g =
+    ap₂ (λ (r : Refusal) (p : ℕ). Err (record { refusal = r; place = p }))
+    (number-one d.refusal e.refusal (h.0 ∙ sym g.0)) (h.1 ∙ sym g.1)
+
+pub read_determined : (text b : List ℕ) (r r' : Result ℕ Refused) (c c' : List ℕ) → ReadSays text b r c
+    → ReadSays text b r' c' → (r ≡ r') × (c ≡ c')
+read_determined text b r r' c c' h h' = (reads-one _ _ _ r r' h.0 h'.0, h.1 ∙ sym h'.1)

@@ -1,5 +1,5 @@
 -- The steps at a place of a list, for the loops of the code.
-use Rattle.std.specs.Prelude.{◌≡◌, true, false, List, ◌∷◌, ℕ, suc, ◌+◌, ◌*◌, ◌-◌, ◌≤◌, ◌<◌, length, get_or}
+use Rattle.std.specs.Prelude.{◌≡◌, true, false, List, ◌∷◌, ℕ, suc, ◌+◌, ◌*◌, ◌-◌, ◌≤◌, ◌<◌, min, length, get_or}
 use Rattle.std.proofs.Math.Path.{refl, ap}
 use Rattle.std.proofs.Common.{sym, ◌∙◌, add-one, arith, lt-ltb, le-ltb, drop_of_length-le, drop-cons, drop-drop}
 use Rattle.std.proofs.Math.Decide.{dec_lt}
@@ -89,3 +89,10 @@ cap-below n h = unfold cap in rw (lt-ltb n 1000 h)
 
 pub cap_above : (n : ℕ) → 1000 ≤ n → 1000 ≡ cap n
 cap_above n h = unfold cap in rw (le-ltb n 1000 h)
+
+pub cap-min : (n : ℕ) → min n 1000 ≡ cap n
+cap-min n = go (dec_lt n 1000)
+  where
+    go : Dec (n < 1000) → min n 1000 ≡ cap n
+    go (yes l) = omega (arith, cap-below n l)
+    go (no l) = omega (arith, cap_above n (omega arith))

@@ -1,6 +1,6 @@
 -- Laws of clearing behind 1 to 11, in this order: a file that is refused, one whose charts may stay, and one that
 -- passed; 45 and the result's size; what the call answers.
-use Rattle.std.specs.Prelude.{◌≡◌, refl, ◌≢◌, ℕ, ◌+◌, ◌≤◌, ◌<◌, length}
+use Rattle.std.specs.Prelude.{◌≡◌, refl, ◌≢◌, ℕ, ◌+◌, ◌≤◌, ◌<◌, length, Result, Ok, Err}
 use Rattle.std.proofs.Common.{sym, ap, ◌∙◌}
 use mathlib.Core.List.{List, []}
 use borrow.Author.Tests.{ne_eqb, lt-ltb, le-ltb}
@@ -15,8 +15,11 @@ use Rattle.meaning.specs.Check.Laws.{first_of_here, first_of-next, first_of_[], 
 use Rattle.meaning.specs.Calls.{laid_over}
 use Rattle.meaning.specs.Rewriting.{shape_in, encode, stay_test}
 use Rattle.agreement.specs.Encoded.{length-encode}
+use Rattle.checks.specs.Refusals.{number}
+use Rattle.checks.specs.Refusals.Laws.{number-some}
+use Rattle.checks.specs.declared.refusal.Refusal.{Refusal}
+use Rattle.checks.specs.declared.refusal.Refusal.TheVariants.{ShortOut, MayStay}
 use Rattle.clearing.specs.Clearing.{clear, clear_bytes, clear_refusal, clear_length, clear_out}
-use Rattle.transforms.specs.declared.clear.Cleared.{Cleared}
 use Rattle.transforms.specs.Promises.{ClearSays}
 use Rattle.transforms.specs.Clearing.{clear_after, ClearsBody}
 
@@ -38,20 +41,21 @@ module _ (f : List ℕ) where
       ∙ first_of-next (stay_test f) _ (same_≢ (trailer f).edition stay_edition one)
 
   module _ (buffer : List ℕ) where
-    -- a file that is refused leaves the buffer as it was
-    pub says_refused : (r : ℕ) (s : Cleared) → r ≡ refusal_of f → (r ≡ 0 → ⊥) → s ≡ record { refusal = r; length = 0 }
-        → ClearSays f buffer s buffer
-    unfolding clear_length clear_out same
-    says_refused r s e h q = rw (file_refused_lem (λ z. h (e ∙ z)) (length buffer), ← e, ne_eqb r 0 h) (q, refl)
+    -- a refusal leaves the buffer as it was
+    kept : (r : Refusal) → number r ≡ clear_refusal f (length buffer) → ClearSays f buffer (Err r) buffer
+    unfolding clear_out same
+    kept r e = (e, rw (← e, ne_eqb (number r) 0 (number-some r)))
 
-    -- so does one whose charts may stay
-    pub says_stay : (s : Cleared) → refusal_of f ≡ 0 → (trailer f).edition ≡ stay_edition
-        → s ≡ record { refusal = may_stay; length = 0 } → ClearSays f buffer s buffer
-    unfolding clear_length clear_out same
-    says_stay s h two q = rw (stay_refused h two (length buffer)) (q, refl)
+    -- a file that is refused
+    pub says_refused : (r : Refusal) → number r ≡ refusal_of f → ClearSays f buffer (Err r) buffer
+    says_refused r e = kept r (e ∙ sym (file_refused_lem (λ z. number-some r (e ∙ z)) (length buffer)))
+
+    -- one whose charts may stay
+    pub says_stay : refusal_of f ≡ 0 → (trailer f).edition ≡ stay_edition → ClearSays f buffer (Err MayStay) buffer
+    says_stay h two = kept MayStay (sym (stay_refused h two (length buffer)))
 
     -- any other is answered by its body
-    pub says-body : refusal_of f ≡ 0 → (trailer f).edition ≢ stay_edition → (r : Cleared) (after : List ℕ)
+    pub says-body : refusal_of f ≡ 0 → (trailer f).edition ≢ stay_edition → (r : Result ℕ Refusal) (after : List ℕ)
         → ClearsBody (file_of f) buffer r after → ClearSays f buffer r after
     unfolding clear_length clear_out clear_bytes
     says-body h one r after q = rw (refusal_is h one (length buffer)) q
@@ -67,16 +71,14 @@ module _ (F : File) (buffer : List ℕ) where
   unfolding clear_after
   after-all l = first_of-next _ [] (le-ltb (length buffer) (length (encode (clear F))) l) ∙ first_of_[]
 
-  pub body-short : (s : Cleared) → length buffer < length (encode (clear F))
-      → s ≡ record { refusal = short_out; length = 0 }
-      → ClearsBody F buffer s buffer
+  pub body-short : length buffer < length (encode (clear F)) → ClearsBody F buffer (Err ShortOut) buffer
   unfolding same
-  body-short s l q = rw (after-short l) (q, refl)
+  body-short l = rw (after-short l) (refl, refl)
 
   pub body-laid : (k : ℕ) (after : List ℕ) → length (encode (clear F)) ≤ length buffer → k ≡ length (encode (clear F))
-      → after ≡ laid_over (encode (clear F)) buffer → ClearsBody F buffer (record { refusal = 0; length = k }) after
+      → after ≡ laid_over (encode (clear F)) buffer → ClearsBody F buffer (Ok k) after
   unfolding same
-  body-laid k after l q h = rw (after-all l, q) (refl, h)
+  body-laid k after l q h = rw (after-all l) ((refl, q), h)
 
 -- the result's size
 pub cleared-size : (F : File) (m : Shape) → m ≡ shape_in (clear F) → size_of m + 12 ≡ length (encode (clear F))

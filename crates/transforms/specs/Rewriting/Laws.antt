@@ -1,6 +1,6 @@
 -- Laws of the rewriting behind 1 to 11, in this order: a file that is refused, one whose charts may stay, and one that
 -- passed; a refusal of 40 to 45; what 41 to 44 give; the result's size; what the call answers.
-use Rattle.std.specs.Prelude.{◌≡◌, true, false, List, [], ◌∷◌, ◌++◌, ◌≢◌, ℕ, ◌+◌, ◌≤◌, ◌<◌, ltb, length}
+use Rattle.std.specs.Prelude.{◌≡◌, true, false, List, [], ◌∷◌, ◌++◌, ◌≢◌, ℕ, ◌+◌, ◌≤◌, ◌<◌, ltb, length, Ok, Err}
 use Rattle.std.proofs.Math.Path.{refl, ap}
 use Rattle.std.proofs.Common.{sym, ◌∙◌, append_assoc, lit<}
 use borrow.Author.Tests.{ne_eqb, lt-ltb, le-ltb, ltb-false}
@@ -17,10 +17,12 @@ use Rattle.meaning.specs.Calls.{laid_over}
 use Rattle.meaning.specs.Rewriting.{free, start, rewrite, no_free?, rewrite_tests, shape_in}
 use Rattle.meaning.specs.Rewriting.{encode, rewrite_bytes, stay_test, rewrite_refusal, rewrite_length, rewrite_out}
 use Rattle.meaning.proofs.Rewriting.Laws.{list_most}
+use Rattle.checks.specs.Refusals.{number}
+use Rattle.checks.specs.Refusals.Laws.{number-some}
+use Rattle.checks.specs.declared.refusal.Refusal.{Refusal}
 use Rattle.agreement.specs.Encoded.{length-encode}
 use Rattle.assembly.specs.Known.{Fits}
-use Rattle.transforms.specs.declared.rewriting.Rewritten.{Rewritten}
-use Rattle.transforms.specs.Rewriting.{limit_tests, rewrite_after, length_after, out_after}
+use Rattle.transforms.specs.Rewriting.{limit_tests, rewrite_after, length_after, out_after, BodyRewrites}
 
 -- ── a file that is refused, and one that passed ──
 
@@ -105,18 +107,12 @@ size_is F m e = ap (λ (s : Shape). size_of s + 12) e ∙ sym (length-encode (re
 
 -- ── what the call answers ──
 
-abbrev answer_after : File → ℕ → Rewritten
-answer_after F room = record { refusal = rewrite_after F room; length = length_after F room }
-
 module _ (F : File) (buffer : List ℕ) where
-  pub refuses : (r : ℕ) (s : Rewritten) → rewrite_after F (length buffer) ≡ r → (r ≡ 0 → ⊥)
-      → s ≡ record { refusal = r; length = 0 }
-      → (s ≡ answer_after F (length buffer)) × (buffer ≡ out_after F buffer)
-  unfolding length_after out_after same
-  refuses r s e h q = rw (e, ne_eqb r 0 h) (q, refl)
+  pub refuses : (r : Refusal) → number r ≡ rewrite_after F (length buffer) → BodyRewrites F buffer (Err r) buffer
+  unfolding out_after same
+  refuses r e = (e, rw (← e, ne_eqb (number r) 0 (number-some r)))
 
   pub gives : (k : ℕ) (out : List ℕ) → rewrite_after F (length buffer) ≡ 0 → k ≡ length (encode (rewrite F))
-      → out ≡ laid_over (encode (rewrite F)) buffer
-      → (record { refusal = 0; length = k } ≡ answer_after F (length buffer)) × (out ≡ out_after F buffer)
+      → out ≡ laid_over (encode (rewrite F)) buffer → BodyRewrites F buffer (Ok k) out
   unfolding length_after out_after same
-  gives k out e q h = rw (e, q) (refl, h)
+  gives k out e q h = rw e ((refl, q), h)

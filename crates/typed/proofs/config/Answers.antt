@@ -12,10 +12,10 @@ use Rattle.typed.specs.Typed.{number_of, states_on, config_of}
 use Rattle.typed.specs.Typed.Laws.{number_most, split_some}
 use Rattle.typed.specs.Parts.{Ends, behind_part, behind_more, behind-none}
 use Rattle.typed.specs.declared.Configuration.{Configuration}
-use Rattle.typed.specs.declared.Read.{Read}
-use Rattle.typed.specs.declared.Read.TheVariants.{Is, Wrong}
+use Rattle.std.specs.Prelude.{Option}
+use Rattle.std.specs.Prelude.{Some, None}
 use Rattle.typed.proofs.config.Goals as goal
-use Rattle.typed.proofs.config.Goals.{In-Is}
+use Rattle.typed.proofs.config.Goals.{In-Some}
 use Rattle.typed.proofs.config.Invariants.{So-far}
 
 -- the answer that a list of states stands for
@@ -35,13 +35,13 @@ module _ (w states : List ℕ) (count at : ℕ) (s : So-far w states count at) w
   full h = s.whole ∙ split_some dot (drop at w) (λ ps. states_on done ps ≡ [])
       (λ p ps. rw (le-ltb (length done) 64 (rw length-done h)))
 
-  module _ (h : count < 64) (e : ℕ) (p : Ends dot w at e) (r : Read)
+  module _ (h : count < 64) (e : ℕ) (p : Ends dot w at e) (r : Option ℕ)
       (q : r ≡ number_of 255 (take (e - at) (drop at w))) where
-    wrong : r ≡ Wrong → config_of w ≡ []
+    wrong : r ≡ None → config_of w ≡ []
     unfolding states_on
     wrong z = s.whole ∙ rw (p.parts, lt-ltb (length done) 64 (rw length-done h), ← q, z)
 
-    module _ (n : ℕ) (z : r ≡ Is n) where
+    module _ (n : ℕ) (z : r ≡ Some n) where
       done_more : take (count + 1) (set states count n) ≡ done ++ (n ∷ [])
       done_more = rw add-one (take-suc-set states count n (rw s.long h))
 
@@ -87,18 +87,18 @@ returns-in_default c =
     c.number.ensures c.in_default.is))
 
 -- a state is a byte
-small : (c : In-Is) → c.in-Is.state ≤ 255
-small c = number_most 255 _ _ (sym c.number.ensures ∙ c.in-Is.is)
+small : (c : In-Some) → c.in-Some.state ≤ 255
+small c = number_most 255 _ _ (sym c.number.ensures ∙ c.in-Some.is)
 
 pub returns-then-e-word : goal.returns-then-e-word
 returns-then-e-word c =
     last _ _ _ c.loop-count.at c.loop-count.invariant c.loop-count-test.true _ c.end-e.ensures _ c.number.ensures _
-    c.in-Is.is c.if-e-word.true
+    c.in-Some.is c.if-e-word.true
 
 pub loop-count-preserved : goal.loop-count-preserved
 loop-count-preserved c =
     more _ _ _ c.loop-count.at c.loop-count.invariant c.loop-count-test.true _ c.end-e.ensures _ c.number.ensures _
-    c.in-Is.is c.if-e-word.false
+    c.in-Some.is c.if-e-word.false
 
 pub returns : goal.returns
 returns c =
@@ -108,4 +108,4 @@ pub end-e-requires : goal.end-e-requires
 end-e-requires c = c.loop-count.invariant.within
 
 pub overflow_cast-states : goal.overflow_cast-states
-overflow_cast-states c = omega (arith, small (goal.at.overflow_cast-states c).In-Is)
+overflow_cast-states c = omega (arith, small (goal.at.overflow_cast-states c).In-Some)

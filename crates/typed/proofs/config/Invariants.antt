@@ -2,7 +2,7 @@
 -- them, and the parts from `at` on give the others.
 use mathlib.Core.Path.{◌≡◌}
 use mathlib.Core.List.{List}
-use Prim.Native.Nat.{ℕ, ◌-◌, ◌≤◌}
+use Prim.Native.Nat.{ℕ, ◌≤◌}
 use lib.ListN.{length, take, drop, replicate}
 use Rattle.line.specs.Line.{dot}
 use Rattle.typed.specs.Typed.{split, states_on, config_of}
@@ -17,6 +17,3 @@ pub record So-far (w states : List ℕ) (count at : ℕ) : Type 0 where
 
 abbrev pub invariant-loop-count : goal.invariant-loop-count
 invariant-loop-count l = So-far l.word l.states l.count l.at
-
-abbrev pub decreases-loop-count : goal.decreases-loop-count
-decreases-loop-count l = 64 - l.count

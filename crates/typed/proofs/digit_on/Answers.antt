@@ -4,7 +4,7 @@ use mathlib.Core.Path.{sym, ap, ◌∙◌}
 use Prim.Native.Nat.{ℕ, ◌+◌, ◌*◌, ◌-◌, ◌/◌, ◌≤◌, ◌<◌}
 use native.Mathlib.Nat.{le-div_iff_mul-le, div-lt_iff_lt-mul}
 use native.Mathlib.Omega.{arith}
-use Rattle.typed.specs.declared.Read.TheVariants.{Is}
+use Rattle.std.specs.Prelude.{Some}
 use Rattle.typed.specs.Typed.Laws.{digit-none, digit-over, digit_is}
 use Rattle.typed.proofs.digit_on.Goals as goal
 use Rattle.typed.proofs.digit_on.Goals.{Else-x-most}
@@ -46,5 +46,5 @@ pub returns : goal.returns
 returns c =
     let a = c.args in
     let e = c.value-v.ensures in
-    ap (λ (v : ℕ). Is (a.x * a.base + v)) e
+    ap (λ (v : ℕ). Some (a.x * a.base + v)) e
     ∙ sym (digit_is a.base a.most a.x a.b (omega (arith, e)) (omega (arith, e, room (goal.at.returns c).Else-x-most)))

@@ -1,4 +1,4 @@
-use mathlib.Core.Path.{◌≡◌, sym, ap, ◌∙◌}
+use mathlib.Core.Path.{◌≡◌, sym, ap, ◌∙◌, subst}
 use mathlib.Core.List.{List, append-nil}
 use Prim.Native.Nat.{ℕ, suc, ◌+◌, ◌-◌, ◌≤◌, ◌<◌}
 use native.Mathlib.Nat.{sub_self}
@@ -43,29 +43,21 @@ module _ (separator : ℕ) (w : List ℕ) (at i : ℕ) (order : at ≤ i) (withi
 
 pub loop-i-init : goal.loop-i-init
 loop-i-init c =
-    let a = c.args in
-    (omega arith, omega arith, rw (sub_self, before-none))
+    rw (sub_self, before-none)
 
 pub returns-then-word-i : goal.returns-then-word-i
 returns-then-word-i c =
-    ends_here _ _ _ c.loop-i.i c.loop-i.invariant.0 c.loop-i.invariant.1 c.loop-i.invariant.2 c.loop-i-test.true c.if-word-i.true
+    ends_here _ _ _ c.loop-i.i (omega arith) (omega arith) c.loop-i.invariant c.loop-i-test.true c.if-word-i.true
 
 pub loop-i-preserved : goal.loop-i-preserved
-loop-i-preserved c = (
-  omega arith,
-  omega arith,
-  part-more _ _ _ c.loop-i.i c.loop-i.invariant.0 c.loop-i.invariant.1 c.loop-i.invariant.2 c.loop-i-test.true c.if-word-i.false,
-)
+loop-i-preserved c =
+    part-more _ _ _ c.loop-i.i (omega arith) (omega arith) c.loop-i.invariant c.loop-i-test.true c.if-word-i.false
 
 pub returns : goal.returns
 returns c =
-    ends_all _ _ _ c.loop-i.i c.loop-i.invariant.0 c.loop-i.invariant.1 c.loop-i.invariant.2 c.loop-i-test.false
+    let e : c.loop-i.i ≡ length c.args.word.now = omega arith in
+    subst (Ends c.args.separator c.args.word.now c.args.at) e
+    (ends_all _ _ _ c.loop-i.i (omega arith) (omega arith) c.loop-i.invariant c.loop-i-test.false)
 
 pub bounds-word-i : goal.bounds-word-i
 bounds-word-i c = omega arith
-
-pub overflow_add-i : goal.overflow_add-i
-overflow_add-i c = omega arith
-
-pub loop-i-smaller : goal.loop-i-smaller
-loop-i-smaller c = omega arith

@@ -10,8 +10,8 @@ use Rattle.meaning.specs.Meaning.{eq_list}
 use Rattle.line.specs.Ascii.{ascii}
 use Rattle.typed.specs.Typed.{hex_of, signals_on, split, comma, set_of}
 use Rattle.typed.specs.Typed.Laws.{alike}
-use Rattle.typed.specs.declared.Read.{Read}
-use Rattle.typed.specs.declared.Read.TheVariants.{Is}
+use Rattle.std.specs.Prelude.{Option}
+use Rattle.std.specs.Prelude.{Some}
 use Rattle.typed.proofs.set.Goals as goal
 use Rattle.typed.proofs.set.Goals.{Else-is, Then-begins}
 
@@ -19,16 +19,16 @@ module _ (w : List ℕ) where
   two : eq_list (take 2 w) (ascii "0x") ≡ true → 2 ≤ length w
   two e = omega (arith, alike (take 2 w) (ascii "0x") e, length-take 2 w)
 
-  by-none : eq_list w (ascii "-") ≡ true → Is 0 ≡ set_of w
+  by-none : eq_list w (ascii "-") ≡ true → Some 0 ≡ set_of w
   unfolding set_of
   by-none e = rw e
 
-  by-hex : (r : Read) → eq_list w (ascii "-") ≡ false → eq_list (take 2 w) (ascii "0x") ≡ true
+  by-hex : (r : Option ℕ) → eq_list w (ascii "-") ≡ false → eq_list (take 2 w) (ascii "0x") ≡ true
       → r ≡ hex_of (take (length w - 2) (drop 2 w)) → r ≡ set_of w
   unfolding set_of
   by-hex r e f h = rw (e, f) (h ∙ ap hex_of (take_all (length w - 2) (drop 2 w) (omega (arith, length-drop 2 w))))
 
-  by_signals : (r : Read) → eq_list w (ascii "-") ≡ false → eq_list (take 2 w) (ascii "0x") ≡ false
+  by_signals : (r : Option ℕ) → eq_list w (ascii "-") ≡ false → eq_list (take 2 w) (ascii "0x") ≡ false
       → r ≡ signals_on 0 (split comma w) → r ≡ set_of w
   unfolding set_of
   by_signals r e f h = rw (e, f) h

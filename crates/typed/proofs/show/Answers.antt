@@ -39,7 +39,7 @@ returns-then-set-eq0 c =
 
 pub loop-n-init : goal.loop-n-init
 unfolding members_to joined
-loop-n-init c = (omega arith, record { is = refl; place = refl })
+loop-n-init c = record { is = refl; place = refl }
 
 pub put_next-end-requires : goal.put_next-end-requires
 put_next-end-requires c =
@@ -47,25 +47,22 @@ put_next-end-requires c =
       omega arith,
       omega (
         arith,
-        put-length c.loop-n.invariant.1,
-        c.loop-n.invariant.1.place,
+        put-length c.loop-n.invariant,
+        c.loop-n.invariant.place,
         listed_le set c.loop-n.n (omega arith),
         next_le c.loop-n.end set c.loop-n.n (omega arith),
       ),
     )
 
 pub loop-n-preserved : goal.loop-n-preserved
-loop-n-preserved c = (
-  omega arith,
-  put-more c.args.set c.loop-n.n _ _ _ c.loop-n.end _ c.loop-n.invariant.1
-      c.put_next-end.ensures,
-)
+loop-n-preserved c = put-more c.args.set c.loop-n.n _ _ _ c.loop-n.end _ c.loop-n.invariant
+    c.put_next-end.ensures
 
 pub shape_of-out : goal.shape_of-out
-shape_of-out c = put-length c.loop-n.invariant.1
+shape_of-out c = put-length c.loop-n.invariant
 
 pub returns : goal.returns
 returns c =
     let set = c.args.set in
     let e : c.loop-n.n ≡ 64 = omega arith in
-    rw (shown_some set c.if-set-eq0.false) (put-over (rw e at c.loop-n.invariant.1) (omega (arith, listed_le set 64 (omega arith))))
+    rw (shown_some set c.if-set-eq0.false) (put-over (rw e at c.loop-n.invariant) (omega (arith, listed_le set 64 (omega arith))))

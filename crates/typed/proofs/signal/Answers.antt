@@ -9,22 +9,22 @@ use lib.ListN.{length, get_or, take, drop}
 use lib.Seq.{take_all}
 use Rattle.meaning.specs.Meaning.{same}
 use Rattle.typed.specs.Typed.{number_of, signal_of}
-use Rattle.typed.specs.declared.Read.{Read}
-use Rattle.typed.specs.declared.Read.TheVariants.{Wrong}
+use Rattle.std.specs.Prelude.{Option}
+use Rattle.std.specs.Prelude.{None}
 use Rattle.typed.proofs.signal.Goals as goal
 
-no_word : (w : List ℕ) → length w ≡ 0 → signal_of w ≡ Wrong
+no_word : (w : List ℕ) → length w ≡ 0 → signal_of w ≡ None
 unfolding signal_of
 no_word [] h = refl
 no_word (b ∷ w) h = absurd (omega arith)
 
-no_s : (w : List ℕ) → (get_or w 0 0 ≡ code "s" → ⊥) → signal_of w ≡ Wrong
+no_s : (w : List ℕ) → (get_or w 0 0 ≡ code "s" → ⊥) → signal_of w ≡ None
 unfolding signal_of same
 no_s [] h = refl
 no_s (b ∷ w) h = rw (ne_eqb _ _ h)
 
 -- the number is the word from its second character on
-numbered : (w : List ℕ) (r : Read) → get_or w 0 0 ≡ code "s" → r ≡ number_of 63 (take (length w - 1) (drop 1 w))
+numbered : (w : List ℕ) (r : Option ℕ) → get_or w 0 0 ≡ code "s" → r ≡ number_of 63 (take (length w - 1) (drop 1 w))
     → r ≡ signal_of w
 unfolding signal_of same
 numbered [] r h e = absurd (omega arith)

@@ -6,13 +6,13 @@ use Rattle.line.specs.Ascii.{ascii}
 use Rattle.line.specs.Line.{digit, digits, width_to, width, decimal, behind, joined, dotted}
 use Rattle.typed.specs.Typed.{between, value_of, digit_on, digits_on, begun, number_of, hex_of, in_front, split}
 use Rattle.typed.specs.Typed.{signal_of, signals_on, set_of, states_on, config_of, members_to, shown_signal, shown}
-use Rattle.typed.specs.declared.Read.TheVariants.{Is, Wrong}
+use Rattle.std.specs.Prelude.{Some, None}
 
 -- the three forms of a set; signals in any order, and twice; hex digits in lower and upper case, one or sixteen of them
 pub sets-right : map set_of
     (ascii "s0,s3" ∷ ascii "0x9" ∷ ascii "-" ∷ ascii "s63" ∷ ascii "s9,s10,s9" ∷ ascii "0xaF"
     ∷ ascii "0x0000000000000001" ∷ ascii "0xFFFFFFFFFFFFFFFF" ∷ [])
-    ≡ (Is 9 ∷ Is 9 ∷ Is 0 ∷ Is (2 ^ 63) ∷ Is 1536 ∷ Is 175 ∷ Is 1 ∷ Is (2 ^ 64 - 1) ∷ [])
+    ≡ (Some 9 ∷ Some 9 ∷ Some 0 ∷ Some (2 ^ 63) ∷ Some 1536 ∷ Some 175 ∷ Some 1 ∷ Some (2 ^ 64 - 1) ∷ [])
 unfolding set_of eq_list same hex_of between value_of digit_on digits_on begun number_of in_front split signal_of
     signals_on bit single
 sets-right = refl
@@ -22,7 +22,7 @@ sets-right = refl
 pub sets_wrong : map set_of
     (ascii "" ∷ ascii "s64" ∷ ascii "s007" ∷ ascii "0x" ∷ ascii "0x00000000000000001" ∷ ascii "0xg" ∷ ascii "s0,"
     ∷ ascii ",s0" ∷ ascii "s0,,s1" ∷ ascii "0" ∷ ascii "s" ∷ ascii "s0, s1" ∷ ascii "--" ∷ [])
-    ≡ replicate 13 Wrong
+    ≡ replicate 13 None
 unfolding set_of eq_list same hex_of between value_of digit_on digits_on begun number_of in_front split signal_of
     signals_on bit single
 sets_wrong = refl

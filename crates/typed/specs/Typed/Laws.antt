@@ -16,8 +16,8 @@ use Rattle.signals.specs.Mask.{bit}
 use Rattle.typed.specs.Parts.{next_signal}
 use Rattle.typed.specs.Typed.{between, value_of, given, digit_on, digits_on, begun, number_of, signal_of, in_front}
 use Rattle.typed.specs.Typed.{split, comma, members_to, shown_signal}
-use Rattle.typed.specs.declared.Read.{Read}
-use Rattle.typed.specs.declared.Read.TheVariants.{Is, Wrong}
+use Rattle.std.specs.Prelude.{Option}
+use Rattle.std.specs.Prelude.{Some, None}
 
 -- ---- words that are alike
 
@@ -51,54 +51,55 @@ between_above lo hi b p q = rw (le-ltb b lo p, lt-leb b hi q)
 
 -- a digit more: it is none of the base; it is one, and the number goes over the most; it is one, and does not
 module _ (base most x b : ℕ) where
-  pub digit-none : base ≤ value_of b → digit_on base most x b ≡ Wrong
+  pub digit-none : base ≤ value_of b → digit_on base most x b ≡ None
   unfolding digit_on
   digit-none h = rw (le-ltb (value_of b) base h)
 
-  pub digit-over : value_of b < base → most < x * base + value_of b → digit_on base most x b ≡ Wrong
+  pub digit-over : value_of b < base → most < x * base + value_of b → digit_on base most x b ≡ None
   unfolding digit_on
   digit-over h k = rw (lt-ltb (value_of b) base h, lt-leb (x * base + value_of b) most k)
 
-  pub digit_is : value_of b < base → x * base + value_of b ≤ most → digit_on base most x b ≡ Is (x * base + value_of b)
+  pub digit_is : value_of b < base → x * base + value_of b ≤ most
+      → digit_on base most x b ≡ Some (x * base + value_of b)
   unfolding digit_on
   digit_is h k = rw (lt-ltb (value_of b) base h, le-leb (x * base + value_of b) most k)
 
 -- ---- how large a number can be
 
-cond_is : (t : Bool) (n m : ℕ) (most : ℕ) → (t ≡ true → n ≤ most) → cond t (Is n) Wrong ≡ Is m → m ≤ most
+cond_is : (t : Bool) (n m : ℕ) (most : ℕ) → (t ≡ true → n ≤ most) → cond t (Some n) None ≡ Some m → m ≤ most
 cond_is true n m most h e = let p : n ≡ m = cc in omega (arith, h refl)
 cond_is false n m most h e = let z : ◌≡◌ {A = ℕ} 0 1 = cc in absurd (omega arith)
 
-digit_most : (base most x b n : ℕ) → digit_on base most x b ≡ Is n → n ≤ most
+digit_most : (base most x b n : ℕ) → digit_on base most x b ≡ Some n → n ≤ most
 unfolding digit_on
 digit_most base most x b n e = cond_is _ _ n most (λ t. leb-true _ _ (and_r (ltb (value_of b) base) _ t)) e
 
-digits_most : (base most x : ℕ) (w : List ℕ) (n : ℕ) → x ≤ most → digits_on base most x w ≡ Is n → n ≤ most
+digits_most : (base most x : ℕ) (w : List ℕ) (n : ℕ) → x ≤ most → digits_on base most x w ≡ Some n → n ≤ most
 unfolding digits_on
 digits_most base most x [] n h e = let p : x ≡ n = cc in omega arith
 digits_most base most x (b ∷ w) n h e =
     go (digit_on base most x b) refl (λ y p q. digits_most base most y w n (digit_most base most x b y p) q) e
   where
-    go : (r : Read) → digit_on base most x b ≡ r
-        → ((y : ℕ) → digit_on base most x b ≡ Is y → digits_on base most y w ≡ Is n → n ≤ most)
-        → given r (λ y. digits_on base most y w) Wrong ≡ Is n → n ≤ most
-    go (Is y) p f q = f y p q
-    go Wrong p f q = let z : ◌≡◌ {A = ℕ} 0 1 = cc in absurd (omega arith)
+    go : (r : Option ℕ) → digit_on base most x b ≡ r
+        → ((y : ℕ) → digit_on base most x b ≡ Some y → digits_on base most y w ≡ Some n → n ≤ most)
+        → given r (λ y. digits_on base most y w) None ≡ Some n → n ≤ most
+    go (Some y) p f q = f y p q
+    go None p f q = let z : ◌≡◌ {A = ℕ} 0 1 = cc in absurd (omega arith)
 
-pub number_most : (most : ℕ) (w : List ℕ) (n : ℕ) → number_of most w ≡ Is n → n ≤ most
+pub number_most : (most : ℕ) (w : List ℕ) (n : ℕ) → number_of most w ≡ Some n → n ≤ most
 unfolding number_of
 number_most most w n e = go (begun w) e
   where
-    go : (t : Bool) → cond t (digits_on 10 most 0 w) Wrong ≡ Is n → n ≤ most
+    go : (t : Bool) → cond t (digits_on 10 most 0 w) None ≡ Some n → n ≤ most
     go true q = digits_most 10 most 0 w n (omega arith) q
     go false q = let z : ◌≡◌ {A = ℕ} 0 1 = cc in absurd (omega arith)
 
-pub signal_most : (w : List ℕ) (n : ℕ) → signal_of w ≡ Is n → n ≤ 63
+pub signal_most : (w : List ℕ) (n : ℕ) → signal_of w ≡ Some n → n ≤ 63
 unfolding signal_of
 signal_most [] n e = let z : ◌≡◌ {A = ℕ} 0 1 = cc in absurd (omega arith)
 signal_most (b ∷ w) n e = go (same b (code "s")) e
   where
-    go : (t : Bool) → cond t (number_of 63 w) Wrong ≡ Is n → n ≤ 63
+    go : (t : Bool) → cond t (number_of 63 w) None ≡ Some n → n ≤ 63
     go true q = number_most 63 w n q
     go false q = let z : ◌≡◌ {A = ℕ} 0 1 = cc in absurd (omega arith)
 

@@ -21,8 +21,8 @@ use Rattle.line.specs.Line.{digit, digits, width_to, width, decimal, behind, joi
 use Rattle.typed.specs.Typed.{between, value_of, given, digit_on, digits_on, begun, number_of, in_front, split, comma}
 use Rattle.typed.specs.Typed.{signal_of, signals_on, set_of, states_on, config_of, members_to, shown_signal, shown}
 use Rattle.typed.specs.Typed.Laws.{before, before-none, map_snoc, listed}
-use Rattle.typed.specs.declared.Read.{Read}
-use Rattle.typed.specs.declared.Read.TheVariants.{Is, Wrong}
+use Rattle.std.specs.Prelude.{Option}
+use Rattle.std.specs.Prelude.{Some, None}
 
 -- ---- each signal and each state, by trying all
 
@@ -31,26 +31,26 @@ unfoldable clear : ℕ → List ℕ → Bool
 clear separator [] = true
 clear separator (b ∷ w) = not (same b separator) && clear separator w
 
-unfoldable says : Read → ℕ → Bool
-says (Is m) n = eqb m n
-says Wrong n = false
+unfoldable says : Option ℕ → ℕ → Bool
+says (Some m) n = eqb m n
+says None n = false
 
-says_is : (r : Read) (n : ℕ) → says r n ≡ true → r ≡ Is n
+says_is : (r : Option ℕ) (n : ℕ) → says r n ≡ true → r ≡ Some n
 unfolding says
-says_is (Is m) n e = ap (λ (x : ℕ). Is x) (eqb-true m n e)
-says_is Wrong n e = absurd (false≢true e)
+says_is (Some m) n e = ap (λ (x : ℕ). Some x) (eqb-true m n e)
+says_is None n e = absurd (false≢true e)
 
 -- n is read of the word that shows it, which has no separator
-unfoldable right : (List ℕ → Read) → (ℕ → List ℕ) → ℕ → ℕ → Bool
+unfoldable right : (List ℕ → Option ℕ) → (ℕ → List ℕ) → ℕ → ℕ → Bool
 right read show separator n = says (read (show n)) n && clear separator (show n)
 
-module _ (read : List ℕ → Read) (show : ℕ → List ℕ) (separator most : ℕ)
+module _ (read : List ℕ → Option ℕ) (show : ℕ → List ℕ) (separator most : ℕ)
     (all : any_up_to most (λ n. not (right read show separator n)) ≡ false)
     (n : ℕ) (h : n < most) where
   is_right : right read show separator n ≡ true
   is_right = not-false _ (any-never most (λ k. not (right read show separator k)) all n h)
 
-  reads : read (show n) ≡ Is n
+  reads : read (show n) ≡ Some n
   unfolding right
   reads = says_is _ n (and_l _ _ is_right)
 
@@ -68,13 +68,13 @@ unfolding any_up_to right says clear same between value_of digit_on digits_on be
     width decimal
 states-right = refl
 
-signal_reads : (n : ℕ) → n < 64 → signal_of (shown_signal n) ≡ Is n
+signal_reads : (n : ℕ) → n < 64 → signal_of (shown_signal n) ≡ Some n
 signal_reads = reads signal_of shown_signal comma 64 signals_right
 
 signal_clear : (n : ℕ) → n < 64 → clear comma (shown_signal n) ≡ true
 signal_clear = clears signal_of shown_signal comma 64 signals_right
 
-state_reads : (n : ℕ) → n < 256 → number_of 255 (decimal n) ≡ Is n
+state_reads : (n : ℕ) → n < 256 → number_of 255 (decimal n) ≡ Some n
 state_reads = reads (number_of 255) decimal dot 256 states-right
 
 state_clear : (n : ℕ) → n < 256 → clear dot (decimal n) ≡ true
@@ -157,19 +157,19 @@ joined-all s h = ext (joined_to 64 s) s (λ m. go m (dec_lt m 64))
 -- one signal more is read
 signals_snoc : (t : Set) (ps : List (List ℕ)) (p : List ℕ)
     → signals_on t (ps ++ (p ∷ []))
-    ≡ given (signals_on t ps) (λ u. given (signal_of p) (λ n. Is (u ∪ single n)) Wrong) Wrong
+    ≡ given (signals_on t ps) (λ u. given (signal_of p) (λ n. Some (u ∪ single n)) None) None
 unfolding signals_on
 signals_snoc t [] p = refl
 signals_snoc t (q ∷ qs) p = go (signal_of q) (λ n. signals_snoc (t ∪ single n) qs p)
   where
-    go : (r : Read)
+    go : (r : Option ℕ)
         → ((n : ℕ) → signals_on (t ∪ single n) (qs ++ (p ∷ []))
-        ≡ given (signals_on (t ∪ single n) qs) (λ u. given (signal_of p) (λ n. Is (u ∪ single n)) Wrong) Wrong)
-        → given r (λ n. signals_on (t ∪ single n) (qs ++ (p ∷ []))) Wrong
-        ≡ given (given r (λ n. signals_on (t ∪ single n) qs) Wrong)
-        (λ u. given (signal_of p) (λ n. Is (u ∪ single n)) Wrong) Wrong
-    go (Is n) f = f n
-    go Wrong f = refl
+        ≡ given (signals_on (t ∪ single n) qs) (λ u. given (signal_of p) (λ n. Some (u ∪ single n)) None) None)
+        → given r (λ n. signals_on (t ∪ single n) (qs ++ (p ∷ []))) None
+        ≡ given (given r (λ n. signals_on (t ∪ single n) qs) None)
+        (λ u. given (signal_of p) (λ n. Some (u ∪ single n)) None) None
+    go (Some n) f = f n
+    go None f = refl
 
 members-clear : (n s : ℕ) → n ≤ 64 → Clear comma (map shown_signal (members_to n s))
 unfolding members_to Clear
@@ -183,14 +183,14 @@ members-clear (suc n) s h = go (bit s n) (members-clear n s (omega arith))
         (clear_snoc comma (map shown_signal (members_to n s)) (shown_signal n) k (signal_clear n (omega arith)))
     go false k = rw (append-nil (members_to n s)) k
 
-members_read : (n s : ℕ) → n ≤ 64 → signals_on ∅ (map shown_signal (members_to n s)) ≡ Is (joined_to n s)
+members_read : (n s : ℕ) → n ≤ 64 → signals_on ∅ (map shown_signal (members_to n s)) ≡ Some (joined_to n s)
 unfolding members_to joined_to signals_on
 members_read zero s h = refl
 members_read (suc n) s h = go (bit s n) (members_read n s (omega arith))
   where
-    go : (t : Bool) → signals_on ∅ (map shown_signal (members_to n s)) ≡ Is (joined_to n s)
+    go : (t : Bool) → signals_on ∅ (map shown_signal (members_to n s)) ≡ Some (joined_to n s)
         → signals_on ∅ (map shown_signal (members_to n s ++ cond t (n ∷ []) []))
-        ≡ Is (cond t (joined_to n s ∪ single n) (joined_to n s))
+        ≡ Some (cond t (joined_to n s ∪ single n) (joined_to n s))
     go true e =
         rw (
           map_snoc shown_signal (members_to n s) n,
@@ -204,22 +204,22 @@ members_read (suc n) s h = go (bit s n) (members_read n s (omega arith))
 
 -- a list of signals is no `-` and begins with no `0x`
 listed_reads : (xs : List ℕ) (s : ℕ) → (s ≡ 0 → ⊥) → Clear comma (map shown_signal xs)
-    → signals_on ∅ (map shown_signal xs) ≡ Is s
-    → set_of (listed xs) ≡ Is s
+    → signals_on ∅ (map shown_signal xs) ≡ Some s
+    → set_of (listed xs) ≡ Some s
 unfolding set_of eq_list same joined shown_signal signals_on Clear
 listed_reads [] s h k e = let z : 0 ≡ s = cc in absurd (h (sym z))
 listed_reads (x ∷ xs) s h k e =
     ap (signals_on ∅) (split-behind comma (shown_signal x) (map shown_signal xs) k.0 k.1) ∙ e
 
-pub shown_reads : (s : ℕ) → s < 2 ^ 64 → set_of (shown s) ≡ Is s
+pub shown_reads : (s : ℕ) → s < 2 ^ 64 → set_of (shown s) ≡ Some s
 unfolding shown set_of eq_list same
 shown_reads s h = go (eqb s 0) refl
   where
-    go : (t : Bool) → eqb s 0 ≡ t → set_of (cond t (ascii "-") (listed (members_to 64 s))) ≡ Is s
-    go true e = ap (λ (x : ℕ). Is x) (sym (eqb-true s 0 e))
+    go : (t : Bool) → eqb s 0 ≡ t → set_of (cond t (ascii "-") (listed (members_to 64 s))) ≡ Some s
+    go true e = ap (λ (x : ℕ). Some x) (sym (eqb-true s 0 e))
     go false e =
         listed_reads (members_to 64 s) s (eqb-false s 0 e) (members-clear 64 s (omega arith))
-        (members_read 64 s (omega arith) ∙ ap (λ (x : ℕ). Is x) (joined-all s h))
+        (members_read 64 s (omega arith) ∙ ap (λ (x : ℕ). Some x) (joined-all s h))
 
 -- ---- a configuration
 

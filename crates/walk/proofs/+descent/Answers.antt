@@ -49,27 +49,27 @@ master-returns t c =
 
 -- ── of_state ──
 
-pub of_state-loop-next-init : goal.of_state-loop-next-init
-of_state-loop-next-init t c = (c.pair-c.ensures.within, λ l ts r. along_none _ _ _ _ _ l ts _ r)
+pub of_state-loop-c-init : goal.of_state-loop-c-init
+of_state-loop-c-init t c = (c.pair-c.ensures.within, λ l ts r. along_none _ _ _ _ _ l ts _ r)
 
-pub of_state-loop-next-smaller : goal.of_state-loop-next-smaller
-of_state-loop-next-smaller t c =
-    let s = peek_some _ _ _ refl 44 (omega arith) (sym c.peek.ensures ∙ c.loop-next-test.true) in
+pub of_state-loop-c-smaller : goal.of_state-loop-c-smaller
+of_state-loop-c-smaller t c =
+    let s = peek_some _ _ _ refl 44 (omega arith) (sym c.peek.ensures ∙ c.loop-c-test.true) in
     let f = c.behind_sign.ensures.further (omega arith) s in
-    omega (arith, f, c.pair-c-in-loop-next.ensures.onward, c.pair-c-in-loop-next.ensures.within)
+    omega (arith, f, c.pair-c-in-loop-c.ensures.onward, c.pair-c-in-loop-c.ensures.within)
 
-pub of_state-loop-next-preserved : goal.of_state-loop-next-preserved
-of_state-loop-next-preserved t c =
-    let p = c.pair-c-in-loop-next in (
+pub of_state-loop-c-preserved : goal.of_state-loop-c-preserved
+of_state-loop-c-preserved t c =
+    let p = c.pair-c-in-loop-c in (
       p.ensures.within,
-      λ k ts r. along_more _ _ _ _ _ k ts _ _ _ _ _ (sym c.peek.ensures ∙ c.loop-next-test.true)
-          c.behind_sign.ensures p.ensures r.2 (c.loop-next.invariant.1 k ts r),
+      λ k ts r. along_more _ _ _ _ _ k ts _ _ _ _ _ (sym c.peek.ensures ∙ c.loop-c-test.true)
+          c.behind_sign.ensures p.ensures r.2 (c.loop-c.invariant.1 k ts r),
     )
 
 pub of_state-returns : goal.of_state-returns
 of_state-returns t c =
-    state_laid _ _ _ _ _ _ _ _ _ _ c.pair-c.ensures c.loop-next.invariant.1
-    (λ e. c.loop-next-test.false (c.peek.ensures ∙ e)) c.loop-next.invariant.0
+    state_laid _ _ _ _ _ _ _ _ _ _ c.pair-c.ensures c.loop-c.invariant.1
+    (λ e. c.loop-c-test.false (c.peek.ensures ∙ e)) c.loop-c.invariant.0
 
 -- ── pair ──
 

@@ -33,15 +33,15 @@ abbrev pub decreases-slaves : goal.decreases-slaves
 decreases-slaves l = 8 * l.left + 4
 
 -- in every text that has slaves there, those before the cursor are laid down
-abbrev pub invariant-of_state-loop-next : goal.invariant-of_state-loop-next
-invariant-of_state-loop-next l =
+abbrev pub invariant-of_state-loop-c : goal.invariant-of_state-loop-c
+invariant-of_state-loop-c l =
     let begin = sheet l.initial.c l.initial.out l.initial.list in
     (l.c.place ≤ length l.text)
     × ((ps : List Pair) (ts : Tokens) → Ready l.text l.name l.state l.left l.initial.c.place begin ps ts
     → Along l.text l.name l.state l.left l.c.place begin (sheet l.c l.out l.list) ps ts)
 
-abbrev pub decreases-of_state-loop-next : goal.decreases-of_state-loop-next
-decreases-of_state-loop-next l = length l.text - l.c.place
+abbrev pub decreases-of_state-loop-c : goal.decreases-of_state-loop-c
+decreases-of_state-loop-c l = length l.text - l.c.place
 
 -- the slaves of the states below this one are laid down
 abbrev pub invariant-slaves-loop-state : goal.invariant-slaves-loop-state

@@ -13,7 +13,7 @@ use Rattle.notation.specs.Syntax.{OneOrMore, one, ◌▸◌, Signals, Literal, n
 use Rattle.notation.specs.Syntax.{Sequential, Single, sequential, decomposed, hidden, Chart, single, composed}
 use Rattle.notation.specs.Syntax.{Slaves, first_slave, more_slaves}
 use Rattle.notation.specs.Grammar.{Sign, lpar, rpar, lbrace, rbrace, lsq, rsq, comma, bar, slash, amp, minus, wordDec}
-use Rattle.notation.specs.Grammar.{wordBy, Letter, letC, letQ, letS, sign, name, Tokens, sign₁, name₁, of_names}
+use Rattle.notation.specs.Grammar.{wordBy, Letter, letC, letQ, letS, sign, Tokens, sign₁, name₁, of_names}
 use Rattle.notation.specs.Grammar.{of_set, of_optional, of_literal, of_literals, of_guard, of_transition}
 use Rattle.notation.specs.Grammar.{of_transition_list}
 use Rattle.notation.specs.Grammar.{of_transitions, of_heading, of_extra, of_sequential, of_single, of_chart, of_part}

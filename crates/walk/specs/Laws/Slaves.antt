@@ -8,7 +8,7 @@ use Rattle.std.proofs.Math.Decide.{dec_lt}
 use Rattle.layout.specs.declared.record.Slave.{Slave}
 use Rattle.notation.specs.Syntax.{Sequential, decomposed, Chart}
 use Rattle.notation.specs.Syntax.{Slaves, first_slave, more_slaves, depth, depth_slaves}
-use Rattle.notation.specs.Grammar.{lpar, rpar, lbrace, rbrace, comma, wordDec, wordBy, letQ, sign, name, sign_bytes}
+use Rattle.notation.specs.Grammar.{lpar, rpar, lbrace, rbrace, comma, wordDec, wordBy, letQ, sign, sign_bytes}
 use Rattle.notation.specs.Grammar.{Tokens, of_chart, of_slaves, Text}
 use Rattle.notation.specs.Reader.{first_byte}
 use Rattle.reading.specs.Numbers.{named_charts, named_states}

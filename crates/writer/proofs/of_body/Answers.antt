@@ -26,12 +26,11 @@ size_is c = c.text-size.ensures.place ∙ zero-add _
 
 pub returns-then-too_deep : goal.returns-then-too_deep
 returns-then-too_deep c =
-    body-deep (at (goal.at.returns-then-too_deep c).After-too_deep) c.args.out.now _ (sym c.too_deep.ensures ∙ c.if-too_deep.true) c.refused.ensures
+    body-deep (at (goal.at.returns-then-too_deep c).After-too_deep) c.args.out.now (sym c.too_deep.ensures ∙ c.if-too_deep.true)
 
 pub returns-then-out-size : goal.returns-then-out-size
 returns-then-out-size c =
-    body-short (at (goal.at.returns-then-out-size c).After-too_deep) c.args.out.now _ (shallow (goal.at.returns-then-out-size c).Else-too_deep) (rw (size_is (goal.at.returns-then-out-size c).After-text-size) at c.if-out-size.true)
-    c.refused-then-out-size.ensures
+    body-short (at (goal.at.returns-then-out-size c).After-too_deep) c.args.out.now (shallow (goal.at.returns-then-out-size c).Else-too_deep) (rw (size_is (goal.at.returns-then-out-size c).After-text-size) at c.if-out-size.true)
 
 pub returns : goal.returns
 returns c =

@@ -16,7 +16,7 @@ use Rattle.checks.proofs.charts.bad_charts.Goals as goal
 use Rattle.checks.proofs.charts.bad_charts.Goals.{After-bad_chart}
 
 pub loop-c-init : goal.loop-c-init
-loop-c-init c = (omega arith, omega arith, sym (start_of-none _ _), any_none _)
+loop-c-init c = (omega arith, sym (start_of-none _ _), any_none _)
 
 -- what the code asks of the chart is `chart?`
 asked : (c : After-bad_chart)
@@ -36,13 +36,12 @@ pub loop-c-preserved : goal.loop-c-preserved
 loop-c-preserved c =
     let a = c.args in (
       omega arith,
-      omega arith,
       omega (
         arith,
         start_of-next a.n a.body.now c.loop-c.c,
         ap (λ (h : Head). h.transitions) c.head_at-h.ensures,
       ),
-      any-more _ _ c.loop-c.invariant.3 (sym (asked (goal.at.loop-c-preserved c).After-bad_chart) ∙ c.if-bad_chart.false),
+      any-more _ _ c.loop-c.invariant.2 (sym (asked (goal.at.loop-c-preserved c).After-bad_chart) ∙ c.if-bad_chart.false),
     )
 
 -- with all charts passed, the sum decides
@@ -55,19 +54,7 @@ summed n b c sum e s h =
     rw (h', s')
 
 pub returns : goal.returns
-returns c = summed _ _ c.loop-c.c c.loop-c.sum (omega arith) c.loop-c.invariant.2 c.loop-c.invariant.3
+returns c = summed _ _ c.loop-c.c c.loop-c.sum (omega arith) c.loop-c.invariant.1 c.loop-c.invariant.2
 
 pub head_at-h-requires : goal.head_at-h-requires
 head_at-h-requires c = (c.requires.holds, c.loop-c-test.true)
-
-pub overflow_cast-sum : goal.overflow_cast-sum
-overflow_cast-sum c = omega arith
-
-pub overflow_add-sum : goal.overflow_add-sum
-overflow_add-sum c = omega arith
-
-pub overflow_add-c : goal.overflow_add-c
-overflow_add-c c = omega arith
-
-pub loop-c-smaller : goal.loop-c-smaller
-loop-c-smaller c = omega arith

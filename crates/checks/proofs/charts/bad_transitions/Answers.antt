@@ -13,13 +13,13 @@ use Rattle.checks.proofs.charts.bad_transitions.Goals as goal
 use Rattle.checks.proofs.charts.bad_transitions.Goals.{After-bad_transition, After-head_at-h, After-transition_at, In-loop-t}
 
 pub scan-init : goal.scan-init
-scan-init c = (omega arith, sym (start_of-none _ _), refl, any_none _)
+scan-init c = (sym (start_of-none _ _), refl, any_none _)
 
 pub head_at-h-requires : goal.head_at-h-requires
 head_at-h-requires c = (c.requires.0.holds, c.scan-test.true)
 
 pub loop-t-init : goal.loop-t-init
-loop-t-init c = (omega arith, omega arith, c.scan.invariant.2, any_none _, counts-none _ _ _)
+loop-t-init c = (omega arith, c.scan.invariant.1, any_none _, counts-none _ _ _)
 
 -- the next transition is one of the file's
 within : (c : In-loop-t)
@@ -47,7 +47,7 @@ is : (c : After-transition_at)
     c.args.body.now
     c.scan.c
     c.loop-t.t
-is c = c.transition_at.ensures ∙ ap (transition_at _ _) c.loop-t.invariant.1
+is c = c.transition_at.ensures ∙ ap (transition_at _ _) c.loop-t.invariant.0
 
 -- what the code asks of it is `bad_at`
 asked : (c : After-bad_transition)
@@ -58,7 +58,7 @@ asked : (c : After-bad_transition)
 asked c =
     c.bad_transition.ensures.0
     ∙ rw (is (goal.at.After-bad_transition c).After-transition_at, c.head_at-h.ensures)
-    (next_is _ _ _ _ _ c.loop-t.invariant.4 (few (goal.at.After-bad_transition c).After-head_at-h))
+    (next_is _ _ _ _ _ c.loop-t.invariant.3 (few (goal.at.After-bad_transition c).After-head_at-h))
 
 pub loop-t-preserved : goal.loop-t-preserved
 loop-t-preserved c =
@@ -67,11 +67,10 @@ loop-t-preserved c =
     let f = few (goal.at.loop-t-preserved c).After-head_at-h in
     let l = from_in _ _ _ _ g in (
       omega arith,
-      omega arith,
-      i.2,
-      any-more _ _ i.3 g,
+      i.1,
+      any-more _ _ i.2 g,
       rw (c.bad_transition.ensures.1 c.if-bad_transition.false, is (goal.at.loop-t-preserved c).After-transition_at)
-          (counts-more _ _ _ _ _ i.4 (omega arith)),
+          (counts-more _ _ _ _ _ i.3 (omega arith)),
     )
 
 pub scan-preserved : goal.scan-preserved
@@ -80,17 +79,16 @@ scan-preserved c =
     let a = c.args in
     let h = ap (λ (r : Head). r.transitions) c.head_at-h.ensures in
     let e : c.loop-t.t ≡ (head_at a.n a.body.now c.scan.c).transitions = omega arith in (
-      omega arith,
       omega (arith, start_of-next a.n a.body.now c.scan.c),
-      i.2,
-      any-more _ _ c.scan.invariant.3 (rw e at i.3),
+      i.1,
+      any-more _ _ c.scan.invariant.2 (rw e at i.2),
     )
 
 pub returns-after-scan : goal.returns-after-scan
 returns-after-scan c =
     let i = c.scan.invariant in
     let e : c.scan.c ≡ c.args.n.charts = omega arith in
-    i.2 ∙ sym (transitions_walked _ _ ∙ rw e at i.3)
+    i.1 ∙ sym (transitions_walked _ _ ∙ rw e at i.2)
 
 pub returns-then-bad_transition : goal.returns-then-bad_transition
 returns-then-bad_transition c =
@@ -110,15 +108,3 @@ bad_transition-requires c =
 
 pub overflow_add-at : goal.overflow_add-at
 overflow_add-at c = omega (arith, within (goal.at.overflow_add-at c).In-loop-t)
-
-pub overflow_add-t : goal.overflow_add-t
-overflow_add-t c = omega arith
-
-pub loop-t-smaller : goal.loop-t-smaller
-loop-t-smaller c = omega arith
-
-pub overflow_add-c : goal.overflow_add-c
-overflow_add-c c = omega arith
-
-pub scan-smaller : goal.scan-smaller
-scan-smaller c = omega arith

@@ -19,25 +19,24 @@ within c =
     )
 
 pub loop-i-init : goal.loop-i-init
-loop-i-init c = (omega arith, omega (arith, mul-zero c.args.size), any_none _)
+loop-i-init c = (omega (arith, mul-zero c.args.size), any_none _)
 
 -- the record at `place` is record i
 pub returns-then-nonzero : goal.returns-then-nonzero
 returns-then-nonzero c =
     sym (any_at _ _ c.loop-i.i c.loop-i-test.true
-    (rw (← c.loop-i.invariant.1) (sym c.nonzero.ensures ∙ c.if-nonzero.true)))
+    (rw (← c.loop-i.invariant.0) (sym c.nonzero.ensures ∙ c.if-nonzero.true)))
 
 pub loop-i-preserved : goal.loop-i-preserved
 loop-i-preserved c = (
-  omega arith,
   omega (arith, next-at c.args.size c.loop-i.i),
-  any-more _ _ c.loop-i.invariant.2 (rw (← c.loop-i.invariant.1) (sym c.nonzero.ensures ∙ c.if-nonzero.false)),
+  any-more _ _ c.loop-i.invariant.1 (rw (← c.loop-i.invariant.0) (sym c.nonzero.ensures ∙ c.if-nonzero.false)),
 )
 
 pub returns : goal.returns
 returns c =
     let e : c.loop-i.i ≡ c.args.count = omega arith in
-    sym (rw e at c.loop-i.invariant.2)
+    sym (rw e at c.loop-i.invariant.1)
 
 pub overflow_add-place : goal.overflow_add-place
 overflow_add-place c = omega (arith, within (goal.at.overflow_add-place c).In-loop-i)
@@ -47,9 +46,3 @@ nonzero-requires c = omega (arith, within (goal.at.nonzero-requires c).In-loop-i
 
 pub overflow_add-place-in-loop-i : goal.overflow_add-place-in-loop-i
 overflow_add-place-in-loop-i c = omega (arith, within (goal.at.overflow_add-place-in-loop-i c).In-loop-i)
-
-pub overflow_add-i : goal.overflow_add-i
-overflow_add-i c = omega arith
-
-pub loop-i-smaller : goal.loop-i-smaller
-loop-i-smaller c = omega arith

@@ -2,13 +2,10 @@
 -- `place`. Assumes nothing.
 use mathlib.Core.Path.{◌≡◌}
 use mathlib.Core.Bool.{false}
-use Prim.Native.Nat.{◌+◌, ◌*◌, ◌-◌, ◌≤◌}
+use Prim.Native.Nat.{◌+◌, ◌*◌}
 use Rattle.meaning.specs.Sums.{any_up_to}
 use Rattle.meaning.specs.Check.{nonzero}
 use Rattle.checks.proofs.zeros.any_nonzero.Given as goal
 
 abbrev pub invariant-loop-i : goal.invariant-loop-i
-invariant-loop-i l = (l.i ≤ l.count) × (l.place ≡ l.at + l.size * l.i) × (any_up_to l.i (λ j. nonzero l.s (l.at + l.size * j + l.from) l.k) ≡ false)
-
-abbrev pub decreases-loop-i : goal.decreases-loop-i
-decreases-loop-i l = l.count - l.i
+invariant-loop-i l = (l.place ≡ l.at + l.size * l.i) × (any_up_to l.i (λ j. nonzero l.s (l.at + l.size * j + l.from) l.k) ≡ false)

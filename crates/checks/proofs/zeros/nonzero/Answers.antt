@@ -9,23 +9,11 @@ use Rattle.checks.proofs.zeros.nonzero.Goals as goal
 
 pub loop-i-preserved : goal.loop-i-preserved
 unfolding same any_up_to
-loop-i-preserved c = (omega arith, rw (add-one, c.loop-i.invariant.1))
+loop-i-preserved c = rw (add-one, c.loop-i.invariant)
 
 pub returns : goal.returns
 unfolding nonzero
-returns c = let e : c.loop-i.i ≡ c.args.k = omega arith in rw e at c.loop-i.invariant.1
+returns c = let e : c.loop-i.i ≡ c.args.k = omega arith in rw e at c.loop-i.invariant
 
 pub loop-i-init : goal.loop-i-init
-loop-i-init c = (omega arith, sym (any_none _))
-
-pub overflow_add-found : goal.overflow_add-found
-overflow_add-found c = omega arith
-
-pub bounds-s-at : goal.bounds-s-at
-bounds-s-at c = omega arith
-
-pub overflow_add-i : goal.overflow_add-i
-overflow_add-i c = omega arith
-
-pub loop-i-smaller : goal.loop-i-smaller
-loop-i-smaller c = omega arith
+loop-i-init c = sym (any_none _)

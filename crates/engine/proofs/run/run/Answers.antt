@@ -1,35 +1,30 @@
 -- `run::run` meets its contract: the file's refusal, or the run of its body.
-use mathlib.Core.Path.{◌≡◌, refl, sym, ◌∙◌}
+use mathlib.Core.Path.{◌≡◌, sym, ◌∙◌}
 use mathlib.Core.List.{List}
 use Prim.Native.Nat.{ℕ}
-use native.Mathlib.Omega.{arith}
+use Rattle.std.specs.Prelude.{Result, Err}
+use Rattle.std.proofs.lemmas.Result.{err_from_is_err_and}
 use Rattle.layout.specs.declared.body.Shape.{Shape}
 use Rattle.meaning.specs.File.{trailer, shape_of, body_of, file_at}
 use Rattle.meaning.specs.Check.{refusal_of}
-use Rattle.opening.specs.Opening.{Stands}
+use Rattle.checks.specs.Refusals.{number}
+use Rattle.checks.specs.Refusals.Laws.{number-some}
+use Rattle.checks.specs.declared.refusal.Refusal.{Refusal}
 use Rattle.stepping.specs.Step.Laws.{checked, file_is}
-use Rattle.running.specs.declared.Ran.{Ran}
 use Rattle.engine.specs.Promises.{RunSays}
 use Rattle.running.specs.Run.{BodyRuns}
-use Rattle.running.specs.Run.Laws.{run_refused, bytes_refused, none_carried, run_passed, bytes-passed, carried_passed}
+use Rattle.running.specs.Run.Laws.{run_refused, bytes_refused, run_passed, bytes-passed, carried_passed}
 use Rattle.engine.proofs.run.run.Goals as goal
-use Rattle.engine.proofs.run.run.Goals.{Else-r-ne-ACCEPTED}
 
 module _ (f config : List ℕ) (carried : ℕ) (inputs rows : List ℕ) where
-  by-file : (r : ℕ) → r ≡ refusal_of f → (r ≡ 0 → ⊥) → (a : Ran) → a ≡ record { refusal = r; carried = 0 }
-      → RunSays f config carried inputs rows a rows
-  by-file r e h a q =
-      let z : refusal_of f ≡ 0 → ⊥ = λ q. h (e ∙ q) in
-      rw (
-        run_refused f config carried inputs rows z,
-        none_carried f config carried inputs rows z,
-        bytes_refused f config carried inputs rows z,
-        ← e,
-      ) (q, refl)
+  by-file : (r : Refusal) → number r ≡ refusal_of f → RunSays f config carried inputs rows (Err r) rows
+  by-file r e =
+      let z : refusal_of f ≡ 0 → ⊥ = λ q. number-some r (e ∙ q) in
+      (e ∙ sym (run_refused f config carried inputs rows z), sym (bytes_refused f config carried inputs rows z))
 
   -- the run of the body that the file is opened to is the file's
   by-body : refusal_of f ≡ 0 → (n : Shape) → n ≡ shape_of (trailer f) → (b : List ℕ) → b ≡ body_of f
-      → (rows' : List ℕ) (a : Ran)
+      → (rows' : List ℕ) (a : Result ℕ Refusal)
       → BodyRuns (file_at n b) config carried inputs rows a rows' → RunSays f config carried inputs rows a rows'
   by-body h n en b eb rows' a q =
       rw (
@@ -39,36 +34,19 @@ module _ (f config : List ℕ) (carried : ℕ) (inputs rows : List ℕ) where
         file_is f n b en eb,
       ) q
 
--- a file that is not refused, and its body
-accepted : (c : Else-r-ne-ACCEPTED) → refusal_of c.args.file.now ≡ 0
-accepted c = sym c.opened-o.ensures.refusal ∙ c.if-r-ne-ACCEPTED.false
-
-stands : (c : Else-r-ne-ACCEPTED)
-    → Stands c.args.file.now c.opened-o.result
-stands c = c.opened-o.ensures.stands c.if-r-ne-ACCEPTED.false
-
-pub returns-then-r-ne-ACCEPTED : goal.returns-then-r-ne-ACCEPTED
-returns-then-r-ne-ACCEPTED c =
-    by-file _ _ _ _ _ _ c.opened-o.ensures.refusal c.if-r-ne-ACCEPTED.true _ c.refused.ensures
+pub returns-in_err-o : goal.returns-in_err-o
+returns-in_err-o c =
+    let p = err_from_is_err_and c.from_residual.result c.from_residual.ensures.1 in
+    rw (p.1, p.2) (by-file _ _ _ _ _ _ c.in_err-o.ensures)
 
 pub of_body-requires : goal.of_body-requires
 of_body-requires c =
-    let w = stands (goal.at.of_body-requires c).Else-r-ne-ACCEPTED in
-    checked _ _ _ (accepted (goal.at.of_body-requires c).Else-r-ne-ACCEPTED) w.shape w.body (rw w.body w.sized) (rw w.body w.summed)
+    let w = c.in_ok-o.ensures.1 in
+    checked _ _ _ c.in_ok-o.ensures.0 w.shape w.body (rw w.body w.sized) (rw w.body w.summed)
 
 pub returns : goal.returns
 returns c =
-    let w = stands (goal.at.returns c).Else-r-ne-ACCEPTED in
+    let w = c.in_ok-o.ensures.1 in
     let a = c.args in
-    by-body _ a.config.now a.carried a.inputs.now a.rows.now (accepted (goal.at.returns c).Else-r-ne-ACCEPTED) _ w.shape _ w.body _ _
+    by-body _ a.config.now a.carried a.inputs.now a.rows.now c.in_ok-o.ensures.0 _ w.shape _ w.body _ _
     c.of_body.ensures
-
-pub slice_bounds-of_body-count : goal.slice_bounds-of_body-count
-slice_bounds-of_body-count c = (stands (goal.at.slice_bounds-of_body-count c).Else-r-ne-ACCEPTED).order
-
-pub slice_bounds-of_body-start : goal.slice_bounds-of_body-start
-slice_bounds-of_body-start c = (stands (goal.at.slice_bounds-of_body-start c).Else-r-ne-ACCEPTED).order
-
-pub slice_bounds-of_body-end : goal.slice_bounds-of_body-end
-slice_bounds-of_body-end c =
-    let e = (stands (goal.at.slice_bounds-of_body-end c).Else-r-ne-ACCEPTED).end in omega arith

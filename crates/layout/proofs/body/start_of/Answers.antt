@@ -6,28 +6,19 @@ use Rattle.layout.specs.declared.record.Head.{Head}
 use Rattle.layout.proofs.body.start_of.Goals as goal
 
 pub loop-k-init : goal.loop-k-init
-loop-k-init c = (omega arith, sym (start_of-none _ _), omega arith)
+loop-k-init c = (sym (start_of-none _ _), omega arith)
 
 pub loop-k-preserved : goal.loop-k-preserved
 loop-k-preserved c =
     let n = start_of-next c.args.n c.args.body.now c.loop-k.k in
     let t = ap (λ (x : Head). x.transitions) c.head_at-head.ensures in
-    let e = c.loop-k.invariant.1 in
-    (omega arith, omega (arith, n, t, e), omega arith)
+    let e = c.loop-k.invariant.0 in
+    (omega (arith, n, t, e), omega arith)
 
 pub returns : goal.returns
 returns c =
     let e : c.loop-k.k ≡ c.args.c = omega arith in
-    c.loop-k.invariant.1 ∙ ap (start_of c.args.n c.args.body.now) e
+    c.loop-k.invariant.0 ∙ ap (start_of c.args.n c.args.body.now) e
 
 pub head_at-head-requires : goal.head_at-head-requires
 head_at-head-requires c = (c.requires.0, omega arith)
-
-pub overflow_add-start : goal.overflow_add-start
-overflow_add-start c = omega arith
-
-pub overflow_add-k : goal.overflow_add-k
-overflow_add-k c = omega arith
-
-pub loop-k-smaller : goal.loop-k-smaller
-loop-k-smaller c = omega arith

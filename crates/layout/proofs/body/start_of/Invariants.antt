@@ -1,12 +1,9 @@
 -- `body::start_of` meets its contract. The loop's invariant: the transitions of the charts passed are counted, and each
 -- chart has less than 256.
 use mathlib.Core.Path.{◌≡◌}
-use Prim.Native.Nat.{◌*◌, ◌-◌, ◌≤◌}
+use Prim.Native.Nat.{◌*◌, ◌≤◌}
 use Rattle.layout.specs.Body.{start_of}
 use Rattle.layout.proofs.body.start_of.Given as goal
 
 abbrev pub invariant-loop-k : goal.invariant-loop-k
-invariant-loop-k l = (l.k ≤ l.c) × (l.start ≡ start_of l.n l.body l.k) × (l.start ≤ 255 * l.k)
-
-abbrev pub decreases-loop-k : goal.decreases-loop-k
-decreases-loop-k l = l.c - l.k
+invariant-loop-k l = (l.start ≡ start_of l.n l.body l.k) × (l.start ≤ 255 * l.k)

@@ -2,7 +2,6 @@ use mathlib.Core.Path.{◌≡◌, sym, ap, ◌∙◌}
 use mathlib.Core.Bool.{false, not}
 use mathlib.Core.List.{List}
 use Prim.Native.Nat.{ℕ, ◌<◌}
-use native.Mathlib.Omega.{arith}
 use borrow.Author.Tests.{lt-ltb, le-ltb}
 use lib.ListN.{get_or}
 use Rattle.layout.specs.Body.{slave_at}
@@ -54,16 +53,13 @@ returns-then-s-low c =
     (sym (is (goal.at.returns-then-s-low c).After-slave_at-s) ∙ ap not (le-ltb _ _ c.if-s-low.true)))
 
 pub loop-i-preserved : goal.loop-i-preserved
-loop-i-preserved c = (
-  omega arith,
-  any-more _ _ c.loop-i.invariant.1 (sym (is (goal.at.loop-i-preserved c).After-slave_at-s) ∙ ap not (lt-ltb _ _ c.if-s-low.false)),
-)
+loop-i-preserved c = any-more _ _ c.loop-i.invariant (sym (is (goal.at.loop-i-preserved c).After-slave_at-s) ∙ ap not (lt-ltb _ _ c.if-s-low.false))
 
 pub returns : goal.returns
 unfolding file_at
 returns c =
     sym (inside_good _ (tree (goal.at.returns c).Else-n-eq0)
-    (sym (any-done _ _ _ c.loop-i.invariant.0 c.loop-i-test.false c.loop-i.invariant.1)))
+    (sym (any-done _ _ _ c.loop-i.auto.i-end c.loop-i-test.false c.loop-i.invariant)))
 
 pub returns-then-n-eq0 : goal.returns-then-n-eq0
 returns-then-n-eq0 c = none _ _ c.if-n-eq0.true
@@ -72,10 +68,4 @@ pub lows-low-requires : goal.lows-low-requires
 lows-low-requires c = (c.requires.0.sized, tree (goal.at.lows-low-requires c).Else-n-eq0)
 
 pub loop-i-init : goal.loop-i-init
-loop-i-init c = (omega arith, any_none _)
-
-pub overflow_add-i : goal.overflow_add-i
-overflow_add-i c = omega arith
-
-pub loop-i-smaller : goal.loop-i-smaller
-loop-i-smaller c = omega arith
+loop-i-init c = any_none _

@@ -2,14 +2,10 @@
 -- passed passes. Assumes nothing.
 use mathlib.Core.Path.{◌≡◌}
 use mathlib.Core.Bool.{false}
-use Prim.Native.Nat.{◌≤◌, ◌-◌}
 use Rattle.meaning.specs.Sums.{any_up_to}
 use Rattle.meaning.specs.File.{file_at}
 use Rattle.naming.specs.Inside.{fails}
 use Rattle.naming.proofs.inside.bad_inside.Given as goal
 
 abbrev pub invariant-loop-i : goal.invariant-loop-i
-invariant-loop-i l = (l.i ≤ l.n.slaves) × (any_up_to l.i (fails (file_at l.n l.body)) ≡ false)
-
-abbrev pub decreases-loop-i : goal.decreases-loop-i
-decreases-loop-i l = l.n.slaves - l.i
+invariant-loop-i l = any_up_to l.i (fails (file_at l.n l.body)) ≡ false

@@ -1,6 +1,5 @@
 -- `inside::lows` meets its contract. The loop's invariant: the table is right below j. Assumes nothing.
 use mathlib.Core.Path.{◌≡◌}
-use Prim.Native.Nat.{◌≤◌, ◌-◌}
 use lib.ListN.{length}
 use Rattle.meaning.specs.Numbers.{most_nodes}
 use Rattle.meaning.specs.File.{file_at}
@@ -8,7 +7,4 @@ use Rattle.naming.specs.Inside.{Lows}
 use Rattle.naming.proofs.inside.lows.Given as goal
 
 abbrev pub invariant-loop-j : goal.invariant-loop-j
-invariant-loop-j l = (l.j ≤ l.n.nodes) × (length l.low ≡ most_nodes) × Lows (file_at l.n l.body) l.low l.j
-
-abbrev pub decreases-loop-j : goal.decreases-loop-j
-decreases-loop-j l = l.n.nodes - l.j
+invariant-loop-j l = (length l.low ≡ most_nodes) × Lows (file_at l.n l.body) l.low l.j

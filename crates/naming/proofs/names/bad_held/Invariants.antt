@@ -1,5 +1,4 @@
 -- `names::bad_held` meets its contract. The loop's invariant: no chart passed is bad. Assumes nothing.
-use Prim.Native.Nat.{◌≤◌, ◌-◌}
 use mathlib.Core.Path.{◌≡◌}
 use mathlib.Core.Bool.{false}
 use lib.ListN.{get_or}
@@ -8,7 +7,4 @@ use Rattle.meaning.specs.Check.{differ}
 use Rattle.naming.proofs.names.bad_held.Given as goal
 
 abbrev pub invariant-loop-c : goal.invariant-loop-c
-invariant-loop-c l = (l.c ≤ l.n.charts) × (any_up_to l.c (λ c. differ (get_or l.held c 0) 1) ≡ false)
-
-abbrev pub decreases-loop-c : goal.decreases-loop-c
-decreases-loop-c l = l.n.charts - l.c
+invariant-loop-c l = any_up_to l.c (λ c. differ (get_or l.held c 0) 1) ≡ false

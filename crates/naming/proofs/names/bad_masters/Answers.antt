@@ -40,21 +40,12 @@ returns-then-s-holder c =
 
 pub loop-i-preserved : goal.loop-i-preserved
 loop-i-preserved c =
-    let t = c.args.holder.now in (
-      omega arith,
-      any-more _ _ c.loop-i.invariant.1
-          (passed _ _ t _ _ c.slave_at-s.ensures (omega (arith, c.if-s-holder.false))),
-    )
+    let t = c.args.holder.now in any-more _ _ c.loop-i.invariant
+    (passed _ _ t _ _ c.slave_at-s.ensures (omega (arith, c.if-s-holder.false)))
 
 pub returns : goal.returns
 unfolding file_at
-returns c = any-done _ _ _ c.loop-i.invariant.0 c.loop-i-test.false c.loop-i.invariant.1
+returns c = any-done _ _ _ c.loop-i.auto.i-end c.loop-i-test.false c.loop-i.invariant
 
 pub loop-i-init : goal.loop-i-init
-loop-i-init c = (omega arith, any_none _)
-
-pub overflow_add-i : goal.overflow_add-i
-overflow_add-i c = omega arith
-
-pub loop-i-smaller : goal.loop-i-smaller
-loop-i-smaller c = omega arith
+loop-i-init c = any_none _

@@ -1,5 +1,5 @@
 -- `names::bad_masters` meets its contract. The loop's invariant: no slave passed is bad. Assumes nothing.
-use Prim.Native.Nat.{ℕ, ◌≤◌, ◌-◌}
+use Prim.Native.Nat.{ℕ}
 use mathlib.Core.Path.{◌≡◌}
 use mathlib.Core.Bool.{Bool, false}
 use mathlib.Core.List.{List}
@@ -14,7 +14,4 @@ abbrev pub bad : Shape → List ℕ → List ℕ → ℕ → Bool
 bad n b t i = not_below ((file_at n b).node i) (get_or t ((file_at n b).master i) 0)
 
 abbrev pub invariant-loop-i : goal.invariant-loop-i
-invariant-loop-i l = (l.i ≤ l.n.slaves) × (any_up_to l.i (bad l.n l.body l.holder) ≡ false)
-
-abbrev pub decreases-loop-i : goal.decreases-loop-i
-decreases-loop-i l = l.n.slaves - l.i
+invariant-loop-i l = any_up_to l.i (bad l.n l.body l.holder) ≡ false

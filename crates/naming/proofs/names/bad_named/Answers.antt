@@ -1,5 +1,4 @@
 use mathlib.Core.Path.{sym}
-use native.Mathlib.Omega.{arith}
 use Rattle.meaning.specs.Sums.Laws.{any_none, any-more, any_at, any-done}
 use Rattle.meaning.specs.Laws.Bools.{differs, agrees}
 use Rattle.naming.proofs.names.bad_named.Goals as goal
@@ -10,26 +9,11 @@ returns-then-named-j c =
     (rw (← c.due.ensures) (differs _ _ c.if-named-j.true)))
 
 pub loop-j-preserved : goal.loop-j-preserved
-loop-j-preserved c = (
-  omega arith,
-  any-more _ _ c.loop-j.invariant.1
-      (rw (← c.due.ensures) (agrees _ _ c.if-named-j.false)),
-)
+loop-j-preserved c = any-more _ _ c.loop-j.invariant
+    (rw (← c.due.ensures) (agrees _ _ c.if-named-j.false))
 
 pub returns : goal.returns
-returns c = any-done _ _ _ c.loop-j.invariant.0 c.loop-j-test.false c.loop-j.invariant.1
+returns c = any-done _ _ _ c.loop-j.auto.j-end c.loop-j-test.false c.loop-j.invariant
 
 pub loop-j-init : goal.loop-j-init
-loop-j-init c = (omega arith, any_none _)
-
-pub bounds-named-j : goal.bounds-named-j
-bounds-named-j c = omega arith
-
-pub due-requires : goal.due-requires
-due-requires c = omega arith
-
-pub overflow_add-j : goal.overflow_add-j
-overflow_add-j c = omega arith
-
-pub loop-j-smaller : goal.loop-j-smaller
-loop-j-smaller c = omega arith
+loop-j-init c = any_none _

@@ -38,30 +38,21 @@ overflow_add-named c =
     let p = c.requires in
     omega (
       arith,
-      few _ _ _ _ c.slave_at-s.ensures (node_in (goal.at.overflow_add-named c).After-slave_at-s) _ c.loop-i.invariant.1,
+      few _ _ _ _ c.slave_at-s.ensures (node_in (goal.at.overflow_add-named c).After-slave_at-s) _ c.loop-i.invariant,
       p.sized.slaves,
     )
 
 pub loop-i-preserved : goal.loop-i-preserved
-loop-i-preserved c = (
-  omega arith,
-  next _ _ _ _ c.slave_at-s.ensures (node_in (goal.at.loop-i-preserved c).After-slave_at-s) _ c.loop-i.invariant.1,
-)
+loop-i-preserved c = next _ _ _ _ c.slave_at-s.ensures (node_in (goal.at.loop-i-preserved c).After-slave_at-s) _ c.loop-i.invariant
 
 pub returns : goal.returns
-returns c = let e : c.loop-i.i ≡ c.args.n.slaves = omega arith in rw e at c.loop-i.invariant.1
+returns c = let e : c.loop-i.i ≡ c.args.n.slaves = omega arith in rw e at c.loop-i.invariant
 
 pub loop-i-init : goal.loop-i-init
-loop-i-init c = (omega arith, table_none most_nodes _ (named_none _))
+loop-i-init c = table_none most_nodes _ (named_none _)
 
 pub bounds-named-node : goal.bounds-named-node
 bounds-named-node c = node_in (goal.at.bounds-named-node c).After-slave_at-s
 
 pub bounds-named-node-in-loop-i : goal.bounds-named-node-in-loop-i
 bounds-named-node-in-loop-i c = node_in (goal.at.bounds-named-node-in-loop-i c).After-slave_at-s
-
-pub overflow_add-i : goal.overflow_add-i
-overflow_add-i c = omega arith
-
-pub loop-i-smaller : goal.loop-i-smaller
-loop-i-smaller c = omega arith

@@ -3,10 +3,11 @@
 use mathlib.Core.Path.{◌≡◌, sym, ap, ◌∙◌}
 use mathlib.Core.Bool.{false}
 use mathlib.Core.List.{List}
-use Prim.Native.Nat.{ℕ, ◌+◌, ◌<◌}
+use Prim.Native.Nat.{ℕ, ◌+◌, ◌≤◌, ◌<◌}
 use native.Mathlib.Omega.{arith}
 use lib.ListN.{set}
 use Rattle.layout.specs.Body.{node_at}
+use Rattle.layout.specs.Kind.{byte_of}
 use Rattle.layout.specs.declared.body.Shape.{Shape}
 use Rattle.layout.specs.declared.record.Node.{Node}
 use Rattle.meaning.specs.Numbers.{most_charts, most_nodes}
@@ -18,7 +19,7 @@ use Rattle.checks.specs.Walk.{one_more}
 use Rattle.naming.specs.Names.{Walked}
 use Rattle.naming.specs.Names.Laws.{walked_held, walked_named, walked_first, walked₀, walked₁, walked₂}
 use Rattle.naming.proofs.names.walk_node.Goals as goal
-use Rattle.naming.proofs.names.walk_node.Goals.{After-way_told-1, After-way_told-in_default-1, In-1, In_default}
+use Rattle.naming.proofs.names.walk_node.Goals.{After-way_told-1, After-way_told-in-Hides-1, In-Composes, In-Hides}
 
 -- r is node k
 module _ (n : Shape) (b : List ℕ) (k : ℕ) (r : Node) (e : r ≡ node_at n b k) (z : Ranged n b) (l : k < n.nodes) where
@@ -29,9 +30,9 @@ module _ (n : Shape) (b : List ℕ) (k : ℕ) (r : Node) (e : r ≡ node_at n b 
   unfolding file_at
   passes = node_passes (file_at n b) z.nodes k l
 
-  last_kind : (r.kind ≡ 0 → ⊥) → (r.kind ≡ 1 → ⊥) → r.kind ≡ 2
+  some_kind : r.kind ≤ 2
   unfolding file_at
-  last_kind f g = let m = kind_at_most (file_at n b) _ k passes in let d = ap (λ (x : Node). x.kind) e in omega arith
+  some_kind = let m = kind_at_most (file_at n b) _ k passes in let d = ap (λ (x : Node). x.kind) e in omega arith
 
   in₀ : r.kind ≡ 0 → r.a < most_charts
   unfolding file_at
@@ -59,23 +60,24 @@ module _ (n : Shape) (b : List ℕ) (k : ℕ) (r : Node) (e : r ≡ node_at n b 
     unfolding file_at
     next₂ g = let m = in₂ g in rw e (walked₂ (file_at n b) k ns hs os w (kind_is 2 g) (rw e at m))
 
+pub kind-requires : goal.kind-requires
+kind-requires c = let p = c.requires in some_kind _ _ _ _ c.node_at-r.ensures p.0 p.1.0
+
 -- the places that the arms count at
 pub bounds-held-a : goal.bounds-held-a
-bounds-held-a c = let p = c.requires in in₀ _ _ _ _ c.node_at-r.ensures p.0 p.1.0 c.in-0.is
+bounds-held-a c = let p = c.requires in in₀ _ _ _ _ c.node_at-r.ensures p.0 p.1.0 (sym c.kind.ensures ∙ ap byte_of c.in-Holds.is)
 
-named-at : (c : In-1) → let r = c.node_at-r.result in
+named-at : (c : In-Composes) → let r = c.node_at-r.result in
     (r.a < most_nodes) × (r.b < most_nodes)
 named-at c =
-    let p = c.requires in in₁ _ _ _ _ c.node_at-r.ensures p.0 p.1.0 c.in-1.is
+    let p = c.requires in in₁ _ _ _ _ c.node_at-r.ensures p.0 p.1.0 (sym c.kind.ensures ∙ ap byte_of c.in-Composes.is)
 
-is_last : (c : In_default) → c.node_at-r.result.kind ≡ 2
-is_last c =
-    let p = c.requires in
-    last_kind _ _ _ _ c.node_at-r.ensures p.0 p.1.0 c.in_default.in_default-own.rest.0.1 c.in_default.in_default-own.rest.1
+is_last : (c : In-Hides) → c.node_at-r.result.kind ≡ 2
+is_last c = sym c.kind.ensures ∙ ap byte_of c.in-Hides.is
 
-pub bounds-named-a-in_default : goal.bounds-named-a-in_default
-bounds-named-a-in_default c =
-    let p = c.requires in in₂ _ _ _ _ c.node_at-r.ensures p.0 p.1.0 (is_last (goal.at.bounds-named-a-in_default c).In_default)
+pub bounds-named-a-in-Hides : goal.bounds-named-a-in-Hides
+bounds-named-a-in-Hides c =
+    let p = c.requires in in₂ _ _ _ _ c.node_at-r.ensures p.0 p.1.0 (is_last (goal.at.bounds-named-a-in-Hides c).In-Hides)
 
 -- a byte holds what they count
 pub overflow_add-held : goal.overflow_add-held
@@ -87,54 +89,54 @@ pub overflow_add-named : goal.overflow_add-named
 unfolding file_at
 overflow_add-named c =
     let p = c.requires in
-    omega (arith, walked_named _ _ _ _ _ p.1.1 _ (named-at (goal.at.overflow_add-named c).In-1).0, p.0.sized.nodes, p.0.sized.slaves)
+    omega (arith, walked_named _ _ _ _ _ p.1.1 _ (named-at (goal.at.overflow_add-named c).In-Composes).0, p.0.sized.nodes, p.0.sized.slaves)
 
-pub overflow_add-named-in-1 : goal.overflow_add-named-in-1
+pub overflow_add-named-in-Composes : goal.overflow_add-named-in-Composes
 unfolding file_at
-overflow_add-named-in-1 c =
+overflow_add-named-in-Composes c =
     let p = c.requires in
-    let m = named-at (goal.at.overflow_add-named-in-1 c).In-1 in
+    let m = named-at (goal.at.overflow_add-named-in-Composes c).In-Composes in
     omega (arith, walked_first _ _ _ _ _ p.1.1 _ _ m.0 m.1, p.0.sized.nodes, p.0.sized.slaves)
 
-pub overflow_add-named-in_default : goal.overflow_add-named-in_default
+pub overflow_add-named-in-Hides : goal.overflow_add-named-in-Hides
 unfolding file_at
-overflow_add-named-in_default c =
+overflow_add-named-in-Hides c =
     let p = c.requires in
-    omega (arith, walked_named _ _ _ _ _ p.1.1 _ (bounds-named-a-in_default (goal.at.overflow_add-named-in_default c).After-way_told-in_default-1), p.0.sized.nodes, p.0.sized.slaves)
+    omega (arith, walked_named _ _ _ _ _ p.1.1 _ (bounds-named-a-in-Hides (goal.at.overflow_add-named-in-Hides c).After-way_told-in-Hides-1), p.0.sized.nodes, p.0.sized.slaves)
 
-pub returns-in-0 : goal.returns-in-0
-returns-in-0 c =
+pub returns-in-Holds : goal.returns-in-Holds
+returns-in-Holds c =
     let p = c.requires in
-    next₀ _ _ _ _ c.node_at-r.ensures p.0 p.1.0 _ _ _ p.1.1 c.in-0.is
+    next₀ _ _ _ _ c.node_at-r.ensures p.0 p.1.0 _ _ _ p.1.1 (sym c.kind.ensures ∙ ap byte_of c.in-Holds.is)
 
-pub returns-in-1 : goal.returns-in-1
-returns-in-1 c =
+pub returns-in-Composes : goal.returns-in-Composes
+returns-in-Composes c =
     let p = c.requires in
-    next₁ _ _ _ _ c.node_at-r.ensures p.0 p.1.0 _ _ _ p.1.1 c.in-1.is
+    next₁ _ _ _ _ c.node_at-r.ensures p.0 p.1.0 _ _ _ p.1.1 (sym c.kind.ensures ∙ ap byte_of c.in-Composes.is)
 
-pub returns-in_default : goal.returns-in_default
-returns-in_default c =
+pub returns-in-Hides : goal.returns-in-Hides
+returns-in-Hides c =
     let p = c.requires in
-    next₂ _ _ _ _ c.node_at-r.ensures p.0 p.1.0 _ _ _ p.1.1 (is_last (goal.at.returns-in_default c).In_default)
+    next₂ _ _ _ _ c.node_at-r.ensures p.0 p.1.0 _ _ _ p.1.1 (is_last (goal.at.returns-in-Hides c).In-Hides)
 
-pub bounds-held-a-in-0 : goal.bounds-held-a-in-0
-bounds-held-a-in-0 c = bounds-held-a (goal.at.bounds-held-a-in-0 c).After-way_told-1
+pub bounds-held-a-in-Holds : goal.bounds-held-a-in-Holds
+bounds-held-a-in-Holds c = bounds-held-a (goal.at.bounds-held-a-in-Holds c).After-way_told-1
 
 pub bounds-holder-a : goal.bounds-holder-a
 bounds-holder-a c = bounds-held-a (goal.at.bounds-holder-a c).After-way_told-1
 
 pub bounds-named-a : goal.bounds-named-a
-bounds-named-a c = (named-at (goal.at.bounds-named-a c).In-1).0
+bounds-named-a c = (named-at (goal.at.bounds-named-a c).In-Composes).0
 
-pub bounds-named-a-in-1 : goal.bounds-named-a-in-1
-bounds-named-a-in-1 c = (named-at (goal.at.bounds-named-a-in-1 c).In-1).0
+pub bounds-named-a-in-Composes : goal.bounds-named-a-in-Composes
+bounds-named-a-in-Composes c = (named-at (goal.at.bounds-named-a-in-Composes c).In-Composes).0
 
 pub bounds-named-b : goal.bounds-named-b
-bounds-named-b c = (named-at (goal.at.bounds-named-b c).In-1).1
+bounds-named-b c = (named-at (goal.at.bounds-named-b c).In-Composes).1
 
-pub bounds-named-b-in-1 : goal.bounds-named-b-in-1
-bounds-named-b-in-1 c = (named-at (goal.at.bounds-named-b-in-1 c).In-1).1
+pub bounds-named-b-in-Composes : goal.bounds-named-b-in-Composes
+bounds-named-b-in-Composes c = (named-at (goal.at.bounds-named-b-in-Composes c).In-Composes).1
 
-pub bounds-named-a-in_default-2 : goal.bounds-named-a-in_default-2
-bounds-named-a-in_default-2 c =
-    bounds-named-a-in_default (goal.at.bounds-named-a-in_default-2 c).After-way_told-in_default-1
+pub bounds-named-a-in-Hides-2 : goal.bounds-named-a-in-Hides-2
+bounds-named-a-in-Hides-2 c =
+    bounds-named-a-in-Hides (goal.at.bounds-named-a-in-Hides-2 c).After-way_told-in-Hides-1

@@ -2,9 +2,11 @@
 use mathlib.Core.Path.{◌≡◌, refl, sym, ap, ◌∙◌}
 use mathlib.Core.Bool.{true, not, ◌||◌}
 use mathlib.Core.List.{List}
-use Prim.Native.Nat.{ℕ, zero, suc}
+use Prim.Native.Nat.{ℕ, zero, suc, ◌<◌}
+use native.Mathlib.Omega.{arith}
 use lib.Dec.{ltb, eqb}
 use Rattle.layout.specs.Body.{node_at}
+use Rattle.layout.specs.Kind.{byte_of}
 use Rattle.layout.specs.declared.body.Shape.{Shape}
 use Rattle.layout.specs.declared.record.Node.{Node}
 use Rattle.meaning.specs.Meaning.{same}
@@ -31,24 +33,22 @@ module _ (n : Shape) (b : List ℕ) (j : ℕ) (r : Node) (er : r ≡ node_at n b
   unfolding node_of_kind? file_at same
   kind₂ e = rw (kind_is 2 e, ← er)
 
-  other : (k : ℕ) → (k ≡ 0 → ⊥) → (k ≡ 1 → ⊥) → (k ≡ 2 → ⊥) → true ≡ node_of_kind? (file_at n b) k j
+  other : (k : ℕ) → 2 < k → true ≡ node_of_kind? (file_at n b) k j
   unfolding node_of_kind?
-  other zero p q s = absurd (p refl)
-  other (suc zero) p q s = absurd (q refl)
-  other (suc (suc zero)) p q s = absurd (s refl)
-  other (suc (suc (suc k))) p q s = refl
+  other zero l = absurd (omega arith)
+  other (suc zero) l = absurd (omega arith)
+  other (suc (suc zero)) l = absurd (omega arith)
+  other (suc (suc (suc k))) l = refl
 
-pub returns-in-0 : goal.returns-in-0
-returns-in-0 c = kind₀ _ _ _ _ c.node_at-r.ensures c.in-0.is
+pub returns-in-Ok-Holds : goal.returns-in-Ok-Holds
+returns-in-Ok-Holds c = kind₀ _ _ _ _ c.node_at-r.ensures (sym c.in-Ok-Holds.ensures ∙ ap byte_of c.in-Ok-Holds.field-0-is)
 
-pub returns-in-1 : goal.returns-in-1
-returns-in-1 c = kind₁ _ _ _ _ c.node_at-r.ensures c.in-1.is
+pub returns-in-Ok-Composes : goal.returns-in-Ok-Composes
+returns-in-Ok-Composes c = kind₁ _ _ _ _ c.node_at-r.ensures (sym c.in-Ok-Composes.ensures ∙ ap byte_of c.in-Ok-Composes.field-0-is)
 
-pub returns-in-2 : goal.returns-in-2
-returns-in-2 c = kind₂ _ _ _ _ c.node_at-r.ensures c.in-2.is
+pub returns-in-Ok-Hides : goal.returns-in-Ok-Hides
+returns-in-Ok-Hides c = kind₂ _ _ _ _ c.node_at-r.ensures (sym c.in-Ok-Hides.ensures ∙ ap byte_of c.in-Ok-Hides.field-0-is)
 
-pub returns-in_default : goal.returns-in_default
-returns-in_default c =
-    let e = ap (λ (x : Node). x.kind) c.node_at-r.ensures in
-    other _ _ _ _ c.node_at-r.ensures _ (λ p. c.in_default.in_default-own.rest.0.0.1 (e ∙ p))
-    (λ p. c.in_default.in_default-own.rest.0.1 (e ∙ p)) (λ p. c.in_default.in_default-own.rest.1 (e ∙ p))
+pub returns-in-Err : goal.returns-in-Err
+returns-in-Err c =
+    let e = ap (λ (x : Node). x.kind) c.node_at-r.ensures in other _ _ _ _ c.node_at-r.ensures _ (rw e at c.in-Err.ensures.1)

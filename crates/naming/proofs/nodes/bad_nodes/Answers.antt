@@ -1,12 +1,11 @@
 use mathlib.Core.Path.{sym, ◌∙◌}
-use native.Mathlib.Omega.{arith}
 use Rattle.meaning.specs.Sums.Laws.{any_none, any-more, any_at, any-done}
 use Rattle.meaning.specs.File.{file_at}
 use Rattle.meaning.specs.Check.{nodes?}
 use Rattle.naming.proofs.nodes.bad_nodes.Goals as goal
 
 pub loop-j-init : goal.loop-j-init
-loop-j-init c = (omega arith, any_none _)
+loop-j-init c = any_none _
 
 pub returns-then-bad_node : goal.returns-then-bad_node
 unfolding nodes? file_at
@@ -15,17 +14,8 @@ returns-then-bad_node c =
     (sym c.bad_node.ensures ∙ c.if-bad_node.true))
 
 pub loop-j-preserved : goal.loop-j-preserved
-loop-j-preserved c = (
-  omega arith,
-  any-more _ _ c.loop-j.invariant.1 (sym c.bad_node.ensures ∙ c.if-bad_node.false),
-)
+loop-j-preserved c = any-more _ _ c.loop-j.invariant (sym c.bad_node.ensures ∙ c.if-bad_node.false)
 
 pub returns : goal.returns
 unfolding nodes? file_at
-returns c = any-done _ _ _ c.loop-j.invariant.0 c.loop-j-test.false c.loop-j.invariant.1
-
-pub overflow_add-j : goal.overflow_add-j
-overflow_add-j c = omega arith
-
-pub loop-j-smaller : goal.loop-j-smaller
-loop-j-smaller c = omega arith
+returns c = any-done _ _ _ c.loop-j.auto.j-end c.loop-j-test.false c.loop-j.invariant

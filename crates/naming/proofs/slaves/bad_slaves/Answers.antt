@@ -1,12 +1,11 @@
 use mathlib.Core.Path.{sym, ◌∙◌}
-use native.Mathlib.Omega.{arith}
 use Rattle.meaning.specs.Sums.Laws.{any_none, any-more, any_at, any-done}
 use Rattle.meaning.specs.File.{file_at}
 use Rattle.meaning.specs.Check.{slaves?}
 use Rattle.naming.proofs.slaves.bad_slaves.Goals as goal
 
 pub loop-i-init : goal.loop-i-init
-loop-i-init c = (omega arith, any_none _)
+loop-i-init c = any_none _
 
 pub returns-then-bad_slave : goal.returns-then-bad_slave
 unfolding slaves? file_at
@@ -15,17 +14,8 @@ returns-then-bad_slave c =
     (sym c.bad_slave.ensures ∙ c.if-bad_slave.true))
 
 pub loop-i-preserved : goal.loop-i-preserved
-loop-i-preserved c = (
-  omega arith,
-  any-more _ _ c.loop-i.invariant.1 (sym c.bad_slave.ensures ∙ c.if-bad_slave.false),
-)
+loop-i-preserved c = any-more _ _ c.loop-i.invariant (sym c.bad_slave.ensures ∙ c.if-bad_slave.false)
 
 pub returns : goal.returns
 unfolding slaves? file_at
-returns c = any-done _ _ _ c.loop-i.invariant.0 c.loop-i-test.false c.loop-i.invariant.1
-
-pub overflow_add-i : goal.overflow_add-i
-overflow_add-i c = omega arith
-
-pub loop-i-smaller : goal.loop-i-smaller
-loop-i-smaller c = omega arith
+returns c = any-done _ _ _ c.loop-i.auto.i-end c.loop-i-test.false c.loop-i.invariant

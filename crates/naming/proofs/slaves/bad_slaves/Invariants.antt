@@ -1,5 +1,4 @@
 -- `slaves::bad_slaves` meets its contract. The loop's invariant: no slave passed is bad. Assumes nothing.
-use Prim.Native.Nat.{◌≤◌, ◌-◌}
 use mathlib.Core.Path.{◌≡◌}
 use mathlib.Core.Bool.{false}
 use Rattle.meaning.specs.Sums.{any_up_to}
@@ -8,7 +7,4 @@ use Rattle.meaning.specs.Check.{slave?}
 use Rattle.naming.proofs.slaves.bad_slaves.Given as goal
 
 abbrev pub invariant-loop-i : goal.invariant-loop-i
-invariant-loop-i l = (l.i ≤ l.n.slaves) × (any_up_to l.i (slave? (file_at l.n l.body)) ≡ false)
-
-abbrev pub decreases-loop-i : goal.decreases-loop-i
-decreases-loop-i l = l.n.slaves - l.i
+invariant-loop-i l = any_up_to l.i (slave? (file_at l.n l.body)) ≡ false

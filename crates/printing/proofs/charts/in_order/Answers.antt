@@ -10,7 +10,7 @@ use Rattle.printing.proofs.charts.in_order.Goals as goal
 use Rattle.printing.proofs.charts.in_order.Goals.{In-loop-k}
 
 pub loop-k-init : goal.loop-k-init
-loop-k-init c = (omega arith, refl, rw (typed_from-none _ _) (in_turn-none comma of_transition _ _))
+loop-k-init c = (refl, rw (typed_from-none _ _) (in_turn-none comma of_transition _ _))
 
 -- the transitions are there
 there : (c : In-loop-k) → c.start_of-start.result + c.head_at-head.result.transitions ≤ c.args.n.transitions
@@ -20,18 +20,17 @@ there c =
 pub loop-k-preserved : goal.loop-k-preserved
 unfolding sign_bytes
 loop-k-preserved c = (
-  omega arith,
-  c.transition-at.auto.out ∙ c.apart-next.auto.out ∙ c.loop-k.invariant.1,
+  c.transition-at.auto.out ∙ c.apart-next.auto.out ∙ c.loop-k.invariant.0,
   rw (add-one, typed_from-more)
       ((adds_one transitions_solid _ refl c.apart-next.ensures
       (rw c.transition_at-t.ensures at c.transition-at.ensures)
-      ).adds _ _ c.loop-k.invariant.2),
+      ).adds _ _ c.loop-k.invariant.1),
 )
 
 pub returns : goal.returns
 returns c =
     let e : c.loop-k.k ≡ c.head_at-head.result.transitions = omega arith in
-    rw (own_are _ _ _ _ c.head_at-head.ensures c.start_of-start.ensures) (rw e at c.loop-k.invariant.2)
+    rw (own_are _ _ _ _ c.head_at-head.ensures c.start_of-start.ensures) (rw e at c.loop-k.invariant.1)
 
 pub head_at-head-requires : goal.head_at-head-requires
 head_at-head-requires c = (c.requires.0.holds, c.requires.2)
@@ -47,11 +46,5 @@ pub transition_at-t-requires : goal.transition_at-t-requires
 transition_at-t-requires c =
     (c.requires.0.holds, omega (arith, there (goal.at.transition_at-t-requires c).In-loop-k))
 
-pub overflow_add-k : goal.overflow_add-k
-overflow_add-k c = omega arith
-
-pub loop-k-smaller : goal.loop-k-smaller
-loop-k-smaller c = omega arith
-
 pub shape_of-out : goal.shape_of-out
-shape_of-out c = c.loop-k.invariant.1
+shape_of-out c = c.loop-k.invariant.0

@@ -1,6 +1,5 @@
 -- `in_order` meets its contract. The loop's invariant: the first k transitions are written.
 use mathlib.Core.Path.{◌≡◌}
-use Prim.Native.Nat.{◌-◌, ◌≤◌}
 use lib.ListN.{length}
 use Rattle.layout.specs.Body.{transition_at}
 use Rattle.notation.specs.Grammar.{comma, of_transition}
@@ -11,8 +10,5 @@ use Rattle.printing.proofs.charts.in_order.Given as goal
 
 abbrev pub invariant-loop-k : goal.invariant-loop-k
 invariant-loop-k l =
-    (l.k ≤ l.count) × (length l.out ≡ length l.initial.out)
+    (length l.out ≡ length l.initial.out)
     × Prints l.initial.out l.first (in_turn comma of_transition (typed_from (transition_at l.n l.body) l.start l.k)) l.out l.at
-
-abbrev pub decreases-loop-k : goal.decreases-loop-k
-decreases-loop-k l = l.count - l.k

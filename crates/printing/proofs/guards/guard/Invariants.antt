@@ -1,6 +1,5 @@
 -- `guard` meets its contract. The loop's invariant: what the guard says of the signals below s is written.
 use mathlib.Core.Path.{◌≡◌}
-use Prim.Native.Nat.{◌-◌, ◌≤◌}
 use lib.ListN.{length}
 use Rattle.notation.specs.Grammar.{amp, of_literal}
 use Rattle.spelling.specs.Typed.{from_all, said_of}
@@ -9,7 +8,4 @@ use Rattle.printing.specs.Separated.{in_turn}
 use Rattle.printing.proofs.guards.guard.Given as goal
 
 abbrev pub invariant-loop-s : goal.invariant-loop-s
-invariant-loop-s l = (l.s ≤ 64) × (length l.out ≡ length l.initial.out) × Prints l.initial.out l.first (in_turn amp of_literal (from_all l.s (said_of l.x l.y))) l.out l.at
-
-abbrev pub decreases-loop-s : goal.decreases-loop-s
-decreases-loop-s l = 64 - l.s
+invariant-loop-s l = (length l.out ≡ length l.initial.out) × Prints l.initial.out l.first (in_turn amp of_literal (from_all l.s (said_of l.x l.y))) l.out l.at

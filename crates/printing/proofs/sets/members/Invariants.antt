@@ -1,7 +1,7 @@
 -- `members` meets its contract. The loop's invariant: the signals below s are written.
 use mathlib.Core.Path.{◌≡◌}
 use mathlib.Core.List.{List}
-use Prim.Native.Nat.{ℕ, ◌-◌, ◌≤◌}
+use Prim.Native.Nat.{ℕ}
 use lib.ListN.{length}
 use Rattle.signals.specs.Mask.{bit}
 use Rattle.notation.specs.Grammar.{comma, letS, name₁}
@@ -14,7 +14,4 @@ abbrev pub below : ℕ → ℕ → List ℕ
 below x s = from_all s (λ n. if_so (bit x n) n)
 
 abbrev pub invariant-loop-s : goal.invariant-loop-s
-invariant-loop-s l = (l.s ≤ 64) × (length l.out ≡ length l.initial.out) × Prints l.initial.out l.first (in_turn comma (name₁ letS) (below l.x l.s)) l.out l.at
-
-abbrev pub decreases-loop-s : goal.decreases-loop-s
-decreases-loop-s l = 64 - l.s
+invariant-loop-s l = (length l.out ≡ length l.initial.out) × Prints l.initial.out l.first (in_turn comma (name₁ letS) (below l.x l.s)) l.out l.at

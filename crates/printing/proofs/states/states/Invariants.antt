@@ -1,7 +1,7 @@
 -- `states` meets its contract. The loop's invariant: the states below q but the initial one are added.
 use mathlib.Core.Path.{◌≡◌}
 use mathlib.Core.List.{List, [], ◌∷◌}
-use Prim.Native.Nat.{ℕ, ◌-◌, ◌≤◌}
+use Prim.Native.Nat.{ℕ}
 use lib.ListN.{length}
 use mathlib.Core.Bool.{cond}
 use Rattle.meaning.specs.Meaning.{same}
@@ -14,7 +14,4 @@ abbrev pub below : ℕ → ℕ → List ℕ
 below initial q = from_all q (λ p. cond (same p initial) [] (p ∷ []))
 
 abbrev pub invariant-loop-q : goal.invariant-loop-q
-invariant-loop-q l = (l.q ≤ l.count) × (length l.out ≡ length l.initial.out) × Adds comma (name₁ letQ) (below l.initial' l.q) l.first l.initial.out l.initial.at l.out l.at
-
-abbrev pub decreases-loop-q : goal.decreases-loop-q
-decreases-loop-q l = l.count - l.q
+invariant-loop-q l = (length l.out ≡ length l.initial.out) × Adds comma (name₁ letQ) (below l.initial' l.q) l.first l.initial.out l.initial.at l.out l.at

@@ -29,7 +29,6 @@ module _ (n : Shape) (b : List ℕ) (c s : ℕ) (h : Head) (eh : h ≡ head_at n
 
 pub loop-c-init : goal.loop-c-init
 loop-c-init c = (
-  omega arith,
   refl,
   refl,
   sym (start_of-none _ _),
@@ -41,7 +40,7 @@ fits : (c : After-head_at-h)
     → c.loop-c.start + c.head_at-h.result.transitions
     ≤ c.args.n.transitions
 fits c =
-    in_all _ _ _ _ c.head_at-h.ensures c.loop-c.invariant.3 c.requires.1 c.loop-c-test.true
+    in_all _ _ _ _ c.head_at-h.ensures c.loop-c.invariant.2 c.requires.1 c.loop-c-test.true
 
 pub guards-requires : goal.guards-requires
 guards-requires c = (c.requires.0, fits (goal.at.guards-requires c).After-head_at-h)
@@ -54,21 +53,20 @@ overflow_add-start c = omega (arith, fits (goal.at.overflow_add-start c).After-h
 
 pub loop-c-preserved : goal.loop-c-preserved
 loop-c-preserved c = (
-  omega arith,
+  simp length-set c.loop-c.invariant.0,
   simp length-set c.loop-c.invariant.1,
-  simp length-set c.loop-c.invariant.2,
-  start-next _ _ _ _ c.head_at-h.ensures c.loop-c.invariant.3,
+  start-next _ _ _ _ c.head_at-h.ensures c.loop-c.invariant.2,
   record {
-    input_at = fill_more _ c.loop-c.input c.loop-c.c _ c.loop-c.invariant.4.input_at
-        (input_is _ _ _ _ _ c.head_at-h.ensures c.loop-c.invariant.3 _ c.guards.ensures) (omega arith);
-    output_at = fill_more _ c.loop-c.output c.loop-c.c _ c.loop-c.invariant.4.output_at
-        (output_is _ _ _ _ _ c.head_at-h.ensures c.loop-c.invariant.3 _ c.actions.ensures) (omega arith);
+    input_at = fill_more _ c.loop-c.input c.loop-c.c _ c.loop-c.invariant.3.input_at
+        (input_is _ _ _ _ _ c.head_at-h.ensures c.loop-c.invariant.2 _ c.guards.ensures) (omega arith);
+    output_at = fill_more _ c.loop-c.output c.loop-c.c _ c.loop-c.invariant.3.output_at
+        (output_is _ _ _ _ _ c.head_at-h.ensures c.loop-c.invariant.2 _ c.actions.ensures) (omega arith);
   },
 )
 
 pub returns : goal.returns
 returns c =
-    let o = c.loop-c.invariant.4 in
+    let o = c.loop-c.invariant.3 in
     record { input_at = λ k h. o.input_at k (omega arith); output_at = λ k h. o.output_at k (omega arith) }
 
 pub offset_bounds-input-c : goal.offset_bounds-input-c
@@ -82,9 +80,3 @@ offset_bounds-output-c c = omega arith
 
 pub bounds-output-c : goal.bounds-output-c
 bounds-output-c c = omega arith
-
-pub overflow_add-c : goal.overflow_add-c
-overflow_add-c c = omega arith
-
-pub loop-c-smaller : goal.loop-c-smaller
-loop-c-smaller c = omega arith

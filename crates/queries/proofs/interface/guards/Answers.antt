@@ -22,27 +22,18 @@ more n b start k extra all t h e =
     ∙ ap (λ (z : ℕ). z ∪ extra) (sym (guards_more f start k))
 
 pub loop-k-init : goal.loop-k-init
-loop-k-init c = (omega arith, rw guards_none)
+loop-k-init c = rw guards_none
 
 pub loop-k-preserved : goal.loop-k-preserved
 loop-k-preserved c =
-    let a = c.args in (
-      omega arith,
-      more a.n a.body.now a.start c.loop-k.k a.extra c.loop-k.all c.transition_at-t.result c.loop-k.invariant.1
-          c.transition_at-t.ensures,
-    )
+    let a = c.args in more a.n a.body.now a.start c.loop-k.k a.extra c.loop-k.all c.transition_at-t.result c.loop-k.invariant
+    c.transition_at-t.ensures
 
 pub returns : goal.returns
 returns c =
     let a = c.args in
     let e : c.loop-k.k ≡ a.count = omega arith in
-    c.loop-k.invariant.1 ∙ ap (λ (k : ℕ). guards (from (transition_at a.n a.body.now) a.start k) ∪ a.extra) e
+    c.loop-k.invariant ∙ ap (λ (k : ℕ). guards (from (transition_at a.n a.body.now) a.start k) ∪ a.extra) e
 
 pub overflow_add-start : goal.overflow_add-start
 overflow_add-start c = omega arith
-
-pub overflow_add-k : goal.overflow_add-k
-overflow_add-k c = omega arith
-
-pub loop-k-smaller : goal.loop-k-smaller
-loop-k-smaller c = omega arith

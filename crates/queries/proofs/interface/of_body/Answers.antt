@@ -32,6 +32,6 @@ unfolding file_at
 returns c =
     let F = file_at c.args.n c.args.body.now in
     let z = c.requires.0.some_node in
-    ap₂ {C = Faces} (λ (i o : ℕ). record { refusal = 0; input = i; output = o })
+    ap₂ {C = Faces} (λ (i o : ℕ). record { input = i; output = o })
     (input_is F c.requires.1.1 z _ _ c.charts-own.ensures _ c.table-inputs.ensures)
     (output_is F c.requires.1.1 z _ _ c.charts-own.ensures _ c.table-outputs.ensures)

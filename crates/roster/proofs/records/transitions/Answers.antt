@@ -1,5 +1,4 @@
 use mathlib.Core.Path.{refl, ◌∙◌}
-use native.Mathlib.Omega.{arith}
 use Rattle.reading.specs.Names.{sequential?}
 use Rattle.laying.specs.Sequence.{put_is}
 use Rattle.roster.specs.Records.{lines_of}
@@ -9,16 +8,13 @@ use Rattle.roster.proofs.records.transitions.Goals as goal
 use Rattle.roster.proofs.records.transitions.Invariants.{Good}
 
 pub loop-c-init : goal.loop-c-init
-loop-c-init c = (omega arith, (refl, λ ss h e room. laid-first lines_of Good _ _ ss _ _ h e))
+loop-c-init c = (refl, λ ss h e room. laid-first lines_of Good _ _ ss _ _ h e)
 
 pub loop-c-preserved : goal.loop-c-preserved
 loop-c-preserved c = (
-  omega arith,
-  (
-    c.lines_at-p.auto.out ∙ c.loop-c.invariant.1.0,
-    λ ss g e room. laid_more lines_of Good _ _ ss _ _ _ _ _ _ _ _ g c.loop-c-test.true c.place.ensures
-        c.lines_at-p.ensures room (c.loop-c.invariant.1.1 ss g e room),
-  ),
+  c.lines_at-p.auto.out ∙ c.loop-c.invariant.0,
+  λ ss g e room. laid_more lines_of Good _ _ ss _ _ _ _ _ _ _ _ g c.loop-c-test.true c.place.ensures
+      c.lines_at-p.ensures room (c.loop-c.invariant.1 ss g e room),
 )
 
 pub returns : goal.returns
@@ -26,16 +22,10 @@ returns c ss h e room =
     let is = lines_gathered ss in
     put_is is
     (laid_end lines_of Good _ _ ss _ _ _ _ _ h c.loop-c-test.false
-    (c.loop-c.invariant.1.1 ss h (each_false sequential? ss e) (rw is room)))
+    (c.loop-c.invariant.1 ss h (each_false sequential? ss e) (rw is room)))
 
 pub lines_at-p-requires : goal.lines_at-p-requires
 lines_at-p-requires c = c.place.ensures.0
 
-pub overflow_add-c : goal.overflow_add-c
-overflow_add-c c = omega arith
-
-pub loop-c-smaller : goal.loop-c-smaller
-loop-c-smaller c = omega arith
-
 pub shape_of-out : goal.shape_of-out
-shape_of-out c = c.loop-c.invariant.1.0
+shape_of-out c = c.loop-c.invariant.0

@@ -2,7 +2,6 @@
 use mathlib.Core.Path.{◌≡◌}
 use mathlib.Core.Bool.{false}
 use mathlib.Core.List.{List}
-use Prim.Native.Nat.{◌-◌, ◌≤◌}
 use lib.ListN.{length}
 use Rattle.layout.specs.Put.{Room}
 use Rattle.meaning.specs.Each.{Each}
@@ -19,9 +18,6 @@ Good s = sequential? s ≡ false
 
 abbrev pub invariant-loop-c : goal.invariant-loop-c
 invariant-loop-c l =
-    (l.c ≤ l.charts) × ((length l.out ≡ length l.initial.out)
+    (length l.out ≡ length l.initial.out)
     × ((ss : List Sequential) → Charted l.text l.r ss → Each Good ss → Room l.initial.out l.at (all lines_of ss)
-    → Laid lines_of Good l.text l.r ss l.initial.out l.at l.c l.out l.p))
-
-abbrev pub decreases-loop-c : goal.decreases-loop-c
-decreases-loop-c l = l.charts - l.c
+    → Laid lines_of Good l.text l.r ss l.initial.out l.at l.c l.out l.p)

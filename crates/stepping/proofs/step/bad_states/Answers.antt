@@ -16,7 +16,7 @@ good_here : (s : ℕ) (h k : Head) → h ≡ k → s < h.states → not_below s 
 good_here s h k e l = ap not (lt-ltb s k.states (rw (ap (λ (x : Head). x.states) e) at l))
 
 pub loop-c-init : goal.loop-c-init
-loop-c-init c = (omega arith, any_none _)
+loop-c-init c = any_none _
 
 pub returns-then-config-c : goal.returns-then-config-c
 returns-then-config-c c =
@@ -24,20 +24,11 @@ returns-then-config-c c =
     (bad_here _ c.head_at.result _ c.head_at.ensures c.if-config-c.true))
 
 pub loop-c-preserved : goal.loop-c-preserved
-loop-c-preserved c = (
-  omega arith,
-  any-more _ _ c.loop-c.invariant.1
-      (good_here _ c.head_at.result _ c.head_at.ensures c.if-config-c.false),
-)
+loop-c-preserved c = any-more _ _ c.loop-c.invariant
+    (good_here _ c.head_at.result _ c.head_at.ensures c.if-config-c.false)
 
 pub returns : goal.returns
-returns c = any-done _ _ _ c.loop-c.invariant.0 c.loop-c-test.false c.loop-c.invariant.1
+returns c = any-done _ _ _ c.loop-c.auto.c-end c.loop-c-test.false c.loop-c.invariant
 
 pub bounds-config-c : goal.bounds-config-c
 bounds-config-c c = omega arith
-
-pub overflow_add-c : goal.overflow_add-c
-overflow_add-c c = omega arith
-
-pub loop-c-smaller : goal.loop-c-smaller
-loop-c-smaller c = omega arith

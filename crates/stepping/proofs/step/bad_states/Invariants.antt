@@ -1,5 +1,4 @@
 -- `step::bad_states` meets its contract. The loop's invariant: no state passed is bad. Assumes nothing.
-use Prim.Native.Nat.{◌≤◌, ◌-◌}
 use mathlib.Core.Path.{◌≡◌}
 use mathlib.Core.Bool.{false}
 use lib.ListN.{get_or}
@@ -9,7 +8,4 @@ use Rattle.meaning.specs.Check.{not_below}
 use Rattle.stepping.proofs.step.bad_states.Given as goal
 
 abbrev pub invariant-loop-c : goal.invariant-loop-c
-invariant-loop-c l = (l.c ≤ l.charts) × (any_up_to l.c (λ d. not_below (get_or l.config d 0) (head_at l.n l.body d).states) ≡ false)
-
-abbrev pub decreases-loop-c : goal.decreases-loop-c
-decreases-loop-c l = l.charts - l.c
+invariant-loop-c l = any_up_to l.c (λ d. not_below (get_or l.config d 0) (head_at l.n l.body d).states) ≡ false

@@ -1,19 +1,12 @@
-use mathlib.Core.Path.{refl}
-use native.Mathlib.Omega.{arith}
-use borrow.Author.Rules.{rules}
-use lib.ListN.{length-set}
-use Rattle.layout.specs.Row.Laws.{fill_more}
+use Rattle.std.proofs.Common.{arith, get_or}
+use Rattle.std.proofs.lemmas.List.{get_or_default}
+use Rattle.std.proofs.lemmas.List.Edits.{map_over_more}
+use Rattle.signals.specs.Mask.{◌∩◌}
 use Rattle.stepping.proofs.step.lows.Goals as goal
 
-pub loop-c-init : goal.loop-c-init
-loop-c-init c = (omega arith, search rules, λ k l. absurd (omega arith))
-
-pub loop-c-preserved : goal.loop-c-preserved
-loop-c-preserved c = (
-  omega arith,
-  simp length-set c.loop-c.invariant.1,
-  fill_more _ c.loop-c.low c.loop-c.c _ c.loop-c.invariant.2 refl (omega arith),
-)
-
-pub returns : goal.returns
-returns c k l = c.loop-c.invariant.2 k (omega arith)
+pub loop-mask-preserved : goal.loop-mask-preserved
+loop-mask-preserved c =
+    let m = c.loop-mask.mask-items in
+    let i = c.loop-mask.mask-index in
+    map_over_more (λ x. c.args.input ∩ x) c.args.down m i (get_or m i 0) (omega arith) c.loop-mask.invariant
+    (get_or_default m i 0 _ (omega arith))

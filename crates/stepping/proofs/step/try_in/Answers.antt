@@ -1,13 +1,14 @@
 -- `step::try_in` meets its contract: the tables are wired, so what is found answers the step. Assumes nothing.
 use native.Mathlib.Omega.{arith}
 use borrow.Author.Rules.{rules}
+use Rattle.plan.specs.ByNode.Laws.{blank-new}
 use Rattle.stepping.proofs.step.try_in.Goals as goal
 
 pub wired-down-requires : goal.wired-down-requires
-wired-down-requires c = (search rules, omega (arith, c.requires.2), c.requires.3, search rules)
+wired-down-requires g c = (search rules, omega (arith, c.requires.2), blank-new _, search rules)
 
 pub try_wired-requires : goal.try_wired-requires
-try_wired-requires c = (
+try_wired-requires g c = (
   c.requires.0,
   c.requires.1,
   record {
@@ -17,4 +18,4 @@ try_wired-requires c = (
 )
 
 pub returns : goal.returns
-returns c = c.try_wired.ensures.0
+returns g c = c.try_wired.ensures.0

@@ -26,7 +26,7 @@ size_is c = ap (λ (k : ℕ). k + 12) c.size-size.ensures ∙ cleared-size (at (
 pub returns-then-out-size : goal.returns-then-out-size
 returns-then-out-size c =
     let l = size_is (goal.at.returns-then-out-size c).After-size-size in
-    body-short (at (goal.at.returns-then-out-size c).After-shape-m) c.args.out.now _ (rw l at c.if-out-size.true) c.refused.ensures
+    body-short (at (goal.at.returns-then-out-size c).After-shape-m) c.args.out.now (rw l at c.if-out-size.true)
 
 pub lay-requires : goal.lay-requires
 lay-requires c =

@@ -1,15 +1,16 @@
 -- `rewriting::rewriting` meets its contract: the file's refusal, 46 where charts may stay, or the rewriting of its
 -- body.
-use mathlib.Core.Path.{◌≡◌, refl, sym, ap, ◌∙◌}
+use mathlib.Core.Path.{◌≡◌, sym, ap, ◌∙◌}
 use mathlib.Core.List.{List}
 use mathlib.Core.Logic.{◌≢◌}
 use Prim.Native.Nat.{ℕ}
-use native.Mathlib.Omega.{arith}
 use borrow.Author.Tests.{ne_eqb}
 use lib.ListN.{length}
+use Rattle.std.specs.Prelude.{Result, Err}
+use Rattle.std.proofs.lemmas.Result.{err_from_is_err_and}
 use Rattle.layout.specs.Le.{AllBytes}
 use Rattle.layout.specs.declared.body.Shape.{Shape}
-use Rattle.meaning.specs.Numbers.{stay_edition, may_stay}
+use Rattle.meaning.specs.Numbers.{stay_edition}
 use Rattle.meaning.specs.Meaning.{same}
 use Rattle.meaning.specs.Laws.Bools.{same_≢}
 use Rattle.meaning.proofs.Laws.Editions.{edition_left}
@@ -17,36 +18,31 @@ use Rattle.meaning.specs.File.{trailer, shape_of, body_of, file_at, file_of}
 use Rattle.meaning.specs.Check.{refusal_of}
 use Rattle.meaning.specs.Check.Laws.{passed}
 use Rattle.meaning.specs.Check.Nodes.{sound}
-use Rattle.meaning.specs.Rewriting.{rewrite_length, rewrite_out}
+use Rattle.meaning.specs.Rewriting.{rewrite_refusal, rewrite_out}
 use Rattle.agreement.specs.Passed.{ready}
 use Rattle.agreement.specs.Step.{nearest_is}
-use Rattle.opening.specs.Opening.{Stands}
 use Rattle.checks.specs.Known.{Sized, Summed}
+use Rattle.checks.specs.Refusals.{number}
+use Rattle.checks.specs.Refusals.Laws.{number-some}
+use Rattle.checks.specs.declared.refusal.Refusal.{Refusal}
+use Rattle.checks.specs.declared.refusal.Refusal.TheVariants.{MayStay}
 use Rattle.allocation.specs.Known.{Checked, Upward}
 use Rattle.transforms.specs.Promises.{RewritingSays}
 use Rattle.transforms.specs.Rewriting.{BodyRewrites}
 use Rattle.transforms.specs.Rewriting.Laws.{file_refused_lem, stay_refused, refusal_is, length-is, out_is}
-use Rattle.transforms.specs.declared.rewriting.Rewritten.{Rewritten}
 use Rattle.transforms.proofs.rewriting.rewriting.Goals as goal
-use Rattle.transforms.proofs.rewriting.rewriting.Goals.{Else-r-ne-ACCEPTED}
 
--- a file that is refused leaves the buffer as it was
-by-file : (f out : List ℕ) (r : ℕ) (s : Rewritten) → r ≡ refusal_of f → (r ≡ 0 → ⊥)
-    → s ≡ record { refusal = r; length = 0 }
-    → RewritingSays f out s out
-unfolding rewrite_length rewrite_out same
-by-file f out r s e h q = rw (file_refused_lem f (λ z. h (e ∙ z)) (length out), ← e, ne_eqb r 0 h) (q, refl)
+-- a refusal leaves the buffer as it was
+kept : (f out : List ℕ) (r : Refusal) → number r ≡ rewrite_refusal f (length out) → RewritingSays f out (Err r) out
+unfolding rewrite_out same
+kept f out r e = (e, rw (← e, ne_eqb (number r) 0 (number-some r)))
+
+by-file : (f out : List ℕ) (r : Refusal) → number r ≡ refusal_of f → RewritingSays f out (Err r) out
+by-file f out r e = kept f out r (e ∙ sym (file_refused_lem f (λ z. number-some r (e ∙ z)) (length out)))
 
 edition_is : (f : List ℕ) (n : Shape) → n ≡ shape_of (trailer f) → (trailer f).edition ≡ n.edition
 unfolding shape_of
 edition_is f n en = sym (ap (λ (s : Shape). s.edition) en)
-
--- so does one whose charts may stay
-by_edition : (f out : List ℕ) (s : Rewritten) → refusal_of f ≡ 0 → (trailer f).edition ≡ stay_edition
-    → s ≡ record { refusal = may_stay; length = 0 }
-    → RewritingSays f out s out
-unfolding rewrite_length rewrite_out same
-by_edition f out s h two q = rw (stay_refused f h two (length out)) (q, refl)
 
 -- the body that the file is opened to
 module _ (f : List ℕ) (h : refusal_of f ≡ 0) (n : Shape) (en : n ≡ shape_of (trailer f)) (one : n.edition ≢ stay_edition)
@@ -54,7 +50,7 @@ module _ (f : List ℕ) (h : refusal_of f ≡ 0) (n : Shape) (en : n ≡ shape_o
   not-two : (trailer f).edition ≢ stay_edition
   not-two e = one (sym (edition_is f n en) ∙ e)
 
-  by-body : (out out' : List ℕ) (r : Rewritten)
+  by-body : (out out' : List ℕ) (r : Result ℕ Refusal)
       → BodyRewrites (file_at n b) out r out' → RewritingSays f out r out'
   unfolding file_of
   by-body out out' r q =
@@ -77,45 +73,27 @@ module _ (f : List ℕ) (h : refusal_of f ≡ 0) (n : Shape) (en : n ≡ shape_o
       let e = edition_left f (passed f h).edition (same_≢ (trailer f).edition stay_edition not-two) in
       rw (en, eb) (nearest_is (file_of f) (ready f (passed f h) ab e))
 
--- a file that is not refused, and its body
-accepted : (c : Else-r-ne-ACCEPTED) → refusal_of c.args.file.now ≡ 0
-accepted c = sym c.opened-o.ensures.refusal ∙ c.if-r-ne-ACCEPTED.false
+pub returns-in_err-o : goal.returns-in_err-o
+returns-in_err-o c =
+    let p = err_from_is_err_and c.from_residual.result c.from_residual.ensures.1 in
+    rw (p.1, p.2)
+    (by-file _ c.args.out.now _ c.in_err-o.ensures)
 
-stands : (c : Else-r-ne-ACCEPTED) → Stands c.args.file.now c.opened-o.result
-stands c = c.opened-o.ensures.stands c.if-r-ne-ACCEPTED.false
-
-pub returns-then-r-ne-ACCEPTED : goal.returns-then-r-ne-ACCEPTED
-returns-then-r-ne-ACCEPTED c =
-    by-file _ c.args.out.now _ _
-    c.opened-o.ensures.refusal
-    c.if-r-ne-ACCEPTED.true c.refused.ensures
+pub returns-then-o : goal.returns-then-o
+returns-then-o c =
+    let w = c.in_ok-o.ensures in
+    kept _ c.args.out.now MayStay
+    (sym (stay_refused _ w.0 (edition_is _ _ w.1.shape ∙ c.if-o.true) (length c.args.out.now)))
 
 pub of_body-requires : goal.of_body-requires
 of_body-requires c =
-    let w = stands (goal.at.of_body-requires c).Else-r-ne-ACCEPTED in (
-      body_checked _ (accepted (goal.at.of_body-requires c).Else-r-ne-ACCEPTED) _ w.shape c.if-n.false _ w.body (rw w.body w.sized)
-          (rw w.body w.summed),
-      upward _ (accepted (goal.at.of_body-requires c).Else-r-ne-ACCEPTED) _ w.shape c.if-n.false _ w.body
-          (λ i. (c.type_inv.file i).fits),
+    let w = c.in_ok-o.ensures in
+    let s = w.1 in (
+      body_checked _ w.0 _ s.shape c.if-o.false _ s.body (rw s.body s.sized) (rw s.body s.summed),
+      upward _ w.0 _ s.shape c.if-o.false _ s.body (λ i. (c.type_inv.file i).fits),
     )
-
-pub returns-then-n : goal.returns-then-n
-returns-then-n c =
-    by_edition _ c.args.out.now _ (accepted (goal.at.returns-then-n c).Else-r-ne-ACCEPTED)
-    (edition_is _ _ (stands (goal.at.returns-then-n c).Else-r-ne-ACCEPTED).shape ∙ c.if-n.true) c.refused-then-n.ensures
 
 pub returns : goal.returns
 returns c =
-    let w = stands (goal.at.returns c).Else-r-ne-ACCEPTED in
-    by-body _ (accepted (goal.at.returns c).Else-r-ne-ACCEPTED) _ w.shape c.if-n.false _ w.body
-    c.args.out.now _ _ c.of_body.ensures
-
-pub slice_bounds-of_body-count : goal.slice_bounds-of_body-count
-slice_bounds-of_body-count c = (stands (goal.at.slice_bounds-of_body-count c).Else-r-ne-ACCEPTED).order
-
-pub slice_bounds-of_body-start : goal.slice_bounds-of_body-start
-slice_bounds-of_body-start c = (stands (goal.at.slice_bounds-of_body-start c).Else-r-ne-ACCEPTED).order
-
-pub slice_bounds-of_body-end : goal.slice_bounds-of_body-end
-slice_bounds-of_body-end c =
-    let e = (stands (goal.at.slice_bounds-of_body-end c).Else-r-ne-ACCEPTED).end in omega arith
+    let w = c.in_ok-o.ensures in
+    by-body _ w.0 _ w.1.shape c.if-o.false _ w.1.body c.args.out.now _ _ c.of_body.ensures

@@ -1,12 +1,9 @@
 -- `close_at` meets its contract: from i on, with the brackets that are open there, the same bracket is looked for.
 use mathlib.Core.Path.{◌≡◌}
-use Prim.Native.Nat.{◌-◌, ◌≤◌}
-use lib.ListN.{length, drop}
+use Prim.Native.Nat.{◌≤◌}
+use lib.ListN.{drop}
 use Rattle.walk.specs.Brackets.{closing}
 use Rattle.walk.proofs.brackets.close_at.Given as goal
 
 abbrev pub invariant-loop-i : goal.invariant-loop-i
-invariant-loop-i l = (l.i ≤ length l.text) × (l.at ≤ l.i) × (l.level ≤ l.i) × (closing l.level (drop l.i l.text) ≡ closing 0 (drop l.at l.text))
-
-abbrev pub decreases-loop-i : goal.decreases-loop-i
-decreases-loop-i l = length l.text - l.i
+invariant-loop-i l = (l.level ≤ l.i) × (closing l.level (drop l.i l.text) ≡ closing 0 (drop l.at l.text))

@@ -1,9 +1,0 @@
--- `book::looked` is safe and ends: a turn for each record.
-use Rattle.std.proofs.Common.{◌-◌, ◌≤◌}
-use Rattle.post.proofs.book.looked.Given as goal
-
-abbrev pub invariant-loop-k : goal.invariant-loop-k
-invariant-loop-k l = l.k ≤ l.n
-
-abbrev pub decreases-loop-k : goal.decreases-loop-k
-decreases-loop-k l = l.n - l.k
