@@ -107,7 +107,7 @@ pub fn inner(n: Shape, body: &[u8], calls: &[u64; CHARTS]) -> [u64; CHARTS]
     for j in 0..nodes {
         let node = layout::body::node_at(n, body, j);
         let c = node.a as usize;
-        if let Kind::Holds = node.kind() {
+        if let Kind::Holds = Kind::of(node.kind) {
             inner[c] = call_of(calls, slaves, near[j]);
         }
     }

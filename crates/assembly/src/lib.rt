@@ -315,7 +315,7 @@ fn node(
     let r = layout::body::node_at(n, body, j);
     let a = r.a as usize;
     let b = r.b as usize;
-    match r.kind() {
+    match Kind::of(r.kind) {
         Kind::Holds => holder(n, body, calls, names, a, first, out, at),
         Kind::Composes => {
             let both = Node {

@@ -50,7 +50,7 @@ fn depth(n: Shape, body: &[u8], deep: &[u8; limits::NODES], j: usize) -> u8
     let r = layout::body::node_at(n, body, j);
     let a = r.a as usize;
     let b = r.b as usize;
-    match r.kind() {
+    match Kind::of(r.kind) {
         Kind::Holds => deepest(n, body, deep, a) + 1,
         Kind::Composes => larger(deep[a], deep[b]) + 1,
         Kind::Hides => deep[a] + 1,

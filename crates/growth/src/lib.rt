@@ -127,7 +127,7 @@ pub fn before_last(n: Shape, body: &[u8], j: usize) -> usize
     ensures { (result ≡ before_last (file_at n body.now) j) × (result ≤ most_slaves + 1) }
 {
     let node = layout::body::node_at(n, body, j);
-    let Kind::Holds = node.kind() else {
+    let Kind::Holds = Kind::of(node.kind) else {
         return 0;
     };
     let slaves = slaves_of(n, body, node.a as usize);

@@ -73,6 +73,21 @@ impl TryFrom<u8> for Kind {
     }
 }
 
+impl Kind {
+    // The kind that a byte says, of a node that is not refused.
+    pub fn of(byte: u8) -> Kind
+        requires { byte ≤ 2 }
+        ensures { byte_of result ≡ byte }
+    {
+        match byte {
+            0 => Kind::Holds,
+            1 => Kind::Composes,
+            2 => Kind::Hides,
+            _ => unreachable!(),
+        }
+    }
+}
+
 // As it stands in a file, where the first byte may be none of the kinds.
 #[derive(Clone, Copy)]
 pub struct Node {
@@ -81,20 +96,6 @@ pub struct Node {
     pub b: u8,
     pub x: u64,
     pub y: u64,
-}
-
-impl Node {
-    // The kind of a node that is not refused.
-    pub fn kind(self) -> Kind
-        requires { self.kind ≤ 2 }
-        ensures { byte_of result ≡ self.kind }
-    {
-        match self.kind {
-            0 => Kind::Holds,
-            1 => Kind::Composes,
-            _ => Kind::Hides,
-        }
-    }
 }
 
 pub fn read_trailer(s: &[u8], at: usize) -> Trailer

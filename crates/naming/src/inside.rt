@@ -20,7 +20,7 @@ fn lowest(n: Shape, body: &[u8], low: &[u8; MOST_NODES as usize], j: usize) -> u
     let r = layout::body::node_at(n, body, j);
     let a = r.a as usize;
     let b = r.b as usize;
-    match r.kind() {
+    match Kind::of(r.kind) {
         Kind::Holds => r.a,
         Kind::Composes => if low[a] < low[b] { low[a] } else { low[b] },
         Kind::Hides => low[a],

@@ -45,7 +45,7 @@ fn walk_node(
     let r = layout::body::node_at(n, body, k);
     let a = r.a as usize;
     let b = r.b as usize;
-    match r.kind() {
+    match Kind::of(r.kind) {
         Kind::Holds => {
             held[a] += 1;
             holder[a] = k as u8;

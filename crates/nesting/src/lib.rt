@@ -36,7 +36,7 @@ fn hand(n: Shape, body: &[u8], j: usize, near: &mut [u8])
     let i = near[j];
     let a = node.a as usize;
     let b = node.b as usize;
-    match node.kind() {
+    match Kind::of(node.kind) {
         Kind::Holds => {}
         Kind::Composes => {
             near[a] = i;

@@ -59,7 +59,7 @@ fn value(
     let r = layout::body::node_at(n, body, j);
     let a = r.a as usize;
     let b = r.b as usize;
-    match r.kind() {
+    match Kind::of(r.kind) {
         Kind::Holds => with_slaves(n, body, table, a, own[a]),
         Kind::Composes => table[a] | table[b],
         Kind::Hides => signals::less(table[a], taken(off, r.x, r.y)),

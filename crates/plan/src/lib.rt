@@ -165,7 +165,7 @@ fn wire_node(
     let node = layout::body::node_at(n, body, j);
     let a = node.a as usize;
     let b = node.b as usize;
-    match node.kind() {
+    match Kind::of(node.kind) {
         Kind::Holds => wire_chart(n, body, node.a, sets, masks, down),
         Kind::Composes => {
             let set = wide(sets[a]) | wide(sets[b]);
@@ -187,7 +187,7 @@ fn note(n: Shape, body: &[u8], j: usize, near: &[u8], small: &mut [u8])
     ensures { Notes (file_at n body.now) j small.old small.new }
 {
     let node = layout::body::node_at(n, body, j);
-    if let Kind::Holds = node.kind() {
+    if let Kind::Holds = Kind::of(node.kind) {
         let slave = nesting::enclosing(n, body, j, near);
         let c = node.a as usize;
         small::put_nearest(small, c, slave.chart, slave.state);

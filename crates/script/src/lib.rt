@@ -62,7 +62,7 @@ fn chart(n: Shape, body: &[u8], j: usize, left: usize, out: &mut [u8], at: usize
         return charts::sequential(n, body, 0, out, at);
     }
     let node = layout::body::node_at(n, body, j);
-    match node.kind() {
+    match Kind::of(node.kind) {
         Kind::Holds => master(n, body, node.a, left - 1, out, at),
         Kind::Composes => pair(n, body, node, left - 1, out, at),
         Kind::Hides => hidden(n, body, node, left - 1, out, at),

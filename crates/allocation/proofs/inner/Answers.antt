@@ -35,14 +35,14 @@ unfolding file_at
 loop-j-preserved c =
     let p = c.requires in
     let e = c.node_at-node.ensures in
-    let t = c.loop-j-test.true in elim c.match-kind.branch [
+    let t = c.loop-j-test.true in elim c.match-of.branch [
       | in-Holds w ↦ rw w.inner-is (filled_own _ _ p.0 c.loop-j.j t _ e c.loop-j.inner c.loop-j.invariant _
           (w.call_of.ensures ∙ call_is _ p.0.sound
           c.args.calls.now p.1
           p.0.sized.slaves c.loop-j.j _
-          (c.enclosers-near.ensures c.loop-j.j t)) (sym c.kind.ensures ∙ ap byte_of w.in-Holds.is))
+          (c.enclosers-near.ensures c.loop-j.j t)) (sym c.of.ensures ∙ ap byte_of w.in-Holds.is))
       | in_default w ↦ rw w.inner-is (filled_other _ _ p.0 c.loop-j.j t _ e c.loop-j.inner c.loop-j.invariant
-          (λ z. w.in_default.not-Holds (byte-one _ Holds (c.kind.ensures ∙ z))))
+          (λ z. w.in_default.not-Holds (byte-one _ Holds (c.of.ensures ∙ z))))
     ]
 
 pub returns : goal.returns
@@ -64,10 +64,10 @@ bounds-inner-c c =
     c.loop-j-test.true _
     c.node_at-node.ensures
     c.loop-j.inner
-    c.loop-j.invariant (sym c.kind.ensures ∙ ap byte_of c.in-Holds.is)
+    c.loop-j.invariant (sym c.of.ensures ∙ ap byte_of c.in-Holds.is)
 
-pub kind-requires : goal.kind-requires
+pub of-requires : goal.of-requires
 unfolding file_at
-kind-requires c =
+of-requires c =
     let t = c.requires.0.sound.ordered.kinds _ c.loop-j-test.true in
     let d = ap (λ (x : Node). x.kind) c.node_at-node.ensures in omega arith

@@ -105,7 +105,7 @@ holder-requires c =
     let p = c.requires in
     let a = c.args in
     let e = c.node_at-r.ensures in
-    let k = (sym c.kind.ensures ∙ ap byte_of c.in-Holds.is) in (
+    let k = (sym c.of.ensures ∙ ap byte_of c.in-Holds.is) in (
       p.0,
       p.1,
       p.2,
@@ -118,7 +118,7 @@ returns-in-Holds c =
     let p = c.requires in
     put_is (sym (held_bytes_lem _ _ _ _ c.node_at-r.ensures p.0
     p.3.there _ p.3
-    (sym c.kind.ensures ∙ ap byte_of c.in-Holds.is))) c.holder.ensures
+    (sym c.of.ensures ∙ ap byte_of c.in-Holds.is))) c.holder.ensures
 
 pub bounds-names-a : goal.bounds-names-a
 unfolding file_at
@@ -126,7 +126,7 @@ bounds-names-a c =
     let p = c.requires in
     let h = p.0.sized.nodes in
     let t = both_there _ _ _ _ c.node_at-r.ensures p.0 p.3.there
-    (sym c.kind.ensures ∙ ap byte_of c.in-Composes.is) in omega arith
+    (sym c.of.ensures ∙ ap byte_of c.in-Composes.is) in omega arith
 
 pub bounds-names-b : goal.bounds-names-b
 unfolding file_at
@@ -134,7 +134,7 @@ bounds-names-b c =
     let p = c.requires in
     let h = p.0.sized.nodes in
     let t = both_there _ _ _ _ c.node_at-r.ensures p.0 p.3.there
-    (sym c.kind.ensures ∙ ap byte_of c.in-Composes.is) in
+    (sym c.of.ensures ∙ ap byte_of c.in-Composes.is) in
     omega arith
 
 pub put_node-requires : goal.put_node-requires
@@ -143,7 +143,7 @@ put_node-requires c =
     let a = c.args in
     room_all _ _ 20 (both_bytes a.n a.body.now a.j _
     c.node_at-r.ensures p.0
-    p.3.there (sym c.kind.ensures ∙ ap byte_of c.in-Composes.is) a.names.now p.2) (length_node _) a.at
+    p.3.there (sym c.of.ensures ∙ ap byte_of c.in-Composes.is) a.names.now p.2) (length_node _) a.at
     a.out.now p.4
 
 pub returns-in-Composes : goal.returns-in-Composes
@@ -153,7 +153,7 @@ returns-in-Composes c =
     put_is (sym (both_bytes a.n a.body.now a.j _
     c.node_at-r.ensures p.0
     p.3.there
-    (sym c.kind.ensures ∙ ap byte_of c.in-Composes.is) a.names.now p.2))
+    (sym c.of.ensures ∙ ap byte_of c.in-Composes.is) a.names.now p.2))
     c.put_node.ensures
 
 pub bounds-names-a-in-Hides : goal.bounds-names-a-in-Hides
@@ -162,7 +162,7 @@ bounds-names-a-in-Hides c =
     let p = c.requires in
     let h = p.0.sized.nodes in
     let t = hidden_there _ _ _ _ c.node_at-r.ensures p.0 p.3.there
-    (sym c.kind.ensures ∙ ap byte_of c.in-Hides.is) in
+    (sym c.of.ensures ∙ ap byte_of c.in-Hides.is) in
     omega arith
 
 pub put_node-requires-in-Hides : goal.put_node-requires-in-Hides
@@ -171,7 +171,7 @@ put_node-requires-in-Hides c =
     let a = c.args in
     room_all _ _ 20 (hidden_bytes a.n a.body.now a.j _
     c.node_at-r.ensures p.0
-    p.3.there (sym c.kind.ensures ∙ ap byte_of c.in-Hides.is) a.names.now p.2)
+    p.3.there (sym c.of.ensures ∙ ap byte_of c.in-Hides.is) a.names.now p.2)
     (length_node _) a.at a.out.now
     p.4
 
@@ -181,7 +181,7 @@ returns-in-Hides c =
     let a = c.args in
     put_is (sym (hidden_bytes a.n a.body.now a.j _
     c.node_at-r.ensures p.0 p.3.there
-    (sym c.kind.ensures ∙ ap byte_of c.in-Hides.is) a.names.now p.2))
+    (sym c.of.ensures ∙ ap byte_of c.in-Hides.is) a.names.now p.2))
     c.put_node-in-Hides.ensures
 
 pub node_at-r-requires : goal.node_at-r-requires
@@ -196,5 +196,5 @@ pub overflow_cast-b : goal.overflow_cast-b
 unfolding file_at
 overflow_cast-b c = search rules
 
-pub kind-requires : goal.kind-requires
-kind-requires c = let p = c.requires in some_kind _ _ _ _ c.node_at-r.ensures p.0 p.3.there
+pub of-requires : goal.of-requires
+of-requires c = let p = c.requires in some_kind _ _ _ _ c.node_at-r.ensures p.0 p.3.there

@@ -55,26 +55,26 @@ module _ (n : Shape) (b : List ℕ) (j : ℕ) (r : Node) (e : r ≡ node_at n b 
 
 -- ── what is returned ──
 
-pub kind-requires : goal.kind-requires
-kind-requires c =
+pub of-requires : goal.of-requires
+of-requires c =
     let p = c.requires in some_kind _ _ _ _ c.node_at-r.ensures p.0 p.1.0 p.1.1.0
 
 pub returns-in-Holds : goal.returns-in-Holds
 returns-in-Holds c =
     let p = c.requires in
     ap (λ z. z + 1) c.deepest.ensures
-    ∙ arm₀ _ _ _ _ c.node_at-r.ensures p.0 p.1.0 p.1.1.0 _ p.1.1.1 (sym c.kind.ensures ∙ ap byte_of c.in-Holds.is)
+    ∙ arm₀ _ _ _ _ c.node_at-r.ensures p.0 p.1.0 p.1.1.0 _ p.1.1.1 (sym c.of.ensures ∙ ap byte_of c.in-Holds.is)
 
 pub returns-in-Composes : goal.returns-in-Composes
 returns-in-Composes c =
     let p = c.requires in
     ap (λ z. z + 1) c.larger.ensures
-    ∙ arm₁ _ _ _ _ c.node_at-r.ensures p.0 p.1.0 p.1.1.0 _ p.1.1.1 (sym c.kind.ensures ∙ ap byte_of c.in-Composes.is)
+    ∙ arm₁ _ _ _ _ c.node_at-r.ensures p.0 p.1.0 p.1.1.0 _ p.1.1.1 (sym c.of.ensures ∙ ap byte_of c.in-Composes.is)
 
 pub returns-in-Hides : goal.returns-in-Hides
 returns-in-Hides c =
     let p = c.requires in
-    arm₂ _ _ _ _ c.node_at-r.ensures p.0 p.1.0 p.1.1.0 _ p.1.1.1 (sym c.kind.ensures ∙ ap byte_of c.in-Hides.is)
+    arm₂ _ _ _ _ c.node_at-r.ensures p.0 p.1.0 p.1.1.0 _ p.1.1.1 (sym c.of.ensures ∙ ap byte_of c.in-Hides.is)
 
 -- ── it is a byte ──
 
@@ -102,12 +102,12 @@ composed : (c : In-Composes)
     → let r = c.node_at-r.result in (r.a < most_nodes) × (r.b < most_nodes)
 composed c =
     let p = c.requires in
-    lower₁ _ _ _ _ c.node_at-r.ensures p.0 p.1.0 p.1.1.0 (sym c.kind.ensures ∙ ap byte_of c.in-Composes.is)
+    lower₁ _ _ _ _ c.node_at-r.ensures p.0 p.1.0 p.1.1.0 (sym c.of.ensures ∙ ap byte_of c.in-Composes.is)
 
 pub bounds-deep-a-in-Hides : goal.bounds-deep-a-in-Hides
 bounds-deep-a-in-Hides c =
     let p = c.requires in
-    lower_hidden _ _ _ _ c.node_at-r.ensures p.0 p.1.0 p.1.1.0 (sym c.kind.ensures ∙ ap byte_of c.in-Hides.is)
+    lower_hidden _ _ _ _ c.node_at-r.ensures p.0 p.1.0 p.1.1.0 (sym c.of.ensures ∙ ap byte_of c.in-Hides.is)
 
 pub bounds-deep-a : goal.bounds-deep-a
 bounds-deep-a c = (composed (goal.at.bounds-deep-a c).In-Composes).0

@@ -37,19 +37,19 @@ module _ (n : Shape) (b : List ℕ) (j : ℕ) (r : Node) (e : r ≡ node_at n b 
     unfolding file_at
     some h = rw (← e, k, ← is) (before_some (file_at n b) s h)
 
-pub kind-requires : goal.kind-requires
+pub of-requires : goal.of-requires
 unfolding file_at
-kind-requires c =
+of-requires c =
     let t = c.requires.0.sound.ordered.kinds _ c.requires.1 in
     let d = ap (λ (x : Node). x.kind) c.node_at-node.ensures in omega arith
 
 pub returns-in_default : goal.returns-in_default
 returns-in_default c =
-    (other _ _ _ _ c.node_at-node.ensures (λ z. c.in_default.not-Holds (byte-one _ Holds (c.kind.ensures ∙ z))), omega arith)
+    (other _ _ _ _ c.node_at-node.ensures (λ z. c.in_default.not-Holds (byte-one _ Holds (c.of.ensures ∙ z))), omega arith)
 
 pub returns-then-slaves-eq0 : goal.returns-then-slaves-eq0
 returns-then-slaves-eq0 c = (
-  none _ _ _ _ c.node_at-node.ensures (sym c.kind.ensures ∙ ap byte_of c.in-Holds.is) _
+  none _ _ _ _ c.node_at-node.ensures (sym c.of.ensures ∙ ap byte_of c.in-Holds.is) _
       c.slaves_of-slaves.ensures.0 c.if-slaves-eq0.true,
   omega arith,
 )
@@ -59,7 +59,7 @@ returns-else-slaves-eq0 c =
     let m = c.slaves_of-slaves.ensures.1 in
     let h = c.requires.0.sized.slaves in (
       some _ _ _ _ c.node_at-node.ensures
-          (sym c.kind.ensures ∙ ap byte_of c.in-Holds.is) _
+          (sym c.of.ensures ∙ ap byte_of c.in-Holds.is) _
           c.slaves_of-slaves.ensures.0 c.if-slaves-eq0.false,
       omega arith,
     )

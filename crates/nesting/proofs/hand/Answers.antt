@@ -11,14 +11,14 @@ use Rattle.nesting.proofs.hand.Goals as goal
 use Rattle.nesting.proofs.hand.Goals.{In-Composes, In-Hides}
 
 composes : (c : In-Composes) → c.node_at-node.result.kind ≡ 1
-composes c = sym c.kind.ensures ∙ ap byte_of c.in-Composes.is
+composes c = sym c.of.ensures ∙ ap byte_of c.in-Composes.is
 
 hides : (c : In-Hides) → c.node_at-node.result.kind ≡ 2
-hides c = sym c.kind.ensures ∙ ap byte_of c.in-Hides.is
+hides c = sym c.of.ensures ∙ ap byte_of c.in-Hides.is
 
-pub kind-requires : goal.kind-requires
+pub of-requires : goal.of-requires
 unfolding file_at
-kind-requires c =
+of-requires c =
     let p = c.requires in
     let t = p.0.sound.ordered.kinds _ p.1 in
     let d = ap (λ (x : Node). x.kind) c.node_at-node.ensures in omega arith
@@ -27,7 +27,7 @@ pub returns-in-Holds : goal.returns-in-Holds
 unfolding file_at
 returns-in-Holds c =
     let p = c.requires in
-    hands_none _ p.0.sound p.1 (is_node _ _ _ c.node_at-node.ensures) (sym c.kind.ensures ∙ ap byte_of c.in-Holds.is)
+    hands_none _ p.0.sound p.1 (is_node _ _ _ c.node_at-node.ensures) (sym c.of.ensures ∙ ap byte_of c.in-Holds.is)
 
 pub bounds-near-a : goal.bounds-near-a
 unfolding file_at

@@ -32,36 +32,36 @@ module _ (n : Shape) (b : List ℕ) (j : ℕ) (r : Node) (e : r ≡ node_at n b 
     unfolding value_at value_of file_at
     value₂ h = rw (kind_is n b j r e 2 h, e)
 
-pub kind-requires : goal.kind-requires
-kind-requires c =
+pub of-requires : goal.of-requires
+of-requires c =
     let p = c.requires in
     some_kind _ _ _ _ c.node_at-r.ensures p.0 p.1.0 p.1.1
 
 pub bounds-own-a : goal.bounds-own-a
 bounds-own-a c =
     let p = c.requires in
-    chart₀ _ _ _ _ c.node_at-r.ensures p.0 p.1.0 p.1.1 (sym c.kind.ensures ∙ ap byte_of c.in-Holds.is)
+    chart₀ _ _ _ _ c.node_at-r.ensures p.0 p.1.0 p.1.1 (sym c.of.ensures ∙ ap byte_of c.in-Holds.is)
 
 pub bounds-table-a : goal.bounds-table-a
 bounds-table-a c =
     let p = c.requires in
-    (lower₁ _ _ _ _ c.node_at-r.ensures p.0 p.1.0 p.1.1 (sym c.kind.ensures ∙ ap byte_of c.in-Composes.is)).0
+    (lower₁ _ _ _ _ c.node_at-r.ensures p.0 p.1.0 p.1.1 (sym c.of.ensures ∙ ap byte_of c.in-Composes.is)).0
 
 pub bounds-table-b : goal.bounds-table-b
 bounds-table-b c =
     let p = c.requires in
-    (lower₁ _ _ _ _ c.node_at-r.ensures p.0 p.1.0 p.1.1 (sym c.kind.ensures ∙ ap byte_of c.in-Composes.is)).1
+    (lower₁ _ _ _ _ c.node_at-r.ensures p.0 p.1.0 p.1.1 (sym c.of.ensures ∙ ap byte_of c.in-Composes.is)).1
 
 pub bounds-table-a-in-Hides : goal.bounds-table-a-in-Hides
 bounds-table-a-in-Hides c =
     let p = c.requires in
-    lower_hidden _ _ _ _ c.node_at-r.ensures p.0 p.1.0 p.1.1 (sym c.kind.ensures ∙ ap byte_of c.in-Hides.is)
+    lower_hidden _ _ _ _ c.node_at-r.ensures p.0 p.1.0 p.1.1 (sym c.of.ensures ∙ ap byte_of c.in-Hides.is)
 
 pub returns-in-Holds : goal.returns-in-Holds
-returns-in-Holds c = c.with_slaves.ensures ∙ value₀ _ _ _ _ c.node_at-r.ensures _ _ _ (sym c.kind.ensures ∙ ap byte_of c.in-Holds.is)
+returns-in-Holds c = c.with_slaves.ensures ∙ value₀ _ _ _ _ c.node_at-r.ensures _ _ _ (sym c.of.ensures ∙ ap byte_of c.in-Holds.is)
 
 pub returns-in-Composes : goal.returns-in-Composes
-returns-in-Composes c = value₁ _ _ _ _ c.node_at-r.ensures _ _ _ (sym c.kind.ensures ∙ ap byte_of c.in-Composes.is)
+returns-in-Composes c = value₁ _ _ _ _ c.node_at-r.ensures _ _ _ (sym c.of.ensures ∙ ap byte_of c.in-Composes.is)
 
 pub returns-in-Hides : goal.returns-in-Hides
 returns-in-Hides c =
@@ -69,4 +69,4 @@ returns-in-Hides c =
     ∙ ap (λ (v : Set). get_or c.args.table.now
     c.node_at-r.result.a 0 ∖ v)
     c.taken.ensures
-    ∙ value₂ _ _ _ _ c.node_at-r.ensures _ _ _ (sym c.kind.ensures ∙ ap byte_of c.in-Hides.is)
+    ∙ value₂ _ _ _ _ c.node_at-r.ensures _ _ _ (sym c.of.ensures ∙ ap byte_of c.in-Hides.is)

@@ -17,7 +17,7 @@ use Rattle.plan.proofs.note.Goals.{In-Holds}
 in-room : (c : In-Holds) → c.node_at-node.result.a < most_charts
 in-room c =
     let p = c.requires in
-    let e = (sym c.kind.ensures ∙ ap byte_of c.in-Holds.is) in
+    let e = (sym c.of.ensures ∙ ap byte_of c.in-Holds.is) in
     let h = below-charts p.0 p.1 c.node_at-node.ensures e in
     omega (arith, p.0.sized.charts)
 
@@ -27,18 +27,18 @@ returns-in-Holds c =
     let p = c.requires in
     rw c.put_nearest.ensures
     (notes_chart _ p.0.sound p.1 (is_node _ _ _ c.node_at-node.ensures)
-    (sym c.kind.ensures ∙ ap byte_of c.in-Holds.is) p.0.sized.charts p.4
+    (sym c.of.ensures ∙ ap byte_of c.in-Holds.is) p.0.sized.charts p.4
     c.enclosing-slave.ensures.0 c.enclosing-slave.ensures.1)
 
 pub returns-in_default : goal.returns-in_default
 unfolding file_at
 returns-in_default c =
     let p = c.requires in
-    notes_none _ p.0.sound p.1 (is_node _ _ _ c.node_at-node.ensures) (λ z. c.in_default.not-Holds (byte-one _ Holds (c.kind.ensures ∙ z)))
+    notes_none _ p.0.sound p.1 (is_node _ _ _ c.node_at-node.ensures) (λ z. c.in_default.not-Holds (byte-one _ Holds (c.of.ensures ∙ z)))
 
 pub put_nearest-requires : goal.put_nearest-requires
 put_nearest-requires c =
     (c.requires.4, in-room (goal.at.put_nearest-requires c).In-Holds)
 
-pub kind-requires : goal.kind-requires
-kind-requires c = some_kind c.requires.0 c.requires.1 c.node_at-node.ensures
+pub of-requires : goal.of-requires
+of-requires c = some_kind c.requires.0 c.requires.1 c.node_at-node.ensures

@@ -17,13 +17,13 @@ use Rattle.plan.proofs.wire_node.Goals.{After-node_at-node, In-Hides, In-Compose
 
 -- ── a chart ──
 
-pub kind-requires : goal.kind-requires
-kind-requires c = some_kind c.requires.0 c.requires.1 c.node_at-node.ensures
+pub of-requires : goal.of-requires
+of-requires c = some_kind c.requires.0 c.requires.1 c.node_at-node.ensures
 
 pub wire_chart-requires : goal.wire_chart-requires
 wire_chart-requires c = (
   c.requires.0,
-  below-charts c.requires.0 c.requires.1 c.node_at-node.ensures (sym c.kind.ensures ∙ ap byte_of c.in-Holds.is),
+  below-charts c.requires.0 c.requires.1 c.node_at-node.ensures (sym c.of.ensures ∙ ap byte_of c.in-Holds.is),
   c.requires.2,
   c.requires.4.long,
 )
@@ -34,7 +34,7 @@ returns-in-Holds c =
     let a = c.args in
     let F = file_at a.n a.body.now in
     let i = is_node a.n a.body.now a.j c.node_at-node.ensures in
-    let h = wired_chart F c.requires.0.sound a.j c.requires.1 (sym i.kind ∙ (sym c.kind.ensures ∙ ap byte_of c.in-Holds.is)) c.node_at-node.result.a
+    let h = wired_chart F c.requires.0.sound a.j c.requires.1 (sym i.kind ∙ (sym c.of.ensures ∙ ap byte_of c.in-Holds.is)) c.node_at-node.result.a
     i.a c.requires.0.sized.charts c.requires.2 c.requires.3 c.requires.4
     c.wire_chart.ensures in
     (h.0, rw add-one h.1)
@@ -49,7 +49,7 @@ parts-there : (c : In-Composes)
     → ((comp-read c).node_at-node.result.a < most_nodes) × ((comp-read c).node_at-node.result.b < most_nodes)
 parts-there c =
     let r = comp-read c in
-    let h = lower_comp r.requires.0 r.requires.1 r.node_at-node.ensures (sym c.kind.ensures ∙ ap byte_of c.in-Composes.is) in
+    let h = lower_comp r.requires.0 r.requires.1 r.node_at-node.ensures (sym c.of.ensures ∙ ap byte_of c.in-Composes.is) in
     (omega (arith, h.0, r.requires.1, r.requires.0.sized.nodes), omega (arith, h.1, r.requires.1, r.requires.0.sized.nodes))
 
 pub returns-in-Composes : goal.returns-in-Composes
@@ -59,7 +59,7 @@ returns-in-Composes c =
     let a = r.args in
     let F = file_at a.n a.body.now in
     let i = is_node a.n a.body.now a.j r.node_at-node.ensures in
-    let e = sym i.kind ∙ (sym c.kind.ensures ∙ ap byte_of c.in-Composes.is) in
+    let e = sym i.kind ∙ (sym c.of.ensures ∙ ap byte_of c.in-Composes.is) in
     let at : (m : ℕ) → ℕ = λ m. get_or a.sets.now m 0 in
     let ch = charts_comp F r.requires.0.sound a.j r.requires.1 e a.sets.now c.wide.result c.wide-in-Composes.result
     r.requires.3 (c.wide.ensures ∙ ap at i.a) (c.wide-in-Composes.ensures ∙ ap at i.b) in
@@ -75,7 +75,7 @@ abbrev hide-read : In-Hides → After-node_at-node
 hide-read c = (goal.at.In-Hides c).After-node_at-node
 
 hides : (c : In-Hides) → (hide-read c).node_at-node.result.kind ≡ 2
-hides c = sym c.kind.ensures ∙ ap byte_of c.in-Hides.is
+hides c = sym c.of.ensures ∙ ap byte_of c.in-Hides.is
 
 inner-there : (c : In-Hides) → (hide-read c).node_at-node.result.a < most_nodes
 inner-there c =

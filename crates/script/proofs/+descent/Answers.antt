@@ -20,8 +20,8 @@ use Rattle.script.proofs.+descent.Goals as goal
 pub chart-returns-then-left-eq0 : goal.chart-returns-then-left-eq0
 chart-returns-then-left-eq0 t c = prints_by (chart-none _ _ _ c.if-left-eq0.true) c.sequential.ensures
 
-pub chart-kind-requires : goal.chart-kind-requires
-chart-kind-requires t c = some_kind _ _ _ _ c.node_at-node.ensures c.requires.0 c.requires.1
+pub chart-of-requires : goal.chart-of-requires
+chart-of-requires t c = some_kind _ _ _ _ c.node_at-node.ensures c.requires.0 c.requires.1
 
 pub chart-master-requires : goal.chart-master-requires
 chart-master-requires t c =
@@ -29,7 +29,7 @@ chart-master-requires t c =
       omega (arith, c.decreases),
       (
         c.requires.0,
-        chart_there _ _ _ _ c.node_at-node.ensures c.requires.0 c.requires.1 (sym c.kind.ensures ∙ ap byte_of c.in-Holds.is),
+        chart_there _ _ _ _ c.node_at-node.ensures c.requires.0 c.requires.1 (sym c.of.ensures ∙ ap byte_of c.in-Holds.is),
       ),
     )
 
@@ -37,20 +37,20 @@ pub chart-returns-in-Holds : goal.chart-returns-in-Holds
 chart-returns-in-Holds t c =
     prints_by
     (ap (text_by _)
-    (node_chart _ _ _ _ c.node_at-node.ensures _ c.if-left-eq0.false (sym c.kind.ensures ∙ ap byte_of c.in-Holds.is)))
+    (node_chart _ _ _ _ c.node_at-node.ensures _ c.if-left-eq0.false (sym c.of.ensures ∙ ap byte_of c.in-Holds.is)))
     c.master.ensures
 
 pub chart-pair-requires : goal.chart-pair-requires
 chart-pair-requires t c =
     let some = c.if-left-eq0.false in
-    let q = both_there _ _ _ _ c.node_at-node.ensures c.requires.0 c.requires.1 (sym c.kind.ensures ∙ ap byte_of c.in-Composes.is) in
+    let q = both_there _ _ _ _ c.node_at-node.ensures c.requires.0 c.requires.1 (sym c.of.ensures ∙ ap byte_of c.in-Composes.is) in
     (omega (arith, c.decreases), (c.requires.0, q.0, q.1))
 
 pub chart-returns-in-Composes : goal.chart-returns-in-Composes
 chart-returns-in-Composes t c =
     prints_by
     (ap (text_by _)
-    (node_composed _ _ _ _ c.node_at-node.ensures _ c.if-left-eq0.false (sym c.kind.ensures ∙ ap byte_of c.in-Composes.is)))
+    (node_composed _ _ _ _ c.node_at-node.ensures _ c.if-left-eq0.false (sym c.of.ensures ∙ ap byte_of c.in-Composes.is)))
     c.pair.ensures
 
 pub chart-hidden-requires : goal.chart-hidden-requires
@@ -59,7 +59,7 @@ chart-hidden-requires t c =
       omega (arith, c.decreases),
       (
         c.requires.0,
-        inside_there _ _ _ _ c.node_at-node.ensures c.requires.0 c.requires.1 (sym c.kind.ensures ∙ ap byte_of c.in-Hides.is),
+        inside_there _ _ _ _ c.node_at-node.ensures c.requires.0 c.requires.1 (sym c.of.ensures ∙ ap byte_of c.in-Hides.is),
       ),
     )
 
@@ -67,7 +67,7 @@ pub chart-returns-in-Hides : goal.chart-returns-in-Hides
 chart-returns-in-Hides t c =
     prints_by
     (ap (text_by _)
-    (node_hidden _ _ _ _ c.node_at-node.ensures _ c.if-left-eq0.false (sym c.kind.ensures ∙ ap byte_of c.in-Hides.is)))
+    (node_hidden _ _ _ _ c.node_at-node.ensures _ c.if-left-eq0.false (sym c.of.ensures ∙ ap byte_of c.in-Hides.is)))
     c.hidden.ensures
 
 -- ── hidden ──

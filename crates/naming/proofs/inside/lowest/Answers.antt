@@ -38,8 +38,8 @@ module _ (n : Shape) (b : List ℕ) (j : ℕ) (r : Node) (e : r ≡ node_at n b 
       let g = kind_is n b j r e 2 k in
       rw e (h.at _ (w.ordered.lower₂ j l g) ∙ sym (lowest₂ (file_at n b) w j l g))
 
-pub kind-requires : goal.kind-requires
-kind-requires c =
+pub of-requires : goal.of-requires
+of-requires c =
     let p = c.requires in
     some_kind _ _ _ _ c.node_at-r.ensures p.0 p.1.0 p.1.1.0
 
@@ -48,12 +48,12 @@ named : (c : In-Composes) → let r = c.node_at-r.result in
     (r.a < most_nodes) × (r.b < most_nodes)
 named c =
     let p = c.requires in
-    lower₁ _ _ _ _ c.node_at-r.ensures p.0 p.1.0 p.1.1.0 (sym c.kind.ensures ∙ ap byte_of c.in-Composes.is)
+    lower₁ _ _ _ _ c.node_at-r.ensures p.0 p.1.0 p.1.1.0 (sym c.of.ensures ∙ ap byte_of c.in-Composes.is)
 
 pub bounds-low-a-in-Hides : goal.bounds-low-a-in-Hides
 bounds-low-a-in-Hides c =
     let p = c.requires in
-    lower_hidden _ _ _ _ c.node_at-r.ensures p.0 p.1.0 p.1.1.0 (sym c.kind.ensures ∙ ap byte_of c.in-Hides.is)
+    lower_hidden _ _ _ _ c.node_at-r.ensures p.0 p.1.0 p.1.1.0 (sym c.of.ensures ∙ ap byte_of c.in-Hides.is)
 
 -- the lower of the two
 composed : (c : In-Composes) → let a = c.args in
@@ -62,12 +62,12 @@ composed : (c : In-Composes) → let a = c.args in
     ≡ lowest (tree_of (file_at a.n a.body.now) a.j)
 composed c =
     let p = c.requires in
-    arm₁ _ _ _ _ c.node_at-r.ensures p.1.0 p.1.1.0 _ p.1.1.1 (sym c.kind.ensures ∙ ap byte_of c.in-Composes.is)
+    arm₁ _ _ _ _ c.node_at-r.ensures p.1.0 p.1.1.0 _ p.1.1.1 (sym c.of.ensures ∙ ap byte_of c.in-Composes.is)
 
 pub returns-in-Holds : goal.returns-in-Holds
 returns-in-Holds c =
     let p = c.requires in
-    arm₀ _ _ _ _ c.node_at-r.ensures p.1.0 p.1.1.0 _ p.1.1.1 (sym c.kind.ensures ∙ ap byte_of c.in-Holds.is)
+    arm₀ _ _ _ _ c.node_at-r.ensures p.1.0 p.1.1.0 _ p.1.1.1 (sym c.of.ensures ∙ ap byte_of c.in-Holds.is)
 
 pub returns-then-low-a : goal.returns-then-low-a
 returns-then-low-a c = rw (lt-ltb _ _ c.if-low-a.true) at (composed (goal.at.returns-then-low-a c).In-Composes)
@@ -79,7 +79,7 @@ pub returns-in-Hides : goal.returns-in-Hides
 returns-in-Hides c =
     let p = c.requires in
     arm₂ _ _ _ _ c.node_at-r.ensures p.1.0 p.1.1.0 _ p.1.1.1
-    (sym c.kind.ensures ∙ ap byte_of c.in-Hides.is)
+    (sym c.of.ensures ∙ ap byte_of c.in-Hides.is)
 
 pub bounds-low-a : goal.bounds-low-a
 bounds-low-a c = (named (goal.at.bounds-low-a c).In-Composes).0

@@ -60,20 +60,20 @@ module _ (n : Shape) (b : List ℕ) (k : ℕ) (r : Node) (e : r ≡ node_at n b 
     unfolding file_at
     next₂ g = let m = in₂ g in rw e (walked₂ (file_at n b) k ns hs os w (kind_is 2 g) (rw e at m))
 
-pub kind-requires : goal.kind-requires
-kind-requires c = let p = c.requires in some_kind _ _ _ _ c.node_at-r.ensures p.0 p.1.0
+pub of-requires : goal.of-requires
+of-requires c = let p = c.requires in some_kind _ _ _ _ c.node_at-r.ensures p.0 p.1.0
 
 -- the places that the arms count at
 pub bounds-held-a : goal.bounds-held-a
-bounds-held-a c = let p = c.requires in in₀ _ _ _ _ c.node_at-r.ensures p.0 p.1.0 (sym c.kind.ensures ∙ ap byte_of c.in-Holds.is)
+bounds-held-a c = let p = c.requires in in₀ _ _ _ _ c.node_at-r.ensures p.0 p.1.0 (sym c.of.ensures ∙ ap byte_of c.in-Holds.is)
 
 named-at : (c : In-Composes) → let r = c.node_at-r.result in
     (r.a < most_nodes) × (r.b < most_nodes)
 named-at c =
-    let p = c.requires in in₁ _ _ _ _ c.node_at-r.ensures p.0 p.1.0 (sym c.kind.ensures ∙ ap byte_of c.in-Composes.is)
+    let p = c.requires in in₁ _ _ _ _ c.node_at-r.ensures p.0 p.1.0 (sym c.of.ensures ∙ ap byte_of c.in-Composes.is)
 
 is_last : (c : In-Hides) → c.node_at-r.result.kind ≡ 2
-is_last c = sym c.kind.ensures ∙ ap byte_of c.in-Hides.is
+is_last c = sym c.of.ensures ∙ ap byte_of c.in-Hides.is
 
 pub bounds-named-a-in-Hides : goal.bounds-named-a-in-Hides
 bounds-named-a-in-Hides c =
@@ -107,12 +107,12 @@ overflow_add-named-in-Hides c =
 pub returns-in-Holds : goal.returns-in-Holds
 returns-in-Holds c =
     let p = c.requires in
-    next₀ _ _ _ _ c.node_at-r.ensures p.0 p.1.0 _ _ _ p.1.1 (sym c.kind.ensures ∙ ap byte_of c.in-Holds.is)
+    next₀ _ _ _ _ c.node_at-r.ensures p.0 p.1.0 _ _ _ p.1.1 (sym c.of.ensures ∙ ap byte_of c.in-Holds.is)
 
 pub returns-in-Composes : goal.returns-in-Composes
 returns-in-Composes c =
     let p = c.requires in
-    next₁ _ _ _ _ c.node_at-r.ensures p.0 p.1.0 _ _ _ p.1.1 (sym c.kind.ensures ∙ ap byte_of c.in-Composes.is)
+    next₁ _ _ _ _ c.node_at-r.ensures p.0 p.1.0 _ _ _ p.1.1 (sym c.of.ensures ∙ ap byte_of c.in-Composes.is)
 
 pub returns-in-Hides : goal.returns-in-Hides
 returns-in-Hides c =
