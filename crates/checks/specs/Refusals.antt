@@ -1,10 +1,12 @@
 -- Refusals as the code has them: the number of each in RULES 3, and what a call answers (RULES 3.1).
-use Rattle.std.specs.Prelude.{◌≡◌, ℕ, Result, Ok, Err}
+use Rattle.std.specs.Prelude.{◌≡◌, cond, ℕ, Result, Ok, Err}
+use Rattle.meaning.specs.Meaning.{same}
 use Rattle.meaning.specs.Numbers.{too_short, other_edition, bad_counts, bad_distance, not_zero, bad_chart}
 use Rattle.meaning.specs.Numbers.{bad_transition, bad_slave, bad_node, bad_naming, bad_inside, wrong_length, bad_state}
 use Rattle.meaning.specs.Numbers.{short_buffer, no_step, many_open, no_such_chart, no_such_place, short_rows, odd_front}
 use Rattle.meaning.specs.Numbers.{input_too_long, no_free_signal, many_from_state, many_in_chart, many_nodes, short_out}
-use Rattle.meaning.specs.Numbers.{may_stay}
+use Rattle.meaning.specs.Numbers.{may_stay, bad_book, no_such_case, rows_end, short_book, not_notation, too_deep}
+use Rattle.meaning.specs.Numbers.{bad_name}
 use Rattle.checks.specs.declared.refusal.Refusal.{Refusal}
 use Rattle.checks.specs.declared.refusal.Refusal.TheVariants as refusal
 pub mod Laws
@@ -38,13 +40,13 @@ number refusal.ManyInChart = many_in_chart
 number refusal.ManyNodes = many_nodes
 number refusal.ShortOut = short_out
 number refusal.MayStay = may_stay
-number refusal.NotNotation = 50
-number refusal.TooDeep = 51
-number refusal.BadName = 52
-number refusal.BadBook = 60
-number refusal.NoSuchCase = 61
-number refusal.RowsEnd = 62
-number refusal.ShortRows = 63
+number refusal.NotNotation = not_notation
+number refusal.TooDeep = too_deep
+number refusal.BadName = bad_name
+number refusal.BadBook = bad_book
+number refusal.NoSuchCase = no_such_case
+number refusal.RowsEnd = rows_end
+number refusal.ShortRows = short_book
 
 -- the number that a result stands for: 0 for success (RULES 3.1)
 abbrev pub told : {A : Type 0} → Result A Refusal → ℕ
@@ -60,3 +62,7 @@ numbered (Err r) = Err (number r)
 abbrev pub Answers : {A : Type 0} → ℕ → A → Result A Refusal → Type 0
 Answers n x (Ok y) = (n ≡ 0) × (y ≡ x)
 Answers n x (Err r) = number r ≡ n
+
+-- the same as a value, with the number in place of the refusal: numbered r ≡ answer n x
+abbrev pub answer : {A : Type 0} → ℕ → A → Result A ℕ
+answer n x = cond (same n 0) (Ok x) (Err n)

@@ -1,5 +1,5 @@
 -- The posting of a day for a whole book (RULES 11). A book is one chart file and a list of case records; a day is a
--- list of entries. In this order: limits and refusals; a case and its entries; the refusals in order; a case posted;
+-- list of entries. In this order: limits; a case and its entries; the refusals in order; a case posted;
 -- the book posted; the call.
 use Rattle.std.specs.Prelude.{◌≡◌, Bool, true, false, cond, ◌||◌, List, [], ◌∷◌, ◌++◌, ℕ, zero, suc, ◌+◌, ◌*◌, ltb, leb}
 use Rattle.std.specs.Prelude.{length, get_or, Result}
@@ -10,13 +10,14 @@ use Rattle.meaning.specs.File.{File, file_of}
 use Rattle.meaning.specs.Check.{Test, first_of, file_tests}
 use Rattle.meaning.specs.Calls.{made, laid_over, config_tests, step_in, next_in, row_of, carried_after}
 use Rattle.meaning.specs.Numbers.{most_charts}
+pub use Rattle.meaning.specs.Numbers.{bad_book, no_such_case, rows_end, short_book}
 use Rattle.checks.specs.Refusals.{Answers}
 use Rattle.checks.specs.declared.refusal.Refusal.{Refusal}
 use Rattle.desk.specs.declared.Case.{Case}
 use Rattle.desk.specs.declared.Entry.{Entry}
 pub mod Laws
 
--- ── limits and refusals ──
+-- ── limits; the refusals, 60 to 63, are with all others ──
 
 -- cases of a book (RULES 3.7)
 abbrev pub most_cases : ℕ
@@ -29,22 +30,6 @@ last_row = 4294967295
 -- the bytes that a record has for its configuration (RULES 11.1)
 abbrev pub width : ℕ
 width = most_charts
-
--- 60: a book has no case, or more than 64 (RULES 3.7)
-abbrev pub bad_book : ℕ
-bad_book = 60
-
--- 61: an entry is for a case that is not in the book (RULES 3.7)
-abbrev pub no_such_case : ℕ
-no_such_case = 61
-
--- 62: the number of a case's last row is the highest one (RULES 3.7)
-abbrev pub rows_end : ℕ
-rows_end = 62
-
--- 63: the buffer has no room for a row of each case (RULES 3.7)
-abbrev pub short_book : ℕ
-short_book = 63
 
 -- ── a case and its entries ──
 

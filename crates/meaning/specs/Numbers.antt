@@ -140,3 +140,31 @@ short_out = 45
 
 abbrev pub may_stay : ℕ
 may_stay = 46
+
+-- of the posting: 60 to 63 (RULES 3.7)
+-- a book has no case, or more than 64
+abbrev pub bad_book : ℕ
+bad_book = 60
+
+-- an entry is for a case that is not in the book
+abbrev pub no_such_case : ℕ
+no_such_case = 61
+
+-- the number of a case's last row is the highest one
+abbrev pub rows_end : ℕ
+rows_end = 62
+
+-- the buffer has no room for a row of each case
+abbrev pub short_book : ℕ
+short_book = 63
+
+-- of a typed text: 50 to 52 (RULES 3.8)
+-- the text is not of the notation
+abbrev pub not_notation : ℕ
+not_notation = 50
+
+abbrev pub too_deep : ℕ
+too_deep = 51
+
+abbrev pub bad_name : ℕ
+bad_name = 52

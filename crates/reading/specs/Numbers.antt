@@ -1,5 +1,6 @@
--- The numbers of the notation that have a name: limits and refusals. Each is written here once.
+-- The limits of the notation that have a name. Each is written here once; its refusals, 50 to 52, are with all others.
 use Rattle.std.specs.Prelude.{ℕ}
+pub use Rattle.meaning.specs.Numbers.{not_notation, too_deep, bad_name}
 
 -- a chart is nested so deep at most
 abbrev pub most_depth : ℕ
@@ -14,13 +15,3 @@ named_states = 16
 
 abbrev pub named_signals : ℕ
 named_signals = 64
-
--- the text is not of the notation
-abbrev pub not_notation : ℕ
-not_notation = 50
-
-abbrev pub too_deep : ℕ
-too_deep = 51
-
-abbrev pub bad_name : ℕ
-bad_name = 52
