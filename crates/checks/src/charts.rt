@@ -64,19 +64,23 @@ pub fn bad_transitions(n: Shape, body: &[u8]) -> bool
 {
     let charts = n.charts;
     let mut found = false;
-    let mut at: usize = 0;
+    let mut start: usize = 0;
     'scan: for c in 0..charts {
         let h = layout::body::head_at(n, body, c);
         let count = h.transitions;
         let states = h.states;
         let mut left = [0u8; limits::MOST_STATES as usize];
-        for t in 0..count {
-            if bad_transition(layout::body::transition_at(n, body, at), states, &mut left) {
+        for t in 0..usize::from(count) {
+            if bad_transition(
+                layout::body::transition_at(n, body, start + t),
+                states,
+                &mut left,
+            ) {
                 found = true;
                 break 'scan;
             }
-            at += 1;
         }
+        start += usize::from(count);
     }
     found
 }

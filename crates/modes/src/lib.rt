@@ -3,7 +3,7 @@
 
 ghost use Rattle.std.specs.Prelude.{◌≡◌, ◌&&◌, ◌||◌, eqb, ◌+◌, ◌<◌, get_or};
 ghost use Rattle.scan.specs.Table.{numbers, table, lookup, refine};
-ghost use Rattle.scan.specs.Scan.{token_after, advance_between, expect, advance_letter, advance_number, advance};
+ghost use Rattle.scan.specs.Scan.{token_after, advance_between, expect, advance_letter, advance};
 ghost use Rattle.scan.specs.Scan.{is_whole, accepts};
 ghost use Rattle.modes.specs.Step.{LeadsTo, place_of, packed};
 
@@ -126,22 +126,8 @@ fn expect(m: u64, token: Token, b: u8, c: u8) -> Option<Step>
     None
 }
 
-// A byte in the number of a name, or behind it.
-#[tactic(auto, unfolding(scan::specs::Scan::advance_number, scan::specs::Scan::pack))]
-fn advance_number(m: u64, b: u8, a: u8) -> Option<Step>
-    ensures { packed result ≡ advance_number m b a }
-{
-    if bytes::is_digit(b) {
-        return Some(Step {
-            mode: m,
-            token: Token::Number,
-        });
-    }
-    advance_between(m, b, a)
-}
-
 // One byte further from a step, with the level a around the part that has ended; none if no text has the byte there.
-#[tactic(auto, unfolding(scan::specs::Scan::advance))]
+#[tactic(auto, unfolding(scan::specs::Scan::advance, scan::specs::Scan::advance_number, scan::specs::Scan::pack))]
 pub fn advance(s: Step, b: u8, a: u8) -> Option<Step>
     ensures { packed result ≡ advance s.mode (place_of s.token) b a }
 {
@@ -150,7 +136,12 @@ pub fn advance(s: Step, b: u8, a: u8) -> Option<Step>
         Token::De => expect(s.mode, Token::Between, b, b'c'),
         Token::B => expect(s.mode, Token::Between, b, b'y'),
         Token::Letter => advance_letter(s.mode, b),
-        Token::Number => advance_number(s.mode, b, a),
+        Token::Number => {
+            if bytes::is_digit(b) {
+                return Some(s);
+            }
+            advance_between(s.mode, b, a)
+        }
         Token::Between => advance_between(s.mode, b, a),
     }
 }

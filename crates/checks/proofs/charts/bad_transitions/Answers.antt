@@ -1,5 +1,5 @@
 use mathlib.Core.Path.{◌≡◌, refl, sym, ap, ◌∙◌}
-use Prim.Native.Nat.{◌≤◌, ◌<◌}
+use Prim.Native.Nat.{ℕ, ◌+◌, ◌≤◌, ◌<◌}
 use native.Mathlib.Omega.{arith}
 use Rattle.layout.specs.Body.{head_at, transition_at}
 use Rattle.layout.specs.declared.record.Head.{Head}
@@ -19,11 +19,11 @@ pub head_at-h-requires : goal.head_at-h-requires
 head_at-h-requires c = (c.requires.0.holds, c.scan-test.true)
 
 pub loop-t-init : goal.loop-t-init
-loop-t-init c = (omega arith, c.scan.invariant.1, any_none _, counts-none _ _ _)
+loop-t-init c = (c.scan.invariant.1, any_none _, counts-none _ _ _)
 
 -- the next transition is one of the file's
 within : (c : In-loop-t)
-    → c.loop-t.at < c.args.n.transitions
+    → c.scan.start + c.loop-t.t < c.args.n.transitions
 within c =
     let a = c.args in
     let h = ap (λ (r : Head). r.transitions) c.head_at-h.ensures in
@@ -47,7 +47,9 @@ is : (c : After-transition_at)
     c.args.body.now
     c.scan.c
     c.loop-t.t
-is c = c.transition_at.ensures ∙ ap (transition_at _ _) c.loop-t.invariant.0
+is c =
+    c.transition_at.ensures
+    ∙ ap (λ (k : ℕ). transition_at c.args.n c.args.body.now (k + c.loop-t.t)) c.scan.invariant.0
 
 -- what the code asks of it is `bad_at`
 asked : (c : After-bad_transition)
@@ -58,7 +60,7 @@ asked : (c : After-bad_transition)
 asked c =
     c.bad_transition.ensures.0
     ∙ rw (is (goal.at.After-bad_transition c).After-transition_at, c.head_at-h.ensures)
-    (next_is _ _ _ _ _ c.loop-t.invariant.3 (few (goal.at.After-bad_transition c).After-head_at-h))
+    (next_is _ _ _ _ _ c.loop-t.invariant.2 (few (goal.at.After-bad_transition c).After-head_at-h))
 
 pub loop-t-preserved : goal.loop-t-preserved
 loop-t-preserved c =
@@ -66,11 +68,10 @@ loop-t-preserved c =
     let g = sym (asked (goal.at.loop-t-preserved c).After-bad_transition) ∙ c.if-bad_transition.false in
     let f = few (goal.at.loop-t-preserved c).After-head_at-h in
     let l = from_in _ _ _ _ g in (
-      omega arith,
-      i.1,
-      any-more _ _ i.2 g,
+      i.0,
+      any-more _ _ i.1 g,
       rw (c.bad_transition.ensures.1 c.if-bad_transition.false, is (goal.at.loop-t-preserved c).After-transition_at)
-          (counts-more _ _ _ _ _ i.3 (omega arith)),
+          (counts-more _ _ _ _ _ i.2 (omega arith)),
     )
 
 pub scan-preserved : goal.scan-preserved
@@ -80,8 +81,8 @@ scan-preserved c =
     let h = ap (λ (r : Head). r.transitions) c.head_at-h.ensures in
     let e : c.loop-t.t ≡ (head_at a.n a.body.now c.scan.c).transitions = omega arith in (
       omega (arith, start_of-next a.n a.body.now c.scan.c),
-      i.1,
-      any-more _ _ c.scan.invariant.2 (rw e at i.2),
+      i.0,
+      any-more _ _ c.scan.invariant.2 (rw e at i.1),
     )
 
 pub returns-after-scan : goal.returns-after-scan
@@ -106,5 +107,16 @@ pub bad_transition-requires : goal.bad_transition-requires
 bad_transition-requires c =
     rw c.head_at-h.ensures (few (goal.at.bad_transition-requires c).After-head_at-h)
 
-pub overflow_add-at : goal.overflow_add-at
-overflow_add-at c = omega (arith, within (goal.at.overflow_add-at c).In-loop-t)
+pub overflow_add-start-in-scan : goal.overflow_add-start-in-scan
+overflow_add-start-in-scan c =
+    let a = c.args in
+    let h = ap (λ (r : Head). r.transitions) c.head_at-h.ensures in
+    omega (
+      arith,
+      start_of_mono a.n a.body.now c.scan.c a.n.charts
+          c.scan-test.true,
+      summed a.n a.body.now c.requires.1,
+    )
+
+pub overflow_add-start : goal.overflow_add-start
+overflow_add-start c = omega (arith, within (goal.at.overflow_add-start c).In-loop-t)
